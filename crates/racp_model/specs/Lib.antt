@@ -1,0 +1,9 @@
+pub mod Project
+pub mod Schedule
+pub mod Path
+pub mod Terms
+pub mod Plan
+pub mod Window
+pub mod Made
+pub mod Laws
+pub mod Topology

@@ -1,0 +1,40 @@
+ghost use Rattle.std.specs.Prelude.{◌≡◌, ℕ, length};
+
+use std::marker::Model;
+
+/// How many units there are of each resource, by place. Contracts see a list.
+#[derive(Debug, Clone, Drop)]
+pub struct Capacities {
+    items: Vec<u32>,
+}
+
+impl Model for Capacities {
+    ghost use Rattle.std.specs.Prelude.{ℕ, List};
+
+    ghost Value = { List ℕ };
+
+    ghost view = { λ capacities. capacities.items.items };
+}
+
+impl Capacities {
+    /// These capacities. Takes no memory.
+    pub fn new(items: Vec<u32>) -> Self
+        ensures { result ≡ items.items }
+    {
+        Capacities { items }
+    }
+
+    /// The capacities as a slice.
+    pub fn as_slice(&self) -> &[u32]
+        ensures { result.now ≡ self.now }
+    {
+        &self.items
+    }
+
+    /// Gives the vector back. Takes no memory.
+    pub fn into_vec(self) -> Vec<u32>
+        ensures { result.items ≡ self }
+    {
+        self.items
+    }
+}

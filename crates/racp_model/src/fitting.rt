@@ -1,0 +1,105 @@
+ghost use Rattle.std.specs.Prelude.{◌≡◌, ℕ, ◌+◌, ◌<◌, ◌≤◌, ◌↔◌, IsTrue, length, slice_index};
+ghost use Rattle.racp_model.specs.Schedule.{KeepsPrecedence, EndsBy, IsWithinCapacities, FitsInTime, use_of, usage};
+
+use crate::capacities::Capacities;
+use crate::network::Network;
+use crate::starts::Starts;
+
+/// Whether the starts keep precedence, end by the deadline and fit the capacities. Takes no memory.
+pub fn fits(net: &Network, capacities: &Capacities, starts: &Starts, deadline: u64) -> bool
+    requires capacities { length capacities.now ≡ net.now.resources }
+    requires starts { length starts.now ≡ length net.now.jobs }
+    ensures { IsTrue result ↔ FitsInTime net.now (λ _. 0) (λ _. deadline) capacities.now starts.now }
+{
+    let starts = starts.as_slice();
+    keep_precedence(net, starts)
+        && end_by(net, starts, deadline)
+        && are_within(net, capacities.as_slice(), starts)
+}
+
+/// Whether no job starts before each that precedes it has ended.
+fn keep_precedence(net: &Network, starts: &[u32]) -> bool
+    requires { length starts.now ≡ length net.now.jobs }
+    ensures { IsTrue result ↔ KeepsPrecedence net.now starts.now }
+{
+    let arcs = net.topological_arcs();
+    for k in 0..arcs.len() {
+        let (i, j) = arcs[k];
+        let end = starts[i as usize] as u64 + net.duration(i as usize) as u64;
+        if (starts[j as usize] as u64) < end {
+            return false;
+        }
+    }
+    true
+}
+
+/// Whether each job ends by the deadline.
+fn end_by(net: &Network, starts: &[u32], deadline: u64) -> bool
+    requires { length starts.now ≡ length net.now.jobs }
+    ensures { IsTrue result ↔ EndsBy net.now (λ _. deadline) starts.now }
+{
+    for i in 0..net.job_count() {
+        if deadline < starts[i] as u64 + net.duration(i) as u64 {
+            return false;
+        }
+    }
+    true
+}
+
+/// Whether the jobs never use more than the capacities.
+fn are_within(net: &Network, capacities: &[u32], starts: &[u32]) -> bool
+    requires capacities { length capacities.now ≡ net.now.resources }
+    requires starts { length starts.now ≡ length net.now.jobs }
+    ensures { IsTrue result ↔ IsWithinCapacities net.now capacities.now starts.now }
+{
+    for k in 0..net.resource_count() {
+        if !is_within(net, starts, k, capacities[k]) {
+            return false;
+        }
+    }
+    true
+}
+
+/// Whether the jobs never use more than `most` units of a resource. A usage is greatest where some job starts, so only
+/// these times are looked at.
+fn is_within(net: &Network, starts: &[u32], k: usize, most: u32) -> bool
+    requires starts { length starts.now ≡ length net.now.jobs }
+    requires resource { k < net.now.resources }
+    ensures { IsTrue result ↔ ((t : ℕ) → usage net.now starts.now k t ≤ most) }
+{
+    for j in 0..net.job_count() {
+        if (most as u64) < usage_at(net, starts, k, starts[j]) {
+            return false;
+        }
+    }
+    true
+}
+
+/// What all jobs use of a resource at a time.
+#[tactic(auto, using(crate::proofs::Sums::sums))]
+fn usage_at(net: &Network, starts: &[u32], k: usize, time: u32) -> u64
+    requires starts { length starts.now ≡ length net.now.jobs }
+    requires resource { k < net.now.resources }
+    ensures { result ≡ usage net.now starts.now k time }
+{
+    let mut sum = 0;
+    for i in 0..net.job_count() {
+        sum += use_at(net, starts, k, time, i) as u64;
+    }
+    sum
+}
+
+/// What one job uses of a resource at a time.
+#[tactic(auto, unfolding(crate::specs::Schedule::use_of))]
+fn use_at(net: &Network, starts: &[u32], k: usize, time: u32, i: usize) -> u32
+    requires starts { length starts.now ≡ length net.now.jobs }
+    requires job { i < length net.now.jobs }
+    requires resource { k < net.now.resources }
+    ensures { result ≡ use_of net.now starts.now k time i }
+{
+    if starts[i] <= time && (time as u64) < starts[i] as u64 + net.duration(i) as u64 {
+        net.request(i, k)
+    } else {
+        0
+    }
+}

@@ -1,0 +1,15 @@
+use std::marker::Brand;
+
+/// Names the network that a value is about: values of types with one name are about one network. A call that makes such
+/// values picks the network that `Brand` names.
+pub trait OfNetwork {
+    ghost use Rattle.racp_model.specs.Project.{Project};
+
+    ghost network: { Project };
+}
+
+impl OfNetwork for Brand {
+    ghost use Rattle.std.specs.Prelude.{[]};
+
+    ghost network = { record { resources = 0; jobs = []; arcs = [] } };
+}

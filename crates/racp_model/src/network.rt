@@ -1,0 +1,152 @@
+ghost use Rattle.std.specs.Prelude.{◌≡◌, ℕ, ◌<◌, ◌≤◌, ◌↔◌, IsTrue, length, All};
+ghost use Rattle.racp_model.specs.Project.{duration, request, IsSound, IsJobWithinLimits, IsWithinLimits};
+ghost use Rattle.racp_model.specs.Made.{IsMade};
+ghost use Rattle.racp_model.specs.Topology.{IsTopological};
+
+use crate::fault::NetFault;
+use crate::job::Job;
+use crate::topology::{are_numbers, sorted, topological};
+use std::alloc::Global;
+use std::marker::Model;
+
+/// The most jobs of a network.
+pub const MOST_JOBS: usize = 512;
+
+/// The most resources of a network.
+pub const MOST_RESOURCES: usize = 16;
+
+/// The longest duration of a job, in time units.
+pub const MOST_DURATION: u32 = 10_000;
+
+/// The greatest request of a job, in units.
+pub const MOST_REQUEST: u32 = 10_000;
+
+/// A project network: jobs that run for a time and request resources, and precedence between them. It is within its
+/// limits, and no job waits for itself. Contracts see a `Project`.
+#[derive(Debug, Drop)]
+pub struct Network {
+    resources: usize,
+    jobs: Vec<Job>,
+    arcs: Vec<(u32, u32)>,
+    topological: Vec<(u32, u32)>,
+}
+
+impl Model for Network {
+    ghost use Rattle.racp_model.specs.Project.{Project, IsSound};
+    ghost use Rattle.racp_model.specs.Topology.{IsTopological};
+
+    ghost Value = { Project };
+
+    ghost view = { λ net. record { resources = net.resources; jobs = net.jobs.items; arcs = net.arcs.items } };
+
+    ghost invariant = { λ net. let p : Project = record { resources = net.resources; jobs = net.jobs.items; arcs = net.arcs.items } in
+        IsSound p × IsTopological p net.topological.items };
+}
+
+impl Network {
+    /// The network of these jobs. `arcs` are pairs of job numbers, from 1, of which the second job starts only when the
+    /// first has ended; their order does not matter, and repeated pairs count once.
+    ///
+    /// # Errors
+    ///
+    /// The first of these that holds: `Limit`, where there are not 1 to 16 resources and 1 to 512 jobs, or a job has
+    /// another number of requests than there are resources, or a duration or a request is above 10,000; `BadJob`, where a
+    /// pair names no job; `Cycle`, where a job would have to wait for itself; `Memory`, where memory was refused.
+    pub fn new(
+        alloc: Global,
+        resources: usize,
+        jobs: Vec<Job>,
+        arcs: Vec<(u32, u32)>,
+    ) -> Result<Self, NetFault>
+        ensures { IsMade (record { resources = resources; jobs = jobs.items; arcs = arcs.items }) result }
+    {
+        if !is_within_limits(resources, &jobs) {
+            return Err(NetFault::Limit);
+        }
+        if !are_numbers(&arcs, jobs.len()) {
+            return Err(NetFault::BadJob);
+        }
+        let arcs = sorted(arcs);
+        match topological(alloc, &arcs, jobs.len()) {
+            Ok(topological) => Ok(Network {
+                resources,
+                jobs,
+                arcs,
+                topological,
+            }),
+            Err(fault) => Err(fault),
+        }
+    }
+
+    /// How many jobs there are: 1 to 512.
+    pub fn job_count(&self) -> usize
+        ensures count { result ≡ length self.now.jobs }
+        ensures sound { IsSound self.now }
+    {
+        self.jobs.len()
+    }
+
+    /// How many resources there are: 1 to 16.
+    pub fn resource_count(&self) -> usize
+        ensures count { result ≡ self.now.resources }
+        ensures sound { IsSound self.now }
+    {
+        self.resources
+    }
+
+    /// How many time units the job at place `i` runs.
+    #[tactic(auto, unfolding(crate::specs::Project::duration))]
+    pub fn duration(&self, i: usize) -> u32
+        requires { i < length self.now.jobs }
+        ensures { result ≡ duration self.now i }
+    {
+        self.jobs[i].duration()
+    }
+
+    /// How many units of the resource at place `k` the job at place `i` uses while it runs.
+    #[tactic(auto, unfolding(crate::specs::Project::request))]
+    pub fn request(&self, i: usize, k: usize) -> u32
+        requires job { i < length self.now.jobs }
+        requires resource { k < self.now.resources }
+        ensures { result ≡ request self.now i k }
+    {
+        self.jobs[i].requests()[k]
+    }
+
+    /// The precedence relation: pairs of job numbers, from 1, each once and in rising order.
+    pub fn arcs(&self) -> &[(u32, u32)]
+        ensures arcs { result.now ≡ self.now.arcs }
+        ensures sound { IsSound self.now }
+    {
+        &self.arcs
+    }
+
+    /// The same relation as pairs of places, from 0, in topological order: no pair leads into a job that it or an earlier
+    /// pair leaves. So one sweep over them settles early starts, and one from the end late starts.
+    pub fn topological_arcs(&self) -> &[(u32, u32)]
+        ensures order { IsTopological self.now result.now }
+        ensures sound { IsSound self.now }
+    {
+        &self.topological
+    }
+}
+
+/// Whether a job has a request for each resource, and its numbers are in their ranges.
+fn is_job_within(job: &Job, resources: usize) -> bool
+    ensures { IsTrue result ↔ IsJobWithinLimits resources job.now }
+{
+    job.duration() <= MOST_DURATION
+        && job.requests().len() == resources
+        && job.requests().iter().all(|x| *x <= MOST_REQUEST)
+}
+
+/// Whether there is a right number of resources and jobs, and each job is within its limits.
+fn is_within_limits(resources: usize, jobs: &[Job]) -> bool
+    ensures { IsTrue result ↔ IsWithinLimits resources jobs.now }
+{
+    1 <= resources
+        && resources <= MOST_RESOURCES
+        && 1 <= jobs.len()
+        && jobs.len() <= MOST_JOBS
+        && jobs.iter().all(|job| is_job_within(job, resources))
+}

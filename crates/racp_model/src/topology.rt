@@ -1,0 +1,153 @@
+//! Ranks of the jobs along their pairs, and the pairs in topological order.
+
+ghost use Rattle.std.specs.Prelude.{◌≡◌, ℕ, ◌<◌, ◌≤◌, ◌↔◌, IsTrue, IsFalse, IfOk, length, slice_index};
+ghost use Rattle.racp_model.specs.Project.{AreNumbers};
+ghost use Rattle.racp_model.specs.Topology.{from_at, to_at, RisesAlong, IsRankable, AreBelow, ArePairsOf, AreByRank, IsOrdered, IsSortedSet, IsSwept};
+
+use crate::fault::NetFault;
+use crate::network::MOST_JOBS;
+use std::alloc::{AllocError, Global};
+
+/// Whether each pair names two of so many jobs.
+pub fn are_numbers(arcs: &[(u32, u32)], count: usize) -> bool
+    ensures { IsTrue result ↔ AreNumbers count arcs.now }
+{
+    arcs.iter().all(|arc| 1 <= arc.0
+        && arc.0 as usize <= count
+        && 1 <= arc.1
+        && arc.1 as usize <= count)
+}
+
+/// The same pairs, each once and in rising order. Takes no memory.
+pub fn sorted(arcs: Vec<(u32, u32)>) -> Vec<(u32, u32)>
+    ensures { IsSortedSet arcs.items result.items }
+{
+    let mut arcs = arcs;
+    arcs.sort_unstable();
+    arcs.dedup();
+    arcs
+}
+
+/// The pairs by places, in topological order. Only the result takes memory, so that a ring is found without any.
+pub fn topological(
+    alloc: Global,
+    arcs: &[(u32, u32)],
+    count: usize,
+) -> Result<Vec<(u32, u32)>, NetFault>
+    requires numbers { AreNumbers count arcs.now }
+    requires some { 0 < count }
+    requires most { count ≤ 512 }
+    ensures { IsOrdered arcs.now result }
+{
+    let mut rank = [0; MOST_JOBS];
+    ordered(alloc, arcs, &mut rank[..count])
+}
+
+/// The pairs by places, in topological order, with a row of zeros to rank the jobs in.
+fn ordered(
+    alloc: Global,
+    arcs: &[(u32, u32)],
+    rank: &mut [u32],
+) -> Result<Vec<(u32, u32)>, NetFault>
+    requires numbers { AreNumbers (length rank.old) arcs.now }
+    requires some { 0 < length rank.old }
+    requires clear { (i : ℕ) → slice_index rank.old i ≡ 0 }
+    requires small { length rank.old ≤ 512 }
+    ensures { IsOrdered arcs.now result }
+{
+    if !rank_jobs(arcs, rank) {
+        return Err(NetFault::Cycle);
+    }
+    match by_rank(alloc, arcs, rank) {
+        Ok(pairs) => Ok(pairs),
+        Err(_) => Err(NetFault::Memory),
+    }
+}
+
+/// Ranks the jobs so that the rank rises along each pair, and says whether that can be done.
+fn rank_jobs(arcs: &[(u32, u32)], rank: &mut [u32]) -> bool
+    requires numbers { AreNumbers (length rank.old) arcs.now }
+    requires some { 0 < length rank.old }
+    requires clear { (i : ℕ) → slice_index rank.old i ≡ 0 }
+    requires small { length rank.old ≤ 512 }
+    ensures rises { IsTrue result → RisesAlong arcs.now (slice_index rank.new) }
+    ensures ring { IsFalse result → IsRankable arcs.now → ⊥ }
+{
+    'sweeps: loop {
+        match raise_ranks(arcs, rank) {
+            Sweep::Settled => return true,
+            Sweep::Ring => return false,
+            Sweep::Raised => {}
+        }
+    }
+}
+
+/// What a sweep over the pairs found.
+enum Sweep {
+    /// The ranks rise along each pair.
+    Settled,
+    /// Some rank was raised.
+    Raised,
+    /// A rank would have to reach the number of jobs, so some job waits for itself.
+    Ring,
+}
+
+/// Raises the rank of the second job of each pair above that of the first, in one sweep.
+fn raise_ranks(arcs: &[(u32, u32)], rank: &mut [u32]) -> Sweep
+    requires numbers { AreNumbers (length rank.old) arcs.now }
+    requires below { AreBelow (length rank.old) rank.old }
+    requires small { length rank.old ≤ 512 }
+    ensures { IsSwept arcs.now rank.old rank.new result }
+{
+    let mut raised = false;
+    for k in 0..arcs.len() {
+        let (from, to) = ends_at(arcs, k, rank.len());
+        if rank[to] <= rank[from] {
+            if rank[from] as usize + 1 == rank.len() {
+                return Sweep::Ring;
+            }
+            rank[to] = rank[from] + 1;
+            raised = true;
+        }
+    }
+    if raised { Sweep::Raised } else { Sweep::Settled }
+}
+
+/// The places of the two jobs that a pair names.
+#[tactic(auto, unfolding(crate::specs::Topology::from_at, crate::specs::Topology::to_at))]
+fn ends_at(arcs: &[(u32, u32)], k: usize, count: usize) -> (usize, usize)
+    requires place { k < length arcs.now }
+    requires numbers { AreNumbers count arcs.now }
+    ensures from { result.0 ≡ from_at arcs.now k }
+    ensures to { result.1 ≡ to_at arcs.now k }
+    ensures from_in { result.0 < count }
+    ensures to_in { result.1 < count }
+{
+    let (from, to) = arcs[k];
+    (from as usize - 1, to as usize - 1)
+}
+
+/// The pairs by places, by rising rank of the first job.
+fn by_rank(alloc: Global, arcs: &[(u32, u32)], rank: &[u32]) -> Result<Vec<(u32, u32)>, AllocError>
+    requires numbers { AreNumbers (length rank.now) arcs.now }
+    requires small { length rank.now ≤ 512 }
+    ensures { IfOk result (λ pairs. AreByRank arcs.now rank.now pairs.items) }
+{
+    let mut pairs = places(alloc, arcs, rank.len())?;
+    pairs.sort_unstable_by_key(|pair| rank.get(pair.0 as usize).copied().unwrap_or(0));
+    Ok(pairs)
+}
+
+/// The pairs by places.
+fn places(alloc: Global, arcs: &[(u32, u32)], count: usize) -> Result<Vec<(u32, u32)>, AllocError>
+    requires numbers { AreNumbers count arcs.now }
+    requires small { count ≤ 512 }
+    ensures { IfOk result (λ pairs. ArePairsOf arcs.now pairs.items) }
+{
+    let mut pairs = Vec::with_capacity(alloc, arcs.len())?;
+    for k in 0..arcs.len() {
+        let (from, to) = ends_at(arcs, k, count);
+        pairs.push((from as u32, to as u32))?;
+    }
+    Ok(pairs)
+}

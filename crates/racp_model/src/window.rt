@@ -1,0 +1,59 @@
+ghost use Rattle.std.specs.Prelude.{◌≡◌, ◌≤◌, All};
+ghost use Rattle.racp_model.specs.Window.{Bounds};
+
+use crate::starts::Starts;
+use std::marker::Model;
+
+/// A time window for each job: a lower and an upper bound on its start. Lower bounds are at most 20,000,000, upper bounds
+/// at most 10,000,000.
+#[derive(Debug, Clone, Drop)]
+pub struct Window {
+    lower: Starts,
+    upper: Starts,
+}
+
+impl Model for Window {
+    ghost use Rattle.std.specs.Prelude.{◌≤◌, All};
+    ghost use Rattle.racp_model.specs.Window.{Bounds};
+
+    ghost Value = { Bounds };
+
+    ghost view = { λ window. record { lower = window.lower; upper = window.upper } };
+
+    ghost invariant = { λ window. All (λ x. x ≤ 20000000) window.lower × All (λ x. x ≤ 10000000) window.upper };
+}
+
+impl Window {
+    /// The window of these bounds. Takes no memory.
+    pub fn new(lower: Starts, upper: Starts) -> Self
+        requires lower { All (λ x. x ≤ 20000000) lower }
+        requires upper { All (λ x. x ≤ 10000000) upper }
+        ensures { result ≡ record { lower = lower; upper = upper } }
+    {
+        Window { lower, upper }
+    }
+
+    /// The lower bounds, by place.
+    pub fn lower(&self) -> &[u32]
+        ensures bounds { result.now ≡ self.now.lower }
+        ensures small { All (λ x. x ≤ 20000000) self.now.lower }
+    {
+        self.lower.as_slice()
+    }
+
+    /// The upper bounds, by place.
+    pub fn upper(&self) -> &[u32]
+        ensures bounds { result.now ≡ self.now.upper }
+        ensures small { All (λ x. x ≤ 10000000) self.now.upper }
+    {
+        self.upper.as_slice()
+    }
+
+    /// Gives the bounds back, the lower ones first. Takes no memory.
+    pub fn into_bounds(self) -> (Starts, Starts)
+        ensures lower { result.0 ≡ self.lower }
+        ensures upper { result.1 ≡ self.upper }
+    {
+        (self.lower, self.upper)
+    }
+}
