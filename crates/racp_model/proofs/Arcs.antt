@@ -1,8 +1,10 @@
-use Rattle.std.proofs.Common.{◌≡◌, ℕ, ◌+◌, ◌-◌, ◌<◌, List, length, slice_index, slice_index_or, arith, subst, ap, ◌∙◌, Contains}
+use Rattle.std.proofs.Common.{◌≡◌, ℕ, ◌+◌, ◌-◌, ◌<◌, ◌++◌, [], ◌∷◌, List, below_more, length, slice_index, slice_index_or, arith, subst, ap, ◌∙◌, Contains}
 use Rattle.std.proofs.lemmas.List.{get_or_default}
-use Rattle.std.proofs.lemmas.List.Elements.{Contains-get_or}
+use Rattle.std.specs.List.Sorted.{IsPermutation}
+use Rattle.std.proofs.lemmas.List.Elements.{Contains-get_or, Contains-append_left, Contains-push, All-push, All-from_get_or}
+use Rattle.std.proofs.lemmas.List.Sorted.{Contains-permutation, All-permutation}
 use Rattle.racp_model.specs.Project.{Project, Precedes, AreNumbers, IsNumber, IsSound, Rises}
-use Rattle.racp_model.specs.Topology.{IsTopological, from_at, to_at, RisesAlong, AreByRank, AreInOrder}
+use Rattle.racp_model.specs.Topology.{IsTopological, from_at, to_at, RisesAlong, IsPairOf, ArePairsOf, AreByRank, AreInOrder}
 
 pub from_at-below : (arcs : List (ℕ × ℕ)) (n k : ℕ) → AreNumbers n arcs → k < length arcs → from_at arcs k < n
 unfolding from_at
@@ -84,3 +86,25 @@ pub precedes_in : (p : Project) (i j : ℕ) → IsSound p → Precedes p i j →
 precedes_in p i j sound c =
     let h : IsNumber (length p.jobs) (slice_index_or p.arcs c.0 (i + 1, j + 1)).0 × IsNumber (length p.jobs) (slice_index_or p.arcs c.0 (i + 1, j + 1)).1 = sound.named c.0 (i + 1, j + 1) c.1 in
     (omega (arith, h.0.1, ap (λ (a : ℕ × ℕ). a.0) c.2), omega (arith, h.1.1, ap (λ (a : ℕ × ℕ). a.1) c.2))
+
+-- the first k pairs, by places
+pub record ArePairsBelow (arcs : List (ℕ × ℕ)) (k : ℕ) (pairs : List (ℕ × ℕ)) : Type 0 where
+  pub only : (q : ℕ) → q < length pairs → IsPairOf arcs (slice_index_or pairs q (0, 0))
+  pub all : (m : ℕ) → m < k → Contains pairs (from_at arcs m, to_at arcs m)
+
+pub pairs_below-push : (arcs : List (ℕ × ℕ)) (k from to : ℕ) (pairs next : List (ℕ × ℕ)) → ArePairsBelow arcs k pairs → k < length arcs → from ≡ from_at arcs k → to ≡ to_at arcs k → next ≡ pairs ++ (from, to) ∷ []
+    → ArePairsBelow arcs (k + 1) next
+pairs_below-push arcs k from to pairs next h l ef et grown =
+    let new : ℕ × ℕ = (from, to) in
+    rw grown (record {
+      only = λ q o. All-push (IsPairOf arcs) pairs new (All-from_get_or (IsPairOf arcs) pairs (0, 0) h.only) (k, l, ef, et) q (0, 0) o;
+      all = below_more (λ m. Contains (pairs ++ new ∷ []) (from_at arcs m, to_at arcs m)) k
+          (λ m o. Contains-append_left pairs (new ∷ []) (from_at arcs m, to_at arcs m) (h.all m o)) (rw (← ef, ← et) (Contains-push pairs new));
+    })
+
+-- pairs in another order
+pub pairs_moved : (arcs old new : List (ℕ × ℕ)) → ArePairsOf arcs old → IsPermutation old new → ArePairsOf arcs new
+pairs_moved arcs old new h moved = record {
+  only = λ q l. All-permutation (IsPairOf arcs) old new moved (All-from_get_or (IsPairOf arcs) old (0, 0) h.only) q (0, 0) l;
+  all = λ m l. Contains-permutation old new (from_at arcs m, to_at arcs m) moved (h.all m l);
+}

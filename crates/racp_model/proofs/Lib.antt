@@ -1,6 +1,12 @@
 pub mod Sums
+pub mod Zeros
 pub mod Latest
 pub mod Arcs
-pub mod Orders
+pub mod Ranking
 pub mod Raising
+pub mod Sorting
+pub mod Orders
+pub mod Cuts
+pub mod Relations
 pub mod Rings
+pub mod Making

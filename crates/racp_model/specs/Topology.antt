@@ -1,5 +1,5 @@
 -- Ranks of the jobs along their pairs, and the pairs in topological order.
-use Rattle.std.specs.Prelude.{◌≡◌, ◌≢◌, ◌↔◌, ℕ, ◌+◌, ◌-◌, ◌<◌, ◌≤◌, nat_lt, if◌then◌else◌, List, length, slice_index, slice_index_or, Contains, Result, Ok, Err, Vec, AllPairs}
+use Rattle.std.specs.Prelude.{◌≡◌, ◌≢◌, ◌↔◌, ℕ, ◌-◌, ◌<◌, ◌≤◌, nat_lt, if◌then◌else◌, List, length, slice_index, slice_index_or, Contains, Result, Ok, Err, Vec, AllPairs}
 use Rattle.std.specs.Global.{Global}
 use Rattle.racp_model.specs.Project.{Project, Precedes, IsArcBefore}
 use Rattle.racp_model.specs.Schedule.{sum_below}

@@ -110,7 +110,11 @@ fn raise_ranks(arcs: &[(u32, u32)], rank: &mut [u32]) -> Sweep
             raised = true;
         }
     }
-    if raised { Sweep::Raised } else { Sweep::Settled }
+    if raised {
+        Sweep::Raised
+    } else {
+        Sweep::Settled
+    }
 }
 
 /// The places of the two jobs that a pair names.

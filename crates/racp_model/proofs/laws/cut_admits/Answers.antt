@@ -1,0 +1,5 @@
+use Rattle.racp_model.proofs.Cuts.{cut_admitting}
+use Rattle.racp_model.proofs.laws.cut_admits.Goals as goal
+
+pub returns : goal.returns
+returns c = cut_admitting

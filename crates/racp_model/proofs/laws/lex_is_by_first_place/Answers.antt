@@ -1,0 +1,5 @@
+use Rattle.racp_model.proofs.Orders.{lex_first}
+use Rattle.racp_model.proofs.laws.lex_is_by_first_place.Goals as goal
+
+pub returns : goal.returns
+returns c = lex_first

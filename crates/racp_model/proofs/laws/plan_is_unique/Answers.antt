@@ -1,0 +1,5 @@
+use Rattle.racp_model.proofs.Orders.{plan_unique}
+use Rattle.racp_model.proofs.laws.plan_is_unique.Goals as goal
+
+pub returns : goal.returns
+returns c = plan_unique

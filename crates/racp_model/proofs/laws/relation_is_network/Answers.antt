@@ -1,0 +1,5 @@
+use Rattle.racp_model.proofs.Relations.{same_network}
+use Rattle.racp_model.proofs.laws.relation_is_network.Goals as goal
+
+pub returns : goal.returns
+returns c = same_network

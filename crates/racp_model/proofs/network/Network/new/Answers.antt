@@ -1,0 +1,36 @@
+use Rattle.std.proofs.Common.{◌≡◌, ℕ, List, length, refl, Ok, Err, subst}
+use Rattle.std.proofs.lemmas.Grind.{common_steps}
+use Rattle.std.proofs.Common.{arith}
+use Rattle.racp_model.specs.Project.{Project, IsWithinLimits, AreNumbers}
+use Rattle.racp_model.specs.Topology.{IsOrdered}
+use Rattle.racp_model.proofs.Making.{tidy_numbers, tidy_same, tidy_network, tidy_fault}
+use Rattle.racp_model.proofs.network.Network.new.Goals as goal
+
+pub topological-requires-clause-numbers : goal.topological-requires-clause-numbers
+topological-requires-clause-numbers c =
+    let count : c.len.result ≡ c.len-2.result = grind (arith, common_steps) in
+    let numbers : AreNumbers c.len-2.result c.args.arcs.items = rw (← count, ← c.deref-2.ensures.value) (c.if-not-are_numbers.ensures.0 refl) in
+    rw c.deref-3.ensures.value (tidy_numbers c.len-2.result c.args.arcs.items c.sorted-arcs.result.items numbers c.sorted-arcs.ensures)
+
+pub invariant_of-result : goal.invariant_of-result
+invariant_of-result c =
+    let limits : IsWithinLimits c.args.resources c.args.jobs.items = rw (← c.deref.ensures.value) (c.if-not-is_within_limits.ensures.0 refl) in
+    let count : c.len.result ≡ length c.args.jobs.items = grind (arith, common_steps) in
+    let numbers : AreNumbers (length c.args.jobs.items) c.args.arcs.items = rw (← count, ← c.deref-2.ensures.value) (c.if-not-are_numbers.ensures.0 refl) in
+    let P : List (ℕ × ℕ) → Type 0 = λ arcs. IsOrdered arcs (Ok c.in-Ok.topological) in
+    let given : Project = record { resources = c.args.resources; jobs = c.args.jobs.items; arcs = c.args.arcs.items } in
+    tidy_network given c.sorted-arcs.result.items c.in-Ok.topological limits numbers c.sorted-arcs.ensures (subst P c.deref-3.ensures.value c.in-Ok.ensures)
+
+pub returns-in-Ok : goal.returns-in-Ok
+returns-in-Ok c =
+    let given : Project = record { resources = c.args.resources; jobs = c.args.jobs.items; arcs = c.args.arcs.items } in
+    (tidy_same given c.sorted-arcs.result.items c.sorted-arcs.ensures, (invariant_of-result c).0)
+
+pub returns-in-Err : goal.returns-in-Err
+returns-in-Err c =
+    let limits : IsWithinLimits c.args.resources c.args.jobs.items = rw (← c.deref.ensures.value) (c.if-not-is_within_limits.ensures.0 refl) in
+    let count : c.len.result ≡ length c.args.jobs.items = grind (arith, common_steps) in
+    let numbers : AreNumbers (length c.args.jobs.items) c.args.arcs.items = rw (← count, ← c.deref-2.ensures.value) (c.if-not-are_numbers.ensures.0 refl) in
+    let P : List (ℕ × ℕ) → Type 0 = λ arcs. IsOrdered arcs (Err c.in-Err.fault) in
+    let given : Project = record { resources = c.args.resources; jobs = c.args.jobs.items; arcs = c.args.arcs.items } in
+    tidy_fault given c.sorted-arcs.result.items c.in-Err.fault limits numbers c.sorted-arcs.ensures (subst P c.deref-3.ensures.value c.in-Err.ensures)

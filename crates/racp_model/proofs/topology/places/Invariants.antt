@@ -1,0 +1,5 @@
+use Rattle.racp_model.proofs.Arcs.{ArePairsBelow}
+use Rattle.racp_model.proofs.topology.places.Given as goal
+
+abbrev pub invariant-loop-k : goal.invariant-loop-k
+invariant-loop-k l = ArePairsBelow l.arcs l.k l.pairs.items
