@@ -22,3 +22,6 @@ pub use network::Network;
 pub use question::Question;
 pub use starts::Starts;
 pub use window::Window;
+
+#[cfg(test)]
+mod tests;
