@@ -1,12 +1,11 @@
-pub mod Sums
-pub mod Zeros
-pub mod Latest
-pub mod Arcs
-pub mod Ranking
-pub mod Raising
-pub mod Sorting
-pub mod Orders
-pub mod Cuts
-pub mod Relations
-pub mod Rings
-pub mod Making
+pub mod lemmas
+mod Zeros
+mod Latest
+mod Topological
+mod Raising
+mod Sorting
+mod Orders
+mod Cuts
+mod Relations
+mod Rings
+mod Making

@@ -8,7 +8,8 @@ use Rattle.racp_model.specs.Topology.{IsTopological, IsOrdered, IsSortedSet}
 use Rattle.racp_model.specs.Made.{IsSameProject, IsMade}
 use Rattle.racp_model.specs.declared.fault.NetFault.{NetFault}
 use Rattle.racp_model.specs.declared.fault.NetFault.TheVariants.{Limit, BadJob, Cycle, Memory}
-use Rattle.racp_model.proofs.Arcs.{rises_on, rises_along, topological}
+use Rattle.racp_model.proofs.lemmas.Arcs.{rises_on, rises_along}
+use Rattle.racp_model.proofs.Topological.{topological}
 use Rattle.racp_model.proofs.Rings.{ranking_or_ring}
 
 -- the project with its pairs sorted and without repetition

@@ -1,25 +1,13 @@
 -- A sweep over the pairs that raises ranks.
-use Rattle.std.proofs.Common.{◌≡◌, ◌≢◌, ℕ, ◌+◌, ◌*◌, ◌-◌, ◌<◌, ◌≤◌, ◌⊎◌, inl, inr, Bool, true, false, List, length, slice_index, set, arith, ap, refl, ◌∙◌, subst, below_more, get_or-set_same, get_or-set_other}
-use Rattle.std.proofs.lemmas.Bool.{cases_lt}
+use Rattle.std.proofs.Common.{◌≡◌, ◌≢◌, ℕ, ◌+◌, ◌*◌, ◌-◌, ◌<◌, ◌≤◌, inl, inr, Bool, true, false, List, length, slice_index, set, arith, ap, refl, ◌∙◌, subst, below_more, get_or-set_same}
 use Rattle.std.proofs.Math.ListN.{length-set}
 use Rattle.racp_model.specs.Project.{AreNumbers}
 use Rattle.racp_model.specs.Schedule.{sum_below}
 use Rattle.racp_model.specs.Topology.{from_at, to_at, RisesAlong, IsLowUnder, AreBelow, lower_count, total, IsRaised}
-use Rattle.racp_model.proofs.Sums.{sum_below-lt, sum_below-bound}
-use Rattle.racp_model.proofs.Arcs.{from_at-below, to_at-below}
-use Rattle.racp_model.proofs.Ranking.{lower_count-rises, lower_count-below}
-
--- a place after a write: the new value, or the old one
-pub at_set : (xs : List ℕ) (j v i : ℕ) → j < length xs → ((i ≡ j) × (slice_index (set xs j v) i ≡ v)) ⊎ ((i ≢ j) × (slice_index (set xs j v) i ≡ slice_index xs i))
-at_set xs j v i l = elim (cases_lt i j) [
-  | inl low ↦ let ne : i ≢ j = omega arith in inr (ne, get_or-set_other xs j i v 0 ne)
-  | inr high ↦ elim (cases_lt j i) [
-    | inl up ↦ let ne : i ≢ j = omega arith in inr (ne, get_or-set_other xs j i v 0 ne)
-    | inr down ↦
-        let e : i ≡ j = omega arith in
-        inl (e, ap (slice_index (set xs j v)) e ∙ get_or-set_same xs j v 0 l)
-  ]
-]
+use Rattle.racp_model.proofs.lemmas.Sums.{sum_below-lt, sum_below-bound}
+use Rattle.racp_model.proofs.lemmas.Arcs.{from_at-below, to_at-below}
+use Rattle.racp_model.proofs.lemmas.Lists.{at_set}
+use Rattle.racp_model.proofs.lemmas.Ranking.{lower_count-rises, lower_count-below}
 
 -- the ranks after the pairs before k
 pub record IsSweeping (arcs : List (ℕ × ℕ)) (old : List ℕ) (k : ℕ) (raised : Bool) (rank : List ℕ) : Type 0 where

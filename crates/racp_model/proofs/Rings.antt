@@ -6,7 +6,7 @@ use Rattle.std.proofs.lemmas.Bool.{cases_lt}
 use Rattle.racp_model.specs.Project.{Project, Precedes, AreNumbers, IsAcyclic, Rises}
 use Rattle.racp_model.specs.Path.{IsChain, HasRing}
 use Rattle.racp_model.specs.Topology.{from_at, to_at}
-use Rattle.racp_model.proofs.Arcs.{to_at-below, at_precedes, rises_on}
+use Rattle.racp_model.proofs.lemmas.Arcs.{to_at-below, at_precedes, rises_on}
 
 -- the rank rises from the first job of a chain to the last
 pub chain_rises : (p : Project) (rank : ℕ → ℕ) → Rises p rank → (a b : ℕ) (rest : List ℕ) → IsChain p (a ∷ (rest ++ b ∷ [])) → rank a < rank b

@@ -76,7 +76,7 @@ fn is_within(net: &Network, starts: &[u32], k: usize, most: u32) -> bool
 }
 
 /// What all jobs use of a resource at a time.
-#[tactic(auto, using(crate::proofs::Sums::sums))]
+#[tactic(auto, using(crate::proofs::lemmas::Sums::sums))]
 fn usage_at(net: &Network, starts: &[u32], k: usize, time: u32) -> u64
     requires starts { length starts.now ≡ length net.now.jobs }
     requires resource { k < net.now.resources }

@@ -1,6 +1,6 @@
 use Rattle.std.proofs.Common.{ℕ, ◌+◌, ◌≤◌, slice_index, arith, refl}
 use Rattle.racp_model.specs.Project.{duration}
-use Rattle.racp_model.proofs.Arcs.{each_by_arcs}
+use Rattle.racp_model.proofs.lemmas.Arcs.{each_by_arcs}
 use Rattle.racp_model.proofs.fitting.keep_precedence.Goals as goal
 
 pub returns-then-starts-j : goal.returns-then-starts-j

@@ -1,6 +1,6 @@
 use Rattle.std.proofs.Common.{ℕ, rules, slice_index}
 use Rattle.std.proofs.lemmas.List.Sorted.{IsNonDecreasingBy-from_sort_by_key}
-use Rattle.racp_model.proofs.Arcs.{pairs_moved}
+use Rattle.racp_model.proofs.Topological.{pairs_moved}
 use Rattle.racp_model.proofs.topology.by_rank.Goals as goal
 
 pub returns : goal.returns

@@ -1,5 +1,5 @@
 use Rattle.std.proofs.Common.{slice_index, refl}
-use Rattle.racp_model.proofs.Arcs.{in_order}
+use Rattle.racp_model.proofs.Topological.{in_order}
 use Rattle.racp_model.proofs.topology.ordered.Goals as goal
 
 pub returns-in-Ok : goal.returns-in-Ok

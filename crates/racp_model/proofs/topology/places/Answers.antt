@@ -1,5 +1,5 @@
 use Rattle.std.proofs.Common.{arith}
-use Rattle.racp_model.proofs.Arcs.{pairs_below-push}
+use Rattle.racp_model.proofs.Topological.{pairs_below-push}
 use Rattle.racp_model.proofs.topology.places.Goals as goal
 
 pub loop-k-preserved : goal.loop-k-preserved

@@ -1,4 +1,4 @@
-use Rattle.racp_model.proofs.Arcs.{ArePairsBelow}
+use Rattle.racp_model.proofs.Topological.{ArePairsBelow}
 use Rattle.racp_model.proofs.topology.places.Given as goal
 
 abbrev pub invariant-loop-k : goal.invariant-loop-k

@@ -3,7 +3,7 @@ use Rattle.std.proofs.Common.{◌≡◌, ℕ, ◌<◌, ◌≤◌, inl, inr, arit
 use Rattle.std.proofs.lemmas.Bool.{cases_lt}
 use Rattle.std.proofs.lemmas.Bool.Decides.{nat_tests}
 use Rattle.racp_model.specs.Topology.{is_lower, lower_count}
-use Rattle.racp_model.proofs.Sums.{sum_below-lt, sum_below-bound}
+use Rattle.racp_model.proofs.lemmas.Sums.{sum_below-lt, sum_below-bound}
 
 pub is_lower-most : (rank : ℕ → ℕ) (i j : ℕ) → is_lower rank i j ≤ 1
 unfolding is_lower

@@ -1,0 +1,63 @@
+-- Last ends and first late jobs: that there are some, and what they say of the critical length.
+use Rattle.std.proofs.Common.{◌≡◌, ℕ, zero, suc, ◌+◌, ◌-◌, ◌<◌, ◌≤◌, ◌⊎◌, inl, inr, List, length, slice_index, arith, subst}
+use Rattle.std.proofs.lemmas.Bool.{cases_lt}
+use Rattle.racp_model.specs.Project.{Project, IsSound, duration}
+use Rattle.racp_model.specs.Path.{IsEarly, IsCriticalLength, IsFirstLate}
+use Rattle.racp_model.proofs.lemmas.Lists.{below_suc}
+use Rattle.racp_cpm.specs.Ends.{IsLastEnd, HasNoRoot}
+use Rattle.racp_cpm.proofs.Paths.{critical_is}
+
+-- of one value or more there is a greatest
+pub greatest : (f : ℕ → ℕ) (n : ℕ) → (i : ℕ) × (i < suc n) × ((j : ℕ) → j < suc n → f j ≤ f i)
+greatest f zero = (0, omega arith, below_suc (λ j. f j ≤ f 0) 0 (λ j l. absurd (omega arith)) (omega arith))
+greatest f (suc n) =
+    let best = greatest f n in
+    elim (cases_lt (f best.0) (f (suc n))) [
+      | inl more ↦ (suc n, omega arith, below_suc (λ j. f j ≤ f (suc n)) (suc n) (λ j l. omega (arith, best.2 j l, more)) (omega arith))
+      | inr less ↦ (best.0, omega (arith, best.1), below_suc (λ j. f j ≤ f best.0) (suc n) best.2 less)
+    ]
+
+-- one job ends last
+pub some_last_end : (p : Project) (starts : List ℕ) → IsSound p → (last : ℕ) × IsLastEnd p starts last
+some_last_end p starts sound =
+    let best = greatest (λ (i : ℕ). slice_index starts i + duration p i) (length p.jobs - 1) in
+    let all : suc (length p.jobs - 1) ≡ length p.jobs = omega (arith, sound.limits.some_job) in (
+      slice_index starts best.0 + duration p best.0,
+      record { some = (best.0, omega (arith, all, best.1), omega arith); most = λ i l. best.2 i (omega (arith, all)) },
+    )
+
+-- there is one critical length
+pub critical-unique : (p : Project) (release : ℕ → ℕ) (a b : ℕ) → IsCriticalLength p release a → IsCriticalLength p release b → a ≡ b
+critical-unique p release a b h k = omega (arith, k.most h.some.0 h.some.1, h.some.2, h.most k.some.0 k.some.1, k.some.2)
+
+-- the critical length is the end of the last early start
+pub last_is : (p : Project) (release : ℕ → ℕ) (early : List ℕ) (critical : ℕ) → IsSound p → IsEarly p release early → IsCriticalLength p release critical → IsLastEnd p early critical
+last_is p release early critical sound h c =
+    let last = some_last_end p early sound in
+    subst (IsLastEnd p early) (critical-unique p release last.0 critical (critical_is p release early last.0 sound h last.1) c) last.1
+
+-- each of the first n jobs ends in time, or there is a first that does not
+pub late_cases : (p : Project) (due : ℕ → ℕ) (starts : List ℕ) (n : ℕ) → n ≤ length p.jobs → ((i : ℕ) → i < n → slice_index starts i + duration p i ≤ due i) ⊎ ((i : ℕ) × IsFirstLate p due starts i)
+late_cases p due starts zero l = inl (λ i o. absurd (omega arith))
+late_cases p due starts (suc n) l = elim (late_cases p due starts n (omega arith)) [
+  | inr some ↦ inr some
+  | inl none ↦ elim (cases_lt (due n) (slice_index starts n + duration p n)) [
+    | inl late ↦ inr (n, record { job = omega arith; late = late; first = none })
+    | inr ends ↦ inl (below_suc (λ i. slice_index starts i + duration p i ≤ due i) n none ends)
+  ]
+]
+
+-- with one deadline, a late job shows that the critical length exceeds it
+pub no_root-long : (p : Project) (release : ℕ → ℕ) (critical deadline : ℕ) → IsSound p → IsCriticalLength p release critical → HasNoRoot p release (λ _. deadline) → deadline < critical
+no_root-long p release critical deadline sound c none =
+    omega (arith, none.3.late, (last_is p release none.0 critical sound none.1 c).most none.2 none.3.job)
+
+-- and where it does, some job is late
+pub long-no_root : (p : Project) (release : ℕ → ℕ) (early : List ℕ) (critical deadline : ℕ) → IsSound p → IsEarly p release early → IsCriticalLength p release critical
+    → deadline < critical → HasNoRoot p release (λ _. deadline)
+long-no_root p release early critical deadline sound h c long = elim (late_cases p (λ _. deadline) early (length p.jobs) (omega arith)) [
+  | inr some ↦ (early, h, some.0, some.1)
+  | inl none ↦
+      let last = last_is p release early critical sound h c in
+      absurd (omega (arith, none last.some.0 last.some.1, last.some.2))
+]

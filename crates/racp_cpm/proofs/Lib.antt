@@ -1,0 +1,5 @@
+mod Raising
+mod Bounded
+mod Paths
+mod Lowering
+mod Ends

@@ -1,0 +1,63 @@
+ghost use Rattle.std.specs.Prelude.{◌≡◌, ℕ, ◌+◌, ◌<◌, ◌≤◌, All, IfOk, length, slice_index};
+ghost use Rattle.racp_model.specs.Project.{IsSound};
+ghost use Rattle.racp_model.specs.Path.{IsEarly, IsCriticalLength};
+ghost use Rattle.racp_cpm.specs.Ends.{IsLastEnd};
+
+use racp_model::{Network, Starts};
+use std::alloc::{AllocError, Global};
+
+/// The early starts: the least starts at or above the lower bounds that keep precedence. `lower` has a bound for each job,
+/// by place, of at most 20,000,000.
+pub fn early(alloc: Global, net: &Network, lower: &[u32]) -> Result<Starts, AllocError>
+    requires places { length lower.now ≡ length net.now.jobs }
+    requires small { All (λ x. x ≤ 20000000) lower.now }
+    ensures { IfOk result (IsEarly net.now (slice_index lower.now)) }
+{
+    let mut starts = Vec::from_slice(alloc, lower)?;
+    raise(net, &mut starts);
+    Ok(Starts::new(starts))
+}
+
+/// Raises each start to the end of the jobs before it, in one sweep.
+fn raise(net: &Network, starts: &mut [u32])
+    requires places { length starts.old ≡ length net.now.jobs }
+    requires small { All (λ x. x ≤ 20000000) starts.old }
+    ensures { IsEarly net.now (slice_index starts.old) starts.new }
+{
+    let arcs = net.topological_arcs();
+    for k in 0..arcs.len() {
+        let (i, j) = arcs[k];
+        let end = starts[i as usize] + net.duration(i as usize);
+        if starts[j as usize] < end {
+            starts[j as usize] = end;
+        }
+    }
+}
+
+/// The critical length: the greatest sum, over the chains of the precedence relation, of the release time of the first job
+/// and the durations of all. `release` has a time for each job, by place, of at most 20,000,000.
+pub fn longest(alloc: Global, net: &Network, release: &[u32]) -> Result<u64, AllocError>
+    requires places { length release.now ≡ length net.now.jobs }
+    requires small { All (λ x. x ≤ 20000000) release.now }
+    ensures { IfOk result (IsCriticalLength net.now (slice_index release.now)) }
+{
+    let starts = early(alloc, net, release)?;
+    Ok(last_end(net, starts.as_slice()))
+}
+
+/// When the last job ends.
+fn last_end(net: &Network, starts: &[u32]) -> u64
+    requires { length starts.now ≡ length net.now.jobs }
+    ensures last { IsLastEnd net.now starts.now result }
+    ensures sound { IsSound net.now }
+{
+    let count = net.job_count();
+    let mut last = starts[0] as u64 + net.duration(0) as u64;
+    for i in 1..count {
+        let end = starts[i] as u64 + net.duration(i) as u64;
+        if last < end {
+            last = end;
+        }
+    }
+    last
+}

@@ -1,0 +1,11 @@
+//! Early and late starts of a network, its critical length and its root window (the critical path method).
+#![tactic(auto)]
+
+mod earliest;
+mod latest;
+pub mod laws;
+mod root_window;
+
+pub use earliest::{early, longest};
+pub use latest::late;
+pub use root_window::{first_late, root};

@@ -1,0 +1,47 @@
+ghost use Rattle.std.specs.Prelude.{◌≡◌, ◌≤◌, All, IfOk, length, slice_index};
+ghost use Rattle.racp_cpm.specs.Ends.{IsRootAnswer, IsFirstLateAnswer};
+
+use crate::earliest::early;
+use crate::latest::late;
+use racp_model::{Network, Starts, Window};
+use std::alloc::{AllocError, Global};
+
+/// The root window: from the early starts at or above the release times to the late starts by the due times. `None` where
+/// some early start ends after its due time. Both lists have a time for each job, by place, of at most 10,000,000.
+pub fn root(
+    alloc: Global,
+    net: &Network,
+    release: &[u32],
+    due: &[u32],
+) -> Result<Option<Window>, AllocError>
+    requires release_places { length release.now ≡ length net.now.jobs }
+    requires release_small { All (λ x. x ≤ 10000000) release.now }
+    requires due_places { length due.now ≡ length net.now.jobs }
+    requires due_small { All (λ x. x ≤ 10000000) due.now }
+    ensures { IfOk result (IsRootAnswer net.now (slice_index release.now) (slice_index due.now)) }
+{
+    let lower = early(alloc, net, release)?;
+    if first_late(net, &lower, due).is_some() {
+        return Ok(None);
+    }
+    match late(alloc, net, due)? {
+        Some(upper) => Ok(Some(Window::new(lower, upper))),
+        None => unreachable!(),
+    }
+}
+
+/// The number, from 1, of the first job that ends after its due time, or `None` where each ends by it. `due` has a time for
+/// each job, by place. Takes no memory.
+pub fn first_late(net: &Network, starts: &Starts, due: &[u32]) -> Option<u32>
+    requires starts { length starts.now ≡ length net.now.jobs }
+    requires due { length due.now ≡ length net.now.jobs }
+    ensures { IsFirstLateAnswer net.now (slice_index due.now) starts.now result }
+{
+    let starts = starts.as_slice();
+    for i in 0..net.job_count() {
+        if (due[i] as u64) < starts[i] as u64 + net.duration(i) as u64 {
+            return Some(i as u32 + 1);
+        }
+    }
+    None
+}
