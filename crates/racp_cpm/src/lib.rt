@@ -9,3 +9,6 @@ mod root_window;
 pub use earliest::{early, longest};
 pub use latest::late;
 pub use root_window::{first_late, root};
+
+#[cfg(test)]
+mod tests;
