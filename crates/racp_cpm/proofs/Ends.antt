@@ -1,10 +1,12 @@
 -- Last ends and first late jobs: that there are some, and what they say of the critical length.
-use Rattle.std.proofs.Common.{◌≡◌, ℕ, zero, suc, ◌+◌, ◌-◌, ◌<◌, ◌≤◌, ◌⊎◌, inl, inr, List, length, slice_index, arith, subst}
+use Rattle.std.proofs.Common.{◌≡◌, ℕ, zero, suc, ◌+◌, ◌-◌, ◌<◌, ◌≤◌, inl, inr, List, length, slice_index, Some, None, arith, subst, refl}
 use Rattle.std.proofs.lemmas.Bool.{cases_lt}
 use Rattle.racp_model.specs.Project.{Project, IsSound, duration}
-use Rattle.racp_model.specs.Path.{IsEarly, IsCriticalLength, IsFirstLate}
+use Rattle.racp_model.specs.Path.{IsEarly, IsCriticalLength}
+use Rattle.racp_model.specs.Window.{Bounds, IsRootWindow}
 use Rattle.racp_model.proofs.lemmas.Lists.{below_suc}
 use Rattle.racp_cpm.specs.Ends.{IsLastEnd, HasNoRoot}
+use Rattle.racp_cpm.specs.Laws.{NoRootIsTooLong}
 use Rattle.racp_cpm.proofs.Paths.{critical_is}
 
 -- of one value or more there is a greatest
@@ -36,28 +38,18 @@ last_is p release early critical sound h c =
     let last = some_last_end p early sound in
     subst (IsLastEnd p early) (critical-unique p release last.0 critical (critical_is p release early last.0 sound h last.1) c) last.1
 
--- each of the first n jobs ends in time, or there is a first that does not
-pub late_cases : (p : Project) (due : ℕ → ℕ) (starts : List ℕ) (n : ℕ) → n ≤ length p.jobs → ((i : ℕ) → i < n → slice_index starts i + duration p i ≤ due i) ⊎ ((i : ℕ) × IsFirstLate p due starts i)
-late_cases p due starts zero l = inl (λ i o. absurd (omega arith))
-late_cases p due starts (suc n) l = elim (late_cases p due starts n (omega arith)) [
-  | inr some ↦ inr some
-  | inl none ↦ elim (cases_lt (due n) (slice_index starts n + duration p n)) [
-    | inl late ↦ inr (n, record { job = omega arith; late = late; first = none })
-    | inr ends ↦ inl (below_suc (λ i. slice_index starts i + duration p i ≤ due i) n none ends)
-  ]
-]
-
 -- with one deadline, a late job shows that the critical length exceeds it
 pub no_root-long : (p : Project) (release : ℕ → ℕ) (critical deadline : ℕ) → IsSound p → IsCriticalLength p release critical → HasNoRoot p release (λ _. deadline) → deadline < critical
 no_root-long p release critical deadline sound c none =
     omega (arith, none.3.late, (last_is p release none.0 critical sound none.1 c).most none.2 none.3.job)
 
--- and where it does, some job is late
-pub long-no_root : (p : Project) (release : ℕ → ℕ) (early : List ℕ) (critical deadline : ℕ) → IsSound p → IsEarly p release early → IsCriticalLength p release critical
-    → deadline < critical → HasNoRoot p release (λ _. deadline)
-long-no_root p release early critical deadline sound h c long = elim (late_cases p (λ _. deadline) early (length p.jobs) (omega arith)) [
-  | inr some ↦ (early, h, some.0, some.1)
-  | inl none ↦
-      let last = last_is p release early critical sound h c in
-      absurd (omega (arith, none last.some.0 last.some.1, last.some.2))
-]
+-- with one deadline, a root window shows that the critical length does not exceed it
+pub root-not_long : (p : Project) (release : ℕ → ℕ) (critical deadline : ℕ) (root : Bounds) → IsSound p → IsCriticalLength p release critical → IsRootWindow p release (λ _. deadline) root → critical ≤ deadline
+root-not_long p release critical deadline root sound c h =
+    let last = last_is p release root.lower critical sound h.early c in
+    omega (arith, h.ends last.some.0 last.some.1, last.some.2)
+
+-- so there is none exactly where the critical length exceeds the deadline
+pub no_root_exactly : NoRootIsTooLong
+no_root_exactly p release critical deadline None sound c h = (λ e. no_root-long p release critical deadline sound c h, λ long. refl)
+no_root_exactly p release critical deadline (Some root) sound c h = (λ e. cc, λ long. absurd (omega (arith, long, root-not_long p release critical deadline root sound c h)))

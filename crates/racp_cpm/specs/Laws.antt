@@ -1,10 +1,10 @@
 -- Laws of early and late starts, in the words of the field. Each is the contract of a public function.
-use Rattle.std.specs.Prelude.{◌≡◌, ◌↔◌, ℕ, ◌<◌, ◌≤◌, List, length, slice_index}
+use Rattle.std.specs.Prelude.{◌≡◌, ◌↔◌, ℕ, ◌<◌, ◌≤◌, List, length, slice_index, Option, None}
 use Rattle.racp_model.specs.Project.{Project, IsSound}
 use Rattle.racp_model.specs.Schedule.{KeepsPrecedence, EndsBy, IsInTime, FitsInTime, roof}
 use Rattle.racp_model.specs.Path.{IsEarly, IsCriticalLength}
 use Rattle.racp_model.specs.Window.{Bounds, LiesIn, IsRootWindow}
-use Rattle.racp_cpm.specs.Ends.{IsLastEnd, HasNoRoot}
+use Rattle.racp_cpm.specs.Ends.{IsLastEnd, IsRootAnswer}
 
 -- early starts that end by the due times are a schedule where there is enough of each resource
 abbrev pub EarlyIsSchedule : Type 0
@@ -21,8 +21,8 @@ CriticalIsLastEnd =
 -- with one deadline for all jobs there is no root window exactly where the critical length exceeds it
 abbrev pub NoRootIsTooLong : Type 0
 NoRootIsTooLong =
-    (p : Project) (release : ℕ → ℕ) (early : List ℕ) (critical deadline : ℕ) → IsSound p → IsEarly p release early →
-    IsCriticalLength p release critical → HasNoRoot p release (λ _. deadline) ↔ (deadline < critical)
+    (p : Project) (release : ℕ → ℕ) (critical deadline : ℕ) (answer : Option Bounds) → IsSound p → IsCriticalLength p release critical →
+    IsRootAnswer p release (λ _. deadline) answer → (answer ≡ None) ↔ (deadline < critical)
 
 -- of the starts that keep precedence, those in time are those in the root window
 abbrev pub RootIsInTime : Type 0

@@ -4,7 +4,8 @@ use Rattle.std.specs.Global.{Global}
 use Rattle.std.proofs.lemmas.List.Elements.{Contains-get_or, All-contains}
 use Rattle.racp_model.specs.Project.{Project, Precedes, IsNumber, AreNumbers, IsWithinLimits, IsSound}
 use Rattle.racp_model.specs.Path.{IsChain}
-use Rattle.racp_model.specs.Topology.{IsTopological, IsOrdered, IsSortedSet}
+use Rattle.racp_model.specs.Topology.{IsTopological}
+use Rattle.racp_model.specs.Ranks.{IsOrdered, IsSortedSet}
 use Rattle.racp_model.specs.Made.{IsSameProject, IsMade}
 use Rattle.racp_model.specs.declared.fault.NetFault.{NetFault}
 use Rattle.racp_model.specs.declared.fault.NetFault.TheVariants.{Limit, BadJob, Cycle, Memory}

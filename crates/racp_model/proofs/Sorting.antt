@@ -12,7 +12,7 @@ use Rattle.std.proofs.lemmas.List.Kept.{IsStrictlySortedBy-dedup, Contains-dedup
 use Rattle.std.proofs.lemmas.List.Sorted.{Contains-permutation, IsPermutation-sym}
 use Rattle.std.proofs.lemmas.Map.Keys.{Less-from_sorted}
 use Rattle.racp_model.specs.Project.{IsArcBefore}
-use Rattle.racp_model.specs.Topology.{IsSortedSet}
+use Rattle.racp_model.specs.Ranks.{IsSortedSet}
 
 -- pairs by their first number, and then by their second
 abbrev pub pair_cmp : ℕ × ℕ → ℕ × ℕ → Ordering

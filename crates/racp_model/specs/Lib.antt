@@ -7,3 +7,4 @@ pub mod Window
 pub mod Made
 pub mod Laws
 pub mod Topology
+pub mod Ranks

@@ -2,7 +2,8 @@
 
 ghost use Rattle.std.specs.Prelude.{◌≡◌, ℕ, ◌<◌, ◌≤◌, ◌↔◌, IsTrue, IsFalse, IfOk, length, slice_index};
 ghost use Rattle.racp_model.specs.Project.{AreNumbers};
-ghost use Rattle.racp_model.specs.Topology.{from_at, to_at, RisesAlong, IsRankable, AreBelow, ArePairsOf, AreByRank, IsOrdered, IsSortedSet, IsSwept};
+ghost use Rattle.racp_model.specs.Topology.{from_at, to_at, RisesAlong, IsRankable};
+ghost use Rattle.racp_model.specs.Ranks.{AreBelow, ArePairsOf, AreByRank, IsOrdered, IsSortedSet, IsSwept};
 
 use crate::fault::NetFault;
 use crate::network::MOST_JOBS;

@@ -2,7 +2,7 @@ use Rattle.std.proofs.Common.{◌≡◌, ℕ, List, length, refl, Ok, Err, subst
 use Rattle.std.proofs.lemmas.Grind.{common_steps}
 use Rattle.std.proofs.Common.{arith}
 use Rattle.racp_model.specs.Project.{Project, IsWithinLimits, AreNumbers}
-use Rattle.racp_model.specs.Topology.{IsOrdered}
+use Rattle.racp_model.specs.Ranks.{IsOrdered}
 use Rattle.racp_model.proofs.Making.{tidy_numbers, tidy_same, tidy_network, tidy_fault}
 use Rattle.racp_model.proofs.network.Network.new.Goals as goal
 
