@@ -7,8 +7,7 @@ use Rattle.racp_model.specs.Schedule.{KeepsPrecedence}
 use Rattle.racp_cpm.specs.Lowered.{IsLoweredFrom, IsLowered, IsAtMost, TakesDurations}
 use Rattle.racp_model.specs.Path.{IsLate, IsTooTight}
 use Rattle.racp_model.proofs.lemmas.Lists.{at_set}
-use Rattle.racp_cpm.proofs.Raising.{KeepsPair}
-use Rattle.racp_model.proofs.lemmas.Arcs.{each_by_arcs}
+use Rattle.racp_model.proofs.lemmas.Arcs.{KeepsPair, each_by_arcs}
 
 -- what holds from suc k on, and at k, holds from k on
 pub above_more : (P : ℕ → Type 0) (k : ℕ) → ((q : ℕ) → k + 1 ≤ q → P q) → P k → (q : ℕ) → k ≤ q → P q

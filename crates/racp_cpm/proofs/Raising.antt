@@ -5,11 +5,7 @@ use Rattle.racp_model.specs.Topology.{IsTopological}
 use Rattle.racp_model.specs.Schedule.{KeepsPrecedence}
 use Rattle.racp_model.specs.Path.{IsAtLeast, IsEarly}
 use Rattle.racp_model.proofs.lemmas.Lists.{at_set}
-use Rattle.racp_model.proofs.lemmas.Arcs.{each_by_arcs}
-
--- the starts keep one pair of places
-abbrev pub KeepsPair : Project → List ℕ → ℕ × ℕ → Type 0
-KeepsPair p starts pair = slice_index starts pair.0 + duration p pair.0 ≤ slice_index starts pair.1
+use Rattle.racp_model.proofs.lemmas.Arcs.{KeepsPair, each_by_arcs}
 
 -- starts that were raised along the pairs before k
 pub record IsRaised (p : Project) (pairs : List (ℕ × ℕ)) (lower : List ℕ) (k : ℕ) (starts : List ℕ) : Type 0 where

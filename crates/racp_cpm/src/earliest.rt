@@ -24,9 +24,7 @@ fn raise(net: &Network, starts: &mut [u32])
     requires small { All (λ x. x ≤ 20000000) starts.old }
     ensures { IsEarly net.now (slice_index starts.old) starts.new }
 {
-    let arcs = net.topological_arcs();
-    for k in 0..arcs.len() {
-        let (i, j) = arcs[k];
+    for &(i, j) in net.topological_arcs() {
         let end = starts[i as usize] + net.duration(i as usize);
         if starts[j as usize] < end {
             starts[j as usize] = end;

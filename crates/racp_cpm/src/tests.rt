@@ -8,10 +8,8 @@ use std::test::Fail;
 
 /// A network of jobs that are each given by a duration and a request of one resource.
 fn network(alloc: Global, jobs: &[(u32, u32)], arcs: &[(u32, u32)]) -> Result<Network, NetFault> {
-    match parts(alloc, jobs, arcs) {
-        Ok((jobs, arcs)) => Network::new(alloc, 1, jobs, arcs),
-        Err(_) => Err(NetFault::Memory),
-    }
+    let (jobs, arcs) = parts(alloc, jobs, arcs)?;
+    Network::new(alloc, 1, jobs, arcs)
 }
 
 fn parts(

@@ -1,3 +1,4 @@
+use std::alloc::AllocError;
 use thiserror::Error;
 
 /// Why no network was made: the first of these that holds, in this order.
@@ -15,4 +16,15 @@ pub enum NetFault {
     /// Memory ran out.
     #[error("out of memory")]
     Memory = 4,
+}
+
+impl From<AllocError> for NetFault {
+    ghost use Rattle.std.specs.Prelude.{◌≡◌};
+    ghost use Rattle.racp_model.specs.declared.fault.NetFault.TheVariants.{Memory};
+
+    ghost from_gives = { λ _ fault. fault ≡ Memory };
+
+    fn from(_error: AllocError) -> NetFault {
+        NetFault::Memory
+    }
 }

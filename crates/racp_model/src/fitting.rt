@@ -22,9 +22,7 @@ fn keep_precedence(net: &Network, starts: &[u32]) -> bool
     requires { length starts.now ≡ length net.now.jobs }
     ensures { IsTrue result ↔ KeepsPrecedence net.now starts.now }
 {
-    let arcs = net.topological_arcs();
-    for k in 0..arcs.len() {
-        let (i, j) = arcs[k];
+    for &(i, j) in net.topological_arcs() {
         let end = starts[i as usize] as u64 + net.duration(i as usize) as u64;
         if (starts[j as usize] as u64) < end {
             return false;
@@ -38,12 +36,7 @@ fn end_by(net: &Network, starts: &[u32], deadline: u64) -> bool
     requires { length starts.now ≡ length net.now.jobs }
     ensures { IsTrue result ↔ EndsBy net.now (λ _. deadline) starts.now }
 {
-    for i in 0..net.job_count() {
-        if deadline < starts[i] as u64 + net.duration(i) as u64 {
-            return false;
-        }
-    }
-    true
+    (0..net.job_count()).all(|i| starts[i] as u64 + net.duration(i) as u64 <= deadline)
 }
 
 /// Whether the jobs never use more than the capacities.
@@ -52,12 +45,7 @@ fn are_within(net: &Network, capacities: &[u32], starts: &[u32]) -> bool
     requires starts { length starts.now ≡ length net.now.jobs }
     ensures { IsTrue result ↔ IsWithinCapacities net.now capacities.now starts.now }
 {
-    for k in 0..net.resource_count() {
-        if !is_within(net, starts, k, capacities[k]) {
-            return false;
-        }
-    }
-    true
+    (0..net.resource_count()).all(|k| is_within(net, starts, k, capacities[k]))
 }
 
 /// Whether the jobs never use more than `most` units of a resource. A usage is greatest where some job starts, so only
@@ -67,8 +55,8 @@ fn is_within(net: &Network, starts: &[u32], k: usize, most: u32) -> bool
     requires resource { k < net.now.resources }
     ensures { IsTrue result ↔ ((t : ℕ) → usage net.now starts.now k t ≤ most) }
 {
-    for j in 0..net.job_count() {
-        if (most as u64) < usage_at(net, starts, k, starts[j]) {
+    for start in starts {
+        if (most as u64) < usage_at(net, starts, k, *start) {
             return false;
         }
     }

@@ -67,15 +67,13 @@ impl Network {
             return Err(NetFault::BadJob);
         }
         let arcs = sorted(arcs);
-        match topological(alloc, &arcs, jobs.len()) {
-            Ok(topological) => Ok(Network {
-                resources,
-                jobs,
-                arcs,
-                topological,
-            }),
-            Err(fault) => Err(fault),
-        }
+        let topological = topological(alloc, &arcs, jobs.len())?;
+        Ok(Network {
+            resources,
+            jobs,
+            arcs,
+            topological,
+        })
     }
 
     /// How many jobs there are: 1 to 512.

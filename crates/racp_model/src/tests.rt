@@ -12,19 +12,20 @@ fn network(
     jobs: &[(u32, &[u32])],
     arcs: &[(u32, u32)],
 ) -> Result<Network, NetFault> {
+    let (jobs, arcs) = parts(alloc, jobs, arcs)?;
+    Network::new(alloc, resources, jobs, arcs)
+}
+
+fn parts(
+    alloc: Global,
+    jobs: &[(u32, &[u32])],
+    arcs: &[(u32, u32)],
+) -> Result<(Vec<Job>, Vec<(u32, u32)>), AllocError> {
     let mut list = Vec::new(alloc);
     for (duration, requests) in jobs {
-        let Ok(requests) = requests.to_vec(alloc) else {
-            return Err(NetFault::Memory);
-        };
-        if list.push(Job::new(*duration, requests)).is_err() {
-            return Err(NetFault::Memory);
-        }
+        list.push(Job::new(*duration, requests.to_vec(alloc)?))?;
     }
-    let Ok(arcs) = arcs.to_vec(alloc) else {
-        return Err(NetFault::Memory);
-    };
-    Network::new(alloc, resources, list, arcs)
+    Ok((list, arcs.to_vec(alloc)?))
 }
 
 /// Why a network is refused, or none.
@@ -49,10 +50,8 @@ fn small(alloc: Global) -> Result<Network, NetFault> {
 
 /// So many equal jobs, each of which precedes all with higher numbers, or with lower ones.
 fn complete(alloc: Global, count: u32, rising: bool) -> Result<Network, NetFault> {
-    match complete_parts(alloc, count, rising) {
-        Ok((jobs, arcs)) => Network::new(alloc, 1, jobs, arcs),
-        Err(_) => Err(NetFault::Memory),
-    }
+    let (jobs, arcs) = complete_parts(alloc, count, rising)?;
+    Network::new(alloc, 1, jobs, arcs)
 }
 
 fn complete_parts(

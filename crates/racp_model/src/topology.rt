@@ -59,10 +59,7 @@ fn ordered(
     if !rank_jobs(arcs, rank) {
         return Err(NetFault::Cycle);
     }
-    match by_rank(alloc, arcs, rank) {
-        Ok(pairs) => Ok(pairs),
-        Err(_) => Err(NetFault::Memory),
-    }
+    Ok(by_rank(alloc, arcs, rank)?)
 }
 
 /// Ranks the jobs so that the rank rises along each pair, and says whether that can be done.

@@ -1,8 +1,8 @@
 -- The pairs of a project, by the places of their jobs.
-use Rattle.std.proofs.Common.{◌≡◌, ℕ, ◌+◌, ◌-◌, ◌<◌, List, length, slice_index_or, arith, subst, ap, ◌∙◌, Contains}
+use Rattle.std.proofs.Common.{◌≡◌, ℕ, ◌+◌, ◌-◌, ◌<◌, ◌≤◌, List, length, slice_index, slice_index_or, arith, subst, ap, ◌∙◌, Contains}
 use Rattle.std.proofs.lemmas.List.{get_or_default}
 use Rattle.std.proofs.lemmas.List.Elements.{Contains-get_or}
-use Rattle.racp_model.specs.Project.{Project, Precedes, AreNumbers, IsNumber, IsSound, Rises}
+use Rattle.racp_model.specs.Project.{Project, duration, Precedes, AreNumbers, IsNumber, IsSound, Rises}
 use Rattle.racp_model.specs.Topology.{IsTopological, from_at, to_at, RisesAlong}
 
 -- the jobs of a pair are among the jobs
@@ -59,3 +59,7 @@ pub precedes_in : (p : Project) (i j : ℕ) → IsSound p → Precedes p i j →
 precedes_in p i j sound c =
     let h : IsNumber (length p.jobs) (slice_index_or p.arcs c.0 (i + 1, j + 1)).0 × IsNumber (length p.jobs) (slice_index_or p.arcs c.0 (i + 1, j + 1)).1 = sound.named c.0 (i + 1, j + 1) c.1 in
     (omega (arith, h.0.1, ap (λ (a : ℕ × ℕ). a.0) c.2), omega (arith, h.1.1, ap (λ (a : ℕ × ℕ). a.1) c.2))
+
+-- the second job of a pair of places starts only when the first has ended
+abbrev pub KeepsPair : Project → List ℕ → ℕ × ℕ → Type 0
+KeepsPair p starts pair = slice_index starts pair.0 + duration p pair.0 ≤ slice_index starts pair.1
