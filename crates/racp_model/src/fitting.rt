@@ -5,7 +5,8 @@ use crate::capacities::Capacities;
 use crate::network::Network;
 use crate::starts::Starts;
 
-/// Whether the starts keep precedence, end by the deadline and fit the capacities. Takes no memory.
+/// Whether the starts are a schedule that ends by the deadline and never uses more than the capacities (Möhring 1984).
+/// There is a capacity for each resource and a start for each job, by place; any deadline may be asked. Takes no memory.
 pub fn fits(net: &Network, capacities: &Capacities, starts: &Starts, deadline: u64) -> bool
     requires capacities { length capacities.now ≡ net.now.resources }
     requires starts { length starts.now ≡ length net.now.jobs }

@@ -21,8 +21,8 @@ pub const MOST_DURATION: u32 = 10_000;
 /// The greatest request of a job, in units.
 pub const MOST_REQUEST: u32 = 10_000;
 
-/// A project network: jobs that run for a time and request resources, and precedence between them. It is within its
-/// limits, and no job waits for itself. Contracts see a `Project`.
+/// A project network (activity on node): jobs that run for a time and request renewable resources, and precedence between
+/// them, from finish to start with lag 0. It is within its limits, and no job waits for itself. Contracts see a `Project`.
 #[derive(Debug, Drop)]
 pub struct Network {
     resources: usize,

@@ -20,10 +20,9 @@ pub fn are_numbers(arcs: &[(u32, u32)], count: usize) -> bool
 }
 
 /// The same pairs, each once and in rising order. Takes no memory.
-pub fn sorted(arcs: Vec<(u32, u32)>) -> Vec<(u32, u32)>
+pub fn sorted(mut arcs: Vec<(u32, u32)>) -> Vec<(u32, u32)>
     ensures { IsSortedSet arcs.items result.items }
 {
-    let mut arcs = arcs;
     arcs.sort_unstable();
     arcs.dedup();
     arcs
