@@ -5,7 +5,7 @@ use Rattle.std.proofs.lemmas.List.FromFn.{get_or-map-range_with_len}
 use Rattle.racp_model.specs.Project.{Project, IsSound}
 use Rattle.racp_model.specs.Schedule.{KeepsPrecedence}
 use Rattle.racp_model.specs.Path.{IsAtLeast}
-use Rattle.racp_model.specs.Topology.{lower_count}
+use Rattle.racp_model.specs.Ranks.{lower_count}
 use Rattle.racp_model.proofs.lemmas.Sums.{duration-small}
 use Rattle.racp_model.proofs.lemmas.Ranking.{lower_count-most, lower_count-rises}
 use Rattle.racp_model.proofs.lemmas.Arcs.{precedes_in}

@@ -1,4 +1,4 @@
--- Last ends and first late jobs: that there are some, and what they say of the critical length.
+-- The greatest finish, and what it says of the critical length and of root windows.
 use Rattle.std.proofs.Common.{◌≡◌, ℕ, zero, suc, ◌+◌, ◌-◌, ◌<◌, ◌≤◌, inl, inr, List, length, slice_index, Some, None, arith, subst, refl}
 use Rattle.std.proofs.lemmas.Bool.{cases_lt}
 use Rattle.racp_model.specs.Project.{Project, IsSound, duration}
@@ -6,7 +6,7 @@ use Rattle.racp_model.specs.Path.{IsEarly, IsCriticalLength}
 use Rattle.racp_model.specs.Window.{Bounds, IsRootWindow}
 use Rattle.racp_model.proofs.lemmas.Lists.{below_suc}
 use Rattle.racp_cpm.specs.Ends.{IsLastEnd, HasNoRoot}
-use Rattle.racp_cpm.specs.Laws.{NoRootIsTooLong}
+use Rattle.racp_cpm.specs.Laws.{NoRootIsTooLong, NoRootIsNoSchedule}
 use Rattle.racp_cpm.proofs.Paths.{critical_is}
 
 -- of one value or more there is a greatest
@@ -19,7 +19,7 @@ greatest f (suc n) =
       | inr less ↦ (best.0, omega (arith, best.1), below_suc (λ j. f j ≤ f best.0) (suc n) best.2 less)
     ]
 
--- one job ends last
+-- there is a greatest finish
 pub some_last_end : (p : Project) (starts : List ℕ) → IsSound p → (last : ℕ) × IsLastEnd p starts last
 some_last_end p starts sound =
     let best = greatest (λ (i : ℕ). slice_index starts i + duration p i) (length p.jobs - 1) in
@@ -32,7 +32,7 @@ some_last_end p starts sound =
 pub critical-unique : (p : Project) (release : ℕ → ℕ) (a b : ℕ) → IsCriticalLength p release a → IsCriticalLength p release b → a ≡ b
 critical-unique p release a b h k = omega (arith, k.most h.some.0 h.some.1, h.some.2, h.most k.some.0 k.some.1, k.some.2)
 
--- the critical length is the end of the last early start
+-- the critical length is the greatest early finish
 pub last_is : (p : Project) (release : ℕ → ℕ) (early : List ℕ) (critical : ℕ) → IsSound p → IsEarly p release early → IsCriticalLength p release critical → IsLastEnd p early critical
 last_is p release early critical sound h c =
     let last = some_last_end p early sound in
@@ -53,3 +53,11 @@ root-not_long p release critical deadline root sound c h =
 pub no_root_exactly : NoRootIsTooLong
 no_root_exactly p release critical deadline None sound c h = (λ e. no_root-long p release critical deadline sound c h, λ long. refl)
 no_root_exactly p release critical deadline (Some root) sound c h = (λ e. cc, λ long. absurd (omega (arith, long, root-not_long p release critical deadline root sound c h)))
+
+-- there is none exactly where no starts keep precedence and are in time: the early starts are at most any that do
+pub no_schedule_exactly : NoRootIsNoSchedule
+no_schedule_exactly p release due None h = (
+  λ e starts keeps in_time. omega (arith, h.3.late, h.1.least starts in_time.released keeps h.2 h.3.job, in_time.ends h.2 h.3.job),
+  λ none. refl,
+)
+no_schedule_exactly p release due (Some root) h = (λ e. cc, λ none. absurd (none root.lower h.early.precedence (record { released = h.early.above; ends = h.ends })))

@@ -3,7 +3,7 @@ use Rattle.std.specs.List.{sum_by}
 use Rattle.std.proofs.lemmas.Bool.{cases_lt}
 use Rattle.std.proofs.lemmas.List.Sums.{sum_by-cons}
 use Rattle.racp_model.specs.Project.{Project, Precedes, IsSound, Rises, duration}
-use Rattle.racp_model.specs.Topology.{from_at, to_at}
+use Rattle.racp_model.specs.Ranks.{from_at, to_at}
 use Rattle.racp_model.specs.Schedule.{KeepsPrecedence, EndsBy}
 use Rattle.racp_model.specs.Path.{IsEarly, IsChain, span, IsCriticalLength}
 use Rattle.racp_model.proofs.lemmas.Arcs.{precedes_in, some_at, at_precedes}
@@ -104,7 +104,7 @@ tight p lower starts j sound early l = elim (cases_lt (lower j) (slice_index sta
       ]
 ]
 
--- a chain from a job to the last end grows at its front, until its first job starts at its lower bound
+-- a chain from a job to the greatest finish grows at its front, until its first job starts at its lower bound
 pub attained : (p : Project) (lower : ℕ → ℕ) (starts : List ℕ) (last : ℕ) → IsSound p → IsEarly p lower starts → (rank : ℕ → ℕ) → Rises p rank
     → (m j : ℕ) (rest : List ℕ) → rank j < m → IsChain p (j ∷ rest) → slice_index starts j + work p (j ∷ rest) ≡ last → (chain : List ℕ) × IsChain p chain × (span p lower chain ≡ last)
 attained p lower starts last sound early rank rises zero j rest less chain ends = absurd (omega arith)
@@ -115,13 +115,13 @@ attained p lower starts last sound early rank rises (suc m) j rest less chain en
       attained p lower starts last sound early rank rises m before.0 (j ∷ rest) (omega (arith, up)) (before.1, chain) (omega (arith, work-more p before.0 (j ∷ rest), before.2, ends))
 ]
 
--- no chain is longer than the last early end
+-- no chain is longer than the greatest early finish
 pub chain-most : (p : Project) (lower : ℕ → ℕ) (starts : List ℕ) (last : ℕ) → IsSound p → IsEarly p lower starts → EndsBy p (λ _. last) starts
     → (chain : List ℕ) → IsChain p chain → span p lower chain ≤ last
 chain-most p lower starts last sound early ends [] c = absurd c
 chain-most p lower starts last sound early ends (i ∷ rest) c = omega (arith, chain-ends p starts last early.precedence ends i rest c, early.above i (first_in p i rest sound c))
 
--- the last early end is the critical length
+-- the greatest early finish is the critical length
 pub critical_is : (p : Project) (lower : ℕ → ℕ) (starts : List ℕ) (last : ℕ) → IsSound p → IsEarly p lower starts → IsLastEnd p starts last → IsCriticalLength p lower last
 critical_is p lower starts last sound early h = record {
   some = attained p lower starts last sound early sound.acyclic.0 sound.acyclic.1 (suc (sound.acyclic.0 h.some.0)) h.some.0 [] (omega arith) h.some.1 (omega (arith, work-one p h.some.0, h.some.2));

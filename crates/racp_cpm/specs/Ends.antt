@@ -5,7 +5,7 @@ use Rattle.racp_model.specs.Schedule.{EndsBy}
 use Rattle.racp_model.specs.Path.{IsEarly, IsLate, IsTooTight, IsFirstLate}
 use Rattle.racp_model.specs.Window.{Bounds, IsRootWindow}
 
--- when the last job ends
+-- the greatest finish of a job
 pub record IsLastEnd (p : Project) (starts : List ℕ) (last : ℕ) : Type 0 where
   pub some : (i : ℕ) × (i < length p.jobs) × (slice_index starts i + duration p i ≡ last)
   pub most : EndsBy p (λ _. last) starts
@@ -15,11 +15,11 @@ abbrev pub IsLateAnswer : Project → (ℕ → ℕ) → Option (List ℕ) → Ty
 IsLateAnswer p due (Some late) = IsLate p due late
 IsLateAnswer p due None = IsTooTight p due
 
--- some early start ends after its due time
+-- the early finish of some job exceeds its due time
 abbrev pub HasNoRoot : Project → (ℕ → ℕ) → (ℕ → ℕ) → Type 0
 HasNoRoot p release due = (early : List ℕ) × IsEarly p release early × (i : ℕ) × IsFirstLate p due early i
 
--- the root window, or none where some early start ends after its due time
+-- the root window, or none where the early finish of some job exceeds its due time
 abbrev pub IsRootAnswer : Project → (ℕ → ℕ) → (ℕ → ℕ) → Option Bounds → Type 0
 IsRootAnswer p release due (Some window) = IsRootWindow p release due window
 IsRootAnswer p release due None = HasNoRoot p release due

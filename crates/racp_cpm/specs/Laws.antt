@@ -12,9 +12,9 @@ EarlyIsSchedule =
     (p : Project) (release due : ℕ → ℕ) (capacities early : List ℕ) → IsEarly p release early → EndsBy p due early →
     ((k : ℕ) → k < p.resources → roof p k ≤ slice_index capacities k) → FitsInTime p release due capacities early
 
--- the critical length is the end of the last early start
-abbrev pub CriticalIsLastEnd : Type 0
-CriticalIsLastEnd =
+-- the critical length is the greatest early finish
+abbrev pub CriticalIsGreatestFinish : Type 0
+CriticalIsGreatestFinish =
     (p : Project) (release : ℕ → ℕ) (early : List ℕ) (length : ℕ) → IsSound p → IsEarly p release early →
     IsCriticalLength p release length ↔ IsLastEnd p early length
 
@@ -23,6 +23,12 @@ abbrev pub NoRootIsTooLong : Type 0
 NoRootIsTooLong =
     (p : Project) (release : ℕ → ℕ) (critical deadline : ℕ) (answer : Option Bounds) → IsSound p → IsCriticalLength p release critical →
     IsRootAnswer p release (λ _. deadline) answer → (answer ≡ None) ↔ (deadline < critical)
+
+-- there is no root window exactly where no starts keep precedence and are in time
+abbrev pub NoRootIsNoSchedule : Type 0
+NoRootIsNoSchedule =
+    (p : Project) (release due : ℕ → ℕ) (answer : Option Bounds) → IsRootAnswer p release due answer →
+    (answer ≡ None) ↔ ((starts : List ℕ) → KeepsPrecedence p starts → IsInTime p release due starts → ⊥)
 
 -- of the starts that keep precedence, those in time are those in the root window
 abbrev pub RootIsInTime : Type 0

@@ -6,8 +6,12 @@ ghost use Rattle.racp_cpm.specs.Ends.{IsLastEnd};
 use racp_model::{Network, Starts};
 use std::alloc::{AllocError, Global};
 
-/// The early starts: the least starts at or above the lower bounds that keep precedence. `lower` has a bound for each job,
-/// by place, of at most 20,000,000.
+/// The early starts, in time units: the least starts at or above the lower bounds that keep precedence. `lower` has a bound
+/// for each job, by place from 0, of at most 20,000,000.
+///
+/// # Errors
+///
+/// Memory was refused.
 pub fn early(alloc: Global, net: &Network, lower: &[u32]) -> Result<Starts, AllocError>
     requires places { length lower.now ≡ length net.now.jobs }
     requires small { All (λ x. x ≤ 20000000) lower.now }
@@ -32,8 +36,12 @@ fn raise(net: &Network, starts: &mut [u32])
     }
 }
 
-/// The critical length: the greatest sum, over the chains of the precedence relation, of the release time of the first job
-/// and the durations of all. `release` has a time for each job, by place, of at most 20,000,000.
+/// The critical length, in time units: the greatest sum, over the chains of the precedence relation, of the release time of
+/// the first job and the durations of all. `release` has a time for each job, by place from 0, of at most 20,000,000.
+///
+/// # Errors
+///
+/// Memory was refused.
 pub fn longest(alloc: Global, net: &Network, release: &[u32]) -> Result<u64, AllocError>
     requires places { length release.now ≡ length net.now.jobs }
     requires small { All (λ x. x ≤ 20000000) release.now }
@@ -43,7 +51,7 @@ pub fn longest(alloc: Global, net: &Network, release: &[u32]) -> Result<u64, All
     Ok(last_end(net, starts.as_slice()))
 }
 
-/// When the last job ends.
+/// The greatest finish of a job.
 fn last_end(net: &Network, starts: &[u32]) -> u64
     requires { length starts.now ≡ length net.now.jobs }
     ensures last { IsLastEnd net.now starts.now result }

@@ -7,8 +7,12 @@ ghost use Rattle.racp_cpm.specs.Lowered.{TakesDurations, IsLowered};
 use racp_model::{Network, Starts};
 use std::alloc::{AllocError, Global};
 
-/// The late starts: the greatest starts that keep precedence and end by the due times, or `None` where nothing does both.
-/// `due` has a time for each job, by place.
+/// The late starts, in time units: the greatest starts that keep precedence and end by the due times, or `None` where
+/// nothing does both. `due` has a time for each job, by place from 0.
+///
+/// # Errors
+///
+/// Memory was refused.
 pub fn late(alloc: Global, net: &Network, due: &[u32]) -> Result<Option<Starts>, AllocError>
     requires { length due.now ≡ length net.now.jobs }
     ensures { IfOk result (IsLateAnswer net.now (slice_index due.now)) }

@@ -1,4 +1,6 @@
 //! Early and late starts of a network, its critical length and its root window (the critical path method).
+//!
+//! Lists are by the places of jobs, from 0. Times are whole time units.
 #![tactic(auto)]
 
 mod earliest;

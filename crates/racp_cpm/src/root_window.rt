@@ -6,8 +6,13 @@ use crate::latest::late;
 use racp_model::{Network, Starts, Window};
 use std::alloc::{AllocError, Global};
 
-/// The root window: from the early starts at or above the release times to the late starts by the due times. `None` where
-/// some early start ends after its due time. Both lists have a time for each job, by place, of at most 10,000,000.
+/// The root window, in time units: from the early starts at or above the release times to the late starts by the due times.
+/// `None` where the early finish of some job exceeds its due time. Both lists have a time for each job, by place from 0, of
+/// at most 10,000,000.
+///
+/// # Errors
+///
+/// Memory was refused.
 pub fn root(
     alloc: Global,
     net: &Network,
@@ -31,7 +36,7 @@ pub fn root(
 }
 
 /// The number, from 1, of the first job that ends after its due time, or `None` where each ends by it. `due` has a time for
-/// each job, by place. Takes no memory.
+/// each job, by place from 0. Takes no memory.
 pub fn first_late(net: &Network, starts: &Starts, due: &[u32]) -> Option<u32>
     requires starts { length starts.now ≡ length net.now.jobs }
     requires due { length due.now ≡ length net.now.jobs }

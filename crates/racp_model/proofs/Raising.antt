@@ -3,8 +3,7 @@ use Rattle.std.proofs.Common.{◌≡◌, ◌≢◌, ℕ, ◌+◌, ◌*◌, ◌-�
 use Rattle.std.proofs.Math.ListN.{length-set}
 use Rattle.racp_model.specs.Project.{AreNumbers}
 use Rattle.racp_model.specs.Schedule.{sum_below}
-use Rattle.racp_model.specs.Topology.{from_at, to_at, RisesAlong, lower_count}
-use Rattle.racp_model.specs.Ranks.{IsLowUnder, AreBelow, total, IsRaised}
+use Rattle.racp_model.specs.Ranks.{from_at, to_at, RisesAlong, lower_count, IsLowUnder, AreBelow, total, IsRaised}
 use Rattle.racp_model.proofs.lemmas.Sums.{sum_below-lt, sum_below-bound}
 use Rattle.racp_model.proofs.lemmas.Arcs.{from_at-below, to_at-below}
 use Rattle.racp_model.proofs.lemmas.Lists.{at_set}

@@ -5,7 +5,7 @@ use Rattle.std.proofs.Math.Nat.{mul-le-mul_left}
 use Rattle.std.proofs.lemmas.Bool.{cases_lt}
 use Rattle.racp_model.specs.Project.{Project, Precedes, AreNumbers, IsAcyclic, Rises}
 use Rattle.racp_model.specs.Path.{IsChain, HasRing}
-use Rattle.racp_model.specs.Topology.{from_at, to_at}
+use Rattle.racp_model.specs.Ranks.{from_at, to_at}
 use Rattle.racp_model.proofs.lemmas.Arcs.{to_at-below, at_precedes, rises_on}
 
 -- the rank rises from the first job of a chain to the last

@@ -4,8 +4,8 @@ use Rattle.std.specs.List.Sorted.{IsPermutation}
 use Rattle.std.proofs.lemmas.List.Elements.{Contains-append_left, Contains-push, All-push, All-from_get_or}
 use Rattle.std.proofs.lemmas.List.Sorted.{Contains-permutation, All-permutation}
 use Rattle.racp_model.specs.Project.{Project, AreNumbers}
-use Rattle.racp_model.specs.Topology.{IsTopological, from_at, to_at, RisesAlong}
-use Rattle.racp_model.specs.Ranks.{IsPairOf, ArePairsOf, AreByRank, AreInOrder}
+use Rattle.racp_model.specs.Topology.{IsTopological}
+use Rattle.racp_model.specs.Ranks.{from_at, to_at, RisesAlong, IsPairOf, ArePairsOf, AreByRank, AreInOrder}
 use Rattle.racp_model.proofs.lemmas.Arcs.{from_at-below, to_at-below, at_precedes, some_at}
 
 -- the first k pairs, by places

@@ -1,7 +1,7 @@
 -- Laws of the definitions, in the words of the field. Each is the contract of a public function.
 use Rattle.std.specs.Prelude.{◌≡◌, ◌↔◌, ◌⊎◌, ℕ, ◌<◌, ◌≤◌, min, List, length, slice_index}
-use Rattle.racp_model.specs.Project.{Project, AreNumbers, IsAcyclic, IsSound}
-use Rattle.racp_model.specs.Schedule.{IsInTime, Fits, Admits, roof}
+use Rattle.racp_model.specs.Project.{Project, request, AreNumbers, IsAcyclic, IsSound}
+use Rattle.racp_model.specs.Schedule.{IsActive, use_of, IsInTime, Fits, Admits, roof}
 use Rattle.racp_model.specs.Path.{HasRing}
 use Rattle.racp_model.specs.Terms.{Terms, cost, IsLexBefore, IsBefore}
 use Rattle.racp_model.specs.Plan.{IsPlan}
@@ -28,6 +28,12 @@ abbrev pub LexIsByFirstPlace : Type 0
 LexIsByFirstPlace =
     (a b : List ℕ) → length a ≡ length b →
     IsLexBefore a b ↔ ((k : ℕ) × (k < length a) × ((q : ℕ) → q < k → slice_index a q ≡ slice_index b q) × (slice_index a k < slice_index b k))
+
+-- a job uses its request while it is active, and nothing while it is not
+abbrev pub UseIsByActivity : Type 0
+UseIsByActivity =
+    (p : Project) (starts : List ℕ) (k t i : ℕ) →
+    (IsActive p starts t i → use_of p starts k t i ≡ request p i k) × ((IsActive p starts t i → ⊥) → use_of p starts k t i ≡ 0)
 
 -- what fits some capacities fits greater ones, so a vector at or above one that admits admits
 abbrev pub AboveAdmits : Type 0

@@ -31,13 +31,13 @@ pub record IsTooLong (p : Project) (terms : Terms) (critical : ℕ) : Type 0 whe
   pub length : IsCriticalLength p (release_of terms) critical
   pub exceeds : terms.deadline < critical
 
--- impossible by a due time: the critical length is no reason, but the early start of the job at place i ends too late,
--- and it is the first such job
+-- impossible by a due time: the critical length is no reason, but the early finish of the job at place i exceeds its due
+-- time, and it is the first such job
 pub record IsTooLateAt (p : Project) (terms : Terms) (i : ℕ) : Type 0 where
   pub not_long : (critical : ℕ) → IsTooLong p terms critical → ⊥
-  pub late : (early : List ℕ) → IsEarly p (release_of terms) early → IsFirstLate p (due_of terms) early i
+  pub late : (early : List ℕ) × IsEarly p (release_of terms) early × IsFirstLate p (due_of terms) early i
 
--- impossible by the ceilings: the early starts are in time, but no capacities within the ceilings are enough
+-- impossible by the ceilings: the early finishes are in time, but no capacities within the ceilings are enough
 pub record IsOverCeilings (p : Project) (terms : Terms) : Type 0 where
-  pub in_time : (early : List ℕ) → IsEarly p (release_of terms) early → EndsBy p (due_of terms) early
+  pub in_time : (early : List ℕ) × IsEarly p (release_of terms) early × EndsBy p (due_of terms) early
   pub none : (capacities : List ℕ) → IsEnough p terms capacities → ⊥

@@ -1,13 +1,35 @@
--- What the private functions say that sort the pairs, rank the jobs along them, and put them in topological order.
-use Rattle.std.specs.Prelude.{◌≡◌, ◌≢◌, ◌↔◌, ℕ, ◌<◌, ◌≤◌, List, length, slice_index, slice_index_or, Contains, Result, Ok, Err, Vec, AllPairs}
+-- Contracts of private functions: those that sort the pairs, rank the jobs along them, and put them in topological order.
+use Rattle.std.specs.Prelude.{◌≡◌, ◌≢◌, ◌↔◌, ℕ, ◌-◌, ◌<◌, ◌≤◌, nat_lt, if◌then◌else◌, List, length, slice_index, slice_index_or, Contains, Result, Ok, Err, Vec, AllPairs}
 use Rattle.std.specs.Global.{Global}
 use Rattle.racp_model.specs.Project.{IsArcBefore}
 use Rattle.racp_model.specs.Schedule.{sum_below}
-use Rattle.racp_model.specs.Topology.{from_at, to_at, RisesAlong, IsRankable, lower_count}
 use Rattle.racp_model.specs.declared.fault.NetFault.{NetFault}
 use Rattle.racp_model.specs.declared.fault.NetFault.TheVariants.{Limit, BadJob, Cycle, Memory}
 use Rattle.racp_model.specs.declared.topology.Sweep.{Sweep}
 use Rattle.racp_model.specs.declared.topology.Sweep.TheVariants.{Settled, Raised, Ring}
+
+-- the places of the two jobs that the pair of numbers at k names
+unfoldable pub from_at : List (ℕ × ℕ) → ℕ → ℕ
+from_at arcs k = (slice_index_or arcs k (1, 1)).0 - 1
+
+unfoldable pub to_at : List (ℕ × ℕ) → ℕ → ℕ
+to_at arcs k = (slice_index_or arcs k (1, 1)).1 - 1
+
+-- the rank rises along each pair of numbers
+abbrev pub RisesAlong : List (ℕ × ℕ) → (ℕ → ℕ) → Type 0
+RisesAlong arcs rank = (k : ℕ) → k < length arcs → rank (from_at arcs k) < rank (to_at arcs k)
+
+-- the pairs can be ranked
+abbrev pub IsRankable : List (ℕ × ℕ) → Type 0
+IsRankable arcs = (rank : ℕ → ℕ) × RisesAlong arcs rank
+
+-- 1 where job j has a lower rank than job i
+unfoldable pub is_lower : (ℕ → ℕ) → ℕ → ℕ → ℕ
+is_lower rank i j = if nat_lt (rank j) (rank i) then 1 else 0
+
+-- how many of n jobs have a lower rank than job i
+abbrev pub lower_count : ℕ → (ℕ → ℕ) → ℕ → ℕ
+lower_count n rank i = sum_below n (is_lower rank i)
 
 -- each rank is below a bound
 abbrev pub AreBelow : ℕ → List ℕ → Type 0
@@ -48,7 +70,7 @@ pub record AreByRank (arcs : List (ℕ × ℕ)) (rank : List ℕ) (pairs : List 
   pub same : ArePairsOf arcs pairs
   pub sorted : (a b : ℕ) → a ≤ b → b < length pairs → slice_index rank (slice_index_or pairs a (0, 0)).0 ≤ slice_index rank (slice_index_or pairs b (0, 0)).0
 
--- the pairs by places, in an order in which none leads into a job that it or an earlier one leaves
+-- the pairs by places, in an order in which every pair into a job comes before every pair out of it
 pub record AreInOrder (arcs pairs : List (ℕ × ℕ)) : Type 0 where
   pub same : ArePairsOf arcs pairs
   pub forward : (a b : ℕ) → a ≤ b → b < length pairs → (slice_index_or pairs a (0, 0)).0 ≢ (slice_index_or pairs b (0, 0)).1

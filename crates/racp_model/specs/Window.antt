@@ -28,8 +28,8 @@ IsYes p capacities window = (starts : List ℕ) × Answers p capacities window s
 abbrev pub IsNo : Project → List ℕ → Bounds → Type 0
 IsNo p capacities window = (starts : List ℕ) → Answers p capacities window starts → ⊥
 
--- the root window: from the early starts at or above the release times to the late starts by the due times, where the
--- early starts end by the due times
+-- the root window: from the early starts at or above the release times to the late starts by the due times, where no
+-- early finish exceeds its due time
 pub record IsRootWindow (p : Project) (release due : ℕ → ℕ) (window : Bounds) : Type 0 where
   pub early : IsEarly p release window.lower
   pub late : IsLate p due window.upper

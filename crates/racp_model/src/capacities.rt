@@ -2,7 +2,7 @@ ghost use Rattle.std.specs.Prelude.{◌≡◌, ℕ, length};
 
 use std::marker::Model;
 
-/// How many units there are of each resource, by place. Contracts see a list.
+/// How many units there are of each resource, by place from 0. Contracts see a list.
 #[derive(Debug, Clone, Drop)]
 pub struct Capacities {
     items: Vec<u32>,

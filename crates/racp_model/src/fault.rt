@@ -5,7 +5,7 @@ use thiserror::Error;
 #[derive(Debug, Clone, Copy, PartialEq, Eq, Drop, Error)]
 pub enum NetFault {
     /// A number is outside its range, or a job has another number of requests than there are resources.
-    #[error("a number is out of range")]
+    #[error("a number is out of range, or a job has a wrong number of requests")]
     Limit = 1,
     /// A pair names a job that is not there.
     #[error("a pair names no job")]

@@ -6,20 +6,20 @@ use crate::network::Network;
 use crate::starts::Starts;
 
 /// Whether the starts are a schedule that ends by the deadline and never uses more than the capacities (Möhring 1984).
-/// There is a capacity for each resource and a start for each job, by place; any deadline may be asked. Takes no memory.
+/// There is a capacity for each resource and a start for each job, by place; the deadline is in time units, and any may be asked. Takes no memory.
 pub fn fits(net: &Network, capacities: &Capacities, starts: &Starts, deadline: u64) -> bool
     requires capacities { length capacities.now ≡ net.now.resources }
     requires starts { length starts.now ≡ length net.now.jobs }
     ensures { IsTrue result ↔ FitsInTime net.now (λ _. 0) (λ _. deadline) capacities.now starts.now }
 {
     let starts = starts.as_slice();
-    keep_precedence(net, starts)
-        && end_by(net, starts, deadline)
-        && are_within(net, capacities.as_slice(), starts)
+    keeps_precedence(net, starts)
+        && ends_by(net, starts, deadline)
+        && keeps_capacities(net, capacities.as_slice(), starts)
 }
 
 /// Whether no job starts before each that precedes it has ended.
-fn keep_precedence(net: &Network, starts: &[u32]) -> bool
+fn keeps_precedence(net: &Network, starts: &[u32]) -> bool
     requires { length starts.now ≡ length net.now.jobs }
     ensures { IsTrue result ↔ KeepsPrecedence net.now starts.now }
 {
@@ -33,7 +33,7 @@ fn keep_precedence(net: &Network, starts: &[u32]) -> bool
 }
 
 /// Whether each job ends by the deadline.
-fn end_by(net: &Network, starts: &[u32], deadline: u64) -> bool
+fn ends_by(net: &Network, starts: &[u32], deadline: u64) -> bool
     requires { length starts.now ≡ length net.now.jobs }
     ensures { IsTrue result ↔ EndsBy net.now (λ _. deadline) starts.now }
 {
@@ -41,23 +41,23 @@ fn end_by(net: &Network, starts: &[u32], deadline: u64) -> bool
 }
 
 /// Whether the jobs never use more than the capacities.
-fn are_within(net: &Network, capacities: &[u32], starts: &[u32]) -> bool
+fn keeps_capacities(net: &Network, capacities: &[u32], starts: &[u32]) -> bool
     requires capacities { length capacities.now ≡ net.now.resources }
     requires starts { length starts.now ≡ length net.now.jobs }
     ensures { IsTrue result ↔ IsWithinCapacities net.now capacities.now starts.now }
 {
-    (0..net.resource_count()).all(|k| is_within(net, starts, k, capacities[k]))
+    (0..net.resource_count()).all(|k| keeps_capacity(net, starts, k, capacities[k]))
 }
 
-/// Whether the jobs never use more than `most` units of a resource. A usage is greatest where some job starts, so only
+/// Whether the jobs never use more than the capacity of one resource. A usage is greatest where some job starts, so only
 /// these times are looked at.
-fn is_within(net: &Network, starts: &[u32], k: usize, most: u32) -> bool
+fn keeps_capacity(net: &Network, starts: &[u32], k: usize, capacity: u32) -> bool
     requires starts { length starts.now ≡ length net.now.jobs }
     requires resource { k < net.now.resources }
-    ensures { IsTrue result ↔ ((t : ℕ) → usage net.now starts.now k t ≤ most) }
+    ensures { IsTrue result ↔ ((t : ℕ) → usage net.now starts.now k t ≤ capacity) }
 {
     for start in starts {
-        if (most as u64) < usage_at(net, starts, k, *start) {
+        if (capacity as u64) < usage_at(net, starts, k, *start) {
             return false;
         }
     }

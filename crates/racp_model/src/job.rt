@@ -32,7 +32,7 @@ impl Job {
         self.duration
     }
 
-    /// How many units of each resource the job uses while it runs.
+    /// How many units of each resource, by place from 0, the job uses while it runs.
     pub fn requests(&self) -> &[u32]
         ensures { result.now ≡ self.now.requests }
     {

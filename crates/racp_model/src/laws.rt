@@ -1,6 +1,6 @@
 //! Laws of the definitions, in the words of the field. Each function does nothing; its contract is the law.
 
-ghost use Rattle.racp_model.specs.Laws.{PlanIsUnique, VectorsAreOrdered, BeforeIsByCost, LexIsByFirstPlace, AboveAdmits, CutFitsTheSame, CutAdmits, InsideIsInTime, RankingOrRing, RelationIsNetwork};
+ghost use Rattle.racp_model.specs.Laws.{PlanIsUnique, VectorsAreOrdered, BeforeIsByCost, LexIsByFirstPlace, UseIsByActivity, AboveAdmits, CutFitsTheSame, CutAdmits, InsideIsInTime, RankingOrRing, RelationIsNetwork};
 
 /// There is at most one plan.
 pub fn plan_is_unique()
@@ -20,6 +20,11 @@ pub fn before_is_by_cost()
 /// The lexicographic order goes by the first place at which two vectors of one length differ.
 pub fn lex_is_by_first_place()
     ensures { LexIsByFirstPlace }
+{}
+
+/// A job uses its request while it is active, and nothing while it is not.
+pub fn use_is_by_activity()
+    ensures { UseIsByActivity }
 {}
 
 /// A vector at or above one that admits admits.

@@ -1,4 +1,6 @@
 //! Projects with renewable resources: networks of jobs, and which schedules fit them.
+//!
+//! Jobs and resources are numbered from 1; their places in lists count from 0. Times are whole time units from 0 on.
 #![tactic(auto)]
 
 mod capacities;
@@ -6,6 +8,7 @@ mod fault;
 mod fitting;
 mod job;
 pub mod laws;
+pub mod limits;
 mod named;
 mod network;
 mod question;

@@ -8,6 +8,7 @@ pub trait OfNetwork {
     ghost network: { Project };
 }
 
+/// Stands only where a call picks no network: every call that makes values which name one picks it.
 impl OfNetwork for Brand {
     ghost use Rattle.std.specs.Prelude.{[]};
 

@@ -5,21 +5,10 @@ ghost use Rattle.racp_model.specs.Topology.{IsTopological};
 
 use crate::fault::NetFault;
 use crate::job::Job;
+use crate::limits::{MOST_DURATION, MOST_JOBS, MOST_REQUEST, MOST_RESOURCES};
 use crate::topology::{are_numbers, sorted, topological};
 use std::alloc::Global;
 use std::marker::Model;
-
-/// The most jobs of a network.
-pub const MOST_JOBS: usize = 512;
-
-/// The most resources of a network.
-pub const MOST_RESOURCES: usize = 16;
-
-/// The longest duration of a job, in time units.
-pub const MOST_DURATION: u32 = 10_000;
-
-/// The greatest request of a job, in units.
-pub const MOST_REQUEST: u32 = 10_000;
 
 /// A project network (activity on node): jobs that run for a time and request renewable resources, and precedence between
 /// them, from finish to start with lag 0. It is within its limits, and no job waits for itself. Contracts see a `Project`.
@@ -92,7 +81,7 @@ impl Network {
         self.resources
     }
 
-    /// How many time units the job at place `i` runs.
+    /// How many time units the job at place `i`, from 0, runs.
     #[tactic(auto, unfolding(crate::specs::Project::duration))]
     pub fn duration(&self, i: usize) -> u32
         requires { i < length self.now.jobs }
@@ -101,7 +90,7 @@ impl Network {
         self.jobs[i].duration()
     }
 
-    /// How many units of the resource at place `k` the job at place `i` uses while it runs.
+    /// How many units of the resource at place `k` the job at place `i`, both from 0, uses while it runs.
     #[tactic(auto, unfolding(crate::specs::Project::request))]
     pub fn request(&self, i: usize, k: usize) -> u32
         requires job { i < length self.now.jobs }
@@ -119,8 +108,8 @@ impl Network {
         &self.arcs
     }
 
-    /// The same relation as pairs of places, from 0, in topological order: no pair leads into a job that it or an earlier
-    /// pair leaves. So one sweep over them settles early starts, and one from the end late starts.
+    /// The same relation as pairs of places, from 0, in topological order: every pair into a job comes before every pair out
+    /// of it. So one sweep over them settles early starts, and one from the end late starts.
     pub fn topological_arcs(&self) -> &[(u32, u32)]
         ensures order { IsTopological self.now result.now }
         ensures sound { IsSound self.now }

@@ -2,11 +2,10 @@
 
 ghost use Rattle.std.specs.Prelude.{◌≡◌, ℕ, ◌<◌, ◌≤◌, ◌↔◌, IsTrue, IsFalse, IfOk, length, slice_index};
 ghost use Rattle.racp_model.specs.Project.{AreNumbers};
-ghost use Rattle.racp_model.specs.Topology.{from_at, to_at, RisesAlong, IsRankable};
-ghost use Rattle.racp_model.specs.Ranks.{AreBelow, ArePairsOf, AreByRank, IsOrdered, IsSortedSet, IsSwept};
+ghost use Rattle.racp_model.specs.Ranks.{from_at, to_at, RisesAlong, IsRankable, AreBelow, ArePairsOf, AreByRank, IsOrdered, IsSortedSet, IsSwept};
 
 use crate::fault::NetFault;
-use crate::network::MOST_JOBS;
+use crate::limits::MOST_JOBS;
 use std::alloc::{AllocError, Global};
 
 /// Whether each pair names two of so many jobs.
@@ -114,8 +113,8 @@ fn raise_ranks(arcs: &[(u32, u32)], rank: &mut [u32]) -> Sweep
     }
 }
 
-/// The places of the two jobs that a pair names.
-#[tactic(auto, unfolding(crate::specs::Topology::from_at, crate::specs::Topology::to_at))]
+/// The places of the two jobs that a pair names. The number of jobs is there for the contract alone.
+#[tactic(auto, unfolding(crate::specs::Ranks::from_at, crate::specs::Ranks::to_at))]
 fn ends_at(arcs: &[(u32, u32)], k: usize, count: usize) -> (usize, usize)
     requires place { k < length arcs.now }
     requires numbers { AreNumbers count arcs.now }

@@ -4,8 +4,8 @@ ghost use Rattle.racp_model.specs.Window.{Bounds};
 use crate::starts::Starts;
 use std::marker::Model;
 
-/// A time window for each job: a lower and an upper bound on its start. Lower bounds are at most 20,000,000, upper bounds
-/// at most 10,000,000.
+/// A time window for each job: a lower and an upper bound on its start, in time units. Lower bounds are at most 20,000,000,
+/// upper bounds at most 10,000,000.
 #[derive(Debug, Clone, Drop)]
 pub struct Window {
     lower: Starts,
@@ -33,7 +33,7 @@ impl Window {
         Window { lower, upper }
     }
 
-    /// The lower bounds, by place.
+    /// The lower bounds, by place from 0.
     pub fn lower(&self) -> &[u32]
         ensures bounds { result.now ≡ self.now.lower }
         ensures small { All (λ x. x ≤ 20000000) self.now.lower }
@@ -41,7 +41,7 @@ impl Window {
         self.lower.as_slice()
     }
 
-    /// The upper bounds, by place.
+    /// The upper bounds, by place from 0.
     pub fn upper(&self) -> &[u32]
         ensures bounds { result.now ≡ self.now.upper }
         ensures small { All (λ x. x ≤ 10000000) self.now.upper }

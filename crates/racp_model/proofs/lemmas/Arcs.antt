@@ -3,7 +3,8 @@ use Rattle.std.proofs.Common.{◌≡◌, ℕ, ◌+◌, ◌-◌, ◌<◌, ◌≤�
 use Rattle.std.proofs.lemmas.List.{get_or_default}
 use Rattle.std.proofs.lemmas.List.Elements.{Contains-get_or}
 use Rattle.racp_model.specs.Project.{Project, duration, Precedes, AreNumbers, IsNumber, IsSound, Rises}
-use Rattle.racp_model.specs.Topology.{IsTopological, from_at, to_at, RisesAlong}
+use Rattle.racp_model.specs.Topology.{IsTopological}
+use Rattle.racp_model.specs.Ranks.{from_at, to_at, RisesAlong}
 
 -- the jobs of a pair are among the jobs
 pub from_at-below : (arcs : List (ℕ × ℕ)) (n k : ℕ) → AreNumbers n arcs → k < length arcs → from_at arcs k < n

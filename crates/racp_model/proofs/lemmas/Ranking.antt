@@ -2,7 +2,7 @@
 use Rattle.std.proofs.Common.{◌≡◌, ℕ, ◌<◌, ◌≤◌, inl, inr, arith}
 use Rattle.std.proofs.lemmas.Bool.{cases_lt}
 use Rattle.std.proofs.lemmas.Bool.Decides.{nat_tests}
-use Rattle.racp_model.specs.Topology.{is_lower, lower_count}
+use Rattle.racp_model.specs.Ranks.{is_lower, lower_count}
 use Rattle.racp_model.proofs.lemmas.Sums.{sum_below-lt, sum_below-bound}
 
 pub is_lower-most : (rank : ℕ → ℕ) (i j : ℕ) → is_lower rank i j ≤ 1

@@ -1,6 +1,5 @@
 use Rattle.std.proofs.Common.{◌≡◌, ◌*◌, ◌-◌, ℕ, length}
-use Rattle.racp_model.specs.Topology.{RisesAlong}
-use Rattle.racp_model.specs.Ranks.{AreBelow, IsLowUnder, total}
+use Rattle.racp_model.specs.Ranks.{RisesAlong, AreBelow, IsLowUnder, total}
 use Rattle.racp_model.proofs.topology.rank_jobs.Given as goal
 
 abbrev pub invariant-sweeps : goal.invariant-sweeps

@@ -1,7 +1,7 @@
 use Rattle.std.proofs.Common.{ℕ, ◌+◌, ◌≤◌, slice_index, arith, refl}
 use Rattle.racp_model.specs.Project.{duration}
 use Rattle.racp_model.proofs.lemmas.Arcs.{each_by_arcs}
-use Rattle.racp_model.proofs.fitting.keep_precedence.Goals as goal
+use Rattle.racp_model.proofs.fitting.keeps_precedence.Goals as goal
 
 pub returns-then-starts-j : goal.returns-then-starts-j
 returns-then-starts-j c = ((λ e. cc), λ keeps. absurd (omega (arith, keeps _ _ (c.topological_arcs-i-items.ensures.order.sound c.loop-i.i-index (omega arith)))))
