@@ -4,7 +4,7 @@ use Rattle.std.proofs.lemmas.Bool.{cases_lt}
 use Rattle.racp_model.specs.Project.{Project, Precedes, duration}
 use Rattle.racp_model.specs.Topology.{IsTopological}
 use Rattle.racp_model.specs.Schedule.{KeepsPrecedence}
-use Rattle.racp_cpm.specs.Lowered.{IsLoweredFrom, IsLowered, IsAtMost, TakesDurations}
+use Rattle.racp_cpm.specs.Lowered.{AreGreatestWithin, IsLowered, IsAtMost, TakesDurations}
 use Rattle.racp_model.specs.Path.{IsLate, IsTooTight}
 use Rattle.racp_model.proofs.lemmas.Lists.{at_set}
 use Rattle.racp_model.proofs.lemmas.Arcs.{KeepsPair, each_by_arcs}
@@ -15,6 +15,13 @@ above_more P k above here q l = elim (cases_lt k q) [
   | inl more ↦ above q (omega arith)
   | inr same ↦ let e : k ≡ q = omega arith in subst P e here
 ]
+
+-- the greatest starts within the upper bounds that keep the pairs from the place k on
+pub record IsLoweredFrom (p : Project) (pairs : List (ℕ × ℕ)) (k : ℕ) (upper starts : List ℕ) : Type 0 where
+  pub places : length starts ≡ length upper
+  pub below : IsAtMost p upper starts
+  pub kept : (q : ℕ) → k ≤ q → q < length pairs → KeepsPair p starts (slice_index_or pairs q (0, 0))
+  pub greatest : (others : List ℕ) → IsAtMost p upper others → KeepsPrecedence p others → (i : ℕ) → i < length p.jobs → slice_index others i ≤ slice_index starts i
 
 -- a pair that is kept already
 pub lowered-kept : (p : Project) (pairs : List (ℕ × ℕ)) (upper starts : List ℕ) (k i j : ℕ)
@@ -70,13 +77,21 @@ lowered-none p pairs upper starts k i j ordered l h at less others under keeps =
     let order : Precedes p i j = let P : ℕ × ℕ → Type 0 = λ a. Precedes p a.0 a.1 in subst P at (ordered.sound k l) in
     omega (arith, keeps i j order, h.greatest others under keeps j to_in)
 
--- starts whose ends are the due times, lowered along all pairs, are the late starts
-pub late_is : (p : Project) (pairs : List (ℕ × ℕ)) (due upper late : List ℕ) → IsTopological p pairs → length due ≡ length p.jobs
-    → TakesDurations p due upper true → IsLoweredFrom p pairs 0 upper late → IsLate p (slice_index due) late
-late_is p pairs due upper late ordered places t h = record {
+-- after all pairs they keep precedence
+pub lowered_all : (p : Project) (pairs : List (ℕ × ℕ)) (upper starts : List ℕ) → IsTopological p pairs → IsLoweredFrom p pairs 0 upper starts → AreGreatestWithin p upper starts
+lowered_all p pairs upper starts ordered h = record {
+  places = h.places;
+  below = h.below;
+  precedence = each_by_arcs p pairs (λ i j. slice_index starts i + duration p i ≤ slice_index starts j) ordered (λ q l. h.kept q (omega arith) l);
+  greatest = h.greatest;
+}
+
+-- lowered from the due times less the durations, they are the late starts
+pub late_is : (p : Project) (due upper late : List ℕ) → length due ≡ length p.jobs → TakesDurations p due upper true → AreGreatestWithin p upper late → IsLate p (slice_index due) late
+late_is p due upper late places t h = record {
   places = h.places ∙ t.0 ∙ places;
   ends = λ i l. omega (arith, h.below i l, t.1 i l);
-  precedence = each_by_arcs p pairs (λ i j. slice_index late i + duration p i ≤ slice_index late j) ordered (λ q l. h.kept q (omega arith) l);
+  precedence = h.precedence;
   greatest = λ starts ends keeps. h.greatest starts (λ i l. omega (arith, ends i l, t.1 i l)) keeps;
 }
 
@@ -89,7 +104,7 @@ pub too_tight : (p : Project) (due upper : List ℕ) → TakesDurations p due up
 too_tight p due upper t none starts ends keeps = none starts (λ i l. omega (arith, ends i l, t.1 i l)) keeps
 
 -- what both steps together answer
-pub settled : (p : Project) (pairs : List (ℕ × ℕ)) (due upper after : List ℕ) (b : Bool) → IsTopological p pairs → length due ≡ length p.jobs
-    → TakesDurations p due upper true → IsLowered p pairs 0 upper after b → MatchBool b (IsLate p (slice_index due) after) (IsTooTight p (slice_index due))
-settled p pairs due upper after true ordered places t h = late_is p pairs due upper after ordered places t h
-settled p pairs due upper after false ordered places t h = too_tight p due upper t h
+pub settled : (p : Project) (due upper after : List ℕ) (b : Bool) → length due ≡ length p.jobs
+    → TakesDurations p due upper true → IsLowered p upper after b → MatchBool b (IsLate p (slice_index due) after) (IsTooTight p (slice_index due))
+settled p due upper after true places t h = late_is p due upper after places t h
+settled p due upper after false places t h = too_tight p due upper t h

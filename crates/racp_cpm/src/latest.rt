@@ -1,6 +1,5 @@
 ghost use Rattle.std.specs.Prelude.{◌≡◌, MatchBool, IfOk, length, slice_index};
 ghost use Rattle.racp_model.specs.Path.{IsLate, IsTooTight};
-ghost use Rattle.racp_model.specs.Topology.{IsTopological};
 ghost use Rattle.racp_cpm.specs.Ends.{IsLateAnswer};
 ghost use Rattle.racp_cpm.specs.Lowered.{TakesDurations, IsLowered};
 
@@ -29,7 +28,7 @@ fn settle_late(net: &Network, starts: &mut [u32]) -> bool
     requires { length starts.old ≡ length net.now.jobs }
     ensures { MatchBool result (IsLate net.now (slice_index starts.old) starts.new) (IsTooTight net.now (slice_index starts.old)) }
 {
-    take_durations(net, starts) && lower(net, net.topological_arcs(), starts)
+    take_durations(net, starts) && lower(net, starts)
 }
 
 /// Lowers each due time by the job's duration, and says whether there is room for it.
@@ -48,11 +47,11 @@ fn take_durations(net: &Network, starts: &mut [u32]) -> bool
 }
 
 /// Lowers each start to leave room before the jobs after it, in one sweep from the end, and says whether that can be done.
-fn lower(net: &Network, arcs: &[(u32, u32)], starts: &mut [u32]) -> bool
-    requires order { IsTopological net.now arcs.now }
-    requires places { length starts.old ≡ length net.now.jobs }
-    ensures { IsLowered net.now arcs.now 0 starts.old starts.new result }
+fn lower(net: &Network, starts: &mut [u32]) -> bool
+    requires { length starts.old ≡ length net.now.jobs }
+    ensures { IsLowered net.now starts.old starts.new result }
 {
+    let arcs = net.topological_arcs();
     for k in (0..arcs.len()).rev() {
         let (i, j) = arcs[k];
         let duration = net.duration(i as usize);

@@ -12,7 +12,7 @@ pub record IsSameProject (given made : Project) : Type 0 where
   pub arcs : (arc : ℕ × ℕ) → Contains made.arcs arc ↔ Contains given.arcs arc
 
 -- a network of what was given, or the first fault: a limit, a pair that names no job, a ring, and only where there is
--- none of these, want of memory
+-- none of these, lack of memory
 abbrev pub IsMade : Project → Result Project NetFault → Type 0
 IsMade given (Ok made) = IsSameProject given made × IsSound made
 IsMade given (Err Limit) = IsWithinLimits given.resources given.jobs → ⊥

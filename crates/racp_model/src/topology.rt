@@ -1,8 +1,8 @@
 //! Ranks of the jobs along their pairs, and the pairs in topological order.
 
-ghost use Rattle.std.specs.Prelude.{◌≡◌, ℕ, ◌<◌, ◌≤◌, ◌↔◌, IsTrue, IsFalse, IfOk, length, slice_index};
-ghost use Rattle.racp_model.specs.Project.{AreNumbers};
-ghost use Rattle.racp_model.specs.Ranks.{from_at, to_at, RisesAlong, IsRankable, AreBelow, ArePairsOf, AreByRank, IsOrdered, IsSortedSet, IsSwept};
+ghost use Rattle.std.specs.Prelude.{◌≡◌, ℕ, ◌<◌, ◌≤◌, ◌↔◌, All, IsTrue, IsFalse, IfOk, length, slice_index};
+ghost use Rattle.racp_model.specs.Project.{number, AreNumbers};
+ghost use Rattle.racp_model.specs.Ranks.{RisesAlong, IsRankable, AreBelow, ArePairsOf, AreByRank, IsOrdered, IsSortedSet, IsSwept};
 
 use crate::fault::NetFault;
 use crate::limits::MOST_JOBS;
@@ -96,8 +96,8 @@ fn raise_ranks(arcs: &[(u32, u32)], rank: &mut [u32]) -> Sweep
     ensures { IsSwept arcs.now rank.old rank.new result }
 {
     let mut raised = false;
-    for k in 0..arcs.len() {
-        let (from, to) = ends_at(arcs, k, rank.len());
+    for &(i, j) in arcs {
+        let (from, to) = (place_of(i) as usize, place_of(j) as usize);
         if rank[to] <= rank[from] {
             if rank[from] as usize + 1 == rank.len() {
                 return Sweep::Ring;
@@ -113,18 +113,12 @@ fn raise_ranks(arcs: &[(u32, u32)], rank: &mut [u32]) -> Sweep
     }
 }
 
-/// The places of the two jobs that a pair names. The number of jobs is there for the contract alone.
-#[tactic(auto, unfolding(crate::specs::Ranks::from_at, crate::specs::Ranks::to_at))]
-fn ends_at(arcs: &[(u32, u32)], k: usize, count: usize) -> (usize, usize)
-    requires place { k < length arcs.now }
-    requires numbers { AreNumbers count arcs.now }
-    ensures from { result.0 ≡ from_at arcs.now k }
-    ensures to { result.1 ≡ to_at arcs.now k }
-    ensures from_in { result.0 < count }
-    ensures to_in { result.1 < count }
+/// The place, from 0, of the job with this number, from 1.
+fn place_of(job: u32) -> u32
+    requires { 1 ≤ job }
+    ensures { number result ≡ job }
 {
-    let (from, to) = arcs[k];
-    (from as usize - 1, to as usize - 1)
+    job - 1
 }
 
 /// The pairs by places, by rising rank of the first job.
@@ -133,21 +127,19 @@ fn by_rank(alloc: Global, arcs: &[(u32, u32)], rank: &[u32]) -> Result<Vec<(u32,
     requires small { length rank.now ≤ 512 }
     ensures { IfOk result (λ pairs. AreByRank arcs.now rank.now pairs.items) }
 {
-    let mut pairs = places(alloc, arcs, rank.len())?;
+    let mut pairs = places(alloc, arcs)?;
     pairs.sort_unstable_by_key(|pair| rank.get(pair.0 as usize).copied().unwrap_or(0));
     Ok(pairs)
 }
 
 /// The pairs by places.
-fn places(alloc: Global, arcs: &[(u32, u32)], count: usize) -> Result<Vec<(u32, u32)>, AllocError>
-    requires numbers { AreNumbers count arcs.now }
-    requires small { count ≤ 512 }
+fn places(alloc: Global, arcs: &[(u32, u32)]) -> Result<Vec<(u32, u32)>, AllocError>
+    requires { All (λ arc. (1 ≤ arc.0) × (1 ≤ arc.1)) arcs.now }
     ensures { IfOk result (λ pairs. ArePairsOf arcs.now pairs.items) }
 {
     let mut pairs = Vec::with_capacity(alloc, arcs.len())?;
-    for k in 0..arcs.len() {
-        let (from, to) = ends_at(arcs, k, count);
-        pairs.push((from as u32, to as u32))?;
+    for &(i, j) in arcs {
+        pairs.push((place_of(i), place_of(j)))?;
     }
     Ok(pairs)
 }

@@ -2,7 +2,7 @@
 use Rattle.std.proofs.Common.{◌≡◌, ℕ, ◌+◌, ◌-◌, ◌<◌, ◌≤◌, List, length, slice_index, slice_index_or, arith, subst, ap, ◌∙◌, Contains}
 use Rattle.std.proofs.lemmas.List.{get_or_default}
 use Rattle.std.proofs.lemmas.List.Elements.{Contains-get_or}
-use Rattle.racp_model.specs.Project.{Project, duration, Precedes, AreNumbers, IsNumber, IsSound, Rises}
+use Rattle.racp_model.specs.Project.{Project, number, duration, Precedes, AreNumbers, IsNumber, IsSound, Rises}
 use Rattle.racp_model.specs.Topology.{IsTopological}
 use Rattle.racp_model.specs.Ranks.{from_at, to_at, RisesAlong}
 
@@ -18,6 +18,15 @@ unfolding to_at
 to_at-below arcs n k numbers l =
     let h : IsNumber n (slice_index_or arcs k (1, 1)).0 × IsNumber n (slice_index_or arcs k (1, 1)).1 = numbers k (1, 1) l in
     omega (arith, h.1.0, h.1.1)
+
+-- the places of a pair's jobs, from their numbers
+pub from_at-number : (arcs : List (ℕ × ℕ)) (k place : ℕ) (d : ℕ × ℕ) → k < length arcs → number place ≡ (slice_index_or arcs k d).0 → place ≡ from_at arcs k
+unfolding from_at
+from_at-number arcs k place d l e = omega (arith, e, ap (λ (a : ℕ × ℕ). a.0) (get_or_default arcs k (1, 1) d l))
+
+pub to_at-number : (arcs : List (ℕ × ℕ)) (k place : ℕ) (d : ℕ × ℕ) → k < length arcs → number place ≡ (slice_index_or arcs k d).1 → place ≡ to_at arcs k
+unfolding to_at
+to_at-number arcs k place d l e = omega (arith, e, ap (λ (a : ℕ × ℕ). a.1) (get_or_default arcs k (1, 1) d l))
 
 -- the pair at a place orders its two jobs
 pub at_precedes : (p : Project) (k : ℕ) → AreNumbers (length p.jobs) p.arcs → k < length p.arcs → Precedes p (from_at p.arcs k) (to_at p.arcs k)

@@ -1,4 +1,4 @@
-use Rattle.racp_cpm.specs.Lowered.{IsLoweredFrom}
+use Rattle.racp_cpm.proofs.Lowering.{IsLoweredFrom}
 use Rattle.racp_cpm.proofs.latest.lower.Given as goal
 
 abbrev pub invariant-loop-k : goal.invariant-loop-k

@@ -1,5 +1,5 @@
 use Rattle.racp_model.proofs.Topological.{ArePairsBelow}
 use Rattle.racp_model.proofs.topology.places.Given as goal
 
-abbrev pub invariant-loop-k : goal.invariant-loop-k
-invariant-loop-k l = ArePairsBelow l.arcs l.k l.pairs.items
+abbrev pub invariant-loop-i : goal.invariant-loop-i
+invariant-loop-i l = ArePairsBelow l.arcs l.i-index l.pairs.items
