@@ -1,3 +1,4 @@
+-- Due times lowered to late starts, by one sweep over the pairs from the last.
 use Rattle.std.proofs.Common.{◌≡◌, ◌≢◌, ℕ, ◌+◌, ◌<◌, ◌≤◌, inl, inr, List, length, slice_index, slice_index_or, set, arith, ap, sym, ◌∙◌, subst, true, false, Bool, MatchBool, get_or-set_other, get_or-set_same}
 use Rattle.std.proofs.lemmas.List.{length-set}
 use Rattle.std.proofs.lemmas.Bool.{cases_lt}

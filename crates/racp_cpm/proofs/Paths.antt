@@ -1,3 +1,4 @@
+-- Chains and early starts: the greatest early finish is the critical length.
 use Rattle.std.proofs.Common.{◌≡◌, ℕ, zero, suc, ◌+◌, ◌-◌, ◌<◌, ◌≤◌, ◌⊎◌, inl, inr, List, [], ◌∷◌, length, slice_index, set, arith, ap, sym, ◌∙◌, subst, get_or-set_same}
 use Rattle.std.specs.List.{sum_by}
 use Rattle.std.proofs.lemmas.Bool.{cases_lt}

@@ -1,3 +1,4 @@
+-- Lower bounds raised to early starts, by one sweep over the pairs.
 use Rattle.std.proofs.Common.{◌≡◌, ◌≢◌, ℕ, ◌+◌, ◌<◌, ◌≤◌, inl, inr, List, length, slice_index, slice_index_or, set, arith, ap, sym, ◌∙◌, subst, below_more, get_or-set_other, get_or-set_same}
 use Rattle.std.proofs.lemmas.List.{length-set}
 use Rattle.racp_model.specs.Project.{Project, Precedes, duration}

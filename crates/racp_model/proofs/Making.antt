@@ -28,6 +28,7 @@ chain_widens p q same wider [] c = c
 chain_widens p q same wider (i ∷ []) c = rw (← same) c
 chain_widens p q same wider (i ∷ (j ∷ rest)) c = (wider i j c.0, chain_widens p q same wider (j ∷ rest) c.1)
 
+-- sorting leaves the project the same
 pub tidy_same : (given : Project) (sorted : List (ℕ × ℕ)) → IsSortedSet given.arcs sorted → IsSameProject given (tidy given sorted)
 tidy_same given sorted h = record {
   resources = refl;
@@ -35,6 +36,7 @@ tidy_same given sorted h = record {
   arcs = h.same;
 }
 
+-- where the pairs can be put in order, the project is a network
 pub tidy_network : (given : Project) (sorted : List (ℕ × ℕ)) (pairs : Vec (ℕ × ℕ) Global) → IsWithinLimits given.resources given.jobs → AreNumbers (length given.jobs) given.arcs → IsSortedSet given.arcs sorted → IsOrdered sorted (Ok pairs)
     → IsSound (tidy given sorted) × IsTopological (tidy given sorted) pairs.items
 tidy_network given sorted pairs limits numbers h ordered =
@@ -48,6 +50,7 @@ tidy_network given sorted pairs limits numbers h ordered =
       topological (tidy given sorted) pairs.items named ordered.1,
     )
 
+-- where they cannot, that is the fault of what was given
 pub tidy_fault : (given : Project) (sorted : List (ℕ × ℕ)) (fault : NetFault) → IsWithinLimits given.resources given.jobs → AreNumbers (length given.jobs) given.arcs → IsSortedSet given.arcs sorted → IsOrdered sorted (Err fault) → IsMade given (Err fault)
 tidy_fault given sorted Limit limits numbers h ordered = absurd ordered
 tidy_fault given sorted BadJob limits numbers h ordered = absurd ordered

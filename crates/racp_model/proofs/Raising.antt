@@ -19,6 +19,7 @@ pub record IsSweeping (arcs : List (ℕ × ℕ)) (old : List ℕ) (k : ℕ) (rai
   pub seen : raised ≡ false → (q : ℕ) → q < k → slice_index old (from_at arcs q) < slice_index old (to_at arcs q)
   pub more : raised ≡ true → total old < total rank
 
+-- before the first pair
 pub sweeping-start : (arcs : List (ℕ × ℕ)) (old : List ℕ) → AreBelow (length old) old → IsSweeping arcs old 0 false old
 sweeping-start arcs old below = record {
   places = refl;
@@ -99,6 +100,7 @@ sweeping-ring arcs old k raised rank from to numbers l h ef et full ranking rise
 pub sweeping-settled : (arcs : List (ℕ × ℕ)) (old rank : List ℕ) → IsSweeping arcs old (length arcs) false rank → (rank ≡ old) × RisesAlong arcs (slice_index old)
 sweeping-settled arcs old rank h = (h.kept refl, h.seen refl)
 
+-- a sweep that raised a rank raised none too far
 pub sweeping-raised : (arcs : List (ℕ × ℕ)) (old : List ℕ) (k : ℕ) (rank : List ℕ) → IsSweeping arcs old k true rank → IsRaised arcs old rank
 sweeping-raised arcs old k rank h = record {
   places = h.places;

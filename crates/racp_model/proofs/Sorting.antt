@@ -21,13 +21,16 @@ pair_cmp a b = ordering_then (nat_cmp a.0 b.0) (nat_cmp a.1 b.1)
 abbrev pub pair_eq : ℕ × ℕ → ℕ × ℕ → Bool
 pair_eq a b = nat_eq a.0 b.0 && nat_eq a.1 b.1
 
+-- pairs are totally ordered
 pub pair_total : IsTotalOrder pair_cmp
 pair_total = then_total (on_total (λ (a : ℕ × ℕ). a.0) nat_cmp_total) (on_total (λ (a : ℕ × ℕ). a.1) nat_cmp_total)
 
+-- pairs that compare equal are those that the test of equality takes for equal
 pub pair_ties : (a b : ℕ × ℕ) → pair_eq a b ≡ eq_by_cmp pair_cmp a b
 pair_ties a b =
     ap (λ v. v && nat_eq a.1 b.1) (unsigned_ties a.0 b.0) ∙ ap (λ v. eq_by_cmp nat_cmp a.0 b.0 && v) (unsigned_ties a.1 b.1) ∙ tied_then (nat_cmp a.0 b.0) (nat_cmp a.1 b.1)
 
+-- what compares less stands before
 pub pair_before : (a b : ℕ × ℕ) → pair_cmp a b ≡ Less → IsArcBefore a b
 pair_before a b e = go (nat_cmp a.0 b.0) (ranks a.0 b.0) e
   where
@@ -41,12 +44,15 @@ pair_before a b e = go (nat_cmp a.0 b.0) (ranks a.0 b.0) e
     go Equal m e = inr (m, second (nat_cmp a.1 b.1) (ranks a.1 b.1) e)
     go Greater m e = cc
 
+-- the test of equality is an equivalence
 pub pair_equiv : IsEquivalence pair_eq
 pair_equiv = and_equiv (on_equiv (λ (a : ℕ × ℕ). a.0) nat_eq_equiv) (on_equiv (λ (a : ℕ × ℕ). a.1) nat_eq_equiv)
 
+-- pairs of equal numbers are equal
 pub pair_made : (x y u v : ℕ) → x ≡ u → y ≡ v → let one : ℕ × ℕ = (x, y) in let other : ℕ × ℕ = (u, v) in one ≡ other
 pair_made x y u v first second = cc
 
+-- pairs that the test takes for equal are equal
 pub pair_same : (a b : ℕ × ℕ) → pair_eq a b ≡ true → a ≡ b
 pair_same a b e =
     let first : a.0 ≡ b.0 = grind (arith, nat_tests) in

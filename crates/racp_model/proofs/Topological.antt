@@ -13,6 +13,7 @@ pub record ArePairsBelow (arcs : List (ℕ × ℕ)) (k : ℕ) (pairs : List (ℕ
   pub only : (q : ℕ) → q < length pairs → IsPairOf arcs (slice_index_or pairs q (0, 0))
   pub all : (m : ℕ) → m < k → Contains pairs (from_at arcs m, to_at arcs m)
 
+-- one more pair
 pub pairs_below-push : (arcs : List (ℕ × ℕ)) (k from to : ℕ) (pairs next : List (ℕ × ℕ)) → ArePairsBelow arcs k pairs → k < length arcs → from ≡ from_at arcs k → to ≡ to_at arcs k → next ≡ pairs ++ (from, to) ∷ []
     → ArePairsBelow arcs (k + 1) next
 pairs_below-push arcs k from to pairs next h l ef et grown =
@@ -43,12 +44,14 @@ in_order arcs rank pairs h rises = record {
       omega (arith, before);
 }
 
+-- a pair of equal places is contained too
 pub Contains-same : (pairs : List (ℕ × ℕ)) (a b i j : ℕ) → a ≡ i → b ≡ j → Contains pairs (a, b) → Contains pairs (i, j)
 Contains-same pairs a b i j e f c =
     let P : ℕ → Type 0 = λ x. Contains pairs (x, b) in
     let Q : ℕ → Type 0 = λ y. Contains pairs (i, y) in
     subst Q f (subst P e c)
 
+-- pairs in order are the relation in topological order
 pub topological : (p : Project) (pairs : List (ℕ × ℕ)) → AreNumbers (length p.jobs) p.arcs → AreInOrder p.arcs pairs → IsTopological p pairs
 topological p pairs numbers h = record {
   named = λ k l. let m = h.same.only k l in (rw m.2 (from_at-below p.arcs (length p.jobs) m.0 numbers m.1), rw m.3 (to_at-below p.arcs (length p.jobs) m.0 numbers m.1));

@@ -6,24 +6,26 @@ use Rattle.racp_model.specs.Project.{Project, number, duration, Precedes, AreNum
 use Rattle.racp_model.specs.Topology.{IsTopological}
 use Rattle.racp_model.specs.Ranks.{from_at, to_at, RisesAlong}
 
--- the jobs of a pair are among the jobs
+-- the first job of a pair is among the jobs
 pub from_at-below : (arcs : List (ℕ × ℕ)) (n k : ℕ) → AreNumbers n arcs → k < length arcs → from_at arcs k < n
 unfolding from_at
 from_at-below arcs n k numbers l =
     let h : IsNumber n (slice_index_or arcs k (1, 1)).0 × IsNumber n (slice_index_or arcs k (1, 1)).1 = numbers k (1, 1) l in
     omega (arith, h.0.0, h.0.1)
 
+-- and so is the second
 pub to_at-below : (arcs : List (ℕ × ℕ)) (n k : ℕ) → AreNumbers n arcs → k < length arcs → to_at arcs k < n
 unfolding to_at
 to_at-below arcs n k numbers l =
     let h : IsNumber n (slice_index_or arcs k (1, 1)).0 × IsNumber n (slice_index_or arcs k (1, 1)).1 = numbers k (1, 1) l in
     omega (arith, h.1.0, h.1.1)
 
--- the places of a pair's jobs, from their numbers
+-- the place of a pair's first job, from its number
 pub from_at-number : (arcs : List (ℕ × ℕ)) (k place : ℕ) (d : ℕ × ℕ) → k < length arcs → number place ≡ (slice_index_or arcs k d).0 → place ≡ from_at arcs k
 unfolding from_at
 from_at-number arcs k place d l e = omega (arith, e, ap (λ (a : ℕ × ℕ). a.0) (get_or_default arcs k (1, 1) d l))
 
+-- and of the second job
 pub to_at-number : (arcs : List (ℕ × ℕ)) (k place : ℕ) (d : ℕ × ℕ) → k < length arcs → number place ≡ (slice_index_or arcs k d).1 → place ≡ to_at arcs k
 unfolding to_at
 to_at-number arcs k place d l e = omega (arith, e, ap (λ (a : ℕ × ℕ). a.1) (get_or_default arcs k (1, 1) d l))
@@ -48,11 +50,13 @@ some_at p i j c =
     let to : (slice_index_or p.arcs c.0 (1, 1)).1 ≡ j + 1 = ap (λ (a : ℕ × ℕ). a.1) at in
     (c.0, c.1, omega (arith, from), omega (arith, to))
 
+-- a rank that rises along each pair of numbers rises along the relation
 pub rises_on : (p : Project) (r : ℕ → ℕ) → RisesAlong p.arcs r → Rises p r
 rises_on p r h i j c =
     let k = some_at p i j c in
     omega (arith, h k.0 k.1, ap r k.2, ap r k.3)
 
+-- and the other way round
 pub rises_along : (p : Project) (r : ℕ → ℕ) → AreNumbers (length p.jobs) p.arcs → Rises p r → RisesAlong p.arcs r
 rises_along p r numbers h k l = h (from_at p.arcs k) (to_at p.arcs k) (at_precedes p k numbers l)
 

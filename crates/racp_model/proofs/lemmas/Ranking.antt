@@ -5,6 +5,7 @@ use Rattle.std.proofs.lemmas.Bool.Decides.{nat_tests}
 use Rattle.racp_model.specs.Ranks.{is_lower, lower_count}
 use Rattle.racp_model.proofs.lemmas.Sums.{sum_below-lt, sum_below-bound}
 
+-- a job counts at most once
 pub is_lower-most : (rank : ℕ → ℕ) (i j : ℕ) → is_lower rank i j ≤ 1
 unfolding is_lower
 is_lower-most rank i j = grind (arith, nat_tests)
@@ -13,10 +14,12 @@ is_lower-most rank i j = grind (arith, nat_tests)
 pub lower_count-most : (n : ℕ) (rank : ℕ → ℕ) (i : ℕ) → lower_count n rank i ≤ n
 lower_count-most n rank i = omega (arith, sum_below-bound n 1 (is_lower rank i) (λ j l. is_lower-most rank i j))
 
+-- no job is lower than itself
 pub is_lower-itself : (rank : ℕ → ℕ) (i : ℕ) → is_lower rank i i ≡ 0
 unfolding is_lower
 is_lower-itself rank i = grind (arith, nat_tests)
 
+-- what is lower than a job is lower than one of higher rank
 pub is_lower-mono : (rank : ℕ → ℕ) (i j m : ℕ) → rank i < rank j → is_lower rank i m ≤ is_lower rank j m
 unfolding is_lower
 is_lower-mono rank i j m less = elim (cases_lt (rank m) (rank i)) [
@@ -24,6 +27,7 @@ is_lower-mono rank i j m less = elim (cases_lt (rank m) (rank i)) [
   | inr high ↦ grind (arith, nat_tests)
 ]
 
+-- a job is lower than one of higher rank
 pub is_lower-above : (rank : ℕ → ℕ) (i j : ℕ) → rank i < rank j → is_lower rank j i ≡ 1
 unfolding is_lower
 is_lower-above rank i j less = grind (arith, nat_tests)
