@@ -4,8 +4,6 @@ mod Latest
 mod Topological
 mod Raising
 mod Sorting
-mod Orders
-mod Cuts
 mod Relations
 mod Rings
 mod Making

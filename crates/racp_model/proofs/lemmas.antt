@@ -5,3 +5,5 @@ pub mod Sums
 pub mod Usage
 pub mod Arcs
 pub mod Ranking
+pub mod Orders
+pub mod Cuts

@@ -1,4 +1,4 @@
-use Rattle.racp_model.proofs.Cuts.{cut_fits}
+use Rattle.racp_model.proofs.lemmas.Cuts.{cut_fits}
 use Rattle.racp_model.proofs.laws.cut_fits_the_same.Goals as goal
 
 pub returns : goal.returns

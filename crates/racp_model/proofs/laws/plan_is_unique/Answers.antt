@@ -1,4 +1,4 @@
-use Rattle.racp_model.proofs.Orders.{plan_unique}
+use Rattle.racp_model.proofs.lemmas.Orders.{plan_unique}
 use Rattle.racp_model.proofs.laws.plan_is_unique.Goals as goal
 
 pub returns : goal.returns

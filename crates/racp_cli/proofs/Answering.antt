@@ -1,0 +1,50 @@
+-- Texts that stand for an answer, and what is written of them.
+use mathlib.Core.Path.{fun_ext}
+use Rattle.std.proofs.Common.{◌≡◌, ℕ, List, Option, Ok, Err, replicate, slice_index, codes, refl, sym, ap, subst, inl, inr}
+use Rattle.std.proofs.lemmas.Bool.{cases_lt}
+use Rattle.std.proofs.lemmas.List.{get_or-replicate}
+use Rattle.std.proofs.Math.ListN.{get_or-eq_default, length-replicate}
+use Rattle.racp_model.specs.Project.{Project}
+use Rattle.racp_model.specs.Path.{IsEarly, IsCriticalLength}
+use Rattle.racp_sm.specs.Reading.{IsReading, IsReadingOrMemory}
+use Rattle.racp_sm.specs.declared.fault.SmFault.{SmFault}
+use Rattle.racp_sm.specs.declared.fault.SmFaultKind.TheVariants.{Memory}
+use Rattle.racp_cli.specs.Texts.{line, early_text, refusal_line, memory_line}
+use Rattle.racp_cli.specs.Answers.{Early, Refused, OutOfMemory, IsEarlyAnswer, IsCpmAnswer}
+use Rattle.racp_cli.specs.Streams.{IsWritten, IsAnswered}
+use Rattle.racp_cli.specs.declared.fault.StreamFault.{StreamFault}
+
+-- a row of zeros releases each job at 0
+pub released_at_zero : (n : ℕ) → slice_index (replicate n 0) ≡ (λ _. 0)
+released_at_zero n = fun_ext (λ i. elim (cases_lt i n) [
+  | inl l ↦ get_or-replicate n i 0 0 l
+  | inr l ↦ get_or-eq_default (replicate n 0) 0 (simp length-replicate l)
+])
+
+-- what is right for a row of zeros is the answer
+pub answers_early : (network : Project) (n critical : ℕ) (starts text : List ℕ) → IsCriticalLength network (slice_index (replicate n 0)) critical → IsEarly network (slice_index (replicate n 0)) starts
+    → text ≡ early_text critical starts → IsEarlyAnswer network text
+answers_early network n critical starts text length early e =
+    let same = released_at_zero n in
+    (critical, starts, subst (λ (release : ℕ → ℕ). IsCriticalLength network release critical) same length, subst (λ (release : ℕ → ℕ). IsEarly network release starts) same early, e)
+
+-- the answer to a text that is read as a network
+pub answers_network : (input : List ℕ) (network : Project) (text : List ℕ) → IsReading input (Ok network) → IsEarlyAnswer network text → IsCpmAnswer input 0 text
+answers_network input network text reading early =
+    record { answer = Early early.0 early.1; right = (network, reading, early.2, early.3); with_status = refl; with_text = sym early.4 }
+
+-- the answer to a text that is refused
+pub answers_refusal : (input : List ℕ) (fault : SmFault) (text : List ℕ) → IsReadingOrMemory input (Err fault) → (fault.kind ≡ Memory → ⊥) → text ≡ refusal_line fault → IsCpmAnswer input 5 text
+answers_refusal input fault text reading other e = elim reading [
+  | inl memory ↦ absurd (other (ap (λ (f : SmFault). f.kind) memory))
+  | inr right ↦ record { answer = Refused fault; right = right; with_status = refl; with_text = sym e }
+]
+
+-- the answer where memory ran out
+pub answers_memory : (input : List ℕ) → IsCpmAnswer input 6 (codes "memory\n")
+unfolding line memory_line
+answers_memory input = record { answer = OutOfMemory; right = tt; with_status = refl; with_text = refl }
+
+-- a beginning of an answer is written
+pub answers_beginning : (old new : Option (List ℕ)) (input : List ℕ) (status : ℕ) (text : List ℕ) (fault : StreamFault) → IsCpmAnswer input status text → IsWritten old new text (Err fault) → IsAnswered old new input (Err fault)
+answers_beginning old new input status text fault answer w = (w.0, status, text, answer, w.1)

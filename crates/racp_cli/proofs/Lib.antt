@@ -1,0 +1,6 @@
+mod Writing
+mod Inputs
+mod TextLines
+mod Answering
+mod Numbers
+mod Telling

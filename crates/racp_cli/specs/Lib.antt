@@ -1,0 +1,5 @@
+pub mod Texts
+pub mod Answers
+pub mod Streams
+pub mod Pieces
+pub mod Laws

@@ -1,0 +1,71 @@
+//! `cpm`: the critical length and the early starts of a network.
+
+ghost use Rattle.std.specs.Prelude.{◌≡◌, ℕ, ◌++◌, IfOk};
+ghost use Rattle.racp_cli.specs.Answers.{IsCpmAnswer, IsEarlyAnswer};
+ghost use Rattle.racp_cli.specs.Streams.{IsCpmRun, IsAnswered};
+
+use crate::fault::StreamFault;
+use crate::lines::{early_lines, refused_line};
+use crate::status::{DONE, OUT_OF_MEMORY, REFUSED};
+use crate::streams::{read_whole, write_whole};
+use racp_cpm::{early, longest};
+use racp_model::Network;
+use racp_sm::{SmFaultKind, read_sm};
+use std::alloc::{AllocError, Global};
+use std::io::{Read, Write};
+
+/// Reads a network text from `net`, all of it, and writes the answer to `out`: the critical length and the early starts,
+/// where each job may start at 0, or a line that says why there are none. Returns the status that belongs to what was
+/// written: 0 for the early starts, 5 where the text is refused, 6 where memory ran out.
+///
+/// # Errors
+///
+/// After these nothing was written: `Read`, a read failed; `TooLong`, there are more than 16,777,216 bytes; `Memory`, memory
+/// for the input was refused. After `Write`, a write failed or took no byte, and what is out is a beginning of the answer.
+pub fn cpm_over<R: Read, W: Write>(
+    alloc: Global,
+    net: &mut R,
+    out: &mut W,
+) -> Result<u8, StreamFault>
+    ensures { IsCpmRun (R.remaining net.old) (R.remaining net.new) (W.contents out.old) (W.contents out.new) result }
+{
+    let input = read_whole(alloc, net)?;
+    respond(alloc, &input, out)
+}
+
+/// Writes the answer to a network text.
+fn respond<W: Write>(alloc: Global, input: &[u8], out: &mut W) -> Result<u8, StreamFault>
+    ensures { IsAnswered (W.contents out.old) (W.contents out.new) input.now result }
+{
+    match answer(alloc, input) {
+        Ok((status, text)) => {
+            write_whole(out, &text)?;
+            Ok(status)
+        }
+        Err(AllocError) => {
+            write_whole(out, b"memory\n")?;
+            Ok(OUT_OF_MEMORY)
+        }
+    }
+}
+
+/// The status and the text of the answer to a network text.
+fn answer(alloc: Global, input: &[u8]) -> Result<(u8, Vec<u8>), AllocError>
+    ensures { IfOk result (λ answer. IsCpmAnswer input.now answer.0 answer.1.items) }
+{
+    match read_sm(alloc, input) {
+        Ok(network) => Ok((DONE, early_answer(alloc, &network)?)),
+        Err(fault) if fault.kind == SmFaultKind::Memory => Err(AllocError),
+        Err(fault) => Ok((REFUSED, refused_line(alloc, fault)?)),
+    }
+}
+
+/// The critical length and the early starts of a network, all jobs released at 0.
+fn early_answer(alloc: Global, network: &Network) -> Result<Vec<u8>, AllocError>
+    ensures { IfOk result (λ text. IsEarlyAnswer network.now text.items) }
+{
+    let release = vec![in alloc; 0; network.job_count()]?;
+    let critical = longest(alloc, network, &release)?;
+    let starts = early(alloc, network, &release)?;
+    early_lines(alloc, critical, starts.as_slice())
+}

@@ -1,0 +1,8 @@
+//! Laws of the texts. Each function does nothing; its contract is the law.
+
+ghost use Rattle.racp_cli.specs.Laws.{OneTextOneAnswer};
+
+/// No two answers share one text.
+pub fn one_text_one_answer()
+    ensures { OneTextOneAnswer }
+{}

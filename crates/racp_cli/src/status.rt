@@ -1,0 +1,13 @@
+//! The statuses with which the program ends.
+
+/// An answer was written.
+pub const DONE: u8 = 0;
+
+/// The input is refused, and the line that was written says why.
+pub const REFUSED: u8 = 5;
+
+/// Memory ran out.
+pub const OUT_OF_MEMORY: u8 = 6;
+
+/// The input could not be read, or the answer could not be written.
+pub const STREAM_FAILED: u8 = 7;

@@ -1,0 +1,67 @@
+//! Reading all of a reader, and writing all of a text.
+
+ghost use Rattle.std.specs.Prelude.{◌≡◌, ℕ, ◌+◌, ◌<◌, ◌≤◌, length, All, MatchResult};
+ghost use Rattle.racp_cli.specs.Streams.{IsInput, IsReadUntil, IsWritten, input_limit};
+ghost use Rattle.racp_cli.specs.Pieces.{IsPieceRead};
+
+use crate::fault::StreamFault;
+use std::alloc::Global;
+use std::io::{Read, Write};
+
+/// How many bytes are read of one reader at most.
+const INPUT_LIMIT: usize = 16_777_216;
+
+/// How many bytes one call reads at most.
+const PIECE: usize = 65_536;
+
+/// All that is left of the reader.
+pub(crate) fn read_whole<R: Read>(alloc: Global, reader: &mut R) -> Result<Vec<u8>, StreamFault>
+    ensures { MatchResult result (λ input. IsInput (R.remaining reader.old) (R.remaining reader.new) input.items)
+        (IsReadUntil (R.remaining reader.old) (R.remaining reader.new)) }
+{
+    let mut input = Vec::new(alloc);
+    let mut buffer = [0; PIECE];
+    while input.len() <= INPUT_LIMIT {
+        let room = PIECE.min(INPUT_LIMIT + 1 - input.len());
+        if !read_piece(reader, &mut buffer[..room], &mut input)? {
+            return Ok(input);
+        }
+    }
+    Err(StreamFault::TooLong)
+}
+
+/// Reads a piece, through the buffer, to the end of the input; false at the end of the reader.
+fn read_piece<R: Read>(
+    reader: &mut R,
+    buffer: &mut [u8],
+    input: &mut Vec<u8>,
+) -> Result<bool, StreamFault>
+    requires { 0 < length buffer.old }
+    ensures bytes { All (λ byte. byte < 256) input.new.items }
+    ensures piece { IsPieceRead (R.remaining reader.old) (R.remaining reader.new) (length buffer.old) input.old.items input.new.items result }
+{
+    let Ok(count) = reader.read(buffer) else {
+        return Err(StreamFault::Read);
+    };
+    if input.extend_from_slice(&buffer[..count]).is_err() {
+        return Err(StreamFault::Memory);
+    }
+    Ok(count > 0)
+}
+
+/// Writes all of the text.
+pub(crate) fn write_whole<W: Write>(writer: &mut W, text: &[u8]) -> Result<(), StreamFault>
+    ensures { IsWritten (W.contents writer.old) (W.contents writer.new) text.now result }
+{
+    let mut rest = text;
+    while !rest.is_empty() {
+        match writer.write(rest) {
+            Ok(0) | Err(_) => return Err(StreamFault::Write),
+            Ok(count) => rest = &rest[count..],
+        }
+    }
+    match writer.flush() {
+        Ok(()) => Ok(()),
+        Err(_) => Err(StreamFault::Write),
+    }
+}

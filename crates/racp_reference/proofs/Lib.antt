@@ -1,0 +1,9 @@
+mod Carrying
+mod Counts
+mod Totals
+mod Searching
+mod Costs
+mod Choosing
+mod Rooted
+mod Cutting
+mod Planning

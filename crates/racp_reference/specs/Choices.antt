@@ -1,0 +1,51 @@
+-- Contracts of private functions: the cheapest of the capacity vectors under which some starts fit.
+use Rattle.std.specs.Prelude.{◌≡◌, ℕ, ◌<◌, ◌≤◌, min, List, length, slice_index, Option, Some, None, nat_lt, if◌then◌else◌}
+use Rattle.racp_model.specs.Project.{Project}
+use Rattle.racp_model.specs.Schedule.{roof}
+use Rattle.racp_model.specs.Terms.{Terms, cost, IsBefore, IsLexBefore}
+use Rattle.racp_model.specs.Plan.{IsLeast}
+use Rattle.racp_model.specs.Window.{Bounds, Answers, IsYes, IsNo}
+use Rattle.racp_reference.specs.declared.choice.Choice.{Choice}
+
+-- a number of units for each resource, and two bounds on the start of each job
+pub record AreBounds (p : Project) (units : List ℕ) (window : Bounds) : Type 0 where
+  pub resources : length units ≡ p.resources
+  pub lower : length window.lower ≡ length p.jobs
+  pub upper : length window.upper ≡ length p.jobs
+
+-- x, or the ceiling of the resource at place k where there is one and it is less
+abbrev pub cut_to : Option (List ℕ) → ℕ → ℕ → ℕ
+cut_to None k x = x
+cut_to (Some ceilings) k x = min x (slice_index ceilings k)
+
+-- of each resource, the sum of all requests, or the ceiling where that is less
+pub record AreMostUnits (p : Project) (terms : Terms) (units : List ℕ) : Type 0 where
+  pub places : length units ≡ p.resources
+  pub each : (k : ℕ) → k < p.resources → slice_index units k ≡ cut_to terms.ceilings k (roof p k)
+
+-- capacities of at most these units, under which some starts in the window fit
+pub record IsCandidate (p : Project) (window : Bounds) (most capacities : List ℕ) : Type 0 where
+  pub places : length capacities ≡ length most
+  pub below : (k : ℕ) → k < length most → slice_index capacities k ≤ slice_index most k
+  pub yes : IsYes p capacities window
+
+-- capacities with what they cost, and the least starts in the window that fit them
+pub record IsChoice (p : Project) (terms : Terms) (window : Bounds) (choice : Choice) : Type 0 where
+  pub cost : choice.cost ≡ cost terms choice.capacities
+  pub starts : IsLeast IsLexBefore (Answers p choice.capacities window) choice.starts
+
+-- the choice of these capacities, or none where no starts in the window fit them
+abbrev pub IsPriced : Project → Terms → Bounds → List ℕ → Option Choice → Type 0
+IsPriced p terms window capacities None = IsNo p capacities window
+IsPriced p terms window capacities (Some choice) = (choice.capacities ≡ capacities) × IsChoice p terms window choice
+
+-- the cheaper of two choices, the first where they cost the same
+abbrev pub cheaper_of : Option Choice → Option Choice → Option Choice
+cheaper_of best None = best
+cheaper_of None (Some other) = Some other
+cheaper_of (Some best) (Some other) = if nat_lt other.cost best.cost then Some other else Some best
+
+-- the choice of the first of the candidates, by cost and then lexicographically, or none where there is no candidate
+abbrev pub IsCheapest : Project → Terms → Bounds → List ℕ → Option Choice → Type 0
+IsCheapest p terms window most None = (capacities : List ℕ) → IsCandidate p window most capacities → ⊥
+IsCheapest p terms window most (Some choice) = IsLeast (IsBefore terms) (IsCandidate p window most) choice.capacities × IsChoice p terms window choice

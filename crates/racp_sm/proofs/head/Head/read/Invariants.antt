@@ -1,0 +1,15 @@
+use Rattle.std.proofs.Common.{◌≡◌, length}
+use Rattle.std.specs.List.{before_first}
+use Rattle.racp_sm.specs.Reading.{from_first}
+use Rattle.racp_sm.specs.Steps.{has_mark}
+use Rattle.racp_sm.specs.declared.part.Part.TheVariants.{Precedence}
+use Rattle.racp_sm.specs.declared.part.Mark.TheVariants.{Title}
+use Rattle.racp_sm.specs.Head.{Entries, entries_of}
+use Rattle.racp_sm.proofs.Noting.{IsNoting}
+use Rattle.racp_sm.proofs.head.Head.read.Given as goal
+
+abbrev pub invariant-loop-line : goal.invariant-loop-line
+invariant-loop-line l = IsNoting l.fn.lines l.lines l.head
+
+abbrev pub decreases-loop-line : goal.decreases-loop-line
+decreases-loop-line l = length l.lines

@@ -1,0 +1,7 @@
+use Rattle.racp_sm.specs.Parts.{next_numbers}
+use Rattle.racp_sm.specs.declared.fault.SmFaultKind.TheVariants.{Limit}
+use Rattle.racp_sm.proofs.Repeats.{IsReadingOn, numbers_left}
+use Rattle.racp_sm.proofs.rows.read_requests.Given as goal
+
+abbrev pub invariant-loop : goal.invariant-loop
+invariant-loop l = IsReadingOn (next_numbers l.fn.words.title Limit 0 10000 l.resources l.fn.words.words) (numbers_left l.fn.words.title Limit 0 10000 l.resources) l.fn.words l.words l.counter l.requests.items

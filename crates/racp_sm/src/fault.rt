@@ -1,0 +1,125 @@
+ghost use Rattle.std.specs.Prelude.{◌≡◌};
+ghost use Rattle.racp_sm.specs.Faults.{fault_number, fault_name};
+
+use std::alloc::{AllocError, AllocFailed};
+use thiserror::Error;
+
+/// Why a text is no network: the first rule that it breaks, in the order in which the text is read.
+#[derive(Debug, Clone, Copy, PartialEq, Eq, Drop, Error)]
+pub enum SmFaultKind {
+    /// The head does not say how many jobs there are.
+    #[error("the number of jobs is missing")]
+    NoJobs = 1,
+    /// The head does not say how many renewable resources there are.
+    #[error("the number of renewable resources is missing")]
+    NoRenewable = 2,
+    /// The number of projects is not 1.
+    #[error("there is another number of projects than 1")]
+    ManyProjects = 3,
+    /// There are nonrenewable or doubly constrained resources.
+    #[error("there are resources that are not renewable")]
+    OtherResources = 4,
+    /// There is no line `PRECEDENCE RELATIONS:`.
+    #[error("the precedence relations are missing")]
+    NoPrecedence = 5,
+    /// There is no line `REQUESTS/DURATIONS:` after the precedence relations.
+    #[error("the requests and durations are missing")]
+    NoRequests = 6,
+    /// A word stands where a number has to.
+    #[error("a word is not a number")]
+    BadNumber = 7,
+    /// A number is above its limit, or there is no job or no resource.
+    #[error("a number is out of range")]
+    Limit = 8,
+    /// A row is not that of the next job.
+    #[error("a row is not that of the next job")]
+    BadRow = 9,
+    /// A job has another number of modes than 1, or a mode other than 1.
+    #[error("a job has more than one mode")]
+    NotSingleMode = 10,
+    /// A successor is not the number of a job.
+    #[error("a successor is no job")]
+    BadSuccessor = 11,
+    /// A part ends before its last number.
+    #[error("a part ends too early")]
+    TooFew = 12,
+    /// A part goes on after its last number.
+    #[error("a part goes on for too long")]
+    TooMany = 13,
+    /// A job would have to wait for itself.
+    #[error("a job has to wait for itself")]
+    Cycle = 14,
+    /// Memory ran out.
+    #[error("out of memory")]
+    Memory = 15,
+}
+
+/// Why a text was not read, and the number of the line, from 1, where that shows; 0 where it is no one line.
+#[derive(Debug, Clone, Copy, PartialEq, Eq, Drop, Error)]
+#[error("line {line}: {kind}")]
+pub struct SmFault {
+    /// What is wrong.
+    pub kind: SmFaultKind,
+    /// The number of the line, from 1, or 0.
+    pub line: usize,
+}
+
+impl SmFaultKind {
+    /// The fault's number, from 1 to 15.
+    pub fn number(self) -> u8
+        ensures { result ≡ fault_number self }
+    {
+        self as u8
+    }
+
+    /// The fault's name, as `NoJobs`.
+    pub fn name(self) -> &'static str
+        ensures { result.now ≡ fault_name self }
+    {
+        match self {
+            SmFaultKind::NoJobs => "NoJobs",
+            SmFaultKind::NoRenewable => "NoRenewable",
+            SmFaultKind::ManyProjects => "ManyProjects",
+            SmFaultKind::OtherResources => "OtherResources",
+            SmFaultKind::NoPrecedence => "NoPrecedence",
+            SmFaultKind::NoRequests => "NoRequests",
+            SmFaultKind::BadNumber => "BadNumber",
+            SmFaultKind::Limit => "Limit",
+            SmFaultKind::BadRow => "BadRow",
+            SmFaultKind::NotSingleMode => "NotSingleMode",
+            SmFaultKind::BadSuccessor => "BadSuccessor",
+            SmFaultKind::TooFew => "TooFew",
+            SmFaultKind::TooMany => "TooMany",
+            SmFaultKind::Cycle => "Cycle",
+            SmFaultKind::Memory => "Memory",
+        }
+    }
+}
+
+impl From<AllocError> for SmFault {
+    ghost use Rattle.std.specs.Prelude.{◌≡◌};
+    ghost use Rattle.racp_sm.specs.Faults.{out_of_memory};
+
+    ghost from_gives = { λ _ fault. fault ≡ out_of_memory };
+
+    fn from(_error: AllocError) -> SmFault {
+        SmFault {
+            kind: SmFaultKind::Memory,
+            line: 0,
+        }
+    }
+}
+
+impl<T: Drop> From<AllocFailed<T>> for SmFault {
+    ghost use Rattle.std.specs.Prelude.{◌≡◌};
+    ghost use Rattle.racp_sm.specs.Faults.{out_of_memory};
+
+    ghost from_gives = { λ _ fault. fault ≡ out_of_memory };
+
+    fn from(_error: AllocFailed<T>) -> SmFault {
+        SmFault {
+            kind: SmFaultKind::Memory,
+            line: 0,
+        }
+    }
+}

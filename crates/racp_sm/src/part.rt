@@ -1,0 +1,55 @@
+ghost use Rattle.std.specs.Prelude.{◌≡◌, [], if◌then◌else◌};
+ghost use Rattle.racp_sm.specs.Lines.{words_of};
+ghost use Rattle.racp_sm.specs.Steps.{next_title, texts, title_of, words_in_part};
+
+use crate::line::Line;
+
+/// A part of a network text.
+#[derive(Debug, Clone, Copy, Drop)]
+pub(crate) enum Part {
+    /// The precedence relation.
+    Precedence,
+    /// The durations and requests.
+    Requests,
+}
+
+/// What a line may be.
+#[derive(Debug, Clone, Copy, Drop)]
+pub(crate) enum Mark {
+    /// The title of a part.
+    Title(Part),
+    /// The line before which a part ends.
+    End(Part),
+}
+
+impl Part {
+    /// The words of the part's title.
+    pub(crate) fn title(self) -> &'static [&'static str]
+        ensures { texts result.now ≡ title_of self }
+    {
+        match self {
+            Part::Precedence => &["PRECEDENCE", "RELATIONS:"],
+            Part::Requests => &["REQUESTS/DURATIONS:"],
+        }
+    }
+
+    /// The words of the title after the part.
+    pub(crate) fn next_title(self) -> &'static [&'static str]
+        ensures { texts result.now ≡ next_title self }
+    {
+        match self {
+            Part::Precedence => &["REQUESTS/DURATIONS:"],
+            Part::Requests => &["RESOURCEAVAILABILITIES:"],
+        }
+    }
+
+    /// Whether a line of the part has no words for it: a rule in the requests part.
+    pub(crate) fn skips(self, line: &Line) -> bool
+        ensures { words_in_part self line.now ≡ if result then [] else words_of line.now }
+    {
+        match self {
+            Part::Precedence => false,
+            Part::Requests => line.is_rule(),
+        }
+    }
+}

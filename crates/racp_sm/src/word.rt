@@ -1,0 +1,151 @@
+ghost use Rattle.std.specs.Prelude.{◌≡◌, ◌<◌, ◌≤◌, IfOk, min, true};
+ghost use Rattle.std.specs.List.{list_all};
+ghost use Rattle.racp_sm.specs.Lines.{is_digit, is_number, value, words_of};
+ghost use Rattle.racp_sm.specs.Head.{number_within};
+ghost use Rattle.racp_sm.specs.Steps.{IsCapped, Takes, left_over};
+
+use crate::cut::first_word;
+use crate::fault::{SmFault, SmFaultKind};
+use std::marker::Model;
+
+/// A word of a text, and the number of its line, from 1. Contracts see a `Word`.
+#[derive(Debug, Drop)]
+pub(crate) struct Word<'a> {
+    line: usize,
+    bytes: &'a [u8],
+}
+
+impl<'a> Model for Word<'a> {
+    ghost use Rattle.racp_sm.specs.Lines as lines;
+
+    ghost Value = { lines.Word };
+
+    ghost view = { λ word. record { line = word.line; bytes = word.bytes.now } };
+}
+
+impl<'a> Word<'a> {
+    /// The word of these bytes, at this line.
+    pub(crate) fn new(line: usize, bytes: &'a [u8]) -> Self
+        ensures { result ≡ record { line = line; bytes = bytes.now } }
+    {
+        Word { line, bytes }
+    }
+
+    /// The number that the word spells, where it is from `low` to `high`.
+    ///
+    /// # Errors
+    ///
+    /// `BadNumber` where the word is no number, and this kind of fault where it is another one, at the word's line.
+    pub(crate) fn number_within(
+        &self,
+        kind: SmFaultKind,
+        low: u32,
+        high: u32,
+    ) -> Result<u32, SmFault>
+        requires { high < 4294967295 }
+        ensures number { result ≡ number_within kind low high self.now }
+        ensures most { IfOk result (λ n. n ≤ high) }
+    {
+        match number(self.bytes) {
+            Some(number) if low <= number && number <= high => Ok(number),
+            Some(_) => Err(self.fault(kind)),
+            None => Err(self.fault(SmFaultKind::BadNumber)),
+        }
+    }
+
+    /// What is wrong where the word is one too many.
+    pub(crate) fn too_many(&self) -> SmFault
+        ensures { result ≡ left_over self.now }
+    {
+        match number(self.bytes) {
+            Some(_) => self.fault(SmFaultKind::TooMany),
+            None => self.fault(SmFaultKind::BadNumber),
+        }
+    }
+
+    /// A fault at the word's line.
+    fn fault(&self, kind: SmFaultKind) -> SmFault
+        ensures { result ≡ record { kind = kind; line = self.now.line } }
+    {
+        SmFault {
+            kind,
+            line: self.line,
+        }
+    }
+}
+
+/// The words of a line that are still to come. Contracts see a list.
+#[derive(Debug, Drop)]
+pub(crate) struct Words<'a> {
+    line: usize,
+    rest: &'a [u8],
+}
+
+impl<'a> Model for Words<'a> {
+    ghost use Rattle.std.specs.Prelude.{List};
+    ghost use Rattle.racp_sm.specs.Lines as lines;
+
+    ghost Value = { List lines.Word };
+
+    ghost view = { λ words. lines.words_of (record { number = words.line; bytes = words.rest.now }) };
+}
+
+impl<'a> Words<'a> {
+    /// The words in these bytes, which stand at this line.
+    pub(crate) fn new(line: usize, bytes: &'a [u8]) -> Self
+        ensures { result ≡ words_of (record { number = line; bytes = bytes.now }) }
+    {
+        Words { line, rest: bytes }
+    }
+
+    /// Takes the first word off.
+    pub(crate) fn next_word(&mut self) -> Option<Word<'a>>
+        ensures { Takes self.old result self.new }
+    {
+        let Some((bytes, rest)) = first_word(self.rest) else {
+            self.rest = &self.rest[..0];
+            return None;
+        };
+        self.rest = rest;
+        Some(Word::new(self.line, bytes))
+    }
+}
+
+/// The number that a word spells, or the greatest of 32 bits where it is greater; `None` where the word is no number.
+fn number(word: &[u8]) -> Option<u32>
+    ensures { IsCapped word.now result }
+{
+    if is_number(word) {
+        Some(value(word))
+    } else {
+        None
+    }
+}
+
+/// Whether a word is made of decimal digits, one or more.
+fn is_number(word: &[u8]) -> bool
+    ensures { result ≡ is_number word.now }
+{
+    !word.is_empty() && are_digits(word)
+}
+
+/// Whether there are decimal digits alone.
+fn are_digits(bytes: &[u8]) -> bool
+    ensures { result ≡ list_all is_digit bytes.now }
+{
+    bytes.iter().all(|digit| digit.is_ascii_digit())
+}
+
+/// The number that digits spell, or the greatest of 32 bits where it is greater.
+fn value(digits: &[u8]) -> u32
+    requires { list_all is_digit digits.now ≡ true }
+    ensures { result ≡ min (value digits.now) 4294967295 }
+{
+    let mut number = 0u32;
+    for digit in digits {
+        number = number
+            .saturating_mul(10)
+            .saturating_add((*digit - b'0') as u32);
+    }
+    number
+}
