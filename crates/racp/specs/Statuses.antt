@@ -1,0 +1,30 @@
+-- The status that tells why no answer is written.
+use Rattle.std.specs.Prelude.{◌≡◌, ◌⊎◌, ℕ, List}
+use Rattle.clap.specs.Words.{kind_of}
+use Rattle.clap.specs.declared.error.kind.ErrorKind.{ErrorKind}
+use Rattle.clap.specs.declared.error.kind.ErrorKind.TheVariants.{DisplayHelp, DisplayVersion, OutOfMemory}
+use Rattle.racp_cli.specs.Answers.{IsCpmAnswer}
+use Rattle.racp_cli.specs.Streams.{fault_status}
+use Rattle.racp_cli.specs.declared.fault.StreamFault.TheVariants as stream
+use Rattle.racp.specs.declared.failure.Failure.{Failure}
+use Rattle.racp.specs.declared.failure.Failure.TheVariants.{Words, NotText, Stream}
+
+-- help and the version are written, or writing them fails; memory runs out; or the words are refused
+abbrev pub IsStatusOfKind : ErrorKind → ℕ → Type 0
+IsStatusOfKind DisplayHelp status = (status ≡ 0) ⊎ (status ≡ fault_status stream.Write)
+IsStatusOfKind DisplayVersion status = (status ≡ 0) ⊎ (status ≡ fault_status stream.Write)
+IsStatusOfKind OutOfMemory status = status ≡ fault_status stream.Memory
+IsStatusOfKind _ status = status ≡ 2
+
+abbrev pub IsStatusOf : Failure → ℕ → Type 0
+IsStatusOf (Words error) status = IsStatusOfKind (kind_of error) status
+IsStatusOf NotText status = status ≡ 2
+IsStatusOf (Stream fault) status = status ≡ fault_status fault
+
+-- the status goes with an answer to some network text
+abbrev pub IsStatusOfAnswer : ℕ → Type 0
+IsStatusOfAnswer status = (input : List ℕ) × (text : List ℕ) × IsCpmAnswer input status text
+
+-- the status goes with an answer, or tells why there is none
+abbrev pub IsStatus : ℕ → Type 0
+IsStatus status = IsStatusOfAnswer status ⊎ ((failure : Failure) × IsStatusOf failure status)

@@ -1,0 +1,93 @@
+//! Why no answer is written, and how that is told.
+
+ghost use Rattle.std.specs.Prelude.{◌≡◌};
+ghost use Rattle.clap.specs.Words.{kind_of};
+ghost use Rattle.racp.specs.Statuses.{IsStatusOf, IsStatusOfKind};
+ghost use Rattle.racp_cli.specs.Streams.{fault_status};
+ghost use Rattle.racp.specs.declared.failure.Failure.TheVariants as failures;
+ghost use Rattle.racp_cli.specs.declared.fault.StreamFault.TheVariants as streams;
+
+use clap::Error;
+use clap::error::ErrorKind;
+use racp_cli::StreamFault;
+use std::alloc::AllocError;
+
+/// The status after help and the version.
+const DONE: u8 = 0;
+
+/// The status after a fault of the command line.
+const NOT_UNDERSTOOD: u8 = 2;
+
+/// Why no answer is written.
+pub(crate) enum Failure {
+    /// The words name no command, or ask for help or for the version.
+    Words(Error),
+    /// A word is not UTF-8.
+    NotText,
+    /// A file or a stream failed, or memory ran out.
+    Stream(StreamFault),
+}
+
+impl From<Error> for Failure {
+    ghost from_gives = { λ error failure. failure ≡ failures.Words error };
+
+    fn from(error: Error) -> Failure {
+        Failure::Words(error)
+    }
+}
+
+impl From<StreamFault> for Failure {
+    ghost from_gives = { λ fault failure. failure ≡ failures.Stream fault };
+
+    fn from(fault: StreamFault) -> Failure {
+        Failure::Stream(fault)
+    }
+}
+
+impl From<AllocError> for Failure {
+    ghost from_gives = { λ _ failure. failure ≡ failures.Stream streams.Memory };
+
+    fn from(_: AllocError) -> Failure {
+        Failure::Stream(StreamFault::Memory)
+    }
+}
+
+/// Tells why no answer is written, and answers the status. Help and the version go to standard output, all else to
+/// standard error; where that takes no text, the status alone tells.
+pub(crate) fn report<R: Print + Eprint>(rt: &R, failure: Failure) -> u8
+    ensures { IsStatusOf failure result }
+{
+    match failure {
+        Failure::Words(error) => report_words(rt, &error),
+        Failure::NotText => {
+            let _ = rt.eprintln("error: a word of the command line is not UTF-8");
+            NOT_UNDERSTOOD
+        }
+        Failure::Stream(fault) => report_fault(rt, fault),
+    }
+}
+
+/// The same of what the command line's parser says.
+fn report_words<R: Print + Eprint>(rt: &R, error: &Error) -> u8
+    ensures { IsStatusOfKind (kind_of error.now) result }
+{
+    match error.kind() {
+        ErrorKind::OutOfMemory => report_fault(rt, StreamFault::Memory),
+        ErrorKind::DisplayHelp | ErrorKind::DisplayVersion => match rt.print(error) {
+            Ok(()) => DONE,
+            Err(_) => report_fault(rt, StreamFault::Write),
+        },
+        _ => {
+            let _ = rt.eprint(error);
+            NOT_UNDERSTOOD
+        }
+    }
+}
+
+/// The same of a file or a stream that failed, and of memory.
+fn report_fault(rt: &impl Eprint, fault: StreamFault) -> u8
+    ensures { result ≡ fault_status fault }
+{
+    let _ = rt.eprintln(fault.line());
+    fault.status()
+}
