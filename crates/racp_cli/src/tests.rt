@@ -165,7 +165,7 @@ fn writes_early_starts_and_refusals(rt: HostRuntime) -> Result<(), Fail> {
 #[test]
 fn writes_nothing_where_reading_fails(rt: HostRuntime) -> Result<(), Fail> {
     let alloc = rt.alloc();
-    for fails_at in [0, 1, NETWORK.len()] {
+    for fails_at in 0..=NETWORK.len() {
         let mut net = Dripping {
             text: NETWORK,
             reads: 0,
