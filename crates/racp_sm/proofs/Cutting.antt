@@ -1,12 +1,12 @@
 -- Cutting lists at the first element of a kind: pieces, lines and words.
-use Rattle.std.proofs.Common.{rules, ◌≡◌, refl, sym, ◌∙◌, ap, ℕ, zero, suc, ◌+◌, ◌<◌, ◌≤◌, ◌⊎◌, inl, inr, Bool, true, false, cond, List, [], ◌∷◌, length, length-drop, arith, subst, nat_lt, ◌==◌}
-use Rattle.std.specs.Prelude.{Option, Some, None, position, filter, not, All}
+use Rattle.std.proofs.Common.{◌≡◌, refl, sym, ◌∙◌, ap, ℕ, zero, suc, ◌+◌, ◌<◌, inl, inr, Bool, false, List, [], ◌∷◌, length, length-drop, arith, subst, nat_lt, ◌==◌}
+use Rattle.std.specs.Prelude.{Some, None, position, filter, not}
 use Rattle.std.specs.List.{position_or_len, before_first, after_first, slice_split, onto_first}
 use Rattle.std.proofs.lemmas.Bool.{cases_Bool, false≢true, ltb-false, lt-ltb, le-ltb, ne_eqb, cond-true, cond-false}
 use Rattle.std.proofs.lemmas.Option.{none-some}
 use Rattle.std.proofs.lemmas.List.Sums.{prefix_len-le-length}
-use Rattle.std.proofs.lemmas.List.Splits.{slice_split_first, slice_split_none}
-use Rattle.racp_sm.specs.Lines.{Line, is_blank, is_line_feed, line_pieces, words_in}
+use Rattle.std.proofs.lemmas.List.Splits.{slice_split_first}
+use Rattle.racp_sm.specs.Lines.{is_blank, is_line_feed, line_pieces, words_in}
 
 -- where no place is found, no element passes
 pub not_found : {X : Type 0} (test : X → Bool) (xs : List X) → position test xs ≡ None → position_or_len test xs ≡ length xs

@@ -4,3 +4,6 @@ mod Noting
 mod Digits
 mod Repeats
 mod Sections
+mod Limits
+mod Inserting
+mod Answering

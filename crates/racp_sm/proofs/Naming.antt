@@ -1,9 +1,9 @@
 -- Taking words off one after another.
-use Rattle.std.proofs.Common.{◌≡◌, refl, sym, ◌∙◌, ap, ℕ, suc, ◌+◌, ◌<◌, ◌≤◌, Bool, true, false, cond, List, [], ◌∷◌, ◌++◌, length, take, drop, arith, subst, Bor, slice_index_or, append_assoc, ◌⊎◌, inl, inr}
+use Rattle.std.proofs.Common.{◌≡◌, refl, sym, ◌∙◌, ap, ℕ, ◌+◌, ◌<◌, ◌≤◌, Bool, true, false, List, [], ◌∷◌, ◌++◌, length, take, drop, Bor, slice_index_or, append_assoc, inl, inr}
 use Rattle.std.proofs.lemmas.Bool.{not-true, not-false, and_from, and_left, and_right, and_cases, true≢false}
 use Rattle.std.proofs.lemmas.Cmp.{nat_list_eq_equiv}
 use Rattle.std.proofs.lemmas.List.{take_all, take_more, drop_more, map-append}
-use Rattle.std.specs.Prelude.{map, ◌&&◌, not, Option, Some, None}
+use Rattle.std.specs.Prelude.{◌&&◌, not, Option, Some, None}
 use Rattle.std.specs.Option.{is_some}
 use Rattle.racp_sm.specs.Lines.{words_in, is_word}
 use Rattle.racp_sm.specs.Head.{begins_with}

@@ -1,14 +1,14 @@
 -- Reading rows one after another: what was read, and what is left to read.
-use Rattle.std.proofs.Common.{◌≡◌, refl, sym, ◌∙◌, ap, ℕ, zero, suc, ◌+◌, ◌-◌, ◌<◌, ◌≤◌, ◌⊎◌, inl, inr, List, [], ◌∷◌, ◌++◌, length, arith, Ok, Err, append_assoc, append-nil}
-use Rattle.std.specs.Prelude.{Result, map}
+use Rattle.std.proofs.Common.{◌≡◌, refl, sym, ◌∙◌, ap, ℕ, suc, ◌+◌, ◌-◌, ◌<◌, ◌≤◌, ◌⊎◌, inl, inr, List, [], ◌∷◌, ◌++◌, arith, Ok, Err, append_assoc, append-nil}
+use Rattle.std.specs.Prelude.{Result}
 use Rattle.racp_model.specs.Project.{Activity}
 use Rattle.racp_sm.specs.Lines.{Word}
 use Rattle.racp_sm.specs.Parts.{next_number, next_numbers, successor_row, successor_rows, request_row, request_rows}
-use Rattle.racp_sm.specs.Steps.{Words, IsSameStream, with_rest, with_each, Gives, Adds}
+use Rattle.racp_sm.specs.Steps.{Words, IsSameStream, with_each}
 use Rattle.racp_sm.specs.Faults.{out_of_memory, ◌>>=◌}
 use Rattle.racp_sm.specs.declared.fault.SmFault.{SmFault}
 use Rattle.racp_sm.specs.declared.fault.SmFaultKind.{SmFaultKind}
-use Rattle.racp_sm.specs.declared.fault.SmFaultKind.TheVariants.{BadSuccessor, Limit, BadRow, NotSingleMode}
+use Rattle.racp_sm.specs.declared.fault.SmFaultKind.TheVariants.{BadSuccessor}
 
 -- what reading a stream gives: things, and the words after them
 abbrev pub Read : Type 0 → Type 0

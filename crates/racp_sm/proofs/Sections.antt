@@ -1,5 +1,5 @@
 -- Reading a part from its title on is reading the stream of its words.
-use Rattle.std.proofs.Common.{◌≡◌, refl, sym, ◌∙◌, ap, ℕ, ◌⊎◌, inl, inr, List, [], ◌∷◌, Ok, Err, subst}
+use Rattle.std.proofs.Common.{◌≡◌, refl, sym, ◌∙◌, ap, ℕ, List, [], ◌∷◌, Ok, Err, subst}
 use Rattle.std.specs.Prelude.{Result, drop}
 use Rattle.racp_model.specs.Project.{Activity}
 use Rattle.racp_sm.specs.Lines.{Line, Word}

@@ -1,5 +1,5 @@
 -- The head of a network text: how many jobs and resources there are.
-use Rattle.std.specs.Prelude.{ℕ, ◌==◌, ◌&&◌, Bool, true, false, List, [], ◌∷◌, Option, Some, None, Result, Ok, Err, find, nat_le, if◌then◌else◌, codes}
+use Rattle.std.specs.Prelude.{ℕ, ◌==◌, ◌&&◌, Bool, true, false, List, [], ◌∷◌, Option, Some, None, Result, Ok, nat_le, if◌then◌else◌, codes}
 use Rattle.std.specs.List.{before_first, after_first, list_any}
 use Rattle.racp_sm.specs.Lines.{Line, Word, words_in, is_word, is_number, value}
 use Rattle.racp_sm.specs.Faults.{refused, ◌>>=◌}

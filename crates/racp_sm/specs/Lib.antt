@@ -4,3 +4,4 @@ pub mod Head
 pub mod Parts
 pub mod Reading
 pub mod Steps
+pub mod Laws

@@ -1,8 +1,7 @@
 -- The two parts of a network text, each a stream of words: the precedence relation, and the durations and requests.
-use Rattle.std.specs.Prelude.{ℕ, zero, suc, ◌+◌, ◌==◌, ◌&&◌, ◌||◌, not, Bool, true, false, List, [], ◌∷◌, ◌++◌, map, flat_map, Result, Ok, Err, if◌then◌else◌, codes}
-use Rattle.std.specs.List.{list_all}
+use Rattle.std.specs.Prelude.{ℕ, zero, suc, ◌+◌, List, [], ◌∷◌, ◌++◌, map, Result, Ok, if◌then◌else◌}
 use Rattle.racp_model.specs.Project.{Activity}
-use Rattle.racp_sm.specs.Lines.{Line, Word, words_in, words_of, has_words, is_number}
+use Rattle.racp_sm.specs.Lines.{Word, is_number}
 use Rattle.racp_sm.specs.Head.{number_within}
 use Rattle.racp_sm.specs.Faults.{refused, ◌>>=◌}
 use Rattle.racp_sm.specs.declared.fault.SmFault.{SmFault}

@@ -1,11 +1,11 @@
 -- What a network text is read as (a profile of the single-mode .sm files of the PSPLIB library, Kolisch and Sprecher 1997).
-use Rattle.std.specs.Prelude.{◌≡◌, ◌⊎◌, ℕ, ◌==◌, ◌&&◌, ◌||◌, not, Bool, true, false, List, [], ◌∷◌, map, drop, flat_map, take_while, Result, Ok, Err, if◌then◌else◌, codes}
+use Rattle.std.specs.Prelude.{◌≡◌, ◌⊎◌, ℕ, ◌==◌, ◌||◌, Bool, false, List, [], ◌∷◌, drop, flat_map, Result, Ok, Err, if◌then◌else◌, codes}
 use Rattle.std.specs.List.{list_all, before_first, position_or_len}
 use Rattle.racp_model.specs.Project.{Activity, Project, IsSound}
 use Rattle.racp_model.specs.Path.{HasRing}
 use Rattle.racp_model.specs.Made.{IsSameProject}
 use Rattle.racp_sm.specs.Lines.{Line, Word, lines_of, words_in, words_of, has_words}
-use Rattle.racp_sm.specs.Head.{Counts, entries_of, counts_of}
+use Rattle.racp_sm.specs.Head.{entries_of, counts_of}
 use Rattle.racp_sm.specs.Parts.{arcs_of, jobs_of}
 use Rattle.racp_sm.specs.Faults.{refused, fault_at, out_of_memory, ◌>>=◌}
 use Rattle.racp_sm.specs.declared.fault.SmFault.{SmFault}

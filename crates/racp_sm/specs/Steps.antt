@@ -1,5 +1,5 @@
 -- What the steps of reading answer: private words, over lists.
-use Rattle.std.specs.Prelude.{◌≡◌, ◌⊎◌, ℕ, ◌+◌, ◌<◌, ◌++◌, ◌==◌, ◌&&◌, Bool, true, false, List, [], ◌∷◌, length, min, map, drop, flat_map, Option, Some, None, Result, Ok, Err, codes, if◌then◌else◌}
+use Rattle.std.specs.Prelude.{◌≡◌, ◌⊎◌, ℕ, ◌<◌, ◌++◌, Bool, true, false, List, [], ◌∷◌, length, min, map, drop, flat_map, Option, Some, None, Result, Ok, Err, if◌then◌else◌}
 use Rattle.std.specs.List.{before_first, after_first, position_or_len, slice_split}
 use denote.Ref.{Bor}
 use Rattle.racp_sm.specs.Lines.{Line, Word, is_line_feed, line_pieces, words_in, words_of, has_words, is_number, value}

@@ -4,6 +4,7 @@
 mod cut;
 mod fault;
 mod head;
+pub mod laws;
 mod line;
 mod part;
 mod read;
@@ -13,3 +14,6 @@ mod word;
 
 pub use fault::{SmFault, SmFaultKind};
 pub use read::read_sm;
+
+#[cfg(test)]
+mod tests;

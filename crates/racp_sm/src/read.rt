@@ -34,7 +34,9 @@ pub fn read_sm(alloc: Global, bytes: &[u8]) -> Result<Network, SmFault>
     match Network::new(alloc, given.resources as usize, given.jobs, given.arcs) {
         Ok(network) => Ok(network),
         Err(NetFault::Cycle) => Err(fault_at(SmFaultKind::Cycle)),
-        Err(_) => Err(fault_at(SmFaultKind::Memory)),
+        Err(NetFault::Memory) => Err(fault_at(SmFaultKind::Memory)),
+        Err(NetFault::Limit) => unreachable!(),
+        Err(NetFault::BadJob) => unreachable!(),
     }
 }
 

@@ -1,4 +1,4 @@
-use Rattle.std.proofs.Common.{◌∙◌, sym, arith}
+use Rattle.std.proofs.Common.{arith}
 use Rattle.racp_sm.proofs.Naming.{naming_start, naming_stop, naming_step, naming_end}
 use Rattle.racp_sm.proofs.cut.after_words.Goals as goal
 

@@ -1,4 +1,3 @@
-use Rattle.std.proofs.Common.{◌∙◌, sym}
 use Rattle.racp_sm.specs.Steps.{texts}
 use Rattle.racp_sm.proofs.Noting.{kept_first}
 use Rattle.racp_sm.proofs.Naming.{named}

@@ -1,4 +1,3 @@
-use Rattle.std.proofs.Common.{◌∙◌, sym, ap}
 use Rattle.racp_sm.proofs.Cutting.{first_line, only_line, back-shorter, some_length}
 use Rattle.racp_sm.specs.Lines.{is_line_feed}
 use Rattle.racp_sm.proofs.line.first_piece.Goals as goal

@@ -1,4 +1,3 @@
-use Rattle.std.proofs.Common.{sym}
 use Rattle.racp_sm.specs.Head.{Entries}
 use Rattle.racp_sm.proofs.Noting.{no_colon, key_line}
 use Rattle.racp_sm.proofs.head.Head.note.Goals as goal

@@ -1,10 +1,4 @@
-use Rattle.std.proofs.Common.{◌≡◌, length}
-use Rattle.std.specs.List.{before_first}
-use Rattle.racp_sm.specs.Reading.{from_first}
-use Rattle.racp_sm.specs.Steps.{has_mark}
-use Rattle.racp_sm.specs.declared.part.Part.TheVariants.{Precedence}
-use Rattle.racp_sm.specs.declared.part.Mark.TheVariants.{Title}
-use Rattle.racp_sm.specs.Head.{Entries, entries_of}
+use Rattle.std.proofs.Common.{length}
 use Rattle.racp_sm.proofs.Noting.{IsNoting}
 use Rattle.racp_sm.proofs.head.Head.read.Given as goal
 
