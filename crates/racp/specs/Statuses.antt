@@ -9,22 +9,24 @@ use Rattle.racp_cli.specs.declared.fault.StreamFault.TheVariants as stream
 use Rattle.racp.specs.declared.failure.Failure.{Failure}
 use Rattle.racp.specs.declared.failure.Failure.TheVariants.{Words, NotText, Stream}
 
--- help and the version are written, or writing them fails; memory runs out; or the words are refused
+-- the status where the library of the command line stops: help and the version are written, or writing them fails; memory
+-- runs out; or the words are refused
 abbrev pub IsStatusOfKind : ErrorKind → ℕ → Type 0
 IsStatusOfKind DisplayHelp status = (status ≡ 0) ⊎ (status ≡ fault_status stream.Write)
 IsStatusOfKind DisplayVersion status = (status ≡ 0) ⊎ (status ≡ fault_status stream.Write)
 IsStatusOfKind OutOfMemory status = status ≡ fault_status stream.Memory
 IsStatusOfKind _ status = status ≡ 2
 
+-- the status that tells of a failure
 abbrev pub IsStatusOf : Failure → ℕ → Type 0
 IsStatusOf (Words error) status = IsStatusOfKind (kind_of error) status
 IsStatusOf NotText status = status ≡ 2
 IsStatusOf (Stream fault) status = status ≡ fault_status fault
 
--- the status goes with an answer to some network text
+-- some answer to some network text has this status; nothing is said of which
 abbrev pub IsStatusOfAnswer : ℕ → Type 0
 IsStatusOfAnswer status = (input : List ℕ) × (text : List ℕ) × IsCpmAnswer input status text
 
--- the status goes with an answer, or tells why there is none
+-- some answer, or some reason why there is none, has this status
 abbrev pub IsStatus : ℕ → Type 0
 IsStatus status = IsStatusOfAnswer status ⊎ ((failure : Failure) × IsStatusOf failure status)

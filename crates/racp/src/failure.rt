@@ -9,14 +9,11 @@ ghost use Rattle.racp_cli.specs.declared.fault.StreamFault.TheVariants as stream
 
 use clap::Error;
 use clap::error::ErrorKind;
-use racp_cli::StreamFault;
+use racp_cli::{DONE, StreamFault};
 use std::alloc::AllocError;
 
-/// The status after help and the version.
-const DONE: u8 = 0;
-
 /// The status after a fault of the command line.
-const NOT_UNDERSTOOD: u8 = 2;
+const WORDS_REFUSED: u8 = 2;
 
 /// Why no answer is written.
 pub(crate) enum Failure {
@@ -61,13 +58,13 @@ pub(crate) fn report<R: Print + Eprint>(rt: &R, failure: Failure) -> u8
         Failure::Words(error) => report_words(rt, &error),
         Failure::NotText => {
             let _ = rt.eprintln("error: a word of the command line is not UTF-8");
-            NOT_UNDERSTOOD
+            WORDS_REFUSED
         }
         Failure::Stream(fault) => report_fault(rt, fault),
     }
 }
 
-/// The same of what the command line's parser says.
+/// Prints what the library of the command line says, and answers the status.
 fn report_words<R: Print + Eprint>(rt: &R, error: &Error) -> u8
     ensures { IsStatusOfKind (kind_of error.now) result }
 {
@@ -79,12 +76,12 @@ fn report_words<R: Print + Eprint>(rt: &R, error: &Error) -> u8
         },
         _ => {
             let _ = rt.eprint(error);
-            NOT_UNDERSTOOD
+            WORDS_REFUSED
         }
     }
 }
 
-/// The same of a file or a stream that failed, and of memory.
+/// Prints the line of a file or a stream that failed, or of memory, and answers the status.
 fn report_fault(rt: &impl Eprint, fault: StreamFault) -> u8
     ensures { result ≡ fault_status fault }
 {

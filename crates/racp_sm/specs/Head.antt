@@ -34,7 +34,7 @@ abbrev pub entry : List (List ℕ) → List Line → Option Word
 entry names [] = None
 entry names (line ∷ more) = if has_key names line then Some (value_word line) else entry names more
 
--- the number that a word spells, where it is from low to high; else a fault at the word's line
+-- the number that a word stands for, where it is from low to high; else a fault at the word's line
 abbrev pub number_within : SmFaultKind → ℕ → ℕ → Word → Result ℕ SmFault
 number_within kind low high word =
     if is_number word.bytes

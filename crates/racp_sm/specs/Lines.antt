@@ -64,6 +64,6 @@ is_digit b = nat_le 48 b && nat_le b 57
 abbrev pub is_number : List ℕ → Bool
 is_number bytes = not (length bytes == 0) && list_all is_digit bytes
 
--- the number that the digits spell
+-- the number that the digits stand for
 abbrev pub value : List ℕ → ℕ
 value digits = digits_value 10 digits

@@ -65,14 +65,14 @@ request_rows title resources job (suc count) words = do
   others ← request_rows title resources (job + 1) count row.1
   Ok (row.0 ∷ others.0, others.1)
 
--- the precedence relation that a whole stream spells: the pairs of each job and its successors
+-- the precedence relation that a whole stream gives: the pairs of each job and its successors
 unfoldable pub arcs_of : ℕ → ℕ → List Word → Result (List (ℕ × ℕ)) SmFault
 arcs_of title n words = do
   rows ← successor_rows title n 1 n words
   end ← nothing_left rows.1
   Ok rows.0
 
--- the jobs that a whole stream spells
+-- the jobs that a whole stream gives
 unfoldable pub jobs_of : ℕ → ℕ → ℕ → List Word → Result (List Activity) SmFault
 jobs_of title resources n words = do
   rows ← request_rows title resources 1 n words

@@ -44,7 +44,7 @@ abbrev pub Takes : {X : Type 0} → List X → Option X → List X → Type 0
 Takes old (Some x) new = old ≡ x ∷ new
 Takes old None new = (old ≡ []) × (new ≡ [])
 
--- the number that a word spells, or 2^32 - 1 where it is greater; none where the word is no number
+-- the number that a word stands for, or 2^32 - 1 where it is greater; none where the word is no number
 abbrev pub IsCapped : List ℕ → Option ℕ → Type 0
 IsCapped bytes (Some number) = (is_number bytes ≡ true) × (number ≡ min (value bytes) 4294967295)
 IsCapped bytes None = is_number bytes ≡ false

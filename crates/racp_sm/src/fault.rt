@@ -1,5 +1,5 @@
 ghost use Rattle.std.specs.Prelude.{◌≡◌};
-ghost use Rattle.racp_sm.specs.Faults.{fault_number, fault_name};
+ghost use Rattle.racp_sm.specs.Faults.{fault_at, fault_name, fault_number};
 
 use std::alloc::{AllocError, AllocFailed};
 use thiserror::Error;
@@ -25,8 +25,8 @@ pub enum SmFaultKind {
     /// There is no line `REQUESTS/DURATIONS:` after the precedence relations.
     #[error("the requests and durations are missing")]
     NoRequests = 6,
-    /// A word stands where a number has to.
-    #[error("a word is not a number")]
+    /// A word stands where a number has to, or a value is missing after its key.
+    #[error("a number is missing, or a word is not a number")]
     BadNumber = 7,
     /// A number is above its limit, or there is no job or no resource.
     #[error("a number is out of range")]
@@ -35,7 +35,7 @@ pub enum SmFaultKind {
     #[error("a row is not that of the next job")]
     BadRow = 9,
     /// A job has another number of modes than 1, or a mode other than 1.
-    #[error("a job has more than one mode")]
+    #[error("a number of modes, or a mode, is not 1")]
     NotSingleMode = 10,
     /// A successor is not the number of a job.
     #[error("a successor is no job")]
@@ -43,8 +43,8 @@ pub enum SmFaultKind {
     /// A part ends before its last number.
     #[error("a part ends too early")]
     TooFew = 12,
-    /// A part goes on after its last number.
-    #[error("a part goes on for too long")]
+    /// A number stands after the last one of a part.
+    #[error("a number stands after the last one of a part")]
     TooMany = 13,
     /// A job would have to wait for itself.
     #[error("a job has to wait for itself")]
@@ -62,6 +62,15 @@ pub struct SmFault {
     pub kind: SmFaultKind,
     /// The number of the line, from 1, or 0.
     pub line: usize,
+}
+
+impl SmFault {
+    /// A fault of this kind at this line.
+    pub(crate) fn at(kind: SmFaultKind, line: usize) -> Self
+        ensures { result ≡ fault_at kind line }
+    {
+        SmFault { kind, line }
+    }
 }
 
 impl SmFaultKind {
@@ -103,10 +112,7 @@ impl From<AllocError> for SmFault {
     ghost from_gives = { λ _ fault. fault ≡ out_of_memory };
 
     fn from(_error: AllocError) -> SmFault {
-        SmFault {
-            kind: SmFaultKind::Memory,
-            line: 0,
-        }
+        SmFault::at(SmFaultKind::Memory, 0)
     }
 }
 
@@ -117,9 +123,6 @@ impl<T: Drop> From<AllocFailed<T>> for SmFault {
     ghost from_gives = { λ _ fault. fault ≡ out_of_memory };
 
     fn from(_error: AllocFailed<T>) -> SmFault {
-        SmFault {
-            kind: SmFaultKind::Memory,
-            line: 0,
-        }
+        SmFault::at(SmFaultKind::Memory, 0)
     }
 }

@@ -157,10 +157,7 @@ fn required(entry: &Option<Word>, most: u32, missing: SmFaultKind) -> Result<u32
 {
     match entry {
         Some(word) => word.number_within(SmFaultKind::Limit, 1, most),
-        None => Err(SmFault {
-            kind: missing,
-            line: 0,
-        }),
+        None => Err(SmFault::at(missing, 0)),
     }
 }
 

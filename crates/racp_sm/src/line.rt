@@ -13,7 +13,7 @@ use std::marker::Model;
 /// The byte that ends a text.
 const END: u8 = 0x1A;
 
-/// A line of a text, and its number from 1. Contracts see a `Line`.
+/// A line of a text, and its number from 1. Contracts see the `Line` of specs/Lines.
 #[derive(Debug, Drop)]
 pub(crate) struct Line<'a> {
     number: usize,
@@ -119,7 +119,7 @@ impl<'a> Lines<'a> {
         Lines { number: 1, rest }
     }
 
-    /// The same lines once more.
+    /// The same lines, to look ahead.
     fn ahead(&self) -> Self
         ensures { result ≡ self.now }
     {

@@ -13,12 +13,12 @@ pub(crate) enum Part {
     Requests,
 }
 
-/// What a line may be.
+/// A line that begins or ends a part.
 #[derive(Debug, Clone, Copy, Drop)]
 pub(crate) enum Mark {
     /// The title of a part.
     Title(Part),
-    /// The line before which a part ends.
+    /// A line whose first word begins with a star, or the title after the part: the part ends before it.
     End(Part),
 }
 

@@ -1,6 +1,5 @@
 ghost use Rattle.racp_sm.specs.Reading.{IsReadingOrMemory, precedence_part, reading, requests_part};
 ghost use Rattle.std.specs.Prelude.{◌≡◌, ◌≤◌};
-ghost use Rattle.racp_sm.specs.Faults.{fault_at};
 ghost use Rattle.racp_sm.specs.Steps.{GivesAll, part_stream};
 
 use crate::fault::{SmFault, SmFaultKind};
@@ -12,15 +11,15 @@ use crate::stream::Stream;
 use racp_model::{Job, NetFault, Network};
 use std::alloc::Global;
 
-/// What a text says of a project.
+/// The parts of a project, as a text says them.
 #[derive(Debug, Drop)]
-struct Given {
+struct ProjectParts {
     resources: u32,
     jobs: Vec<Job>,
     arcs: Vec<(u32, u32)>,
 }
 
-/// The project network that a text spells, in the single-mode `.sm` format (PSPLIB, Kolisch and Sprecher 1997).
+/// The project network of a text, in the single-mode `.sm` format (PSPLIB, Kolisch and Sprecher 1997).
 ///
 /// # Errors
 ///
@@ -30,11 +29,11 @@ struct Given {
 pub fn read_sm(alloc: Global, bytes: &[u8]) -> Result<Network, SmFault>
     ensures { IsReadingOrMemory bytes.now result }
 {
-    let given = read_project(alloc, bytes)?;
-    match Network::new(alloc, given.resources as usize, given.jobs, given.arcs) {
+    let parts = read_project(alloc, bytes)?;
+    match Network::new(alloc, parts.resources as usize, parts.jobs, parts.arcs) {
         Ok(network) => Ok(network),
-        Err(NetFault::Cycle) => Err(fault_at(SmFaultKind::Cycle)),
-        Err(NetFault::Memory) => Err(fault_at(SmFaultKind::Memory)),
+        Err(NetFault::Cycle) => Err(SmFault::at(SmFaultKind::Cycle, 0)),
+        Err(NetFault::Memory) => Err(SmFault::at(SmFaultKind::Memory, 0)),
         Err(NetFault::Limit) => unreachable!(),
         Err(NetFault::BadJob) => unreachable!(),
     }
@@ -42,8 +41,8 @@ pub fn read_sm(alloc: Global, bytes: &[u8]) -> Result<Network, SmFault>
 
 /// What the text says, before its precedence relation is tested for rings.
 #[tactic(auto, unfolding(crate::specs::Reading::reading))]
-fn read_project(alloc: Global, bytes: &[u8]) -> Result<Given, SmFault>
-    ensures { GivesAll (λ given. record { resources = given.resources; jobs = given.jobs.items; arcs = given.arcs.items }) result (reading bytes.now) }
+fn read_project(alloc: Global, bytes: &[u8]) -> Result<ProjectParts, SmFault>
+    ensures { GivesAll (λ parts. record { resources = parts.resources; jobs = parts.jobs.items; arcs = parts.arcs.items }) result (reading bytes.now) }
 {
     let mut lines = Lines::new(bytes);
     let Counts {
@@ -54,7 +53,7 @@ fn read_project(alloc: Global, bytes: &[u8]) -> Result<Given, SmFault>
     let mut lines = after;
     lines.skip_to(Mark::Title(Part::Requests));
     let jobs = read_requests(alloc, lines, resources, count)?;
-    Ok(Given {
+    Ok(ProjectParts {
         resources,
         jobs,
         arcs,
@@ -102,13 +101,6 @@ fn part_words<'a>(part: Part, missing: SmFaultKind, lines: Lines<'a>) -> Result<
             lines.next_line();
             Ok(Stream::new(part, title.number(), lines))
         }
-        None => Err(fault_at(missing)),
+        None => Err(SmFault::at(missing, 0)),
     }
-}
-
-/// A fault at no line.
-fn fault_at(kind: SmFaultKind) -> SmFault
-    ensures { result ≡ fault_at kind 0 }
-{
-    SmFault { kind, line: 0 }
 }

@@ -8,8 +8,11 @@ ghost use Rattle.racp_sm.specs.Steps.{Adds, Gives, IsSameStream, with_each};
 use crate::fault::{SmFault, SmFaultKind};
 use crate::stream::Stream;
 use racp_model::Job;
-use racp_model::limits::{MOST_DURATION, MOST_JOBS, MOST_REQUEST};
+use racp_model::limits::{MOST_DURATION, MOST_REQUEST};
 use std::alloc::Global;
+
+/// The most successors that a row may name, repeated ones among them.
+const MOST_SUCCESSORS: u32 = 512;
 
 /// The pairs of each job and its successors.
 pub(crate) fn read_arcs(
@@ -43,7 +46,7 @@ fn read_successor_row(
 {
     words.next_number(SmFaultKind::BadRow, job, job)?;
     words.next_number(SmFaultKind::NotSingleMode, 1, 1)?;
-    let count = words.next_number(SmFaultKind::Limit, 0, MOST_JOBS as u32)?;
+    let count = words.next_number(SmFaultKind::Limit, 0, MOST_SUCCESSORS)?;
     read_successors(arcs, words, jobs, job, count)
 }
 

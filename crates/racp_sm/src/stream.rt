@@ -73,10 +73,7 @@ impl<'a> Stream<'a> {
     {
         match self.next_word() {
             Some(word) => word.number_within(kind, low, high),
-            None => Err(SmFault {
-                kind: SmFaultKind::TooFew,
-                line: self.title,
-            }),
+            None => Err(SmFault::at(SmFaultKind::TooFew, self.title)),
         }
     }
 

@@ -8,7 +8,7 @@ use crate::cut::first_word;
 use crate::fault::{SmFault, SmFaultKind};
 use std::marker::Model;
 
-/// A word of a text, and the number of its line, from 1. Contracts see a `Word`.
+/// A word of a text, and the number of its line, from 1. Contracts see the `Word` of specs/Lines.
 #[derive(Debug, Drop)]
 pub(crate) struct Word<'a> {
     line: usize,
@@ -31,7 +31,7 @@ impl<'a> Word<'a> {
         Word { line, bytes }
     }
 
-    /// The number that the word spells, where it is from `low` to `high`.
+    /// The number that the word stands for, where it is from `low` to `high`.
     ///
     /// # Errors
     ///
@@ -67,10 +67,7 @@ impl<'a> Word<'a> {
     fn fault(&self, kind: SmFaultKind) -> SmFault
         ensures { result ≡ record { kind = kind; line = self.now.line } }
     {
-        SmFault {
-            kind,
-            line: self.line,
-        }
+        SmFault::at(kind, self.line)
     }
 }
 
@@ -111,7 +108,7 @@ impl<'a> Words<'a> {
     }
 }
 
-/// The number that a word spells, or the greatest of 32 bits where it is greater; `None` where the word is no number.
+/// The number that a word stands for, or the greatest of 32 bits where it is greater; `None` where the word is no number.
 fn number(word: &[u8]) -> Option<u32>
     ensures { IsCapped word.now result }
 {
@@ -136,7 +133,7 @@ fn are_digits(bytes: &[u8]) -> bool
     bytes.iter().all(|digit| digit.is_ascii_digit())
 }
 
-/// The number that digits spell, or the greatest of 32 bits where it is greater.
+/// The number that digits stand for, or the greatest of 32 bits where it is greater.
 fn value(digits: &[u8]) -> u32
     requires { list_all is_digit digits.now ≡ true }
     ensures { result ≡ min (value digits.now) 4294967295 }
