@@ -1,11 +1,9 @@
 -- Texts that stand for an answer, and what is written of them.
 use mathlib.Core.Path.{fun_ext}
 use Rattle.std.proofs.Common.{◌≡◌, ℕ, List, Option, Ok, Err, replicate, slice_index, codes, refl, sym, ap, subst, inl, inr}
-use Rattle.std.proofs.lemmas.Bool.{cases_lt}
-use Rattle.std.proofs.lemmas.List.{get_or-replicate}
-use Rattle.std.proofs.Math.ListN.{get_or-eq_default, length-replicate}
 use Rattle.racp_model.specs.Project.{Project}
 use Rattle.racp_model.specs.Path.{IsEarly, IsCriticalLength}
+use Rattle.racp_model.proofs.lemmas.Zeros.{zeros}
 use Rattle.racp_sm.specs.Reading.{IsReading, IsReadingOrMemory}
 use Rattle.racp_sm.specs.declared.fault.SmFault.{SmFault}
 use Rattle.racp_sm.specs.declared.fault.SmFaultKind.TheVariants.{Memory}
@@ -16,10 +14,7 @@ use Rattle.racp_cli.specs.declared.fault.StreamFault.{StreamFault}
 
 -- a row of zeros releases each job at 0
 pub released_at_zero : (n : ℕ) → slice_index (replicate n 0) ≡ (λ _. 0)
-released_at_zero n = fun_ext (λ i. elim (cases_lt i n) [
-  | inl l ↦ get_or-replicate n i 0 0 l
-  | inr l ↦ get_or-eq_default (replicate n 0) 0 (simp length-replicate l)
-])
+released_at_zero n = fun_ext (zeros n)
 
 -- what is right for a row of zeros is the answer
 pub answers_early : (network : Project) (n critical : ℕ) (starts text : List ℕ) → IsCriticalLength network (slice_index (replicate n 0)) critical → IsEarly network (slice_index (replicate n 0)) starts

@@ -1,3 +1,4 @@
+pub mod lemmas
 mod Raising
 mod Bounded
 mod Paths

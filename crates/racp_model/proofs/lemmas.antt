@@ -1,9 +1,13 @@
 -- Lemmas on the definitions of this crate, which the crates above may cite too. What else stands in proofs/ is about the
 -- code of this crate.
 pub mod Lists
+pub mod Zeros
 pub mod Sums
 pub mod Usage
 pub mod Arcs
 pub mod Ranking
 pub mod Orders
+pub mod Costs
 pub mod Cuts
+pub mod Relations
+pub mod Inserting

@@ -1,6 +1,6 @@
 -- Laws of the definitions, in the words of the field. Each is the contract of a public function.
 use Rattle.std.specs.Prelude.{◌≡◌, ◌↔◌, ◌⊎◌, ℕ, ◌<◌, ◌≤◌, min, List, length, slice_index}
-use Rattle.racp_model.specs.Project.{Project, request, AreNumbers, IsAcyclic, IsSound}
+use Rattle.racp_model.specs.Project.{Project, request, IsWithinLimits, AreNumbers, IsAcyclic, IsSound}
 use Rattle.racp_model.specs.Schedule.{IsActive, use_of, IsInTime, Fits, Admits, roof}
 use Rattle.racp_model.specs.Path.{HasRing}
 use Rattle.racp_model.specs.Terms.{Terms, cost, IsLexBefore, IsBefore}
@@ -68,3 +68,9 @@ RankingOrRing =
 -- two networks of the same resources, jobs and relation are equal
 abbrev pub RelationIsNetwork : Type 0
 RelationIsNetwork = (p q : Project) → IsSound p → IsSound q → IsSameProject p q → p ≡ q
+
+-- a project without a ring that keeps the limits and whose pairs name its jobs has a network of the same relation
+abbrev pub AcyclicHasNetwork : Type 0
+AcyclicHasNetwork =
+    (given : Project) → IsWithinLimits given.resources given.jobs → AreNumbers (length given.jobs) given.arcs → IsAcyclic given →
+    (made : Project) × IsSameProject given made × IsSound made

@@ -1,6 +1,6 @@
 //! Laws of the definitions, in the words of the field. Each function does nothing; its contract is the law.
 
-ghost use Rattle.racp_model.specs.Laws.{PlanIsUnique, VectorsAreOrdered, BeforeIsByCost, LexIsByFirstPlace, UseIsByActivity, AboveAdmits, CutFitsTheSame, CutAdmits, InsideIsInTime, RankingOrRing, RelationIsNetwork};
+ghost use Rattle.racp_model.specs.Laws.{PlanIsUnique, VectorsAreOrdered, BeforeIsByCost, LexIsByFirstPlace, UseIsByActivity, AboveAdmits, CutFitsTheSame, CutAdmits, InsideIsInTime, RankingOrRing, RelationIsNetwork, AcyclicHasNetwork};
 
 /// There is at most one plan.
 pub fn plan_is_unique()
@@ -55,4 +55,9 @@ pub fn ranking_or_ring()
 /// Networks of the same resources, jobs and relation are equal.
 pub fn relation_is_network()
     ensures { RelationIsNetwork }
+{}
+
+/// A project without a ring that keeps the limits and whose pairs name its jobs has a network of the same relation.
+pub fn acyclic_has_network()
+    ensures { AcyclicHasNetwork }
 {}

@@ -1,6 +1,6 @@
 -- The first by cost of the capacity vectors that were looked at, where they are looked at in lexicographic order.
 use Rattle.std.proofs.Common.{◌≡◌, ◌⊎◌, ℕ, ◌<◌, ◌≤◌, List, length, slice_index, replicate, inl, inr, arith, refl, sym, ◌∙◌, subst, Bool, true, false, nat_lt, if◌then◌else◌, Option, Some, None}
-use Rattle.std.proofs.lemmas.List.{length-replicate, get_or-replicate}
+use Rattle.std.proofs.lemmas.List.{length-replicate}
 use Rattle.std.proofs.lemmas.Bool.Decides.{nat_tests}
 use Rattle.racp_model.specs.Project.{Project}
 use Rattle.racp_model.specs.Terms.{Terms, IsBefore, IsLexBefore}
@@ -10,7 +10,7 @@ use Rattle.racp_reference.specs.declared.choice.Choice.{Choice}
 use Rattle.racp_reference.specs.Boxes.{IsInBox, IsNext, IsLast}
 use Rattle.racp_reference.specs.Choices.{IsCandidate, IsChoice, IsPriced, cheaper_of, IsCheapest}
 use Rattle.racp_reference.proofs.Searching.{before_next, before_last}
-use Rattle.racp_reference.proofs.Costs.{lex_one_way, lex_trans, before_cases, cheaper-before, before_apart, before_trans}
+use Rattle.racp_model.proofs.lemmas.Costs.{lex_one_way, lex_trans, before_cases, cheaper-before, before_apart, before_trans}
 
 -- a vector that was seen, under which some starts fit
 pub record IsSeenYes (p : Project) (window : Bounds) (S : List ℕ → Type 0) (capacities : List ℕ) : Type 0 where
@@ -137,10 +137,6 @@ one_more-last lower upper vector box last = record {
 -- a vector of zeros has as many places
 pub zeros_places : (zeros : List ℕ) (n : ℕ) → zeros ≡ replicate n 0 → length zeros ≡ n
 zeros_places zeros n e = rw e (length-replicate n 0)
-
--- and 0 at each
-pub zeros_at : (zeros : List ℕ) (n : ℕ) → zeros ≡ replicate n 0 → (k : ℕ) → k < n → slice_index zeros k ≡ 0
-zeros_at zeros n e k l = rw e (get_or-replicate n k 0 0 l)
 
 -- vectors up to the most units are those of the box from 0 on
 pub candidate-seen : (p : Project) (window : Bounds) (zeros most capacities : List ℕ) → length zeros ≡ length most → ((k : ℕ) → k < length most → slice_index zeros k ≡ 0) →

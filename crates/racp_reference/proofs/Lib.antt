@@ -2,7 +2,6 @@ mod Carrying
 mod Counts
 mod Totals
 mod Searching
-mod Costs
 mod Choosing
 mod Rooted
 mod Cutting

@@ -6,11 +6,12 @@ use Rattle.racp_model.specs.Path.{IsEarly, IsCriticalLength}
 use Rattle.racp_model.specs.Terms.{Terms, AreTermsOf, release_of, due_of}
 use Rattle.racp_model.specs.Plan.{IsPlan, IsTooLong, IsTooLateAt, IsOverCeilings}
 use Rattle.racp_model.specs.Window.{Bounds, IsRootWindow}
+use Rattle.racp_model.proofs.lemmas.Cuts.{cut}
 use Rattle.racp_cpm.specs.Ends.{HasNoRoot, IsFirstLateAnswer, IsRootAnswer}
 use Rattle.racp_reference.specs.declared.choice.Choice.{Choice}
 use Rattle.racp_reference.specs.Choices.{AreMostUnits, AreBounds, IsCheapest}
 use Rattle.racp_reference.proofs.Rooted.{least-fit}
-use Rattle.racp_reference.proofs.Cutting.{cut, enough-candidate, least-enough}
+use Rattle.racp_reference.proofs.Cutting.{enough-candidate, least-enough}
 
 -- due times that are cut to the deadline, at a place
 pub due-at : (deadline : ℕ) (due : List ℕ) (i : ℕ) → slice_index (map (λ time. min time deadline) due) i ≡ min (slice_index due i) deadline

@@ -1,19 +1,16 @@
--- Of the starts that keep precedence, those in time are those in the root window.
-use Rattle.std.proofs.Common.{ℕ, List, arith}
+-- What fits in time is what answers in the root window.
+use Rattle.std.proofs.Common.{ℕ, List}
 use Rattle.racp_model.specs.Project.{Project}
 use Rattle.racp_model.specs.Schedule.{FitsInTime}
 use Rattle.racp_model.specs.Terms.{IsLexBefore}
 use Rattle.racp_model.specs.Plan.{IsLeast}
 use Rattle.racp_model.specs.Window.{Bounds, Answers, IsRootWindow}
+use Rattle.racp_cpm.proofs.lemmas.Roots.{root_in_time}
 
 -- what fits in time answers in the root window
 pub fits-answers : (p : Project) (release due : ℕ → ℕ) (window : Bounds) (capacities starts : List ℕ) → IsRootWindow p release due window → FitsInTime p release due capacities starts → Answers p capacities window starts
 fits-answers p release due window capacities starts root h = record {
-  lies = record {
-    places = h.places;
-    above = root.early.least starts h.in_time.released h.fits.precedence;
-    below = root.late.greatest starts h.in_time.ends h.fits.precedence;
-  };
+  lies = (root_in_time p release due window starts root h.places h.fits.precedence).1 h.in_time;
   fits = h.fits;
 }
 
@@ -21,10 +18,7 @@ fits-answers p release due window capacities starts root h = record {
 pub answers-fit : (p : Project) (release due : ℕ → ℕ) (window : Bounds) (capacities starts : List ℕ) → IsRootWindow p release due window → Answers p capacities window starts → FitsInTime p release due capacities starts
 answers-fit p release due window capacities starts root h = record {
   places = h.lies.places;
-  in_time = record {
-    released = λ i l. omega (arith, root.early.above i l, h.lies.above i l);
-    ends = λ i l. omega (arith, root.late.ends i l, h.lies.below i l);
-  };
+  in_time = (root_in_time p release due window starts root h.lies.places h.fits.precedence).0 h.lies;
   fits = h.fits;
 }
 

@@ -26,8 +26,12 @@ pub fn decide_by_definition(
     first_answer(alloc, net, &question.capacities, &question.window)
 }
 
-/// The lexicographically least starts in the window that keep precedence and the capacities.
-pub fn first_answer(
+/// The lexicographically least starts in the window that keep precedence and the capacities, or `None` where there are none.
+///
+/// # Errors
+///
+/// Memory was refused.
+pub(crate) fn first_answer(
     alloc: Global,
     net: &Network,
     capacities: &Capacities,

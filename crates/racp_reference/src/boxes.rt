@@ -4,7 +4,7 @@ ghost use Rattle.std.specs.Prelude.{◌≡◌, ◌↔◌, IsTrue, MatchOption, l
 ghost use Rattle.racp_reference.specs.Boxes.{IsBox, IsInBox, IsNext, IsLast};
 
 /// Whether no lower bound is above the upper one.
-pub fn is_box(lower: &[u32], upper: &[u32]) -> bool
+pub(crate) fn is_box(lower: &[u32], upper: &[u32]) -> bool
     requires { length lower.now ≡ length upper.now }
     ensures { IsTrue result ↔ IsBox lower.now upper.now }
 {
@@ -12,7 +12,7 @@ pub fn is_box(lower: &[u32], upper: &[u32]) -> bool
 }
 
 /// The vector of the box that comes next, or `None` after the last.
-pub fn next_in(lower: &[u32], upper: &[u32], mut vector: Vec<u32>) -> Option<Vec<u32>>
+pub(crate) fn next_in(lower: &[u32], upper: &[u32], mut vector: Vec<u32>) -> Option<Vec<u32>>
     requires { IsInBox lower.now upper.now vector.items }
     ensures { MatchOption result (IsLast lower.now upper.now vector.items) (λ next. IsNext lower.now upper.now vector.items next.items) }
 {

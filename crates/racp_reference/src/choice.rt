@@ -11,7 +11,7 @@ use std::alloc::{AllocError, Global};
 
 /// Capacities with the least start vector that fits them, and what they cost.
 #[derive(Debug, Drop)]
-pub struct Choice {
+pub(crate) struct Choice {
     /// What the units cost that are not owned already.
     pub cost: u64,
     /// How many units there are of each resource.
@@ -22,7 +22,7 @@ pub struct Choice {
 
 /// The cheapest capacities up to these most units under which some starts in the window fit, of those that cost the same
 /// the lexicographically least. All capacity vectors from 0 units on are looked at, one by one.
-pub fn cheapest(
+pub(crate) fn cheapest(
     alloc: Global,
     net: &Network,
     terms: &Terms,

@@ -10,7 +10,7 @@ use std::cmp::min;
 
 /// What the units cost: each that is not owned already costs its price.
 #[tactic(auto, using(crate::proofs::Totals::totals))]
-pub fn cost_of(net: &Network, terms: &Terms, capacities: &[u32]) -> u64
+pub(crate) fn cost_of(net: &Network, terms: &Terms, capacities: &[u32]) -> u64
     requires terms { AreTermsOf net.now terms.now }
     requires capacities { length capacities.now ≡ net.now.resources }
     ensures { result ≡ cost terms.now capacities.now }
@@ -23,7 +23,11 @@ pub fn cost_of(net: &Network, terms: &Terms, capacities: &[u32]) -> u64
 }
 
 /// The most units of each resource that a plan can have: the sum of all requests, or the ceiling where that is less.
-pub fn most_units(alloc: Global, net: &Network, terms: &Terms) -> Result<Vec<u32>, AllocError>
+pub(crate) fn most_units(
+    alloc: Global,
+    net: &Network,
+    terms: &Terms,
+) -> Result<Vec<u32>, AllocError>
     requires { AreTermsOf net.now terms.now }
     ensures { IfOk result (λ units. AreMostUnits net.now terms.now units.items) }
 {
@@ -52,7 +56,7 @@ fn all_requests(net: &Network, k: usize) -> u32
 }
 
 /// The time by which each job has to end.
-pub fn due_times(alloc: Global, terms: &Terms) -> Result<Vec<u32>, AllocError>
+pub(crate) fn due_times(alloc: Global, terms: &Terms) -> Result<Vec<u32>, AllocError>
     ensures { IfOk result (λ due. due.items ≡ map (λ time. min time terms.now.deadline) terms.now.due) }
 {
     terms

@@ -4,8 +4,11 @@ ghost use Rattle.racp_model.specs.Terms.{AreTermsOf};
 use racp_model::Network;
 use std::marker::Model;
 
-/// The latest deadline, release and due time, and the most units that are owned or that a ceiling allows.
-const MOST: u32 = 10_000_000;
+/// The latest deadline, release and due time, in time units.
+const LATEST_TIME: u32 = 10_000_000;
+
+/// The most units of a resource that are owned or that a ceiling allows.
+const MOST_UNITS: u32 = 10_000_000;
 
 /// The highest price of a unit.
 const MOST_PRICE: u32 = 1_000_000;
@@ -43,15 +46,15 @@ impl<'a> Terms<'a> {
     pub fn are_of(&self, net: &Network) -> bool
         ensures { IsTrue result ↔ AreTermsOf net.now self.now }
     {
-        self.deadline <= MOST
+        self.deadline <= LATEST_TIME
             && are_within(self.prices, net.resource_count(), MOST_PRICE)
-            && are_within(self.owned, net.resource_count(), MOST)
+            && are_within(self.owned, net.resource_count(), MOST_UNITS)
             && match self.ceilings {
-                Some(ceilings) => are_within(ceilings, net.resource_count(), MOST),
+                Some(ceilings) => are_within(ceilings, net.resource_count(), MOST_UNITS),
                 None => true,
             }
-            && are_within(self.release, net.job_count(), MOST)
-            && are_within(self.due, net.job_count(), MOST)
+            && are_within(self.release, net.job_count(), LATEST_TIME)
+            && are_within(self.due, net.job_count(), LATEST_TIME)
     }
 }
 

@@ -162,76 +162,28 @@ fn plans_with_one_resource(rt: HostRuntime) -> Result<(), Fail> {
 fn plans_with_two_resources(rt: HostRuntime) -> Result<(), Fail> {
     let alloc = rt.alloc();
     let net = crossed(alloc)?;
-    for (deadline, prices, owned, ceilings, cost, capacities, starts) in [
-        (
-            3,
-            [1, 1],
-            [0, 0],
-            [].as_slice(),
-            3,
-            [1, 2],
-            [0, 0, 1, 2, 2, 3],
-        ),
-        (
-            3,
-            [0, 1],
-            [0, 0],
-            [].as_slice(),
-            1,
-            [2, 1],
-            [0, 0, 0, 1, 2, 3],
-        ),
-        (
-            3,
-            [0, 0],
-            [0, 0],
-            [].as_slice(),
-            0,
-            [1, 2],
-            [0, 0, 1, 2, 2, 3],
-        ),
-        (
-            2,
-            [1, 1],
-            [0, 0],
-            [].as_slice(),
-            4,
-            [2, 2],
-            [0, 0, 0, 1, 1, 2],
-        ),
-        (
-            4,
-            [1, 1],
-            [0, 0],
-            [].as_slice(),
-            2,
-            [1, 1],
-            [0, 0, 1, 2, 3, 4],
-        ),
-        (
-            3,
-            [1, 1],
-            [2, 0],
-            [].as_slice(),
-            1,
-            [2, 1],
-            [0, 0, 0, 1, 2, 3],
-        ),
-        (
-            3,
-            [1, 1],
-            [0, 0],
-            [2, 1].as_slice(),
-            3,
-            [2, 1],
-            [0, 0, 0, 1, 2, 3],
-        ),
+    for (deadline, prices, owned, cost, capacities, starts) in [
+        (3, [1, 1], [0, 0], 3, [1, 2], [0, 0, 1, 2, 2, 3]),
+        (3, [0, 1], [0, 0], 1, [2, 1], [0, 0, 0, 1, 2, 3]),
+        (3, [0, 0], [0, 0], 0, [1, 2], [0, 0, 1, 2, 2, 3]),
+        (2, [1, 1], [0, 0], 4, [2, 2], [0, 0, 0, 1, 1, 2]),
+        (4, [1, 1], [0, 0], 2, [1, 1], [0, 0, 1, 2, 3, 4]),
+        (3, [1, 1], [2, 0], 1, [2, 1], [0, 0, 0, 1, 2, 3]),
     ] {
         let due = [deadline; 6];
-        let terms = order(deadline, &prices, &owned, ceilings, &[0; 6], &due);
+        let terms = order(deadline, &prices, &owned, &[], &[0; 6], &due);
         assert_plan(&rt, alloc, &net, &terms, (2, cost), &capacities, &starts)?;
     }
-    Ok(())
+    let terms = order(3, &[1, 1], &[0, 0], &[2, 1], &[0; 6], &[3; 6]);
+    assert_plan(
+        &rt,
+        alloc,
+        &net,
+        &terms,
+        (2, 3),
+        &[2, 1],
+        &[0, 0, 0, 1, 2, 3],
+    )
 }
 
 #[test]

@@ -1,11 +1,11 @@
 -- A text is read as one thing: a network, or a fault.
-use Rattle.std.proofs.Common.{◌≡◌, ℕ, List, length, inl, inr, refl, sym, ◌∙◌, ap, subst, Ok, Err}
+use Rattle.std.proofs.Common.{◌≡◌, ℕ, List, inl, inr, refl, sym, ◌∙◌, ap, subst, Ok, Err}
 use Rattle.std.specs.Prelude.{Result}
-use Rattle.std.proofs.lemmas.List.Elements.{All-contains}
-use Rattle.racp_model.specs.Project.{Project, number, IsNumber, IsAcyclic, IsSound}
+use Rattle.racp_model.specs.Project.{Project, number, IsSound}
 use Rattle.racp_model.specs.Path.{HasRing}
 use Rattle.racp_model.specs.Made.{IsSameProject}
-use Rattle.racp_model.specs.Laws.{RankingOrRing, RelationIsNetwork}
+use Rattle.racp_model.specs.Laws.{RankingOrRing, RelationIsNetwork, AcyclicHasNetwork}
+use Rattle.racp_model.proofs.lemmas.Relations.{composed}
 use Rattle.racp_sm.specs.Reading.{IsReading, reading}
 use Rattle.racp_sm.specs.Faults.{fault_at}
 use Rattle.racp_sm.specs.Laws.{ReadingIsOne, TextIsRead}
@@ -13,15 +13,6 @@ use Rattle.racp_sm.specs.declared.fault.SmFault.{SmFault}
 use Rattle.racp_sm.specs.declared.fault.SmFaultKind.TheVariants.{Cycle}
 use Rattle.racp_sm.proofs.Sections.{IsFault}
 use Rattle.racp_sm.proofs.Limits.{IsWithin, reading_ok, same_ok}
-use Rattle.racp_sm.proofs.Inserting.{some_rising, all_members}
-
--- networks of one project are of the same project
-pub composed : (given p q : Project) → IsSameProject given p → IsSameProject given q → IsSameProject p q
-composed given p q hp hq = record {
-  resources = hq.resources ∙ sym hp.resources;
-  jobs = hq.jobs ∙ sym hp.jobs;
-  arcs = λ arc. (λ c. (hp.arcs arc).1 ((hq.arcs arc).0 c), λ c. (hq.arcs arc).1 ((hp.arcs arc).0 c));
-}
 
 -- what has a network has no ring
 pub no_ring : RankingOrRing → (given made : Project) → IsWithin given → IsSameProject given made → IsSound made → HasRing given → ⊥
@@ -51,29 +42,14 @@ reading_one one law text (Ok p) (Err g) x y = absurd (not_both law text p g x y)
 reading_one one law text (Err f) (Ok q) x y = absurd (not_both law text q f y x)
 reading_one one law text (Err f) (Err g) x y = ap Err (same_fault text f g x y)
 
--- a project without a ring has a network
-pub some_network : (given : Project) → IsWithin given → IsAcyclic given → (made : Project) × IsSameProject given made × IsSound made
-some_network given within acyclic =
-    let arcs = some_rising given.arcs in
-    let named : ℕ × ℕ → Type 0 = λ arc. IsNumber (length given.jobs) arc.0 × IsNumber (length given.jobs) arc.1 in (
-      record { resources = given.resources; jobs = given.jobs; arcs = arcs.0 },
-      record { resources = refl; jobs = refl; arcs = arcs.1.same },
-      record {
-        limits = within.0;
-        named = all_members named arcs.0 (λ z c. All-contains named given.arcs z within.1 ((arcs.1.same z).0 c));
-        rising = arcs.1.rising;
-        acyclic = (acyclic.0, λ i j before. acyclic.1 i j ((arcs.1.same (number i, number j)).0 before));
-      },
-    )
-
-pub text_read : RankingOrRing → TextIsRead
-text_read law text = by_reading (reading text) refl
+pub text_read : RankingOrRing → AcyclicHasNetwork → TextIsRead
+text_read law made text = by_reading (reading text) refl
   where
     by_reading : (r : Result Project SmFault) → reading text ≡ r → (x : Result Project SmFault) × IsReading text x
     by_reading (Err fault) e = (Err fault, inl e)
     by_reading (Ok project) e =
         let within = reading_ok text project e in
         elim (law project within.1).0 [
-          | inl acyclic ↦ let made = some_network project within acyclic in (Ok made.0, (project, e, made.1, made.2))
+          | inl acyclic ↦ let network = made project within.0 within.1 acyclic in (Ok network.0, (project, e, network.1, network.2))
           | inr ring ↦ (Err (fault_at Cycle 0), inr (project, e, ring, refl))
         ]

@@ -5,5 +5,4 @@ mod Digits
 mod Repeats
 mod Sections
 mod Limits
-mod Inserting
 mod Answering

@@ -2,7 +2,7 @@
 
 ghost use Rattle.racp_sm.specs.Laws.{NumbersAreDecimal, ReadingIsOne, ReadWithinLimits, TextIsRead};
 
-use racp_model::laws::{ranking_or_ring, relation_is_network};
+use racp_model::laws::{acyclic_has_network, ranking_or_ring, relation_is_network};
 
 /// A text is read as at most one thing.
 pub fn reading_is_one()
@@ -17,6 +17,7 @@ pub fn text_is_read()
     ensures { TextIsRead }
 {
     ranking_or_ring();
+    acyclic_has_network();
 }
 
 /// What a text says is within the limits of a network.

@@ -1,4 +1,4 @@
-use Rattle.racp_model.proofs.Zeros.{zeros_front}
+use Rattle.racp_model.proofs.lemmas.Zeros.{zeros_front}
 use Rattle.racp_model.proofs.topology.topological.Goals as goal
 
 pub ordered-requires-clause-clear : goal.ordered-requires-clause-clear

@@ -1,8 +1,9 @@
-use Rattle.std.proofs.Common.{◌≡◌, length, replicate, rules, arith}
+use Rattle.std.proofs.Common.{◌≡◌, ℕ, length, replicate, slice_index, rules, arith}
+use Rattle.racp_model.proofs.lemmas.Zeros.{zeros}
 use Rattle.racp_reference.specs.Boxes.{IsInBox, IsNext, IsLast}
 use Rattle.racp_reference.proofs.Counts.{fewer_left}
 use Rattle.racp_reference.proofs.Searching.{lower-within, lower-first}
-use Rattle.racp_reference.proofs.Choosing.{IsEarlier, best-next, best-cheapest, zeros_places, zeros_at, one_more-next, one_more-last}
+use Rattle.racp_reference.proofs.Choosing.{IsEarlier, best-next, best-cheapest, zeros_places, one_more-next, one_more-last}
 use Rattle.racp_reference.proofs.choice.cheapest.Goals as goal
 
 pub vectors-init : goal.vectors-init
@@ -10,10 +11,11 @@ vectors-init c =
     let least = c.in_ok-least.least.items in
     let most = c.args.most.now in
     let start : c.new-capacities.result ≡ least = search rules in
-    let zeros : least ≡ replicate (length most) 0 = search rules in
-    let same : length least ≡ length most = zeros_places least (length most) zeros in
+    let filled : least ≡ replicate (length most) 0 = search rules in
+    let same : length least ≡ length most = zeros_places least (length most) filled in
+    let none : (k : ℕ) → slice_index least k ≡ 0 = λ k. rw filled (zeros (length most) k) in
     rw start record {
-      within = lower-within least most same (λ i l. omega (arith, zeros_at least (length most) zeros i (omega (arith, same))));
+      within = lower-within least most same (λ i l. omega (arith, none i));
       best = λ a seen. lower-first least most a seen.seen.within seen.seen.less;
     }
 
@@ -44,9 +46,10 @@ returns-in-None c =
     let most = c.args.most.now in
     let vector = c.vectors.capacities in
     let last : IsLast least most vector = rw (← c.into_vec.ensures, ← c.deref-in-vectors.ensures.value) c.in-None.ensures in
-    let zeros : least ≡ replicate (length most) 0 = search rules in
+    let filled : least ≡ replicate (length most) 0 = search rules in
+    let none : (k : ℕ) → slice_index least k ≡ 0 = λ k. rw filled (zeros (length most) k) in
     rw c.cheaper-best.ensures
-    (best-cheapest c.args.net.now c.args.terms.now c.args.window.now least most _ (zeros_places least (length most) zeros) (zeros_at least (length most) zeros)
+    (best-cheapest c.args.net.now c.args.terms.now c.args.window.now least most _ (zeros_places least (length most) filled) (λ k l. none k)
     (best-next c.args.net.now c.args.terms.now c.args.window.now (IsEarlier least most vector) (IsInBox least most) vector
     (one_more-last least most vector c.vectors.invariant.within last)
     c.vectors.best c.in_ok-other.other c.vectors.invariant.best c.in_ok-other.ensures))

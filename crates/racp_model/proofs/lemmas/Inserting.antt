@@ -1,13 +1,15 @@
--- For each list of pairs there is one of the same pairs, each once and in rising order.
-use Rattle.std.proofs.Common.{◌≡◌, ◌⊎◌, ℕ, zero, suc, ◌<◌, List, [], ◌∷◌, length, slice_index_or, inl, inr, arith, sym, ◌∙◌, subst, Contains, AllPairs, All}
+-- For each list of pairs there is one of the same pairs, each once and in rising order; so an acyclic project has a network.
+use Rattle.std.proofs.Common.{◌≡◌, ◌⊎◌, ℕ, ◌<◌, List, [], ◌∷◌, length, inl, inr, arith, refl, sym, ◌∙◌, subst, Contains, AllPairs, All}
 use Rattle.std.specs.Prelude.{◌↔◌}
-use Rattle.std.proofs.lemmas.List.Elements.{All-nil, All-cons, All-weaker, All-contains_itself}
+use Rattle.std.proofs.lemmas.List.Elements.{All-nil, All-cons, All-contains}
 use Rattle.std.proofs.lemmas.List.Kept.{AllPairs-cons}
 use Rattle.std.specs.declared.cmp.Ordering.{Ordering}
 use Rattle.std.specs.declared.cmp.Ordering.TheVariants.{Less, Equal, Greater}
 use Rattle.std.specs.Ordering.{nat_cmp, MatchOrdering}
 use Rattle.std.specs.Cmp.{ranks}
-use Rattle.racp_model.specs.Project.{IsArcBefore}
+use Rattle.racp_model.specs.Project.{number, IsNumber, IsArcBefore}
+use Rattle.racp_model.specs.Laws.{AcyclicHasNetwork}
+use Rattle.racp_model.proofs.lemmas.Relations.{member_cases, member_later, member_first, member_after, rising_tail, all_members}
 
 -- of two pairs, they are equal or one stands before the other
 pub cases_arcs : (a b : ℕ × ℕ) → (a ≡ b) ⊎ (IsArcBefore a b ⊎ IsArcBefore b a)
@@ -29,31 +31,6 @@ arcs_trans a b c h g = elim h [
   | inl less ↦ elim g [ inl more ↦ inl (omega arith) | inr tie ↦ inl (omega (arith, tie.0)) ]
   | inr same ↦ elim g [ inl more ↦ inl (omega (arith, same.0)) | inr tie ↦ inr (same.0 ∙ tie.0, omega (arith, same.1, tie.1)) ]
 ]
-
--- a member is the head or in the tail
-pub member_cases : (y : ℕ × ℕ) (ys : List (ℕ × ℕ)) (x : ℕ × ℕ) → Contains (y ∷ ys) x → (y ≡ x) ⊎ Contains ys x
-member_cases y ys x c = go c.0 c.1 c.2
-  where
-    go : (k : ℕ) → k < suc (length ys) → slice_index_or (y ∷ ys) k x ≡ x → (y ≡ x) ⊎ Contains ys x
-    go zero l e = inl e
-    go (suc k) l e = inr (k, omega arith, e)
-
-pub member_later : (y : ℕ × ℕ) (ys : List (ℕ × ℕ)) (x : ℕ × ℕ) → Contains ys x → Contains (y ∷ ys) x
-member_later y ys x c = (suc c.0, omega (arith, c.1), c.2)
-
-pub member_first : (y : ℕ × ℕ) (ys : List (ℕ × ℕ)) (x : ℕ × ℕ) → y ≡ x → Contains (y ∷ ys) x
-member_first y ys x e = (0, omega arith, e)
-
--- in a rising list the tail rises and is after the head
-pub rising_tail : (y : ℕ × ℕ) (ys : List (ℕ × ℕ)) → AllPairs IsArcBefore (y ∷ ys) → AllPairs IsArcBefore ys
-rising_tail y ys rising i j d less l = rising (suc i) (suc j) d (omega arith) (omega arith)
-
-pub member_after : (y : ℕ × ℕ) (ys : List (ℕ × ℕ)) (x : ℕ × ℕ) → AllPairs IsArcBefore (y ∷ ys) → Contains ys x → IsArcBefore y x
-member_after y ys x rising c = subst (IsArcBefore y) c.2 (rising 0 (suc c.0) x (omega arith) (omega (arith, c.1)))
-
--- what all members are
-pub all_members : (P : ℕ × ℕ → Type 0) (xs : List (ℕ × ℕ)) → ((x : ℕ × ℕ) → Contains xs x → P x) → All P xs
-all_members P xs h = All-weaker (Contains xs) P h xs (All-contains_itself xs)
 
 -- a rising list of a pair and the members of another list
 pub record IsWith (a : ℕ × ℕ) (old new : List (ℕ × ℕ)) : Type 0 where
@@ -80,7 +57,7 @@ with_later a b bs cs after rising h = record {
   where
     below : (z : ℕ × ℕ) → (a ≡ z) ⊎ Contains bs z → IsArcBefore b z
     below z (inl e) = subst (IsArcBefore b) e after
-    below z (inr c) = member_after b bs z rising c
+    below z (inr c) = member_after IsArcBefore b bs z rising c
 
     into : (z : ℕ × ℕ) → (b ≡ z) ⊎ Contains cs z → (a ≡ z) ⊎ Contains (b ∷ bs) z
     into z (inl e) = inr (member_first b bs z e)
@@ -96,8 +73,8 @@ inserted a [] rising = (a ∷ [], with_first a [] (All-nil (IsArcBefore a)) risi
 inserted a (b ∷ bs) rising = elim (cases_arcs a b) [
   | inl e ↦ (b ∷ bs, with_itself a b bs e rising)
   | inr other ↦ elim other [
-    | inl before ↦ (a ∷ (b ∷ bs), with_first a (b ∷ bs) (All-cons (IsArcBefore a) b bs before (all_members (IsArcBefore a) bs (λ z c. arcs_trans a b z before (member_after b bs z rising c)))) rising)
-    | inr after ↦ let rest = inserted a bs (rising_tail b bs rising) in (b ∷ rest.0, with_later a b bs rest.0 after rising rest.1)
+    | inl before ↦ (a ∷ (b ∷ bs), with_first a (b ∷ bs) (All-cons (IsArcBefore a) b bs before (all_members (IsArcBefore a) bs (λ z c. arcs_trans a b z before (member_after IsArcBefore b bs z rising c)))) rising)
+    | inr after ↦ let rest = inserted a bs (rising_tail IsArcBefore b bs rising) in (b ∷ rest.0, with_later a b bs rest.0 after rising rest.1)
   ]
 ]
 
@@ -126,3 +103,18 @@ some_rising (a ∷ given) =
     let rest = some_rising given in
     let more = inserted a rest.0 rest.1.rising in
     (more.0, joined a given rest.0 more.0 rest.1 more.1)
+
+-- a project without a ring has a network
+pub some_network : AcyclicHasNetwork
+some_network given limits numbers acyclic =
+    let arcs = some_rising given.arcs in
+    let named : ℕ × ℕ → Type 0 = λ arc. IsNumber (length given.jobs) arc.0 × IsNumber (length given.jobs) arc.1 in (
+      record { resources = given.resources; jobs = given.jobs; arcs = arcs.0 },
+      record { resources = refl; jobs = refl; arcs = arcs.1.same },
+      record {
+        limits = limits;
+        named = all_members named arcs.0 (λ z c. All-contains named given.arcs z numbers ((arcs.1.same z).0 c));
+        rising = arcs.1.rising;
+        acyclic = (acyclic.0, λ i j before. acyclic.1 i j ((arcs.1.same (number i, number j)).0 before));
+      },
+    )
