@@ -1,9 +1,9 @@
 -- The two parts of a network text, each a stream of words: the precedence relation, and the durations and requests.
-use Rattle.std.specs.Prelude.{ℕ, zero, suc, ◌+◌, List, [], ◌∷◌, ◌++◌, map, Result, Ok, if◌then◌else◌}
+use Rattle.std.specs.Prelude.{ℕ, zero, suc, ◌+◌, List, [], ◌∷◌, ◌++◌, map, Result, Ok, Err, if◌then◌else◌}
 use Rattle.racp_model.specs.Project.{Activity}
 use Rattle.racp_sm.specs.Lines.{Word, is_number}
 use Rattle.racp_sm.specs.Head.{number_within}
-use Rattle.racp_sm.specs.Faults.{refused, ◌>>=◌}
+use Rattle.racp_sm.specs.Faults.{fault_at, refused, ◌>>=◌}
 use Rattle.racp_sm.specs.declared.fault.SmFault.{SmFault}
 use Rattle.racp_sm.specs.declared.fault.SmFaultKind.{SmFaultKind}
 use Rattle.racp_sm.specs.declared.fault.SmFaultKind.TheVariants.{BadNumber, Limit, BadRow, NotSingleMode, BadSuccessor, TooFew, TooMany}
@@ -24,10 +24,14 @@ next_numbers title kind low high (suc count) words = do
   others ← next_numbers title kind low high count number.1
   Ok (number.0 ∷ others.0, others.1)
 
--- no word is left: a number left is one too many
+-- what is wrong where this word is left: a number is one too many
+abbrev pub left_over : Word → SmFault
+left_over word = fault_at (if is_number word.bytes then TooMany else BadNumber) word.line
+
+-- no word is left
 abbrev pub nothing_left : List Word → Result (List Word) SmFault
 nothing_left [] = Ok []
-nothing_left (word ∷ words) = if is_number word.bytes then refused TooMany word.line else refused BadNumber word.line
+nothing_left (word ∷ words) = Err (left_over word)
 
 -- the row of one of n jobs in the precedence part, and the words after it: its number, the number of its modes, how many
 -- successors it has, and these; its pairs are those of the job with each

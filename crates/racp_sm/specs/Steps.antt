@@ -7,7 +7,6 @@ use Rattle.racp_sm.specs.Head.{Entries, begins_with, has_key, value_word, projec
 use Rattle.racp_sm.specs.Reading.{precedence_title, requests_title, availabilities_title, from_first, ends_part, words_between_rules}
 use Rattle.racp_sm.specs.Faults.{out_of_memory, fault_at}
 use Rattle.racp_sm.specs.declared.fault.SmFault.{SmFault}
-use Rattle.racp_sm.specs.declared.fault.SmFaultKind.TheVariants.{TooMany, BadNumber}
 use Rattle.racp_sm.specs.declared.fault.SmFaultKind.{SmFaultKind}
 use Rattle.racp_sm.specs.declared.part.Part.{Part}
 use Rattle.racp_sm.specs.declared.part.Part.TheVariants.{Precedence, Requests}
@@ -48,10 +47,6 @@ Takes old None new = (old ≡ []) × (new ≡ [])
 abbrev pub IsCapped : List ℕ → Option ℕ → Type 0
 IsCapped bytes (Some number) = (is_number bytes ≡ true) × (number ≡ min (value bytes) 4294967295)
 IsCapped bytes None = is_number bytes ≡ false
-
--- what is wrong where this word is left: a number is one too many
-abbrev pub left_over : Word → SmFault
-left_over word = fault_at (if is_number word.bytes then TooMany else BadNumber) word.line
 
 -- the title of a part, and of the one after it
 abbrev pub title_of : Part → List (List ℕ)

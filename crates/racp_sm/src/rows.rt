@@ -1,6 +1,6 @@
 //! The rows of the two parts.
 
-ghost use Rattle.std.specs.Prelude.{◌≡◌, ◌<◌, ◌≤◌, map, OnOk};
+ghost use Rattle.std.specs.Prelude.{◌≤◌};
 ghost use Rattle.racp_sm.specs.Parts.{next_numbers, successor_row, request_row, successor_rows, request_rows};
 ghost use Rattle.racp_sm.specs.declared.fault.SmFaultKind.TheVariants.{BadSuccessor, Limit};
 ghost use Rattle.racp_sm.specs.Steps.{Adds, Gives, IsSameStream, with_each};

@@ -2,7 +2,8 @@ ghost use Rattle.std.specs.Prelude.{◌≡◌, ◌<◌, ◌≤◌, IfOk, min, tr
 ghost use Rattle.std.specs.List.{list_all};
 ghost use Rattle.racp_sm.specs.Lines.{is_digit, is_number, value, words_of};
 ghost use Rattle.racp_sm.specs.Head.{number_within};
-ghost use Rattle.racp_sm.specs.Steps.{IsCapped, Takes, left_over};
+ghost use Rattle.racp_sm.specs.Parts.{left_over};
+ghost use Rattle.racp_sm.specs.Steps.{IsCapped, Takes};
 
 use crate::cut::first_word;
 use crate::fault::{SmFault, SmFaultKind};
