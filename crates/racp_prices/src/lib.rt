@@ -1,0 +1,8 @@
+//! Orders: the deadline of a project, what units cost, which are owned, how many there may be, and when the jobs may run.
+//!
+//! An order is read from a TOML text. Resources and jobs stand by place, from 0; times are whole time units.
+#![tactic(auto)]
+
+mod order;
+
+pub use order::Order;
