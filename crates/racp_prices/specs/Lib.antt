@@ -1,0 +1,4 @@
+pub mod Orders
+pub mod Faults
+pub mod Laws
+pub mod Steps

@@ -3,6 +3,13 @@
 //! An order is read from a TOML text. Resources and jobs stand by place, from 0; times are whole time units.
 #![tactic(auto)]
 
+mod fault;
+pub mod laws;
+mod numbers;
 mod order;
+mod read;
+mod version;
 
+pub use fault::OrderFault;
 pub use order::Order;
+pub use read::read_order;
