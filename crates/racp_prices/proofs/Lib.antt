@@ -2,3 +2,4 @@ mod Lists
 mod Cutting
 mod Tables
 mod Answering
+mod Limits
