@@ -11,3 +11,4 @@ pub mod Costs
 pub mod Cuts
 pub mod Relations
 pub mod Inserting
+pub mod Results

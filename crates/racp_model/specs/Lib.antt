@@ -5,6 +5,7 @@ pub mod Terms
 pub mod Plan
 pub mod Window
 pub mod Made
+pub mod Steps
 pub mod Laws
 pub mod Topology
 pub mod Ranks

@@ -21,6 +21,7 @@ cut_step most start i now l h = record {
   where
     min_twice : (x : ℕ) → min most (min most x) ≡ min most x
     min_twice x = omega arith
+
     here : (k : ℕ) → k < i + 1 → k < length (set now i (min most (slice_index now i))) →
         ((k ≡ i) × (slice_index (set now i (min most (slice_index now i))) k ≡ min most (slice_index now i))) ⊎ ((k ≢ i) × (slice_index (set now i (min most (slice_index now i))) k ≡ slice_index now k)) →
         slice_index (set now i (min most (slice_index now i))) k ≤ most

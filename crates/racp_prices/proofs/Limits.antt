@@ -13,33 +13,12 @@ use Rattle.toml.specs.Data.{Data, Items, no_items, item, Members, no_members, me
 use Rattle.racp_model.specs.Project.{Project}
 use Rattle.racp_model.specs.Terms.{Terms, AreTermsOf}
 use Rattle.racp_model.proofs.lemmas.Orders.{lex_same}
-use Rattle.racp_prices.specs.Faults.{◌>>=◌}
+use Rattle.racp_model.proofs.lemmas.Results.{IsFault, bind_ok, same_ok, chosen}
 use Rattle.racp_prices.specs.Orders.{whole, within, array_of, are_whole, count_of, whole_items, counted_items, all_within, number_of, numbers_of, optional_numbers, version_of, numbered_version, plain_keys, keys_of, has_only, required, known_keys, order_of, order_in, IsToml, IsOrder}
 use Rattle.racp_prices.specs.declared.fault.OrderFault.{OrderFault}
 use Rattle.racp_prices.specs.declared.fault.OrderFault.TheVariants.{NotWhole, Count, Range, Unknown}
 use Rattle.racp_prices.specs.declared.version.Version.{Version}
 use Rattle.racp_prices.specs.declared.version.Version.TheVariants.{First, Second}
-
-abbrev IsFault : {A : Type 0} → Result A OrderFault → Type 0
-IsFault (Ok x) = ⊥
-IsFault (Err fault) = Unit {0}
-
--- what was read before, where reading went on to its end
-bind_ok : {A B : Type 0} (r : Result A OrderFault) (next : A → Result B OrderFault) (y : B) → (r >>= next) ≡ Ok y → (x : A) × (r ≡ Ok x) × (next x ≡ Ok y)
-bind_ok (Ok x) next y e = (x, refl, e)
-bind_ok (Err fault) next y e = absurd (subst IsFault e tt)
-
-abbrev ok_or : {A : Type 0} → A → Result A OrderFault → A
-ok_or other (Ok x) = x
-ok_or other (Err fault) = other
-
-same_ok : {A : Type 0} (x y : A) → let one : Result A OrderFault = Ok x in one ≡ Ok y → x ≡ y
-same_ok x y e = ap (ok_or x) e
-
--- what was tested where a test let something through
-chosen : {A : Type 0} (b : Bool) (x y : A) (fault : OrderFault) → let read : Result A OrderFault = cond b (Ok x) (Err fault) in read ≡ Ok y → (b ≡ true) × (x ≡ y)
-chosen true x y fault e = (refl, same_ok x y e)
-chosen false x y fault e = absurd (subst IsFault e tt)
 
 abbrev IsAtMost : ℕ → ℕ → Type 0
 IsAtMost most n = n ≤ most
@@ -158,20 +137,22 @@ within_terms p table terms h =
     let ceilings = ceilings_ok p.resources 10000000 terms.ceilings (optional_ok p.resources 10000000 (get_member (codes "ceiling") table) terms.ceilings h.ceilings_read) in
     let owned = or_all_ok p.resources 10000000 0 h.owned (omega arith) (optional_ok p.resources 10000000 (get_member (codes "owned") table) h.owned h.owned_read) in
     let release = or_all_ok (length p.jobs) 10000000 0 h.release (omega arith) (optional_ok (length p.jobs) 10000000 (get_member (codes "release") table) h.release h.release_read) in
-    let due = or_all_ok (length p.jobs) 10000000 terms.deadline h.due h.deadline_small (optional_ok (length p.jobs) 10000000 (get_member (codes "due") table) h.due h.due_read) in
-    (record {
-      deadline = h.deadline_small;
-      price_places = h.prices_read.0;
-      prices = h.prices_read.1;
-      owned_places = ap length h.owned_is ∙ owned.0;
-      owned = subst (All (λ x. x ≤ 10000000)) (sym h.owned_is) owned.1;
-      ceiling_places = ceilings.0;
-      ceilings = ceilings.1;
-      release_places = ap length h.release_is ∙ release.0;
-      release = subst (All (λ x. x ≤ 10000000)) (sym h.release_is) release.1;
-      due_places = ap length h.due_is ∙ (length-map (unwrap_or h.due (replicate (length p.jobs) terms.deadline)) (min terms.deadline) ∙ due.0);
-      due = subst (All (λ x. x ≤ 10000000)) (sym h.due_is) (cut_small 10000000 terms.deadline (unwrap_or h.due (replicate (length p.jobs) terms.deadline)) h.deadline_small);
-    }, λ i l. subst (λ due. slice_index due i ≤ terms.deadline) (sym h.due_is) (cut_at terms.deadline (unwrap_or h.due (replicate (length p.jobs) terms.deadline)) i))
+    let due = or_all_ok (length p.jobs) 10000000 terms.deadline h.due h.deadline_small (optional_ok (length p.jobs) 10000000 (get_member (codes "due") table) h.due h.due_read) in (
+      record {
+        deadline = h.deadline_small;
+        price_places = h.prices_read.0;
+        prices = h.prices_read.1;
+        owned_places = ap length h.owned_is ∙ owned.0;
+        owned = subst (All (λ x. x ≤ 10000000)) (sym h.owned_is) owned.1;
+        ceiling_places = ceilings.0;
+        ceilings = ceilings.1;
+        release_places = ap length h.release_is ∙ release.0;
+        release = subst (All (λ x. x ≤ 10000000)) (sym h.release_is) release.1;
+        due_places = ap length h.due_is ∙ (length-map (unwrap_or h.due (replicate (length p.jobs) terms.deadline)) (min terms.deadline) ∙ due.0);
+        due = subst (All (λ x. x ≤ 10000000)) (sym h.due_is) (cut_small 10000000 terms.deadline (unwrap_or h.due (replicate (length p.jobs) terms.deadline)) h.deadline_small);
+      },
+      λ i l. subst (λ due. slice_index due i ≤ terms.deadline) (sym h.due_is) (cut_at terms.deadline (unwrap_or h.due (replicate (length p.jobs) terms.deadline)) i),
+    )
 
 pub read_within_limits : (p : Project) (text : List ℕ) (terms : Terms) → IsOrder p.resources (length p.jobs) text (Ok terms) →
     AreTermsOf p terms × ((i : ℕ) → i < length p.jobs → slice_index terms.due i ≤ terms.deadline)
@@ -217,7 +198,9 @@ plain_order resources jobs table terms n e =
     let owned = none_read resources 10000000 _ h.owned (plain_absent (codes "owned") table refl known) h.owned_read in
     let ceilings = none_read resources 10000000 _ terms.ceilings (plain_absent (codes "ceiling") table refl known) h.ceilings_read in
     let release = none_read jobs 10000000 _ h.release (plain_absent (codes "release") table refl known) h.release_read in
-    let due = none_read jobs 10000000 _ h.due (plain_absent (codes "due") table refl known) h.due_read in
-    (h.owned_is ∙ ap (λ o. unwrap_or o (replicate resources 0)) (sym owned), sym ceilings,
-    h.release_is ∙ ap (λ o. unwrap_or o (replicate jobs 0)) (sym release),
-    h.due_is ∙ (ap (λ o. map (min terms.deadline) (unwrap_or o (replicate jobs terms.deadline))) (sym due) ∙ map_same terms.deadline jobs))
+    let due = none_read jobs 10000000 _ h.due (plain_absent (codes "due") table refl known) h.due_read in (
+      h.owned_is ∙ ap (λ o. unwrap_or o (replicate resources 0)) (sym owned),
+      sym ceilings,
+      h.release_is ∙ ap (λ o. unwrap_or o (replicate jobs 0)) (sym release),
+      h.due_is ∙ (ap (λ o. map (min terms.deadline) (unwrap_or o (replicate jobs terms.deadline))) (sym due) ∙ map_same terms.deadline jobs),
+    )

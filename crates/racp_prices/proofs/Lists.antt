@@ -6,7 +6,7 @@ use Rattle.toml.specs.Data.{Items}
 use Rattle.toml.specs.View.{items_view, view}
 use Rattle.toml.specs.declared.value.Value.{Value}
 use Rattle.toml.proofs.Views.{items_view-drop}
-use Rattle.racp_prices.specs.Faults.{◌>>=◌}
+use Rattle.racp_model.specs.Steps.{◌>>=◌}
 use Rattle.racp_prices.specs.Orders.{number_of, all_within, count_of}
 use Rattle.racp_prices.specs.declared.fault.OrderFault.{OrderFault}
 

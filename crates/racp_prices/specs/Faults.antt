@@ -1,5 +1,5 @@
--- The faults of an order text: their numbers and names, and reading that stops at the first one.
-use Rattle.std.specs.Prelude.{ℕ, List, Result, Ok, Err, codes}
+-- The faults of an order text: their numbers and names.
+use Rattle.std.specs.Prelude.{ℕ, List, codes}
 use Rattle.racp_prices.specs.declared.fault.OrderFault.{OrderFault}
 use Rattle.racp_prices.specs.declared.fault.OrderFault.TheVariants.{NotToml, Missing, Unknown, NotWhole, Range, Count, Memory, Version}
 
@@ -22,9 +22,3 @@ fault_name Range = codes "Range"
 fault_name Count = codes "Count"
 fault_name Memory = codes "Memory"
 fault_name Version = codes "Version"
-
--- reading goes on with what was read, or stops at a fault
-infixl 10 ◌>>=◌
-abbrev pub ◌>>=◌ : {A B : Type 0} → Result A OrderFault → (A → Result B OrderFault) → Result B OrderFault
-(Ok x) >>= next = next x
-(Err fault) >>= next = Err fault

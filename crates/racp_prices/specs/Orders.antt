@@ -5,7 +5,7 @@ use Rattle.std.specs.List.{list_any}
 use Rattle.toml.specs.Data.{Data, integer, array, Items, no_items, item, Members, no_members, member, get_member, as_integer}
 use Rattle.toml.specs.Parse.{parse_document}
 use Rattle.racp_model.specs.Terms.{Terms}
-use Rattle.racp_prices.specs.Faults.{◌>>=◌}
+use Rattle.racp_model.specs.Steps.{◌>>=◌}
 use Rattle.racp_prices.specs.declared.fault.OrderFault.{OrderFault}
 use Rattle.racp_prices.specs.declared.fault.OrderFault.TheVariants.{NotToml, Missing, Unknown, NotWhole, Range, Count, Memory, Version as WrongVersion}
 use Rattle.racp_prices.specs.declared.version.Version.{Version}
@@ -127,7 +127,7 @@ order_of resources jobs table = do
     owned = unwrap_or owned (replicate resources 0);
     ceilings = ceilings;
     release = unwrap_or release (replicate jobs 0);
-    due = map (min deadline) (unwrap_or due (replicate jobs deadline))
+    due = map (min deadline) (unwrap_or due (replicate jobs deadline));
   })
 
 -- what a text is as TOML: a table, or none where it is not UTF-8 or not TOML

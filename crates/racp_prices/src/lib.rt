@@ -13,3 +13,6 @@ mod version;
 pub use fault::OrderFault;
 pub use order::Order;
 pub use read::read_order;
+
+#[cfg(test)]
+mod tests;

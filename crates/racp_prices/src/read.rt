@@ -10,17 +10,9 @@ use crate::fault::OrderFault;
 use crate::numbers::{number, numbers, optional_numbers};
 use crate::order::Order;
 use crate::version::Version;
+use racp_model::limits::{LATEST_TIME, MOST_PRICE, MOST_UNITS};
 use std::alloc::{AllocError, Global};
 use toml::{Table, Value};
-
-/// The latest deadline, release and due time, in time units.
-const LATEST_TIME: u32 = 10_000_000;
-
-/// The most units of a resource that are owned or that a ceiling allows.
-const MOST_UNITS: u32 = 10_000_000;
-
-/// The highest price of a unit.
-const MOST_PRICE: u32 = 1_000_000;
 
 /// Reads the order of a TOML text, for a network of so many resources and jobs.
 ///

@@ -2,16 +2,8 @@ ghost use Rattle.std.specs.Prelude.{◌≡◌, ◌≤◌, ◌↔◌, IsTrue, len
 ghost use Rattle.racp_model.specs.Terms.{AreTermsOf};
 
 use racp_model::Network;
+use racp_model::limits::{LATEST_TIME, MOST_PRICE, MOST_UNITS};
 use std::marker::Model;
-
-/// The latest deadline, release and due time, in time units.
-const LATEST_TIME: u32 = 10_000_000;
-
-/// The most units of a resource that are owned or that a ceiling allows.
-const MOST_UNITS: u32 = 10_000_000;
-
-/// The highest price of a unit.
-const MOST_PRICE: u32 = 1_000_000;
 
 /// The terms of an order, lent as slices. Lists have an entry for each resource or each job, by place from 0. Times are in
 /// time units. Contracts see the `Terms` of racp_model.

@@ -11,8 +11,8 @@ use Rattle.racp_sm.specs.Faults.{fault_at}
 use Rattle.racp_sm.specs.Laws.{ReadingIsOne, TextIsRead}
 use Rattle.racp_sm.specs.declared.fault.SmFault.{SmFault}
 use Rattle.racp_sm.specs.declared.fault.SmFaultKind.TheVariants.{Cycle}
-use Rattle.racp_sm.proofs.Sections.{IsFault}
-use Rattle.racp_sm.proofs.Limits.{IsWithin, reading_ok, same_ok}
+use Rattle.racp_model.proofs.lemmas.Results.{IsFault, same_ok}
+use Rattle.racp_sm.proofs.Limits.{IsWithin, reading_ok}
 
 -- what has a network has no ring
 pub no_ring : RankingOrRing → (given made : Project) → IsWithin given → IsSameProject given made → IsSound made → HasRing given → ⊥

@@ -12,23 +12,11 @@ use Rattle.racp_sm.specs.Lines.{Line, Word, is_number, value, has_words, lines_o
 use Rattle.racp_sm.specs.Head.{Entries, Counts, number_within, required, optional, counts_of, entries_of}
 use Rattle.racp_sm.specs.Parts.{next_number, next_numbers, nothing_left, successor_row, successor_rows, request_row, request_rows, arcs_of, jobs_of}
 use Rattle.racp_sm.specs.Reading.{precedence_part, requests_part, reading, from_first, precedence_title, requests_title}
-use Rattle.racp_sm.specs.Faults.{◌>>=◌}
+use Rattle.racp_model.specs.Steps.{◌>>=◌}
+use Rattle.racp_model.proofs.lemmas.Results.{IsFault, bind_ok, same_ok}
 use Rattle.racp_sm.specs.declared.fault.SmFault.{SmFault}
 use Rattle.racp_sm.specs.declared.fault.SmFaultKind.{SmFaultKind}
 use Rattle.racp_sm.specs.declared.fault.SmFaultKind.TheVariants.{NoJobs, NoRenewable, ManyProjects, OtherResources, BadRow, NotSingleMode, BadSuccessor, Limit}
-use Rattle.racp_sm.proofs.Sections.{IsFault}
-
--- what was read before, where reading went on to its end
-pub bind_ok : {A B : Type 0} (r : Result A SmFault) (next : A → Result B SmFault) (y : B) → (r >>= next) ≡ Ok y → (x : A) × (r ≡ Ok x) × (next x ≡ Ok y)
-bind_ok (Ok x) next y e = (x, refl, e)
-bind_ok (Err fault) next y e = absurd (subst IsFault e tt)
-
-abbrev pub ok_or : {A : Type 0} → A → Result A SmFault → A
-ok_or other (Ok x) = x
-ok_or other (Err fault) = other
-
-pub same_ok : {A : Type 0} (x y : A) → let one : Result A SmFault = Ok x in one ≡ Ok y → x ≡ y
-same_ok x y e = ap (ok_or x) e
 
 -- from low to high
 abbrev pub IsFromTo : ℕ → ℕ → ℕ → Type 0

@@ -5,7 +5,8 @@ use Rattle.racp_model.specs.Project.{Activity}
 use Rattle.racp_sm.specs.Lines.{Word}
 use Rattle.racp_sm.specs.Parts.{next_number, next_numbers, successor_row, successor_rows, request_row, request_rows}
 use Rattle.racp_sm.specs.Steps.{Words, IsSameStream, with_each}
-use Rattle.racp_sm.specs.Faults.{out_of_memory, ◌>>=◌}
+use Rattle.racp_model.specs.Steps.{◌>>=◌}
+use Rattle.racp_sm.specs.Faults.{out_of_memory}
 use Rattle.racp_sm.specs.declared.fault.SmFault.{SmFault}
 use Rattle.racp_sm.specs.declared.fault.SmFaultKind.{SmFaultKind}
 use Rattle.racp_sm.specs.declared.fault.SmFaultKind.TheVariants.{BadSuccessor}

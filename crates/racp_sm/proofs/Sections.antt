@@ -6,7 +6,9 @@ use Rattle.racp_sm.specs.Lines.{Line, Word}
 use Rattle.racp_sm.specs.Parts.{successor_rows, request_rows, nothing_left, arcs_of, jobs_of}
 use Rattle.racp_sm.specs.Reading.{precedence_part, requests_part}
 use Rattle.racp_sm.specs.Steps.{Words, stream_of, part_stream, map_ok}
-use Rattle.racp_sm.specs.Faults.{out_of_memory, ◌>>=◌}
+use Rattle.racp_model.specs.Steps.{◌>>=◌}
+use Rattle.racp_model.proofs.lemmas.Results.{IsFault}
+use Rattle.racp_sm.specs.Faults.{out_of_memory}
 use Rattle.racp_sm.specs.declared.fault.SmFault.{SmFault}
 use Rattle.racp_sm.specs.declared.fault.SmFaultKind.TheVariants.{NoPrecedence, NoRequests}
 use Rattle.racp_sm.specs.declared.part.Part.TheVariants.{Precedence, Requests}
@@ -26,11 +28,6 @@ same_fault (Err fault) = Err fault
 abbrev pub made : Result Words SmFault → Words → Words
 made (Ok words) other = words
 made (Err fault) other = other
-
--- whether it is a fault
-abbrev pub IsFault : {X : Type 0} → Result X SmFault → Type 0
-IsFault (Ok x) = ⊥
-IsFault (Err fault) = Unit {0}
 
 -- reading rows, and then that nothing is left, in one or two steps
 pub one_by_one : {X Y : Type 0} (rows : Result (X × List Word) SmFault) (f : X → Y) → ((rows >>= (λ read. nothing_left read.1 >>= (λ end. Ok read.0))) >>= (λ x. Ok (f x))) ≡ (rows >>= (λ read. nothing_left read.1 >>= (λ end. Ok (f read.0))))

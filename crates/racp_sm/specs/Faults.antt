@@ -1,4 +1,4 @@
--- The faults of a network text: their numbers and names, and reading that stops at the first one.
+-- The faults of a network text: their numbers and names.
 use Rattle.std.specs.Prelude.{ℕ, List, Result, Ok, Err, codes}
 use Rattle.racp_sm.specs.declared.fault.SmFault.{SmFault}
 use Rattle.racp_sm.specs.declared.fault.SmFaultKind.{SmFaultKind}
@@ -48,9 +48,3 @@ fault_at kind line = record { kind = kind; line = line }
 
 abbrev pub refused : {A : Type 0} → SmFaultKind → ℕ → Result A SmFault
 refused kind line = Err (fault_at kind line)
-
--- reading goes on with what was read, or stops at a fault
-infixl 10 ◌>>=◌
-abbrev pub ◌>>=◌ : {A B : Type 0} → Result A SmFault → (A → Result B SmFault) → Result B SmFault
-(Ok x) >>= next = next x
-(Err fault) >>= next = Err fault

@@ -2,7 +2,8 @@
 use Rattle.std.specs.Prelude.{ℕ, ◌==◌, ◌&&◌, Bool, true, false, List, [], ◌∷◌, Option, Some, None, Result, Ok, nat_le, if◌then◌else◌, codes}
 use Rattle.std.specs.List.{before_first, after_first, list_any}
 use Rattle.racp_sm.specs.Lines.{Line, Word, words_in, is_word, is_number, value}
-use Rattle.racp_sm.specs.Faults.{refused, ◌>>=◌}
+use Rattle.racp_model.specs.Steps.{◌>>=◌}
+use Rattle.racp_sm.specs.Faults.{refused}
 use Rattle.racp_sm.specs.declared.fault.SmFault.{SmFault}
 use Rattle.racp_sm.specs.declared.fault.SmFaultKind.{SmFaultKind}
 use Rattle.racp_sm.specs.declared.fault.SmFaultKind.TheVariants.{NoJobs, NoRenewable, ManyProjects, OtherResources, BadNumber, Limit}

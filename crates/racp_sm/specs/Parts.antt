@@ -3,7 +3,8 @@ use Rattle.std.specs.Prelude.{ℕ, zero, suc, ◌+◌, List, [], ◌∷◌, ◌+
 use Rattle.racp_model.specs.Project.{Activity}
 use Rattle.racp_sm.specs.Lines.{Word, is_number}
 use Rattle.racp_sm.specs.Head.{number_within}
-use Rattle.racp_sm.specs.Faults.{fault_at, refused, ◌>>=◌}
+use Rattle.racp_model.specs.Steps.{◌>>=◌}
+use Rattle.racp_sm.specs.Faults.{fault_at, refused}
 use Rattle.racp_sm.specs.declared.fault.SmFault.{SmFault}
 use Rattle.racp_sm.specs.declared.fault.SmFaultKind.{SmFaultKind}
 use Rattle.racp_sm.specs.declared.fault.SmFaultKind.TheVariants.{BadNumber, Limit, BadRow, NotSingleMode, BadSuccessor, TooFew, TooMany}
