@@ -1,5 +1,4 @@
 pub mod lemmas
-mod Latest
 mod Topological
 mod Raising
 mod Sorting

@@ -1,5 +1,5 @@
 use Rattle.std.proofs.Common.{arith, refl}
-use Rattle.racp_model.proofs.Latest.{usage-within}
+use Rattle.racp_model.proofs.lemmas.Latest.{usage-within}
 use Rattle.racp_model.proofs.fitting.keeps_capacity.Goals as goal
 
 pub returns : goal.returns
