@@ -64,9 +64,10 @@ fn keeps_capacity(net: &Network, starts: &[u32], k: usize, capacity: u32) -> boo
     true
 }
 
-/// What all jobs use of a resource at a time.
+/// How many units of the resource at place `k`, from 0, all jobs together use at a time. There is a start for each job, by
+/// place; times are in time units. Takes no memory.
 #[tactic(auto, using(crate::proofs::lemmas::Sums::sums))]
-fn usage_at(net: &Network, starts: &[u32], k: usize, time: u32) -> u64
+pub fn usage_at(net: &Network, starts: &[u32], k: usize, time: u32) -> u64
     requires starts { length starts.now ≡ length net.now.jobs }
     requires resource { k < net.now.resources }
     ensures { result ≡ usage net.now starts.now k time }

@@ -18,7 +18,7 @@ mod window;
 
 pub use capacities::Capacities;
 pub use fault::NetFault;
-pub use fitting::fits;
+pub use fitting::{fits, usage_at};
 pub use job::Job;
 pub use named::OfNetwork;
 pub use network::Network;

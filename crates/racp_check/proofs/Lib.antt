@@ -1,0 +1,2 @@
+mod Precedence
+mod Excess

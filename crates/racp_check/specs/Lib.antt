@@ -1,0 +1,3 @@
+pub mod PlanFaults
+pub mod Tests
+pub mod Laws
