@@ -6,7 +6,7 @@ use Rattle.racp_model.specs.Schedule.{usage}
 use Rattle.racp_model.proofs.lemmas.Lists.{below_suc}
 use Rattle.racp_model.proofs.lemmas.Latest.{usage-at_start}
 use Rattle.racp_check.specs.PlanFaults.{IsFirstOver}
-use Rattle.racp_check.specs.Tests.{IsOverAtAnswer, IsOverAnswer}
+use Rattle.racp_check.specs.PlanTests.{IsOverAtAnswer, IsOverAnswer}
 
 -- at the time t the capacities are kept
 abbrev pub IsKeptAt : Project → List ℕ → List ℕ → ℕ → Type 0

@@ -1,2 +1,3 @@
 mod Precedence
 mod Excess
+mod OneAnswer

@@ -7,7 +7,7 @@ use Rattle.racp_model.specs.Schedule.{KeepsPrecedence}
 use Rattle.racp_model.specs.Ranks.{from_at, to_at}
 use Rattle.racp_model.proofs.lemmas.Arcs.{from_at-number, to_at-number, at_precedes}
 use Rattle.racp_check.specs.PlanFaults.{IsFirstBroken}
-use Rattle.racp_check.specs.Tests.{IsBrokenAnswer}
+use Rattle.racp_check.specs.PlanTests.{IsBrokenAnswer}
 
 -- the places of the two jobs of the pair of numbers at k
 abbrev pub before_at : List (ℕ × ℕ) → ℕ → ℕ

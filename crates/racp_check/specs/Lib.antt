@@ -1,3 +1,3 @@
 pub mod PlanFaults
-pub mod Tests
-pub mod Laws
+pub mod PlanTests
+pub mod CheckLaws

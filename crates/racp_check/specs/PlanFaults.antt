@@ -6,8 +6,8 @@ use Rattle.racp_model.specs.Path.{IsFirstLate}
 use Rattle.racp_model.specs.Terms.{Terms, release_of, due_of, cost, IsWithinCeilings}
 use Rattle.racp_model.specs.Plan.{FitsTerms}
 use Rattle.racp_check.specs.declared.plan.Plan.{Plan}
-use Rattle.racp_check.specs.declared.fault.PlanFault.{PlanFault}
-use Rattle.racp_check.specs.declared.fault.PlanFault.TheVariants.{Cost, Late, Order, Over, Ceiling, Early}
+use Rattle.racp_check.specs.declared.plan_fault.PlanFault.{PlanFault}
+use Rattle.racp_check.specs.declared.plan_fault.PlanFault.TheVariants.{Cost, Late, Order, Over, Ceiling, Early}
 
 -- the cost of the plan is that of its capacities on the order's terms
 abbrev pub HasRightCost : Terms → Plan → Type 0

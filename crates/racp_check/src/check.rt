@@ -2,9 +2,9 @@ ghost use Rattle.std.specs.Prelude.{◌≡◌, ◌<◌, ◌≤◌, ◌↔◌, le
 ghost use Rattle.racp_model.specs.Schedule.{usage};
 ghost use Rattle.racp_model.specs.Terms.{AreTermsOf, release_of, due_of, cost};
 ghost use Rattle.racp_check.specs.PlanFaults.{IsChecked};
-ghost use Rattle.racp_check.specs.Tests.{IsLateAnswer, IsBrokenAnswer, IsOverAtAnswer, IsOverAnswer, IsAboveAnswer, IsEarlyAnswer};
+ghost use Rattle.racp_check.specs.PlanTests.{IsLateAnswer, IsBrokenAnswer, IsOverAtAnswer, IsOverAnswer, IsAboveAnswer, IsEarlyAnswer};
 
-use crate::fault::PlanFault;
+use crate::plan_fault::PlanFault;
 use crate::plan::Plan;
 use racp_model::{Network, usage_at};
 use racp_prices::Order;

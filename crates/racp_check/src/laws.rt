@@ -1,6 +1,6 @@
 //! Laws of the check of a plan. Each function does nothing; its contract is the law.
 
-ghost use Rattle.racp_check.specs.Laws.{YesIsFitting, PlanIsFitting, AnswerIsOne};
+ghost use Rattle.racp_check.specs.CheckLaws.{YesIsFitting, PlanIsFitting, AnswerIsOne};
 
 /// The check says yes exactly where nothing is wrong with a plan, so a fault is answered only where there is one.
 pub fn yes_is_fitting()

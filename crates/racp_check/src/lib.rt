@@ -5,10 +5,10 @@
 #![tactic(auto)]
 
 mod check;
-mod fault;
 pub mod laws;
 mod plan;
+mod plan_fault;
 
 pub use check::check_plan;
-pub use fault::PlanFault;
 pub use plan::Plan;
+pub use plan_fault::PlanFault;

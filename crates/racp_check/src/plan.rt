@@ -1,9 +1,10 @@
 use racp_model::{Capacities, Starts};
 
-/// Capacities, and starts that are to fit them. Contracts see both as lists.
+/// A plan: how many units there are of each resource, when each job starts, and what a planner says of them. Contracts see the
+/// capacities and the starts as lists.
 #[derive(Debug, Clone, Drop)]
 pub struct Plan {
-    /// The deadline, in time units.
+    /// The deadline of the order, in time units.
     pub deadline: u32,
     /// The critical length of the project, in time units.
     pub critical: u64,
