@@ -4,8 +4,8 @@ ghost use Rattle.racp_model.specs.Terms.{AreTermsOf, release_of, due_of, cost};
 ghost use Rattle.racp_check.specs.PlanFaults.{IsChecked};
 ghost use Rattle.racp_check.specs.PlanTests.{IsLateAnswer, IsBrokenAnswer, IsOverAtAnswer, IsOverAnswer, IsAboveAnswer, IsEarlyAnswer};
 
-use crate::plan_fault::PlanFault;
 use crate::plan::Plan;
+use crate::plan_fault::PlanFault;
 use racp_model::{Network, usage_at};
 use racp_prices::Order;
 use std::cmp::min;
