@@ -1,6 +1,6 @@
 //! Which networks are made, which are refused and why, and which starts fit.
 
-use crate::{Capacities, Job, NetFault, Network, Starts, Window, fits};
+use crate::{Capacities, Job, NetFault, Network, Starts, Window, fits, usage_at};
 use std::alloc::{AllocError, Global};
 use std::process::Abort;
 use std::test::Fail;
@@ -214,6 +214,17 @@ fn is_fitting(
     assert_eq!(rt; capacities.as_slice().len(), net.resource_count());
     assert_eq!(rt; starts.as_slice().len(), net.job_count());
     Ok(fits(&net, &capacities, &starts, deadline))
+}
+
+#[test]
+fn sums_what_jobs_use(rt: HostRuntime) -> Result<(), Fail> {
+    let net = small(rt.alloc())?;
+    let starts = [0, 0, 0, 2, 4];
+    assert_eq!(rt; starts.len(), net.job_count());
+    for (time, used) in [(0, 3), (1, 3), (2, 3), (3, 1), (4, 0)] {
+        assert_eq!(rt; usage_at(&net, &starts, 0, time), used);
+    }
+    Ok(())
 }
 
 #[test]
