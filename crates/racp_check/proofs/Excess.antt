@@ -1,11 +1,8 @@
 -- The first time at which a resource is used above its capacity: it is the start of some job.
-use Rattle.std.proofs.Common.{◌≡◌, ℕ, ◌+◌, ◌<◌, ◌≤◌, inl, inr, List, length, slice_index, Option, Some, None, arith, subst, sym}
-use Rattle.std.proofs.lemmas.Bool.{cases_lt}
-use Rattle.racp_model.specs.Project.{Project, number}
+use Rattle.std.proofs.Common.{ℕ, ◌<◌, ◌≤◌, inl, inr, List, length, slice_index, Option, Some, None, arith}
+use Rattle.racp_model.specs.Project.{Project}
 use Rattle.racp_model.specs.Schedule.{usage}
-use Rattle.racp_model.proofs.lemmas.Lists.{below_suc}
 use Rattle.racp_model.proofs.lemmas.Latest.{usage-at_start}
-use Rattle.racp_check.specs.PlanFaults.{IsFirstOver}
 use Rattle.racp_check.specs.PlanTests.{IsOverAtAnswer, IsOverAnswer}
 
 -- at the time t the capacities are kept

@@ -1,18 +1,17 @@
 -- The check answers one thing of a plan: what is first is one thing, and of two faults none is before the other.
-use Rattle.std.proofs.Common.{◌≡◌, ℕ, zero, suc, ◌+◌, ◌<◌, ◌≤◌, inl, inr, List, length, slice_index, Option, Some, None, Ok, Err, Result, IsSomeAnd, IfSome, arith, refl, sym, ◌∙◌, ap, subst}
+use Rattle.std.proofs.Common.{◌≡◌, ℕ, zero, suc, ◌<◌, ◌≤◌, inl, inr, List, length, slice_index, Option, Some, None, Ok, Err, Result, IsSomeAnd, IfSome, arith, refl, sym, ◌∙◌, ap, subst}
 use Rattle.std.proofs.lemmas.Bool.{cases_lt}
 use Rattle.std.proofs.Math.ListN.{get_or-eq_default}
-use Rattle.racp_model.specs.Project.{Project, number, duration, Precedes, IsArcBefore}
-use Rattle.racp_model.specs.Schedule.{usage, KeepsPrecedence, EndsBy, IsWithinCapacities}
+use Rattle.racp_model.specs.Project.{Project, number}
+use Rattle.racp_model.specs.Schedule.{KeepsPrecedence, EndsBy, IsWithinCapacities}
 use Rattle.racp_model.specs.Path.{IsFirstLate}
-use Rattle.racp_model.specs.Terms.{Terms, AreTermsOf, release_of, due_of, IsWithinCeilings}
+use Rattle.racp_model.specs.Terms.{Terms, release_of, due_of, IsWithinCeilings}
 use Rattle.racp_model.proofs.lemmas.Lists.{below_suc}
 use Rattle.racp_model.proofs.lemmas.Inserting.{cases_arcs}
 use Rattle.racp_check.specs.declared.plan.Plan.{Plan}
 use Rattle.racp_check.specs.declared.plan_fault.PlanFault.{PlanFault}
 use Rattle.racp_check.specs.declared.plan_fault.PlanFault.TheVariants.{Cost, Late, Order, Over, Ceiling, Early}
-use Rattle.racp_check.specs.PlanFaults.{HasRightCost, IsFitting, IsFirstBroken, IsFirstOver, IsFirstAbove, IsFirstAboveCeiling, IsFirstEarly, IsChecked, fault_number}
-use Rattle.racp_check.specs.CheckLaws.{AnswerIsOne}
+use Rattle.racp_check.specs.PlanFaults.{HasRightCost, IsFitting, IsFirstBroken, IsFirstOver, IsFirstAbove, IsFirstEarly, IsChecked, fault_number}
 
 -- of two numbers, one is less or they are equal; where neither can be less, they are equal
 pub neither_less : (a b : ℕ) → (a < b → ⊥) → (b < a → ⊥) → a ≡ b

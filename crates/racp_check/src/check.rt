@@ -159,3 +159,6 @@ fn first_early(net: &Network, order: &Order, starts: &[u32]) -> Option<u32>
     }
     None
 }
+
+#[cfg(test)]
+mod tests;

@@ -12,6 +12,3 @@ mod plan_fault;
 pub use check::check_plan;
 pub use plan::Plan;
 pub use plan_fault::PlanFault;
-
-#[cfg(test)]
-mod tests;
