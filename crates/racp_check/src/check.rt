@@ -1,5 +1,4 @@
 ghost use Rattle.std.specs.Prelude.{◌≡◌, ◌<◌, ◌≤◌, ◌↔◌, length, IsTrue, MatchOption};
-ghost use Rattle.racp_model.specs.Schedule.{usage};
 ghost use Rattle.racp_model.specs.Terms.{AreTermsOf, release_of, due_of, cost};
 ghost use Rattle.racp_check.specs.PlanFaults.{IsChecked};
 ghost use Rattle.racp_check.specs.PlanTests.{IsLateAnswer, IsBrokenAnswer, IsOverAtAnswer, IsOverAnswer, IsAboveAnswer, IsEarlyAnswer};
