@@ -1,0 +1,5 @@
+pub mod Texts
+pub mod Faults
+pub mod Reading
+pub mod Steps
+pub mod Laws

@@ -1,0 +1,1 @@
+-- What the steps of reading answer: private words.

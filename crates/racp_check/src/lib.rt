@@ -1,0 +1,11 @@
+//! Texts of plans: how a plan is written, and how it is read for a network.
+#![tactic(auto)]
+
+mod fault;
+pub mod lines;
+mod plan;
+mod write;
+
+pub use fault::{TextFault, TextFaultKind};
+pub use plan::Plan;
+pub use write::write_plan;
