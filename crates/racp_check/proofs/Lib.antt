@@ -1,1 +1,4 @@
 mod TextLines
+mod Fronts
+mod Digits
+mod Repeats

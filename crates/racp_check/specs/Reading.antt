@@ -1,6 +1,6 @@
 -- What a text is read as, for a network: a plan, or the first line that is wrong.
-use Rattle.std.specs.Prelude.{◌≡◌, ◌⊎◌, ℕ, zero, suc, ◌+◌, ◌==◌, ◌&&◌, not, Bool, List, [], ◌∷◌, ◌++◌, length, drop, slice_index, Result, Ok, Err, nat_eq, nat_le, nat_lt, if◌then◌else◌, codes}
-use Rattle.std.specs.List.{before_first, after_first, list_any, list_all, starts_with}
+use Rattle.std.specs.Prelude.{◌≡◌, ◌⊎◌, ℕ, zero, suc, ◌+◌, ◌==◌, ◌&&◌, not, Bool, List, [], ◌∷◌, ◌++◌, length, take, drop, slice_index, Option, Some, None, Result, Ok, Err, bytes_eq, nat_le, nat_lt, if◌then◌else◌, codes}
+use Rattle.std.specs.List.{before_first, after_first, list_any, list_all}
 use Rattle.std.specs.Char.{is_ascii_digit}
 use Rattle.std.specs.Str.Parse.{digits_value}
 use Rattle.std.specs.Fmt.{decimal}
@@ -41,22 +41,23 @@ is_decimal digits = not (length digits == 0) && list_all is_ascii_digit digits &
 abbrev pub value : List ℕ → ℕ
 value digits = digits_value 10 digits
 
--- whether a line is these words and a number
-abbrev pub has_form : List ℕ → List ℕ → Bool
-has_form words line = starts_with nat_eq line words && is_decimal (drop (length words) line)
+-- what stands after these words, or none where the line begins with others
+unfoldable pub after_words : List ℕ → List ℕ → Option (List ℕ)
+after_words words line = if bytes_eq (take (length words) line) words then Some (drop (length words) line) else None
 
--- the number of a line that is these words and a number up to this one; n is the number of the line
-abbrev pub number_on : ℕ → List ℕ → ℕ → List ℕ → Result ℕ TextFault
-number_on n words most line =
-    if has_form words line
-    then (if nat_le (value (drop (length words) line)) most then Ok (value (drop (length words) line)) else refused Range n)
+-- the number of a line of which this stands after its words, where it is at most so great; n is the number of the line
+abbrev pub number_on : ℕ → ℕ → Option (List ℕ) → Result ℕ TextFault
+number_on n most None = refused Syntax n
+number_on n most (Some digits) =
+    if is_decimal digits
+    then (if nat_le (value digits) most then Ok (value digits) else refused Range n)
     else refused Syntax n
 
 -- the number on the next line, which is these words and a number up to this one, and what is left after it
 unfoldable pub next_number : List ℕ → ℕ → Rest → Result (ℕ × Rest) TextFault
 next_number words most rest = do
   line ← next_line rest
-  number ← number_on rest.line words most line.0
+  number ← number_on rest.line most (after_words words line.0)
   Ok (number, line.1)
 
 -- the words of a line of a resource or a job: its own, and its number
@@ -71,15 +72,15 @@ next_numbers word number (suc count) rest = do
   others ← next_numbers word (number + 1) count first.1
   Ok (first.0 ∷ others.0, others.1)
 
--- the last line is `end`, and nothing is left after it
-abbrev pub nothing_left : Rest → Result Rest TextFault
-nothing_left rest = if length rest.bytes == 0 then Ok rest else refused Syntax rest.line
+-- nothing is left
+abbrev pub nothing_left : Rest → Result (Unit {0}) TextFault
+nothing_left rest = if length rest.bytes == 0 then Ok tt else refused Syntax rest.line
 
-unfoldable pub last_line : Rest → Result Rest TextFault
+-- the last line is `end`, and nothing is left after it
+unfoldable pub last_line : Rest → Result (Unit {0}) TextFault
 last_line rest = do
   line ← next_line rest
-  end ← if starts_with nat_eq line.0 (codes "end") && (length line.0 == 3) then Ok line.1 else refused Syntax rest.line
-  nothing_left end
+  if bytes_eq line.0 (codes "end") then nothing_left line.1 else refused Syntax rest.line
 
 -- the lines of a plan of so many resources and jobs, in order
 unfoldable pub reading : ℕ → ℕ → List ℕ → Result Plan TextFault

@@ -3,9 +3,13 @@
 
 mod fault;
 pub mod lines;
+mod number;
 mod plan;
+mod read;
+mod rest;
 mod write;
 
 pub use fault::{TextFault, TextFaultKind};
 pub use plan::Plan;
+pub use read::read_plan;
 pub use write::write_plan;

@@ -14,8 +14,7 @@ pub(crate) fn head_lines(
 ) -> Result<Vec<u8>, AllocError>
     ensures { IfOk result (λ text. text.items ≡ deadline_line deadline ++ critical_line critical ++ cost_line cost) }
 {
-    let text =
-        format!(in alloc; "deadline {deadline}\ncritical {critical}\ncost {cost}\n")?;
+    let text = format!(in alloc; "deadline {deadline}\ncritical {critical}\ncost {cost}\n")?;
     Ok(text.into_bytes())
 }
 
