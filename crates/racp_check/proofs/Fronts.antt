@@ -30,6 +30,12 @@ pub none_passes : (test : ℕ → Bool) (xs : List ℕ) → position_or_len test
 none_passes test [] e = refl
 none_passes test (x ∷ xs) e = grind (arith, e, none_passes test xs)
 
+-- where an element passes, there is a first place
+pub some_place : (test : ℕ → Bool) (xs : List ℕ) → list_any test xs ≡ true → position_or_len test xs < length xs
+some_place test xs e =
+    let other : position_or_len test xs ≡ length xs → ⊥ = λ same. true≢false (sym e ∙ none_passes test xs same) in
+    omega (arith, prefix_len-le-length (λ x. not (test x)) xs, other)
+
 -- what a cut says of its two parts
 abbrev pub AreParts : (ℕ → Bool) → List ℕ → List ℕ → List ℕ → Type 0
 AreParts test bytes front back = (position_or_len test bytes < length bytes) × (front ≡ before_first test bytes) × (back ≡ after_first test bytes)

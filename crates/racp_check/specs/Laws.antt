@@ -1,6 +1,6 @@
 -- Laws of the texts of plans. Each is the contract of a public function.
 use Rattle.std.specs.Prelude.{◌≡◌, ℕ, ◌^◌, ◌<◌, ◌≤◌, All, List, length, Result, Ok}
-use Rattle.racp_model.specs.Project.{Project}
+use Rattle.racp_model.specs.Project.{Project, IsWithinLimits}
 use Rattle.racp_check.specs.Texts.{plan_text}
 use Rattle.racp_check.specs.Reading.{IsPlanReading, most_number, most_cost}
 use Rattle.racp_check.specs.declared.fault.TextFault.{TextFault}
@@ -28,9 +28,10 @@ pub record IsReadable (network : Project) (plan : Plan) : Type 0 where
 abbrev pub OneTextOnePlan : Type 0
 OneTextOnePlan = (a b : Plan) → IsWithin64Bits a → IsWithin64Bits b → plan_text a ≡ plan_text b → a ≡ b
 
--- a written plan is read again
+-- a written plan is read again as itself, for each network within the limits
 abbrev pub WrittenIsRead : Type 0
-WrittenIsRead = (network : Project) (plan : Plan) → IsReadable network plan → IsPlanReading network (plan_text plan) (Ok plan)
+WrittenIsRead =
+    (network : Project) (plan : Plan) → IsWithinLimits network.resources network.jobs → IsReadable network plan → IsPlanReading network (plan_text plan) (Ok plan)
 
 -- where a text is read as a plan, it is the plan's text, and the plan is one for the network with numbers that may stand there
 abbrev pub ReadIsWritten : Type 0

@@ -2,6 +2,7 @@
 #![tactic(auto)]
 
 mod fault;
+pub mod laws;
 pub mod lines;
 mod number;
 mod plan;
