@@ -13,7 +13,7 @@ use Rattle.std.proofs.lemmas.Str.{digit_value_digit}
 use Rattle.std.proofs.lemmas.Str.Parse.{IsDigitsTest, IsNumeralModel, numerals_by_value, digit_from_value}
 use Rattle.std.proofs.lemmas.Int.Digits.{digits_value_more}
 use Rattle.std.proofs.lemmas.List.Folds.{list_all_at}
-use Rattle.racp_check.specs.Reading.{is_decimal, value, after_words}
+use Rattle.racp_check.specs.PlanReading.{is_decimal, value, after_words}
 use Rattle.racp_check.proofs.Fronts.{AreParts, parts_of, whole_of, words_before, words_cases}
 
 -- a byte of a number is a digit

@@ -9,10 +9,10 @@ use Rattle.std.proofs.lemmas.List.Sums.{prefix_len-le-length, split_at_first, pr
 use Rattle.std.proofs.lemmas.Slice.Eq.{bytes_eq-Decides}
 use denote.Ref.{Bor}
 use Rattle.std.specs.Fmt.{decimal}
-use Rattle.racp_check.specs.Reading.{Rest, is_line_feed, next_line, after_words, words_for}
+use Rattle.racp_check.specs.PlanReading.{Rest, is_line_feed, next_line, after_words, words_for}
 use Rattle.racp_check.specs.Steps.{contents}
-use Rattle.racp_check.specs.Faults.{refused}
-use Rattle.racp_check.specs.declared.fault.TextFaultKind.TheVariants.{Syntax}
+use Rattle.racp_check.specs.TextFaults.{refused}
+use Rattle.racp_check.specs.declared.text_fault.TextFaultKind.TheVariants.{Syntax}
 
 -- where no place is found, no element passes
 pub not_found : {X : Type 0} (test : X → Bool) (xs : List X) → position test xs ≡ None → position_or_len test xs ≡ length xs

@@ -3,7 +3,7 @@ use Rattle.std.proofs.Common.{◌≡◌, refl, sym, ◌∙◌, ap, ℕ, ◌+◌,
 use Rattle.std.specs.Fmt.{decimal}
 use Rattle.racp_check.specs.declared.plan.Plan.{Plan}
 use Rattle.racp_check.specs.Texts.{line, deadline_line, critical_line, cost_line, capacity_line, capacity_lines, start_line, start_lines, plan_text}
-use Rattle.racp_check.specs.Reading.{words_for}
+use Rattle.racp_check.specs.PlanReading.{words_for}
 
 -- a line of words and a number
 abbrev pub number_line : List ℕ → ℕ → List ℕ

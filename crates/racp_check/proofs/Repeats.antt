@@ -1,10 +1,10 @@
 -- Lines of resources or jobs, read one after another: what was read, and what is left to read.
 use Rattle.std.proofs.Common.{◌≡◌, refl, sym, ◌∙◌, ap, ℕ, suc, ◌+◌, ◌-◌, ◌<◌, ◌≤◌, List, [], ◌∷◌, ◌++◌, arith, Ok, Err, append_assoc, append-nil}
 use Rattle.std.specs.Prelude.{Option, Some, None, Result}
-use Rattle.racp_check.specs.Reading.{Rest, most_number, next_number, next_numbers, words_for}
+use Rattle.racp_check.specs.PlanReading.{Rest, most_number, next_number, next_numbers, words_for}
 use Rattle.racp_check.specs.Steps.{HasItems}
-use Rattle.racp_check.specs.Faults.{◌>>=◌}
-use Rattle.racp_check.specs.declared.fault.TextFault.{TextFault}
+use Rattle.racp_check.specs.TextFaults.{◌>>=◌}
+use Rattle.racp_check.specs.declared.text_fault.TextFault.{TextFault}
 
 -- numbers, and what is left after their lines
 abbrev pub Read : Type 0

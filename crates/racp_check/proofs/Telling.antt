@@ -6,8 +6,8 @@ use Rattle.std.proofs.lemmas.List.{append_cancel_left}
 use Rattle.std.proofs.lemmas.List.Elements.{All-head, All-tail}
 use Rattle.racp_check.specs.declared.plan.Plan.{Plan}
 use Rattle.racp_check.specs.Texts.{line, plan_text}
-use Rattle.racp_check.specs.Reading.{words_for}
-use Rattle.racp_check.specs.Laws.{IsWithin64Bits}
+use Rattle.racp_check.specs.PlanReading.{words_for}
+use Rattle.racp_check.specs.TextLaws.{IsWithin64Bits}
 use Rattle.racp_check.proofs.Numbers.{same_number}
 use Rattle.racp_check.proofs.Numbered.{number_line, number_lines, start_word, capacity_word, from_starts, from_capacities, from_cost, from_critical, plan_text_is}
 

@@ -8,12 +8,12 @@ use Rattle.std.proofs.lemmas.List.Elements.{All-head, All-tail, All-nil, All-con
 use Rattle.std.proofs.lemmas.List.Folds.{list_any-append}
 use Rattle.std.proofs.lemmas.Slice.Eq.{bytes_eq-Decides}
 use Rattle.racp_model.specs.Project.{Project, IsWithinLimits}
-use Rattle.racp_check.specs.declared.fault.TextFault.{TextFault}
+use Rattle.racp_check.specs.declared.text_fault.TextFault.{TextFault}
 use Rattle.racp_check.specs.declared.plan.Plan.{Plan}
 use Rattle.racp_check.specs.Texts.{line, plan_text}
-use Rattle.racp_check.specs.Faults.{◌>>=◌}
-use Rattle.racp_check.specs.Reading.{Rest, IsPlanReading, is_line_feed, is_decimal, value, next_line, after_words, number_on, next_number, words_for, next_numbers, nothing_left, last_line, reading, most_number, most_cost}
-use Rattle.racp_check.specs.Laws.{IsReadable}
+use Rattle.racp_check.specs.TextFaults.{◌>>=◌}
+use Rattle.racp_check.specs.PlanReading.{Rest, IsPlanReading, is_line_feed, is_decimal, value, next_line, after_words, number_on, next_number, words_for, next_numbers, nothing_left, last_line, reading, most_number, most_cost}
+use Rattle.racp_check.specs.TextLaws.{IsReadable}
 use Rattle.racp_check.proofs.Fronts.{AreParts, parts_of, whole_of, words_before, words_from, line_cut, some_place}
 use Rattle.racp_check.proofs.Digits.{decimal-is, value-decimal, decimal-value, not_in_decimal}
 use Rattle.racp_check.proofs.Numbered.{number_line, number_lines, start_word, capacity_word, from_starts, from_capacities, from_cost, from_critical, plan_text_is}

@@ -1,5 +1,5 @@
 pub mod Texts
-pub mod Faults
-pub mod Reading
+pub mod TextFaults
+pub mod PlanReading
 pub mod Steps
-pub mod Laws
+pub mod TextLaws

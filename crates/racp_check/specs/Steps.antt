@@ -2,8 +2,8 @@
 use Rattle.std.specs.Prelude.{◌≡◌, ℕ, ◌+◌, ◌<◌, ◌++◌, Bool, true, false, List, [], ◌∷◌, length, min, Option, Some, None, Result, Ok, Err}
 use Rattle.std.specs.List.{before_first, after_first, position_or_len}
 use denote.Ref.{Bor}
-use Rattle.racp_check.specs.Reading.{Rest, is_line_feed, is_decimal, value}
-use Rattle.racp_check.specs.declared.fault.TextFault.{TextFault}
+use Rattle.racp_check.specs.PlanReading.{Rest, is_line_feed, is_decimal, value}
+use Rattle.racp_check.specs.declared.text_fault.TextFault.{TextFault}
 
 -- what stands before the first byte that passes the test, and what after it, or none where no byte does
 abbrev pub IsCut : (ℕ → Bool) → List ℕ → Option (Bor (List ℕ) × Bor (List ℕ)) → Type 0

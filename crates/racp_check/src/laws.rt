@@ -1,6 +1,6 @@
 //! Laws of the texts of plans. Each function does nothing; its contract is the law.
 
-ghost use Rattle.racp_check.specs.Laws.{OneReading, OneTextOnePlan, ReadIsWritten, WrittenIsRead};
+ghost use Rattle.racp_check.specs.TextLaws.{OneReading, OneTextOnePlan, ReadIsWritten, WrittenIsRead};
 
 /// No two plans share a text.
 pub fn one_text_one_plan()

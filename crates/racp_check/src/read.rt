@@ -1,6 +1,6 @@
-ghost use Rattle.racp_check.specs.Reading.{IsPlanReadingOrMemory};
+ghost use Rattle.racp_check.specs.PlanReading.{IsPlanReadingOrMemory};
 
-use crate::fault::{TextFault, TextFaultKind};
+use crate::text_fault::{TextFault, TextFaultKind};
 use crate::plan::Plan;
 use crate::rest::{MOST_NUMBER, Rest};
 use racp_model::{Capacities, Network, Starts};
@@ -17,7 +17,7 @@ const MOST_COST: u64 = 1_000_000_000_000_000;
 ///
 /// The first line that is wrong: `Syntax`, where it is missing or not of its form, or something stands after the line `end`;
 /// `Range`, where its number is too great. `Memory`, at line 0, where no line is wrong and memory was refused.
-#[tactic(auto, unfolding(crate::specs::Reading::reading))]
+#[tactic(auto, unfolding(crate::specs::PlanReading::reading))]
 pub fn read_plan(alloc: Global, bytes: &[u8], net: &Network) -> Result<Plan, TextFault>
     ensures { IsPlanReadingOrMemory net.now bytes.now result }
 {

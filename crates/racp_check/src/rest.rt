@@ -1,8 +1,8 @@
 ghost use Rattle.std.specs.Prelude.{◌≡◌, ◌<◌, ◌≤◌, ℕ, List, [], ◌∷◌, ◌++◌, IfOk};
-ghost use Rattle.racp_check.specs.Reading.{after_words, last_line, most_number, next_line, next_number, next_numbers, number_on, words_for};
+ghost use Rattle.racp_check.specs.PlanReading.{after_words, last_line, most_number, next_line, next_number, next_numbers, number_on, words_for};
 ghost use Rattle.racp_check.specs.Steps.{GivesNumbers, HasItems, contents, with_rest};
 
-use crate::fault::{TextFault, TextFaultKind};
+use crate::text_fault::{TextFault, TextFaultKind};
 use crate::number::{after_number, after_words, cut_at, number};
 use std::alloc::Global;
 use std::marker::Model;
@@ -10,7 +10,7 @@ use std::marker::Model;
 /// The greatest time, capacity or start that a text may say.
 pub(crate) const MOST_NUMBER: u64 = 10_000_000;
 
-/// What is left of a text, from a line on. Contracts see the `Rest` of specs/Reading.
+/// What is left of a text, from a line on. Contracts see the `Rest` of specs/PlanReading.
 #[derive(Debug, Drop)]
 pub(crate) struct Rest<'a> {
     line: usize,
@@ -19,7 +19,7 @@ pub(crate) struct Rest<'a> {
 
 impl<'a> Model for Rest<'a> {
     ghost use Rattle.std.specs.Prelude.{length, ◌+◌, ◌<◌, ◌^◌};
-    ghost use Rattle.racp_check.specs.Reading as reading;
+    ghost use Rattle.racp_check.specs.PlanReading as reading;
 
     ghost Value = { reading.Rest };
 
@@ -54,7 +54,7 @@ impl<'a> Rest<'a> {
     }
 
     /// Takes the next line off, which is to be these words and a number up to `most`.
-    #[tactic(auto, unfolding(crate::specs::Reading::next_number))]
+    #[tactic(auto, unfolding(crate::specs::PlanReading::next_number))]
     pub(crate) fn next_number(&mut self, words: &str, most: u64) -> Result<u64, TextFault>
         requires { most < 18446744073709551615 }
         ensures number { with_rest (λ x. x) result self.new ≡ next_number words.now most self.old }
@@ -67,7 +67,7 @@ impl<'a> Rest<'a> {
 
     /// Takes the next line off, which is to be that of a resource or a job: this word, the number, and a number up to
     /// `MOST_NUMBER`.
-    #[tactic(auto, unfolding(crate::specs::Reading::next_number))]
+    #[tactic(auto, unfolding(crate::specs::PlanReading::next_number))]
     fn next_number_for(&mut self, word: &str, number: u32) -> Result<u32, TextFault>
         ensures { with_rest (λ x. x) result self.new ≡ next_number (words_for word.now number) most_number self.old }
     {
@@ -97,7 +97,7 @@ impl<'a> Rest<'a> {
     }
 
     /// Takes the last line off, after which nothing is to be left.
-    #[tactic(auto, unfolding(crate::specs::Reading::last_line))]
+    #[tactic(auto, unfolding(crate::specs::PlanReading::last_line))]
     pub(crate) fn end(&mut self) -> Result<(), TextFault>
         ensures { result ≡ last_line self.old }
     {
@@ -125,7 +125,7 @@ fn with_number(numbers: Option<Vec<u32>>, number: u32) -> Option<Vec<u32>>
 }
 
 /// What stands after this word, this number and a blank, or `None` where the line begins otherwise.
-#[tactic(auto, unfolding(crate::specs::Reading::words_for))]
+#[tactic(auto, unfolding(crate::specs::PlanReading::words_for))]
 fn after_words_for<'a>(line: &'a [u8], word: &str, number: u32) -> Option<&'a [u8]>
     ensures { contents result ≡ after_words (words_for word.now number) line.now }
 {

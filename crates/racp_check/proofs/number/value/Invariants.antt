@@ -1,6 +1,6 @@
 use Rattle.std.proofs.Common.{◌≡◌, take}
 use Rattle.std.specs.Prelude.{min}
-use Rattle.racp_check.specs.Reading.{value}
+use Rattle.racp_check.specs.PlanReading.{value}
 use Rattle.racp_check.proofs.number.value.Given as goal
 
 abbrev pub invariant-loop-digit : goal.invariant-loop-digit

@@ -5,9 +5,9 @@ use Rattle.std.specs.Char.{is_ascii_digit}
 use Rattle.std.specs.Str.Parse.{digits_value}
 use Rattle.std.specs.Fmt.{decimal}
 use Rattle.racp_model.specs.Project.{Project}
-use Rattle.racp_check.specs.Faults.{refused, out_of_memory, ◌>>=◌}
-use Rattle.racp_check.specs.declared.fault.TextFault.{TextFault}
-use Rattle.racp_check.specs.declared.fault.TextFaultKind.TheVariants.{Syntax, Range}
+use Rattle.racp_check.specs.TextFaults.{refused, out_of_memory, ◌>>=◌}
+use Rattle.racp_check.specs.declared.text_fault.TextFault.{TextFault}
+use Rattle.racp_check.specs.declared.text_fault.TextFaultKind.TheVariants.{Syntax, Range}
 use Rattle.racp_check.specs.declared.plan.Plan.{Plan}
 
 -- the greatest time, capacity and start, and the greatest cost, that a text may say

@@ -2,8 +2,8 @@
 use Rattle.std.specs.Prelude.{◌≡◌, ℕ, ◌^◌, ◌<◌, ◌≤◌, All, List, length, Result, Ok}
 use Rattle.racp_model.specs.Project.{Project, IsWithinLimits}
 use Rattle.racp_check.specs.Texts.{plan_text}
-use Rattle.racp_check.specs.Reading.{IsPlanReading, most_number, most_cost}
-use Rattle.racp_check.specs.declared.fault.TextFault.{TextFault}
+use Rattle.racp_check.specs.PlanReading.{IsPlanReading, most_number, most_cost}
+use Rattle.racp_check.specs.declared.text_fault.TextFault.{TextFault}
 use Rattle.racp_check.specs.declared.plan.Plan.{Plan}
 
 -- the numbers of a plan fit 64 bits

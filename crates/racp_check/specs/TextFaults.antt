@@ -1,8 +1,8 @@
 -- The faults of a text: their numbers and names, and reading that stops at the first one.
 use Rattle.std.specs.Prelude.{ℕ, List, Result, Ok, Err, codes}
-use Rattle.racp_check.specs.declared.fault.TextFault.{TextFault}
-use Rattle.racp_check.specs.declared.fault.TextFaultKind.{TextFaultKind}
-use Rattle.racp_check.specs.declared.fault.TextFaultKind.TheVariants.{Syntax, Range, Memory}
+use Rattle.racp_check.specs.declared.text_fault.TextFault.{TextFault}
+use Rattle.racp_check.specs.declared.text_fault.TextFaultKind.{TextFaultKind}
+use Rattle.racp_check.specs.declared.text_fault.TextFaultKind.TheVariants.{Syntax, Range, Memory}
 
 abbrev pub fault_number : TextFaultKind → ℕ
 fault_number Syntax = 1

@@ -1,5 +1,5 @@
 ghost use Rattle.std.specs.Prelude.{◌≡◌};
-ghost use Rattle.racp_check.specs.Faults.{fault_at, fault_name, fault_number};
+ghost use Rattle.racp_check.specs.TextFaults.{fault_at, fault_name, fault_number};
 
 use thiserror::Error;
 
