@@ -71,11 +71,12 @@ numbers_next word place n (number ∷ numbers) more none fits within =
     let own : list_any is_line_feed (words_for word place) ≡ false = own_words word place (omega arith) none in
     let first = number_next (words_for word place) most_number n number (number_lines word (place + 1) numbers ++ more) own (All-head Within number numbers within) (omega (arith, All-head Within number numbers within)) in
     let others = numbers_next word (place + 1) (n + 1) numbers more none (omega (arith, fits)) (All-tail Within number numbers within) in
-    let whole = append_assoc (number_line (words_for word place) number) (number_lines word (place + 1) numbers) more in
-    (others.0,
-     ap (λ bytes. next_numbers word place (suc (length numbers)) (rest_at n bytes)) whole
-     ∙ bind_on _ (λ read. next_numbers word (place + 1) (length numbers) read.1 >>= (λ more. Ok (read.0 ∷ more.0, more.1))) (number, rest_at (n + 1) (number_lines word (place + 1) numbers ++ more)) _ first
-       (bind_on _ (λ read. Ok (number ∷ read.0, read.1)) (numbers, rest_at others.0 more) _ others.1 refl))
+    let whole = append_assoc (number_line (words_for word place) number) (number_lines word (place + 1) numbers) more in (
+      others.0,
+      ap (λ bytes. next_numbers word place (suc (length numbers)) (rest_at n bytes)) whole
+          ∙ bind_on _ (λ read. next_numbers word (place + 1) (length numbers) read.1 >>= (λ more. Ok (read.0 ∷ more.0, more.1))) (number, rest_at (n + 1) (number_lines word (place + 1) numbers ++ more)) _ first
+          (bind_on _ (λ read. Ok (number ∷ read.0, read.1)) (numbers, rest_at others.0 more) _ others.1 refl),
+    )
 
 -- the last line is read
 last_reads : (n : ℕ) → last_line (rest_at n (line (codes "end"))) ≡ Ok tt

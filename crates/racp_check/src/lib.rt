@@ -16,3 +16,6 @@ pub use plan::Plan;
 pub use read::read_plan;
 pub use text_fault::{TextFault, TextFaultKind};
 pub use write::write_plan;
+
+#[cfg(test)]
+mod text_tests;

@@ -1,8 +1,8 @@
 ghost use Rattle.racp_check.specs.PlanReading.{IsPlanReadingOrMemory};
 
-use crate::text_fault::{TextFault, TextFaultKind};
 use crate::plan::Plan;
 use crate::rest::{MOST_NUMBER, Rest};
+use crate::text_fault::{TextFault, TextFaultKind};
 use racp_model::{Capacities, Network, Starts};
 use std::alloc::Global;
 

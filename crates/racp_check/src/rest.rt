@@ -2,8 +2,8 @@ ghost use Rattle.std.specs.Prelude.{◌≡◌, ◌<◌, ◌≤◌, ℕ, List, []
 ghost use Rattle.racp_check.specs.PlanReading.{after_words, last_line, most_number, next_line, next_number, next_numbers, number_on, words_for};
 ghost use Rattle.racp_check.specs.Steps.{GivesNumbers, HasItems, contents, with_rest};
 
-use crate::text_fault::{TextFault, TextFaultKind};
 use crate::number::{after_number, after_words, cut_at, number};
+use crate::text_fault::{TextFault, TextFaultKind};
 use std::alloc::Global;
 use std::marker::Model;
 
