@@ -1,3 +1,11 @@
+mod TextLines
+mod Fronts
+mod Digits
+mod Repeats
+mod Numbered
+mod Numbers
+mod Written
+mod Telling
 mod Precedence
 mod Excess
 mod OneAnswer
