@@ -1,9 +1,9 @@
+pub mod lemmas
 mod TextLines
 mod Fronts
 mod Digits
 mod Repeats
 mod Numbered
-mod Numbers
 mod Written
 mod Telling
 mod Precedence

@@ -29,7 +29,7 @@ capacity_line_is : (resource capacity : ℕ) → capacity_line resource capacity
 unfolding line capacity_line words_for
 capacity_line_is resource capacity = refl
 
-start_lines_are : (job : ℕ) (starts : List ℕ) → start_lines job starts ≡ number_lines start_word job starts
+pub start_lines_are : (job : ℕ) (starts : List ℕ) → start_lines job starts ≡ number_lines start_word job starts
 start_lines_are job [] = refl
 start_lines_are job (start ∷ starts) = λ i. start_line_is job start i ++ start_lines_are (job + 1) starts i
 

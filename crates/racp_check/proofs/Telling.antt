@@ -8,7 +8,7 @@ use Rattle.racp_check.specs.declared.plan.Plan.{Plan}
 use Rattle.racp_check.specs.Texts.{line, plan_text}
 use Rattle.racp_check.specs.PlanReading.{words_for}
 use Rattle.racp_check.specs.TextLaws.{IsWithin64Bits}
-use Rattle.racp_check.proofs.Numbers.{same_number}
+use Rattle.racp_check.proofs.lemmas.Numbers.{same_number}
 use Rattle.racp_check.proofs.Numbered.{number_line, number_lines, start_word, capacity_word, from_starts, from_capacities, from_cost, from_critical, plan_text_is}
 
 -- a number of 64 bits
@@ -16,7 +16,7 @@ abbrev pub Fits64 : ℕ → Type 0
 Fits64 n = n < 2 ^ 64
 
 -- a line feed is no digit
-feed_is_no_digit : digit_value 10 < 10 → ⊥
+pub feed_is_no_digit : digit_value 10 < 10 → ⊥
 feed_is_no_digit h = omega arith
 
 -- a line of words and a number, and what follows it
@@ -36,7 +36,7 @@ unfolding line words_for
 lines_first letter word place number numbers rest = refl
 
 -- lines of resources or jobs, up to another letter, tell their numbers
-same_lines : (letter : ℕ) (word : List ℕ) (place : ℕ) (xs ys s t : List ℕ) → (get_or s 0 0 ≡ letter → ⊥) → (get_or t 0 0 ≡ letter → ⊥) → All Fits64 xs → All Fits64 ys →
+pub same_lines : (letter : ℕ) (word : List ℕ) (place : ℕ) (xs ys s t : List ℕ) → (get_or s 0 0 ≡ letter → ⊥) → (get_or t 0 0 ≡ letter → ⊥) → All Fits64 xs → All Fits64 ys →
     number_lines (letter ∷ word) place xs ++ s ≡ number_lines (letter ∷ word) place ys ++ t → (xs ≡ ys) × (s ≡ t)
 same_lines letter word place [] [] s t other_s other_t fits_x fits_y e = (refl, e)
 same_lines letter word place [] (y ∷ ys) s t other_s other_t fits_x fits_y e = absurd (other_s (ap (λ (text : List ℕ). get_or text 0 0) e ∙ lines_first letter word place y ys t))
@@ -50,7 +50,7 @@ same_lines letter word place (x ∷ xs) (y ∷ ys) s t other_s other_t fits_x fi
     (ap (λ (z : ℕ). z ∷ xs) first.0 ∙ ap (λ (zs : List ℕ). y ∷ zs) others.0, others.1)
 
 -- the last line, and the lines of starts, begin with other letters than the lines of capacities
-last_line_first : get_or (line (codes "end")) 0 0 ≡ 101
+pub last_line_first : get_or (line (codes "end")) 0 0 ≡ 101
 unfolding line
 last_line_first = refl
 

@@ -1,4 +1,6 @@
+ghost use Rattle.std.specs.Prelude.{IfOk};
 ghost use Rattle.racp_check.specs.PlanReading.{IsPlanReadingOrMemory};
+ghost use Rattle.racp_check.specs.TextLaws.{IsReadable};
 
 use crate::plan::Plan;
 use crate::rest::{MOST_NUMBER, Rest};
@@ -19,7 +21,8 @@ const MOST_COST: u64 = 1_000_000_000_000_000;
 /// `Range`, where its number is too great. `Memory`, at line 0, where no line is wrong and memory was refused.
 #[tactic(auto, unfolding(crate::specs::PlanReading::reading))]
 pub fn read_plan(alloc: Global, bytes: &[u8], net: &Network) -> Result<Plan, TextFault>
-    ensures { IsPlanReadingOrMemory net.now bytes.now result }
+    ensures read { IsPlanReadingOrMemory net.now bytes.now result }
+    ensures plan { IfOk result (IsReadable net.now) }
 {
     let mut rest = Rest::new(bytes);
     let deadline = rest.next_number("deadline ", MOST_NUMBER)? as u32;

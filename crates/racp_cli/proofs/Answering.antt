@@ -7,10 +7,9 @@ use Rattle.racp_model.proofs.lemmas.Zeros.{zeros}
 use Rattle.racp_sm.specs.Reading.{IsReading, IsReadingOrMemory}
 use Rattle.racp_sm.specs.declared.fault.SmFault.{SmFault}
 use Rattle.racp_sm.specs.declared.fault.SmFaultKind.TheVariants.{Memory}
-use Rattle.racp_cli.specs.Texts.{line, early_text, refusal_line, memory_line}
+use Rattle.racp_check.specs.Texts.{line}
+use Rattle.racp_cli.specs.Texts.{early_text, refusal_line, memory_line}
 use Rattle.racp_cli.specs.Answers.{Early, Refused, OutOfMemory, IsEarlyAnswer, IsCpmAnswer}
-use Rattle.racp_cli.specs.Streams.{IsWritten, IsAnswered}
-use Rattle.racp_cli.specs.declared.fault.StreamFault.{StreamFault}
 
 -- a row of zeros releases each job at 0
 pub released_at_zero : (n : ℕ) → slice_index (replicate n 0) ≡ (λ _. 0)
@@ -36,10 +35,5 @@ answers_refusal input fault text reading other e = elim reading [
 ]
 
 -- the answer where memory ran out
-pub answers_memory : (input : List ℕ) → IsCpmAnswer input 6 (codes "memory\n")
-unfolding line memory_line
+pub answers_memory : (input : List ℕ) → IsCpmAnswer input 6 memory_line
 answers_memory input = record { answer = OutOfMemory; right = tt; with_status = refl; with_text = refl }
-
--- a beginning of an answer is written
-pub answers_beginning : (old new : Option (List ℕ)) (input : List ℕ) (status : ℕ) (text : List ℕ) (fault : StreamFault) → IsCpmAnswer input status text → IsWritten old new text (Err fault) → IsAnswered old new input (Err fault)
-answers_beginning old new input status text fault answer w = (w.0, status, text, answer, w.1)

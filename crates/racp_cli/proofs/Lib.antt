@@ -2,5 +2,5 @@ mod Writing
 mod Inputs
 mod TextLines
 mod Answering
-mod Numbers
+mod Responding
 mod Telling

@@ -8,8 +8,10 @@ use Rattle.racp_sm.specs.Faults.{fault_number, fault_name, fault_at}
 use Rattle.racp_sm.specs.declared.fault.SmFault.{SmFault}
 use Rattle.racp_sm.specs.declared.fault.SmFaultKind.{SmFaultKind}
 use Rattle.racp_sm.specs.declared.fault.SmFaultKind.TheVariants.{NoJobs, NoRenewable, ManyProjects, OtherResources, NoPrecedence, NoRequests, BadNumber, Limit, BadRow, NotSingleMode, BadSuccessor, TooFew, TooMany, Cycle, Memory}
-use Rattle.racp_cli.proofs.Numbers.{same_number}
-use Rattle.racp_cli.specs.Texts.{line, critical_line, start_line, start_lines, early_text, refusal_line, memory_line}
+use Rattle.racp_check.specs.Texts.{line, critical_line, start_lines}
+use Rattle.racp_check.proofs.lemmas.Numbers.{same_number}
+use Rattle.racp_check.proofs.lemmas.StartLines.{same_starts}
+use Rattle.racp_cli.specs.Texts.{early_text, refusal_line, memory_line}
 use Rattle.racp_cli.specs.Answers.{Answer, Early, Refused, OutOfMemory, text_of}
 use Rattle.racp_cli.specs.Laws.{IsWithin64Bits}
 
@@ -24,38 +26,6 @@ blank_is_no_digit h = omega arith
 -- texts that begin with different letters are different
 apart : (s t : List ℕ) (m n : ℕ) → get_or s 0 0 ≡ m → get_or t 0 0 ≡ n → (m ≡ n → ⊥) → s ≡ t → ⊥
 apart s t m n of_s of_t other e = other (sym of_s ∙ ap (λ (text : List ℕ). get_or text 0 0) e ∙ of_t)
-
--- the lines of starts and what follows them, from the first start on
-start_lines_then : (job start : ℕ) (starts rest : List ℕ) → start_lines job (start ∷ starts) ++ rest ≡ codes "start " ++ (decimal job ++ (codes " " ++ (decimal start ++ 10 ∷ (start_lines (job + 1) starts ++ rest))))
-unfolding line start_line
-start_lines_then job start starts rest = simp append_assoc
-
--- lines of starts begin with an s, and the last line with an e
-start_lines_first : (job start : ℕ) (starts rest : List ℕ) → get_or (start_lines job (start ∷ starts) ++ rest) 0 0 ≡ 115
-unfolding line start_line
-start_lines_first job start starts rest = refl
-
-last_line_first : get_or (line (codes "end")) 0 0 ≡ 101
-unfolding line
-last_line_first = refl
-
--- a number of 64 bits
-abbrev pub Fits64 : ℕ → Type 0
-Fits64 n = n < 2 ^ 64
-
--- the lines of starts, before the last line of all, tell the starts
-pub same_starts : (job : ℕ) (xs ys : List ℕ) → All Fits64 xs → All Fits64 ys → start_lines job xs ++ line (codes "end") ≡ start_lines job ys ++ line (codes "end") → xs ≡ ys
-same_starts job [] [] fits_x fits_y e = refl
-same_starts job [] (y ∷ ys) fits_x fits_y e = absurd (apart _ _ 101 115 last_line_first (start_lines_first job y ys (line (codes "end"))) (omega arith) e)
-same_starts job (x ∷ xs) [] fits_x fits_y e = absurd (apart _ _ 115 101 (start_lines_first job x xs (line (codes "end"))) last_line_first (omega arith) e)
-same_starts job (x ∷ xs) (y ∷ ys) fits_x fits_y e =
-    let both = sym (start_lines_then job x xs (line (codes "end"))) ∙ e ∙ start_lines_then job y ys (line (codes "end")) in
-    let from_job = append_cancel_left (codes "start ") _ _ both in
-    let from_blank = append_cancel_left (decimal job) _ _ from_job in
-    let from_start = append_cancel_left (codes " ") _ _ from_blank in
-    let start = same_number x y _ _ 10 (All-head Fits64 x xs fits_x) (All-head Fits64 y ys fits_y) feed_is_no_digit from_start in
-    let rest = same_starts (job + 1) xs ys (All-tail Fits64 x xs fits_x) (All-tail Fits64 y ys fits_y) start.1 in
-    ap (λ (z : ℕ). z ∷ xs) start.0 ∙ ap (λ (zs : List ℕ). y ∷ zs) rest
 
 -- the kinds, in the order of their numbers
 kinds : List SmFaultKind
@@ -128,7 +98,7 @@ pub same_early : (c d : ℕ) (xs ys : List ℕ) → IsWithin64Bits (Early c xs) 
 same_early c d xs ys p q e =
     let whole = append_cancel_left (codes "critical ") _ _ (sym (early_text_is c xs) ∙ e ∙ early_text_is d ys) in
     let critical = same_number c d _ _ 10 p.0 q.0 feed_is_no_digit whole in
-    let starts = same_starts 1 xs ys p.1 q.1 critical.1 in
+    let starts = same_starts xs ys p.1 q.1 critical.1 in
     ap (λ (n : ℕ). Early n xs) critical.0 ∙ ap (λ (zs : List ℕ). Early d zs) starts
 
 -- the letters with which the texts begin

@@ -1,15 +1,16 @@
--- Lines in the pieces in which they are written, and the lines of starts one after the other.
-use Rattle.std.proofs.Common.{◌≡◌, ℕ, ◌+◌, ◌<◌, List, ◌∷◌, ◌++◌, length, drop, get_or, sym, ap, ◌∙◌, append_assoc, add-one, drop-cons, codes}
+-- Lines in the pieces in which they are written.
+use Rattle.std.proofs.Common.{◌≡◌, ℕ, List, ◌++◌, append_assoc, codes}
 use Rattle.std.specs.Fmt.{decimal}
 use Rattle.racp_sm.specs.Faults.{fault_number, fault_name}
 use Rattle.racp_sm.specs.declared.fault.SmFault.{SmFault}
-use Rattle.racp_cli.specs.Texts.{line, critical_line, start_line, start_lines, early_text, refusal_line}
+use Rattle.racp_prices.specs.Faults.{fault_number as order_fault_number, fault_name as order_fault_name}
+use Rattle.racp_prices.specs.declared.fault.OrderFault.{OrderFault}
+use Rattle.racp_check.specs.Texts.{line, critical_line, start_lines}
+use Rattle.racp_check.specs.TextFaults.{fault_number as text_fault_number, fault_name as text_fault_name}
+use Rattle.racp_check.specs.declared.text_fault.TextFault.{TextFault}
+use Rattle.racp_cli.specs.Texts.{early_text, refusal_line, order_refusal_line, plan_refusal_line}
 
--- the pieces of a start's line, of a refusal and of the whole text, as they are written
-pub start_line_pieces : (job start : ℕ) → codes "start " ++ (decimal job ++ (codes " " ++ (decimal start ++ codes "\n"))) ≡ start_line job start
-unfolding line start_line
-start_line_pieces job start = simp append_assoc
-
+-- the pieces of a refusal, and those of the text of early starts
 pub refusal_line_pieces : (fault : SmFault) → codes "refused sm " ++ (decimal (fault_number fault.kind) ++ (codes " " ++ (fault_name fault.kind ++ (codes " line " ++ (decimal fault.line ++ codes "\n"))))) ≡ refusal_line fault
 unfolding line refusal_line
 refusal_line_pieces fault = simp append_assoc
@@ -18,14 +19,20 @@ pub early_text_pieces : (critical : ℕ) (starts : List ℕ) → ((codes "critic
 unfolding line critical_line early_text
 early_text_pieces critical starts = simp append_assoc
 
--- the line of the next start is written
-pub start_lines_on : (starts old text new : List ℕ) (place : ℕ) → place < length starts → old ++ start_lines (place + 1) (drop place starts) ≡ text → new ≡ old ++ start_line (place + 1) (get_or starts place 0)
-    → new ++ start_lines ((place + 1) + 1) (drop (place + 1) starts) ≡ text
-start_lines_on starts old text new place within so_far grown =
-    let next = get_or starts place 0 in
-    let rest : List ℕ = drop (place + 1) starts in
-    let split : drop place starts ≡ next ∷ rest = rw (add-one) (drop-cons starts place 0 within) in
-    ap (λ (t : List ℕ). t ++ start_lines ((place + 1) + 1) rest) grown
-    ∙ append_assoc old (start_line (place + 1) next) (start_lines ((place + 1) + 1) rest)
-    ∙ sym (ap (λ (t : List ℕ). old ++ start_lines (place + 1) t) split)
-    ∙ so_far
+pub order_refusal_line_pieces : (fault : OrderFault) → codes "refused order " ++ (decimal (order_fault_number fault) ++ (codes " " ++ (order_fault_name fault ++ codes "\n"))) ≡ order_refusal_line fault
+unfolding line order_refusal_line
+order_refusal_line_pieces fault = simp append_assoc
+
+pub plan_refusal_line_pieces : (fault : TextFault) → codes "refused plan " ++ (decimal (text_fault_number fault.kind) ++ (codes " " ++ (text_fault_name fault.kind ++ (codes " line " ++ (decimal fault.line ++ codes "\n"))))) ≡ plan_refusal_line fault
+unfolding line plan_refusal_line
+plan_refusal_line_pieces fault = simp append_assoc
+
+-- some words and a number, and some words and two numbers
+pub numbered_line_pieces : (words : List ℕ) (number : ℕ) → words ++ (codes " " ++ (decimal number ++ codes "\n")) ≡ line (words ++ codes " " ++ decimal number)
+unfolding line
+numbered_line_pieces words number = simp append_assoc
+
+pub doubly_numbered_line_pieces : (words : List ℕ) (first second : ℕ) →
+    words ++ (codes " " ++ (decimal first ++ (codes " " ++ (decimal second ++ codes "\n")))) ≡ line (words ++ codes " " ++ decimal first ++ codes " " ++ decimal second)
+unfolding line
+doubly_numbered_line_pieces words first second = simp append_assoc

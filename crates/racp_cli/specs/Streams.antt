@@ -1,8 +1,9 @@
 -- What is read of a reader and what is written to a writer, in what they say of their bytes before and after. One that says
 -- nothing (`None`) is not spoken of.
-use Rattle.std.specs.Prelude.{◌≡◌, ℕ, ◌+◌, ◌<◌, ◌≤◌, List, ◌++◌, length, All, Option, Result, Ok, Err, codes}
+use Rattle.std.specs.Prelude.{◌≡◌, ◌⊎◌, ℕ, ◌+◌, ◌<◌, ◌≤◌, List, [], ◌∷◌, ◌++◌, length, All, Option, Result, Ok, Err, codes}
 use Rattle.std.specs.Io.KnownBytes.{Consumes, Appends, Keeps, IsAtEnd}
 use Rattle.racp_cli.specs.Answers.{IsCpmAnswer}
+use Rattle.racp_cli.specs.Checks.{IsCheckAnswer}
 use Rattle.racp_cli.specs.declared.fault.StreamFault.{StreamFault}
 use Rattle.racp_cli.specs.declared.fault.StreamFault.TheVariants.{Read, Write, TooLong, Memory}
 
@@ -41,17 +42,60 @@ abbrev pub IsWritten : Option (List ℕ) → Option (List ℕ) → List ℕ → 
 IsWritten old new text (Ok done) = Appends old new text
 IsWritten old new text (Err fault) = (fault ≡ Write) × WritesBeginning old new text
 
--- what was written in answer to an input: the whole text of an answer, with its status, or a beginning of such a text
-abbrev pub IsAnswered : Option (List ℕ) → Option (List ℕ) → List ℕ → Result ℕ StreamFault → Type 0
-IsAnswered old new input (Ok status) = (text : List ℕ) × IsCpmAnswer input status text × Appends old new text
-IsAnswered old new input (Err fault) = (fault ≡ Write) × (status : ℕ) × (text : List ℕ) × IsCpmAnswer input status text × WritesBeginning old new text
+-- what was written as an answer: its whole text, with its status, or a beginning of it where the writer failed
+abbrev pub IsAnswered : (ℕ → List ℕ → Type 0) → Option (List ℕ) → Option (List ℕ) → Result ℕ StreamFault → Type 0
+IsAnswered Answer old new (Ok status) = (text : List ℕ) × Answer status text × Appends old new text
+IsAnswered Answer old new (Err fault) = (fault ≡ Write) × (status : ℕ) × (text : List ℕ) × Answer status text × WritesBeginning old new text
 
--- a run of `cpm`, from the bytes of the reader to those of the writer: all of the reader is read and an answer to it is
--- written, or the writer fails; or reading fails, and nothing is written
-abbrev pub IsCpmRun : Option (List ℕ) → Option (List ℕ) → Option (List ℕ) → Option (List ℕ) → Result ℕ StreamFault → Type 0
-IsCpmRun unread left old new (Ok status) = (input : List ℕ) × IsInput unread left input × IsAnswered old new input (Ok status)
-IsCpmRun unread left old new (Err Write) = (input : List ℕ) × IsInput unread left input × IsAnswered old new input (Err Write)
-IsCpmRun unread left old new (Err fault) = IsReadUntil unread left fault × Keeps old new
+-- what a reader has before and after a run
+pub record Reader : Type 0 where
+  pub unread : Option (List ℕ)
+  pub left : Option (List ℕ)
+
+-- these inputs are all that the readers had
+abbrev pub AreInputs : List Reader → List (List ℕ) → Type 0
+AreInputs [] [] = Unit {0}
+AreInputs [] (input ∷ inputs) = ⊥
+AreInputs (reader ∷ readers) [] = ⊥
+AreInputs (reader ∷ readers) (input ∷ inputs) = IsInput reader.unread reader.left input × AreInputs readers inputs
+
+-- nothing was read of these readers
+abbrev pub AreUntouched : List Reader → Type 0
+AreUntouched [] = Unit {0}
+AreUntouched (reader ∷ readers) = (reader.left ≡ reader.unread) × AreUntouched readers
+
+-- one of the readers failed with this fault: those before it were read whole, and nothing of those after it was read
+abbrev pub IsStopped : List Reader → StreamFault → Type 0
+IsStopped [] fault = ⊥
+IsStopped (reader ∷ readers) fault =
+    (IsReadUntil reader.unread reader.left fault × AreUntouched readers) ⊎
+    ((input : List ℕ) × IsInput reader.unread reader.left input × IsStopped readers fault)
+
+-- a run, from the bytes of the readers to those of the writer: all of each reader is read, one after another, and an answer to
+-- these inputs is written, or the writer fails; or reading fails, and nothing is written
+abbrev pub IsRun : (List (List ℕ) → ℕ → List ℕ → Type 0) → List Reader → Option (List ℕ) → Option (List ℕ) → Result ℕ StreamFault → Type 0
+IsRun Answer readers old new (Ok status) = (inputs : List (List ℕ)) × AreInputs readers inputs × IsAnswered (Answer inputs) old new (Ok status)
+IsRun Answer readers old new (Err Write) = (inputs : List (List ℕ)) × AreInputs readers inputs × IsAnswered (Answer inputs) old new (Err Write)
+IsRun Answer readers old new (Err fault) = IsStopped readers fault × Keeps old new
+
+-- the answers to one input
+abbrev pub ToOne : (List ℕ → ℕ → List ℕ → Type 0) → List (List ℕ) → ℕ → List ℕ → Type 0
+ToOne Answer [] status text = ⊥
+ToOne Answer (input ∷ []) status text = Answer input status text
+ToOne Answer (input ∷ (other ∷ inputs)) status text = ⊥
+
+-- the answers to three inputs
+abbrev pub ToThree : (List ℕ → List ℕ → List ℕ → ℕ → List ℕ → Type 0) → List (List ℕ) → ℕ → List ℕ → Type 0
+ToThree Answer (first ∷ (second ∷ (third ∷ []))) status text = Answer first second third status text
+ToThree Answer _ status text = ⊥
+
+-- a run of `cpm`
+abbrev pub IsCpmRun : Reader → Option (List ℕ) → Option (List ℕ) → Result ℕ StreamFault → Type 0
+IsCpmRun net = IsRun (ToOne IsCpmAnswer) (net ∷ [])
+
+-- a run of `check`
+abbrev pub IsCheckRun : Reader → Reader → Reader → Option (List ℕ) → Option (List ℕ) → Result ℕ StreamFault → Type 0
+IsCheckRun net order plan = IsRun (ToThree IsCheckAnswer) (net ∷ (order ∷ (plan ∷ [])))
 
 -- what is printed of a fault
 abbrev pub fault_line : StreamFault → List ℕ

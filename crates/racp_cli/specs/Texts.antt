@@ -1,25 +1,15 @@
 -- The lines that are written, in ASCII. Each ends with a line feed; numbers are decimal, without leading zeros.
-use Rattle.std.specs.Prelude.{ℕ, ◌+◌, List, [], ◌∷◌, ◌++◌, codes}
+use Rattle.std.specs.Prelude.{ℕ, List, ◌++◌, codes}
 use Rattle.std.specs.Fmt.{decimal}
 use Rattle.racp_sm.specs.Faults.{fault_number, fault_name}
 use Rattle.racp_sm.specs.declared.fault.SmFault.{SmFault}
-
--- a line of this text
-unfoldable pub line : List ℕ → List ℕ
-line text = text ++ 10 ∷ []
-
--- `critical C`
-unfoldable pub critical_line : ℕ → List ℕ
-critical_line critical = line (codes "critical " ++ decimal critical)
-
--- `start j s`
-unfoldable pub start_line : ℕ → ℕ → List ℕ
-start_line job start = line (codes "start " ++ decimal job ++ codes " " ++ decimal start)
-
--- a line for each start, the first of them of this job
-abbrev pub start_lines : ℕ → List ℕ → List ℕ
-start_lines job [] = []
-start_lines job (start ∷ starts) = start_line job start ++ start_lines (job + 1) starts
+use Rattle.racp_prices.specs.Faults.{fault_number as order_fault_number, fault_name as order_fault_name}
+use Rattle.racp_prices.specs.declared.fault.OrderFault.{OrderFault}
+use Rattle.racp_check.specs.Texts.{line, critical_line, start_lines}
+use Rattle.racp_check.specs.TextFaults.{fault_number as text_fault_number, fault_name as text_fault_name}
+use Rattle.racp_check.specs.declared.text_fault.TextFault.{TextFault}
+use Rattle.racp_check.specs.declared.plan_fault.PlanFault.{PlanFault}
+use Rattle.racp_check.specs.declared.plan_fault.PlanFault.TheVariants.{Cost, Late, Order, Over, Ceiling, Early}
 
 -- the critical length, the start of each job from 1 on, and a last line
 unfoldable pub early_text : ℕ → List ℕ → List ℕ
@@ -29,6 +19,31 @@ early_text critical starts = critical_line critical ++ start_lines 1 starts ++ l
 unfoldable pub refusal_line : SmFault → List ℕ
 refusal_line fault = line (codes "refused sm " ++ decimal (fault_number fault.kind) ++ codes " " ++ fault_name fault.kind ++ codes " line " ++ decimal fault.line)
 
+-- `refused order N Name`
+unfoldable pub order_refusal_line : OrderFault → List ℕ
+order_refusal_line fault = line (codes "refused order " ++ decimal (order_fault_number fault) ++ codes " " ++ order_fault_name fault)
+
+-- `refused plan N Name line L`
+unfoldable pub plan_refusal_line : TextFault → List ℕ
+plan_refusal_line fault = line (codes "refused plan " ++ decimal (text_fault_number fault.kind) ++ codes " " ++ text_fault_name fault.kind ++ codes " line " ++ decimal fault.line)
+
 -- what is written where memory ran out
 unfoldable pub memory_line : List ℕ
 memory_line = line (codes "memory")
+
+-- what is written where nothing is wrong with a plan
+unfoldable pub ok_line : List ℕ
+ok_line = line (codes "ok")
+
+-- what is written where a plan names another deadline than the order, or another critical length than the project has
+unfoldable pub head_line : List ℕ
+head_line = line (codes "fault head")
+
+-- what is written of a fault of a plan
+unfoldable pub plan_fault_line : PlanFault → List ℕ
+plan_fault_line Cost = line (codes "fault cost")
+plan_fault_line (Late job) = line (codes "fault late " ++ decimal job)
+plan_fault_line (Order before after) = line (codes "fault order " ++ decimal before ++ codes " " ++ decimal after)
+plan_fault_line (Over resource time) = line (codes "fault over " ++ decimal resource ++ codes " " ++ decimal time)
+plan_fault_line (Ceiling resource) = line (codes "fault ceiling " ++ decimal resource)
+plan_fault_line (Early job) = line (codes "fault early " ++ decimal job)

@@ -2,12 +2,13 @@
 
 ghost use Rattle.std.specs.Prelude.{◌≡◌, ℕ, ◌++◌, IfOk};
 ghost use Rattle.racp_cli.specs.Answers.{IsCpmAnswer, IsEarlyAnswer};
-ghost use Rattle.racp_cli.specs.Streams.{IsCpmRun, IsAnswered};
+ghost use Rattle.racp_cli.specs.Streams.{IsCpmRun};
 
 use crate::fault::StreamFault;
 use crate::lines::{early_lines, refused_line};
-use crate::status::{DONE, OUT_OF_MEMORY, REFUSED};
-use crate::streams::{read_whole, write_whole};
+use crate::respond::respond;
+use crate::status::{DONE, REFUSED};
+use crate::streams::read_whole;
 use racp_cpm::{early, longest};
 use racp_model::Network;
 use racp_sm::{SmFaultKind, read_sm};
@@ -27,26 +28,10 @@ pub fn cpm_over<R: Read, W: Write>(
     net: &mut R,
     out: &mut W,
 ) -> Result<u8, StreamFault>
-    ensures { IsCpmRun (R.remaining net.old) (R.remaining net.new) (W.contents out.old) (W.contents out.new) result }
+    ensures { IsCpmRun (record { unread = R.remaining net.old; left = R.remaining net.new }) (W.contents out.old) (W.contents out.new) result }
 {
     let input = read_whole(alloc, net)?;
-    respond(alloc, &input, out)
-}
-
-/// Writes the answer to a network text.
-fn respond<W: Write>(alloc: Global, input: &[u8], out: &mut W) -> Result<u8, StreamFault>
-    ensures { IsAnswered (W.contents out.old) (W.contents out.new) input.now result }
-{
-    match answer(alloc, input) {
-        Ok((status, text)) => {
-            write_whole(out, &text)?;
-            Ok(status)
-        }
-        Err(AllocError) => {
-            write_whole(out, b"memory\n")?;
-            Ok(OUT_OF_MEMORY)
-        }
-    }
+    respond(answer(alloc, &input), out)
 }
 
 /// The status and the text of the answer to a network text.

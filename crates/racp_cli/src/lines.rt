@@ -1,8 +1,13 @@
 //! The texts that are written, line by line.
 
-ghost use Rattle.std.specs.Prelude.{◌≡◌, ◌++◌, OnOk, IfOk};
-ghost use Rattle.racp_cli.specs.Texts.{start_line, start_lines, early_text, refusal_line};
+ghost use Rattle.std.specs.Prelude.{◌≡◌, ◌++◌, IfOk, codes};
+ghost use Rattle.std.specs.Fmt.{decimal};
+ghost use Rattle.racp_check.specs.Texts.{line};
+ghost use Rattle.racp_cli.specs.Texts.{early_text, order_refusal_line, plan_fault_line, plan_refusal_line, refusal_line};
 
+use racp_check::lines::push_starts;
+use racp_check::{PlanFault, TextFault};
+use racp_prices::OrderFault;
 use racp_sm::SmFault;
 use std::alloc::{AllocError, Global};
 
@@ -20,27 +25,59 @@ pub(crate) fn early_lines(
     Ok(text)
 }
 
-/// Adds the line of each start.
-fn push_starts(alloc: Global, text: &mut Vec<u8>, starts: &[u32]) -> Result<(), AllocError>
-    ensures { OnOk result (text.new.items ≡ text.old.items ++ start_lines 1 starts.now) }
-{
-    for (place, start) in starts.iter().enumerate() {
-        push_start(alloc, text, place + 1, *start)?;
-    }
-    Ok(())
-}
-
-/// Adds the line of the start of a job.
-fn push_start(alloc: Global, text: &mut Vec<u8>, job: usize, start: u32) -> Result<(), AllocError>
-    ensures { OnOk result (text.new.items ≡ text.old.items ++ start_line job start) }
-{
-    text.extend_from_slice(format!(in alloc; "start {job} {start}\n")?.as_bytes())
-}
-
 /// The line that says why a network text is refused.
 pub(crate) fn refused_line(alloc: Global, fault: SmFault) -> Result<Vec<u8>, AllocError>
     ensures { IfOk result (λ text. text.items ≡ refusal_line fault) }
 {
     let (number, name, line) = (fault.kind.number(), fault.kind.name(), fault.line);
     Ok(format!(in alloc; "refused sm {number} {name} line {line}\n")?.into_bytes())
+}
+
+/// The line that says why an order text is refused.
+pub(crate) fn order_refused_line(alloc: Global, fault: OrderFault) -> Result<Vec<u8>, AllocError>
+    ensures { IfOk result (λ text. text.items ≡ order_refusal_line fault) }
+{
+    let (number, name) = (fault.number(), fault.name());
+    Ok(format!(in alloc; "refused order {number} {name}\n")?.into_bytes())
+}
+
+/// The line that says why a plan text is refused.
+pub(crate) fn plan_refused_line(alloc: Global, fault: TextFault) -> Result<Vec<u8>, AllocError>
+    ensures { IfOk result (λ text. text.items ≡ plan_refusal_line fault) }
+{
+    let (number, name, line) = (fault.kind.number(), fault.kind.name(), fault.line);
+    Ok(format!(in alloc; "refused plan {number} {name} line {line}\n")?.into_bytes())
+}
+
+/// The line that tells of a fault of a plan.
+pub(crate) fn plan_fault_line(alloc: Global, fault: PlanFault) -> Result<Vec<u8>, AllocError>
+    ensures { IfOk result (λ text. text.items ≡ plan_fault_line fault) }
+{
+    match fault {
+        PlanFault::Cost => b"fault cost\n".to_vec(alloc),
+        PlanFault::Late(job) => numbered_line(alloc, "fault late", job),
+        PlanFault::Order(before, after) => doubly_numbered_line(alloc, "fault order", before, after),
+        PlanFault::Over(resource, time) => doubly_numbered_line(alloc, "fault over", resource, time),
+        PlanFault::Ceiling(resource) => numbered_line(alloc, "fault ceiling", resource),
+        PlanFault::Early(job) => numbered_line(alloc, "fault early", job),
+    }
+}
+
+/// The line of some words and a number.
+fn numbered_line(alloc: Global, words: &str, number: u32) -> Result<Vec<u8>, AllocError>
+    ensures { IfOk result (λ text. text.items ≡ line (words.now ++ codes " " ++ decimal number)) }
+{
+    Ok(format!(in alloc; "{words} {number}\n")?.into_bytes())
+}
+
+/// The line of some words and two numbers.
+fn doubly_numbered_line(
+    alloc: Global,
+    words: &str,
+    first: u32,
+    second: u32,
+) -> Result<Vec<u8>, AllocError>
+    ensures { IfOk result (λ text. text.items ≡ line (words.now ++ codes " " ++ decimal first ++ codes " " ++ decimal second)) }
+{
+    Ok(format!(in alloc; "{words} {first} {second}\n")?.into_bytes())
 }

@@ -11,3 +11,6 @@ pub const OUT_OF_MEMORY: u8 = 6;
 
 /// The input could not be read, or the answer could not be written.
 pub const STREAM_FAILED: u8 = 7;
+
+/// The plan that was checked has a fault.
+pub const CHECK_FAILED: u8 = 8;

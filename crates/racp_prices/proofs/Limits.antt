@@ -1,5 +1,5 @@
 -- What an order text says is within the limits.
-use Rattle.std.proofs.Common.{◌≡◌, refl, sym, ◌∙◌, ap, ℕ, ℤ, pos, negsuc, zero, suc, ◌+◌, ◌<◌, ◌≤◌, ◌⊎◌, min, Bool, true, false, cond, List, [], ◌∷◌, length, map, replicate, arith, Option, Some, None, IfSome, Ok, Err, subst, All, slice_index_or}
+use Rattle.std.proofs.Common.{◌≡◌, refl, sym, ◌∙◌, ap, ℕ, ℤ, pos, negsuc, zero, suc, ◌+◌, ◌<◌, ◌≤◌, ◌⊎◌, min, Bool, true, false, cond, List, [], ◌∷◌, length, map, replicate, arith, Option, Some, None, IfSome, Ok, Err, subst, subst₂, All, IfOk, slice_index_or}
 use Rattle.std.specs.Prelude.{Result, nat_le, is_some, unwrap_or, ◌==◌, codes, slice_index, bytes_eq}
 use Rattle.std.specs.List.{list_any}
 use Rattle.std.proofs.lemmas.Bool.{and_parts, leb-true, eqb-true, false≢true}
@@ -14,7 +14,7 @@ use Rattle.racp_model.specs.Project.{Project}
 use Rattle.racp_model.specs.Terms.{Terms, AreTermsOf}
 use Rattle.racp_model.proofs.lemmas.Orders.{lex_same}
 use Rattle.racp_model.proofs.lemmas.Results.{IsFault, bind_ok, same_ok, chosen}
-use Rattle.racp_prices.specs.Orders.{whole, within, array_of, are_whole, count_of, whole_items, counted_items, all_within, number_of, numbers_of, optional_numbers, version_of, numbered_version, plain_keys, keys_of, has_only, required, known_keys, order_of, order_in, IsToml, IsOrder}
+use Rattle.racp_prices.specs.Orders.{whole, within, array_of, are_whole, count_of, whole_items, counted_items, all_within, number_of, numbers_of, optional_numbers, version_of, numbered_version, plain_keys, keys_of, has_only, required, known_keys, order_of, order_in, IsToml, IsOrder, IsOrderOrMemory, AreTermsFor}
 use Rattle.racp_prices.specs.declared.fault.OrderFault.{OrderFault}
 use Rattle.racp_prices.specs.declared.fault.OrderFault.TheVariants.{NotWhole, Count, Range, Unknown}
 use Rattle.racp_prices.specs.declared.version.Version.{Version}
@@ -158,6 +158,11 @@ pub read_within_limits : (p : Project) (text : List ℕ) (terms : Terms) → IsO
     AreTermsOf p terms × ((i : ℕ) → i < length p.jobs → slice_index terms.due i ≤ terms.deadline)
 read_within_limits p text terms (None, toml, e) = absurd (subst IsFault (sym e) tt)
 read_within_limits p text terms (Some table, toml, e) = within_terms p table terms (parts_of p.resources (length p.jobs) table terms (sym e))
+
+pub terms_from_reading : (resources jobs : ℕ) (text : List ℕ) (answer : Result Terms OrderFault) → IsOrderOrMemory resources jobs text answer → IfOk answer (AreTermsFor resources jobs)
+terms_from_reading resources jobs text (Ok terms) read = λ p same_resources same_jobs.
+    (read_within_limits p text terms (subst₂ (λ r j. IsOrder r j text (Ok terms)) (sym same_resources) (sym same_jobs) read)).0
+terms_from_reading resources jobs text (Err fault) read = tt
 
 -- a key that the known ones are not among is not in a table that has only known ones
 absent : (key : List ℕ) (known : List (List ℕ)) (table : Members) → list_any (bytes_eq key) known ≡ false → has_only known table ≡ true → get_member key table ≡ None

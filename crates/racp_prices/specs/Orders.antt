@@ -1,10 +1,11 @@
 -- What an order text is read as: the terms of an order, or why it is none. The text is TOML; the rules are tested in the
 -- order in which they stand here.
-use Rattle.std.specs.Prelude.{◌≡◌, ◌⊎◌, ℕ, ℤ, pos, negsuc, ◌+◌, ◌==◌, ◌&&◌, Bool, true, false, min, List, [], ◌∷◌, map, replicate, Option, Some, None, Result, Ok, Err, is_some, nat_le, if◌then◌else◌, codes, IsUtf8, bytes_eq, unwrap_or}
+use Rattle.std.specs.Prelude.{◌≡◌, ◌⊎◌, ℕ, ℤ, pos, negsuc, ◌+◌, ◌==◌, ◌&&◌, Bool, true, false, min, List, [], ◌∷◌, length, map, replicate, Option, Some, None, Result, Ok, Err, is_some, nat_le, if◌then◌else◌, codes, IsUtf8, bytes_eq, unwrap_or}
 use Rattle.std.specs.List.{list_any}
 use Rattle.toml.specs.Data.{Data, integer, array, Items, no_items, item, Members, no_members, member, get_member, as_integer}
 use Rattle.toml.specs.Parse.{parse_document}
-use Rattle.racp_model.specs.Terms.{Terms}
+use Rattle.racp_model.specs.Project.{Project}
+use Rattle.racp_model.specs.Terms.{Terms, AreTermsOf}
 use Rattle.racp_model.specs.Steps.{◌>>=◌}
 use Rattle.racp_prices.specs.declared.fault.OrderFault.{OrderFault}
 use Rattle.racp_prices.specs.declared.fault.OrderFault.TheVariants.{NotToml, Missing, Unknown, NotWhole, Range, Count, Memory, Version as WrongVersion}
@@ -148,3 +149,7 @@ IsOrder resources jobs text answer = (table : Option Members) × IsToml text tab
 abbrev pub IsOrderOrMemory : ℕ → ℕ → List ℕ → Result Terms OrderFault → Type 0
 IsOrderOrMemory resources jobs text (Ok terms) = IsOrder resources jobs text (Ok terms)
 IsOrderOrMemory resources jobs text (Err fault) = (fault ≡ Memory) ⊎ IsOrder resources jobs text (Err fault)
+
+-- the terms are those of each project with so many resources and jobs
+abbrev pub AreTermsFor : ℕ → ℕ → Terms → Type 0
+AreTermsFor resources jobs terms = (p : Project) → p.resources ≡ resources → length p.jobs ≡ jobs → AreTermsOf p terms

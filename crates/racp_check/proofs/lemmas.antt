@@ -1,0 +1,3 @@
+-- Lemmas on the texts of plans, which the crates above may cite too.
+pub mod Numbers
+pub mod StartLines

@@ -1,0 +1,6 @@
+use Rattle.std.proofs.Common.{rules}
+use Rattle.racp_cli.proofs.TextLines.{plan_refusal_line_pieces}
+use Rattle.racp_cli.proofs.lines.plan_refused_line.Goals as goal
+
+pub returns : goal.returns
+returns c = rw (← plan_refusal_line_pieces c.args.fault) (search rules)

@@ -1,0 +1,29 @@
+-- Contracts of private functions: faults of texts as those of `check`, and answers that were made or for which memory was
+-- refused.
+use Rattle.std.specs.Prelude.{◌≡◌, ◌≢◌, ◌⊎◌, ℕ, List, Result, Ok, Err, Vec}
+use Rattle.std.specs.declared.alloc.AllocError.{AllocError}
+use Rattle.std.specs.declared.alloc.Global.{Global}
+use Rattle.racp_sm.specs.declared.fault.SmFault.{SmFault}
+use Rattle.racp_sm.specs.declared.fault.SmFaultKind.TheVariants as network
+use Rattle.racp_prices.specs.declared.fault.OrderFault.{OrderFault}
+use Rattle.racp_prices.specs.declared.fault.OrderFault.TheVariants as order
+use Rattle.racp_check.specs.declared.text_fault.TextFault.{TextFault}
+use Rattle.racp_check.specs.declared.text_fault.TextFaultKind.TheVariants as plan
+use Rattle.racp_cli.specs.Texts.{memory_line}
+use Rattle.racp_cli.specs.declared.check_fault.CheckFault.{CheckFault}
+use Rattle.racp_cli.specs.declared.check_fault.CheckFault.TheVariants.{Network, Order, PlanText, OutOfMemory}
+
+-- the fault of a text, or that memory ran out while it was read
+abbrev pub IsOfNetwork : SmFault → CheckFault → Type 0
+IsOfNetwork error fault = ((error.kind ≡ network.Memory) × (fault ≡ OutOfMemory)) ⊎ ((error.kind ≢ network.Memory) × (fault ≡ Network error))
+
+abbrev pub IsOfOrder : OrderFault → CheckFault → Type 0
+IsOfOrder error fault = ((error ≡ order.Memory) × (fault ≡ OutOfMemory)) ⊎ ((error ≢ order.Memory) × (fault ≡ Order error))
+
+abbrev pub IsOfPlanText : TextFault → CheckFault → Type 0
+IsOfPlanText error fault = ((error.kind ≡ plan.Memory) × (fault ≡ OutOfMemory)) ⊎ ((error.kind ≢ plan.Memory) × (fault ≡ PlanText error))
+
+-- the status and the text of an answer, or those of lack of memory where it could not be made
+abbrev pub IsMade : Result (ℕ × Vec ℕ Global) AllocError → ℕ → List ℕ → Type 0
+IsMade (Ok made) status text = (made.0 ≡ status) × (made.1.items ≡ text)
+IsMade (Err _) status text = (6 ≡ status) × (memory_line ≡ text)

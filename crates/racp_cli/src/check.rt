@@ -1,0 +1,106 @@
+//! `check`: whether a plan, whoever made it, is one of a network on the terms of an order.
+
+ghost use Rattle.std.specs.Prelude.{◌≡◌, ◌↔◌, IfOk, IsTrue, length};
+ghost use Rattle.racp_model.specs.Terms.{AreTermsOf};
+ghost use Rattle.racp_cli.specs.Checks.{HasRightHead, IsCheck, IsCheckAnswer, check_status, check_text};
+ghost use Rattle.racp_cli.specs.Streams.{IsCheckRun};
+
+use crate::check_fault::CheckFault;
+use crate::fault::StreamFault;
+use crate::lines::{order_refused_line, plan_fault_line, plan_refused_line, refused_line};
+use crate::respond::respond;
+use crate::status::{CHECK_FAILED, DONE, OUT_OF_MEMORY, REFUSED};
+use crate::streams::read_whole;
+use racp_check::{Plan, check_plan, read_plan};
+use racp_cpm::longest;
+use racp_model::Network;
+use racp_prices::{Order, read_order};
+use racp_sm::read_sm;
+use std::alloc::{AllocError, Global};
+use std::io::{Read, Write};
+
+/// Reads a network text, an order text and a plan text, all of each before the next, and writes to `out` whether nothing is
+/// wrong with the plan, and else what is. Returns the status that belongs to the line that was written: 0 for `ok`, 5 where a
+/// text is refused, 6 where memory ran out, 8 where the plan has a fault.
+///
+/// # Errors
+///
+/// After these nothing was written: `Read`, a read failed; `TooLong`, a reader has more than 16,777,216 bytes; `Memory`,
+/// memory for an input was refused. After `Write`, a write failed or took no byte, and what is out is a beginning of the line.
+pub fn check_over<N: Read, O: Read, P: Read, W: Write>(
+    alloc: Global,
+    net: &mut N,
+    order: &mut O,
+    plan: &mut P,
+    out: &mut W,
+) -> Result<u8, StreamFault>
+    ensures { IsCheckRun (record { unread = N.remaining net.old; left = N.remaining net.new }) (record { unread = O.remaining order.old; left = O.remaining order.new })
+        (record { unread = P.remaining plan.old; left = P.remaining plan.new }) (W.contents out.old) (W.contents out.new) result }
+{
+    let net = read_whole(alloc, net)?;
+    let order = read_whole(alloc, order)?;
+    let plan = read_whole(alloc, plan)?;
+    respond(answer(alloc, &net, &order, &plan), out)
+}
+
+/// The status and the line of the answer to the texts of a network, an order and a plan.
+fn answer(alloc: Global, net: &[u8], order: &[u8], plan: &[u8]) -> Result<(u8, Vec<u8>), AllocError>
+    ensures { IfOk result (λ answer. IsCheckAnswer net.now order.now plan.now answer.0 answer.1.items) }
+{
+    let outcome = check(alloc, net, order, plan);
+    Ok((status_of(&outcome), line_of(alloc, &outcome)?))
+}
+
+/// Reads the texts of a network, an order and a plan, and checks the plan.
+fn check(alloc: Global, net: &[u8], order: &[u8], plan: &[u8]) -> Result<(), CheckFault>
+    ensures { IsCheck net.now order.now plan.now result }
+{
+    let net = read_sm(alloc, net)?;
+    let order = read_order(alloc, order, net.resource_count(), net.job_count())?;
+    let plan = read_plan(alloc, plan, &net)?;
+    if !has_right_head(alloc, &net, &order, &plan)? {
+        return Err(CheckFault::Head);
+    }
+    check_plan(&net, &order, &plan)?;
+    Ok(())
+}
+
+/// Whether the plan names the order's deadline and the project's critical length.
+fn has_right_head(
+    alloc: Global,
+    net: &Network,
+    order: &Order,
+    plan: &Plan,
+) -> Result<bool, AllocError>
+    requires { AreTermsOf net.now order.now }
+    ensures { IfOk result (λ right. IsTrue right ↔ HasRightHead net.now order.now plan.now) }
+{
+    Ok(plan.deadline == order.deadline && plan.critical == longest(alloc, net, &order.release)?)
+}
+
+/// The status that tells of an outcome.
+fn status_of(outcome: &Result<(), CheckFault>) -> u8
+    ensures { result ≡ check_status outcome.now }
+{
+    match outcome {
+        Ok(()) => DONE,
+        Err(CheckFault::Network(_) | CheckFault::Order(_) | CheckFault::PlanText(_)) => REFUSED,
+        Err(CheckFault::OutOfMemory) => OUT_OF_MEMORY,
+        Err(CheckFault::Head | CheckFault::Wrong(_)) => CHECK_FAILED,
+    }
+}
+
+/// The line that tells of an outcome.
+fn line_of(alloc: Global, outcome: &Result<(), CheckFault>) -> Result<Vec<u8>, AllocError>
+    ensures { IfOk result (λ text. text.items ≡ check_text outcome.now) }
+{
+    match outcome {
+        Ok(()) => b"ok\n".to_vec(alloc),
+        Err(CheckFault::Network(fault)) => refused_line(alloc, *fault),
+        Err(CheckFault::Order(fault)) => order_refused_line(alloc, *fault),
+        Err(CheckFault::PlanText(fault)) => plan_refused_line(alloc, *fault),
+        Err(CheckFault::OutOfMemory) => b"memory\n".to_vec(alloc),
+        Err(CheckFault::Head) => b"fault head\n".to_vec(alloc),
+        Err(CheckFault::Wrong(fault)) => plan_fault_line(alloc, *fault),
+    }
+}
