@@ -1,42 +1,105 @@
 -- Words that the parser takes.
-use Rattle.std.proofs.Common.{◌≡◌, ◌==◌, ◌∙◌, ℕ, Bool, ap, sym, subst, refl, true, false, List, [], ◌∷◌, Option, Some, None, codes, inl, inr}
-use Rattle.std.proofs.lemmas.Bool.{eqb-true}
-use Rattle.clap.specs.Words.{Text}
+use Rattle.std.proofs.Common.{◌≡◌, ◌≢◌, ◌==◌, ◌∙◌, ℕ, Bool, ap, sym, subst, refl, true, false, List, [], ◌∷◌, Option, Some, None, option_map, codes, inl, inr, slice_index, arith, rules}
+use Rattle.std.proofs.lemmas.Bool.{eqb-true, ne_eqb}
+use Rattle.std.proofs.lemmas.Option.{same_Some}
+use Rattle.clap.specs.Words.{Row, Text, fault_of, first_of, subcommand_of}
 use Rattle.clap.proofs.OnLiterals.{clap_on_literals}
-use Rattle.racp.specs.CommandLine.{IsCpmLine, IsPlain, IsTaken, racp}
+use Rattle.racp.specs.CommandLine.{IsCpmLine, IsCpmOf, IsCheckLine, IsCheckOf, IsPath, IsPlain, IsRequested, path_at, racp}
+use Rattle.racp.specs.declared.command_line.Request.{Request}
+use Rattle.racp.specs.declared.command_line.Request.TheVariants.{Cpm, Check}
+
+-- the command that is named, and the word for its network
+with_network : Option (Text × List Row) → Option (Text × Option Text)
+with_network = option_map (λ command. (command.0, first_of (codes "NET") command.1))
+
+-- the parser takes the words, and this is the command that they name, with the word for its network
+IsTaken : List Text → Option (Text × Option Text) → Type 0
+IsTaken words command = (fault_of racp words ≡ []) × (with_network (subcommand_of racp words) ≡ command)
 
 no_words : (name : Text) → IsTaken (name ∷ []) None
-unfolding racp clap_on_literals
+unfolding racp clap_on_literals IsTaken with_network
 no_words name = (refl, refl)
 
-cpm_alone : (name : Text) → IsTaken (name ∷ codes "cpm" ∷ []) None
-unfolding racp clap_on_literals
+cpm_alone : (name : Text) → IsTaken (name ∷ codes "cpm" ∷ []) (Some (codes "cpm", None))
+unfolding racp clap_on_literals IsTaken with_network
 cpm_alone name = (refl, refl)
 
-cpm_hyphen : (name : Text) → IsTaken (name ∷ codes "cpm" ∷ codes "-" ∷ []) (Some (codes "-"))
-unfolding racp clap_on_literals
+cpm_hyphen : (name : Text) → IsTaken (name ∷ codes "cpm" ∷ codes "-" ∷ []) (Some (codes "cpm", Some (codes "-")))
+unfolding racp clap_on_literals IsTaken with_network
 cpm_hyphen name = (refl, refl)
 
-cpm_empty : (name : Text) → IsTaken (name ∷ codes "cpm" ∷ [] ∷ []) (Some [])
-unfolding racp clap_on_literals
+cpm_empty : (name : Text) → IsTaken (name ∷ codes "cpm" ∷ [] ∷ []) (Some (codes "cpm", Some []))
+unfolding racp clap_on_literals IsTaken with_network
 cpm_empty name = (refl, refl)
 
-cpm_path : (name : Text) (first : ℕ) (rest : Text) → (first == 45) ≡ false → IsTaken (name ∷ codes "cpm" ∷ (first ∷ rest) ∷ []) (Some (first ∷ rest))
-unfolding racp clap_on_literals
+cpm_path : (name : Text) (first : ℕ) (rest : Text) → (first == 45) ≡ false → IsTaken (name ∷ codes "cpm" ∷ (first ∷ rest) ∷ []) (Some (codes "cpm", Some (first ∷ rest)))
+unfolding racp clap_on_literals IsTaken with_network
 cpm_path name first rest other = (rw (other, other) refl, rw (other, other) refl)
 
-cpm_word : (name word : Text) → IsPlain word → IsTaken (name ∷ codes "cpm" ∷ word ∷ []) (Some word)
+cpm_word : (name word : Text) → IsPlain word → IsTaken (name ∷ codes "cpm" ∷ word ∷ []) (Some (codes "cpm", Some word))
 cpm_word name [] plain = cpm_empty name
 cpm_word name (first ∷ rest) plain = by_first (first == 45) refl
   where
-    by_first : (b : Bool) → (first == 45) ≡ b → IsTaken (name ∷ codes "cpm" ∷ (first ∷ rest) ∷ []) (Some (first ∷ rest))
+    by_first : (b : Bool) → (first == 45) ≡ b → IsTaken (name ∷ codes "cpm" ∷ (first ∷ rest) ∷ []) (Some (codes "cpm", Some (first ∷ rest)))
     by_first false other = cpm_path name first rest other
     by_first true hyphen =
         let is : first ≡ 45 = eqb-true first 45 hyphen in
-        subst (λ (word : Text). IsTaken (name ∷ codes "cpm" ∷ word ∷ []) (Some word)) (ap (λ f. f ∷ []) (sym is) ∙ ap (λ r. first ∷ r) (sym (plain is))) (cpm_hyphen name)
+        subst (λ (word : Text). IsTaken (name ∷ codes "cpm" ∷ word ∷ []) (Some (codes "cpm", Some word))) (ap (λ f. f ∷ []) (sym is) ∙ ap (λ r. first ∷ r) (sym (plain is))) (cpm_hyphen name)
 
--- the parser takes each line that asks for `cpm`
-pub cpm_line : (words : List Text) (network : Option Text) → IsCpmLine words network → IsTaken words network
-cpm_line words None (name, inl alone) = subst (λ (ws : List Text). IsTaken ws None) (sym alone) (no_words name)
-cpm_line words None (name, inr cpm) = subst (λ (ws : List Text). IsTaken ws None) (sym cpm) (cpm_alone name)
-cpm_line words (Some word) (name, plain, is) = subst (λ (ws : List Text). IsTaken ws (Some word)) (sym is) (cpm_word name word plain)
+-- no command asks for the network that no word names
+none_asked : (command : Option (Text × List Row)) (request : Request) → with_network command ≡ None → IsRequested command request → IsCpmOf None request
+unfolding with_network
+none_asked None (Cpm network) e asked = asked
+none_asked None (Check files) e asked = asked
+none_asked (Some command) request e asked = absurd (search rules)
+
+-- `cpm` asks for the network that its word names
+cpm_asked : (command : Option (Text × List Row)) (word : Option Text) (request : Request) → with_network command ≡ Some (codes "cpm", word) → IsRequested command request → IsCpmOf word request
+unfolding with_network
+cpm_asked None word request e asked = absurd (search rules)
+cpm_asked (Some command) word (Cpm network) e asked = rw (← ap (λ c. c.1) (same_Some _ _ e)) asked.1
+cpm_asked (Some command) word (Check files) e asked =
+    let same : codes "cpm" ≡ codes "check" = sym (ap (λ c. c.0) (same_Some _ _ e)) ∙ asked.0 in
+    let letter : 112 ≡ 104 = ap (λ t. slice_index t 1) same in absurd (omega (arith, letter))
+
+-- the command that is named, and the paths of its words
+with_paths : Option (Text × List Row) → Option (Text × (Text × (Text × Text)))
+with_paths = option_map (λ command. (command.0, (path_at (codes "NET") command.1, (path_at (codes "ORDER") command.1, path_at (codes "PLAN") command.1))))
+
+check_paths : (name : Text) (a b d : ℕ) (net order plan : Text) → (a == 45) ≡ false → (b == 45) ≡ false → (d == 45) ≡ false →
+    (fault_of racp (name ∷ codes "check" ∷ (a ∷ net) ∷ (b ∷ order) ∷ (d ∷ plan) ∷ []) ≡ []) ×
+    (with_paths (subcommand_of racp (name ∷ codes "check" ∷ (a ∷ net) ∷ (b ∷ order) ∷ (d ∷ plan) ∷ [])) ≡ Some (codes "check", (a ∷ net, (b ∷ order, d ∷ plan))))
+unfolding racp clap_on_literals with_paths
+check_paths name a b d net order plan p q r = (rw (p, p, q, q, r, r) refl, rw (p, p, q, q, r, r) refl)
+
+-- `check` asks for the files with these paths
+check_asked : (command : Option (Text × List Row)) (net order plan : Text) (request : Request) → with_paths command ≡ Some (codes "check", (net, (order, plan))) → IsRequested command request →
+    IsCheckOf net order plan request
+unfolding with_paths
+check_asked None net order plan request e asked = absurd (search rules)
+check_asked (Some command) net order plan (Cpm network) e asked = absurd (asked.0 (ap (λ c. c.0) (same_Some _ _ e)))
+check_asked (Some command) net order plan (Check files) e asked =
+    let same = same_Some _ _ e in
+    (asked.1 ∙ ap (λ c. c.1.0) same, asked.2 ∙ ap (λ c. c.1.1.0) same, asked.3 ∙ ap (λ c. c.1.1.1) same)
+
+-- the parser takes each line that asks for `cpm`, and what is asked for is that
+pub cpm_line : (words : List Text) (network : Option Text) → IsCpmLine words network → (fault_of racp words ≡ []) × ((request : Request) → IsRequested (subcommand_of racp words) request → IsCpmOf network request)
+unfolding IsTaken
+cpm_line words None (name, inl alone) =
+    let taken = subst (λ (ws : List Text). IsTaken ws None) (sym alone) (no_words name) in (taken.0, λ request. none_asked (subcommand_of racp words) request taken.1)
+cpm_line words None (name, inr is) =
+    let taken = subst (λ (ws : List Text). IsTaken ws (Some (codes "cpm", None))) (sym is) (cpm_alone name) in (taken.0, λ request. cpm_asked (subcommand_of racp words) None request taken.1)
+cpm_line words (Some word) (name, plain, is) =
+    let taken = subst (λ (ws : List Text). IsTaken ws (Some (codes "cpm", Some word))) (sym is) (cpm_word name word plain) in (taken.0, λ request. cpm_asked (subcommand_of racp words) (Some word) request taken.1)
+
+-- the parser takes each line that asks for `check`, and what is asked for is that
+pub check_line : (words : List Text) (net order plan : Text) → IsCheckLine words net order plan →
+    (fault_of racp words ≡ []) × ((request : Request) → IsRequested (subcommand_of racp words) request → IsCheckOf net order plan request)
+check_line words [] order plan (name, none, second, third, is) = absurd none
+check_line words (a ∷ net) [] plan (name, first, none, third, is) = absurd none
+check_line words (a ∷ net) (b ∷ order) [] (name, first, second, none, is) = absurd none
+check_line words (a ∷ net) (b ∷ order) (d ∷ plan) (name, first, second, third, is) =
+    let line : List Text = name ∷ codes "check" ∷ (a ∷ net) ∷ (b ∷ order) ∷ (d ∷ plan) ∷ [] in
+    let taken = check_paths name a b d net order plan (ne_eqb a 45 first) (ne_eqb b 45 second) (ne_eqb d 45 third) in
+    (ap (λ (ws : List Text). fault_of racp ws) is ∙ taken.0,
+    λ request. check_asked (subcommand_of racp words) (a ∷ net) (b ∷ order) (d ∷ plan) request (ap (λ (ws : List Text). with_paths (subcommand_of racp ws)) is ∙ taken.1))

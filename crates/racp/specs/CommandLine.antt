@@ -1,8 +1,9 @@
 -- The words that the program takes, and what they ask for.
-use Rattle.std.specs.Prelude.{◌≡◌, ◌≢◌, ◌⊎◌, List, [], ◌∷◌, Option, Some, None, option_and_then, codes, true}
-use Rattle.clap.specs.Words.{App, Text, fault_of, first_of, new_app, new_rule, subcommand_of, with_rule, with_subcommand}
+use Rattle.std.specs.Prelude.{◌≡◌, ◌≢◌, ◌⊎◌, List, [], ◌∷◌, Option, Some, None, codes, true, unwrap_or}
+use Rattle.clap.specs.Words.{App, Row, Rule, Text, first_of, new_app, new_rule, subcommand_of, with_rule, with_subcommand}
 use Rattle.racp.specs.declared.command_line.Request.{Request}
-use Rattle.racp.specs.declared.command_line.Request.TheVariants.{Cpm}
+use Rattle.racp.specs.declared.command_line.Request.TheVariants.{Cpm, Check}
+use Rattle.racp.specs.declared.command_line.PlanFiles.{PlanFiles}
 use Rattle.racp.specs.declared.command_line.Source.{Source}
 use Rattle.racp.specs.declared.command_line.Source.TheVariants.{StandardInput, File}
 
@@ -10,30 +11,43 @@ use Rattle.racp.specs.declared.command_line.Source.TheVariants.{StandardInput, F
 abbrev pub cpm : App
 cpm = with_rule (new_app (codes "cpm")) (new_rule (codes "NET"))
 
+-- a word that has to be there
+abbrev pub file_rule : Text → Rule
+file_rule id = record (new_rule id) { required = true }
+
+-- `check NET ORDER PLAN`
+abbrev pub check : App
+check = with_rule (with_rule (with_rule (new_app (codes "check")) (file_rule (codes "NET"))) (file_rule (codes "ORDER"))) (file_rule (codes "PLAN"))
+
 -- a program that tells its version
 abbrev pub with_version : App → App
 with_version a = record a { top = record a.top { has_version = true } }
 
--- `racp [cpm [NET]]`
+-- `racp [cpm [NET] | check NET ORDER PLAN]`
 unfoldable pub racp : App
-racp = with_subcommand (with_version (new_app (codes "racp"))) cpm.top
-
--- the word that names a network, where there is one
-abbrev pub network_word : List Text → Option Text
-network_word words = option_and_then (λ command. first_of (codes "NET") command.1) (subcommand_of racp words)
+racp = with_subcommand (with_subcommand (with_version (new_app (codes "racp"))) cpm.top) check.top
 
 -- standard input where no word names a file, or `-` does; else the file of this path
 abbrev pub IsSource : Option Text → Source → Type 0
 IsSource word StandardInput = (word ≡ None) ⊎ (word ≡ Some (codes "-"))
 IsSource word (File path) = (word ≡ Some path.now) × (path.now ≢ codes "-")
 
+-- the path that the word with this name gives
+abbrev pub path_at : Text → List Row → Text
+path_at name words = unwrap_or (first_of name words) []
+
+-- the command that is named, with its words, asks for this; without a command, `cpm` of standard input is asked for
+abbrev pub IsRequested : Option (Text × List Row) → Request → Type 0
+IsRequested None (Cpm network) = IsSource None network
+IsRequested None (Check files) = ⊥
+IsRequested (Some command) (Cpm network) = (command.0 ≢ codes "check") × IsSource (first_of (codes "NET") command.1) network
+IsRequested (Some command) (Check files) =
+    (command.0 ≡ codes "check") × (files.net.now ≡ path_at (codes "NET") command.1) ×
+    (files.order.now ≡ path_at (codes "ORDER") command.1) × (files.plan.now ≡ path_at (codes "PLAN") command.1)
+
 -- the words ask for this
 abbrev pub IsAsked : List Text → Request → Type 0
-IsAsked words (Cpm network) = IsSource (network_word words) network
-
--- the parser takes the words, and this is the word that names a network
-abbrev pub IsTaken : List Text → Option Text → Type 0
-IsTaken words network = (fault_of racp words ≡ []) × (network_word words ≡ network)
+IsAsked words = IsRequested (subcommand_of racp words)
 
 -- a word that is no option: one that does not begin with a hyphen, or a hyphen alone
 abbrev pub IsPlain : Text → Type 0
@@ -48,3 +62,19 @@ IsCpmLine words (Some word) = (name : Text) × IsPlain word × (words ≡ name �
 -- `cpm` of the network that the word names
 abbrev pub IsCpmOf : Option Text → Request → Type 0
 IsCpmOf word (Cpm network) = IsSource word network
+IsCpmOf word (Check files) = ⊥
+
+-- a word that is not empty, and no option
+abbrev pub IsPath : Text → Type 0
+IsPath [] = ⊥
+IsPath (first ∷ rest) = first ≢ 45
+
+-- After the program's name come `check` and these three paths.
+abbrev pub IsCheckLine : List Text → Text → Text → Text → Type 0
+IsCheckLine words net order plan =
+    (name : Text) × IsPath net × IsPath order × IsPath plan × (words ≡ name ∷ codes "check" ∷ net ∷ order ∷ plan ∷ [])
+
+-- `check` of the files with these paths
+abbrev pub IsCheckOf : Text → Text → Text → Request → Type 0
+IsCheckOf net order plan (Cpm network) = ⊥
+IsCheckOf net order plan (Check files) = (files.net.now ≡ net) × (files.order.now ≡ order) × (files.plan.now ≡ plan)

@@ -4,6 +4,7 @@ use Rattle.clap.specs.Words.{kind_of}
 use Rattle.clap.specs.declared.error.kind.ErrorKind.{ErrorKind}
 use Rattle.clap.specs.declared.error.kind.ErrorKind.TheVariants.{DisplayHelp, DisplayVersion, OutOfMemory}
 use Rattle.racp_cli.specs.Answers.{IsCpmAnswer}
+use Rattle.racp_cli.specs.Checks.{IsCheckAnswer}
 use Rattle.racp_cli.specs.Streams.{fault_status}
 use Rattle.racp_cli.specs.declared.fault.StreamFault.TheVariants as stream
 use Rattle.racp.specs.declared.failure.Failure.{Failure}
@@ -23,9 +24,11 @@ IsStatusOf (Words error) status = IsStatusOfKind (kind_of error) status
 IsStatusOf NotText status = status ≡ 2
 IsStatusOf (Stream fault) status = status ≡ fault_status fault
 
--- some answer to some network text has this status; nothing is said of which
+-- some answer to some texts has this status; nothing is said of which
 abbrev pub IsStatusOfAnswer : ℕ → Type 0
-IsStatusOfAnswer status = (input : List ℕ) × (text : List ℕ) × IsCpmAnswer input status text
+IsStatusOfAnswer status =
+    ((input : List ℕ) × (text : List ℕ) × IsCpmAnswer input status text) ⊎
+    ((net order plan : List ℕ) × (text : List ℕ) × IsCheckAnswer net order plan status text)
 
 -- some answer, or some reason why there is none, has this status
 abbrev pub IsStatus : ℕ → Type 0

@@ -1,9 +1,10 @@
 //! The words of the command line, and what they ask for.
 
-ghost use Rattle.std.specs.Prelude.{◌≡◌, ℕ, List, Option, IfOk, MatchResult, map, string_bytes, codes};
-ghost use Rattle.clap.specs.Words.{FailsBy, app_of, fault_of, first_value, found_of, kind_of};
+ghost use Rattle.std.specs.Prelude.{◌≡◌, ℕ, List, Option, Some, IfOk, MatchResult, map, option_map, string_bytes, codes, false};
+ghost use Rattle.clap.specs.Words.{FailsBy, app_of, fault_of, first_value, found_of, kind_of, rows_of, rule_of, subcommand_rows_of};
 ghost use Rattle.clap.specs.declared.error.kind.ErrorKind.TheVariants.{OutOfMemory};
-ghost use Rattle.racp.specs.CommandLine.{IsAsked, IsCpmLine, IsCpmOf, IsSource, racp};
+ghost use Rattle.racp.specs.CommandLine.{IsAsked, IsCheckLine, IsCheckOf, IsCpmLine, IsCpmOf, IsRequested, IsSource, check, cpm, file_rule, path_at, racp};
+ghost use Rattle.racp.specs.Commands.{IsCommandOf};
 
 use clap::{Arg, ArgMatches, Command, Error};
 use std::alloc::{AllocError, Global};
@@ -12,6 +13,19 @@ use std::alloc::{AllocError, Global};
 pub(crate) enum Request<'a> {
     /// The critical length and the early starts of a network.
     Cpm(Source<'a>),
+    /// Whether a plan is one of a network on the terms of an order.
+    Check(PlanFiles<'a>),
+}
+
+/// The paths of the files of a network, an order and a plan.
+#[derive(Drop)]
+pub(crate) struct PlanFiles<'a> {
+    /// The path of the network.
+    pub(crate) net: &'a str,
+    /// The path of the order.
+    pub(crate) order: &'a str,
+    /// The path of the plan.
+    pub(crate) plan: &'a str,
 }
 
 /// Where a text is read from.
@@ -29,33 +43,91 @@ pub(crate) enum Source<'a> {
 /// The words name no command, or ask for help or for the version; or memory ran out.
 pub(crate) fn asked<'a>(alloc: Global, words: &'a [String]) -> Result<Request<'a>, Error>
     // Without words, with `cpm`, and with `cpm` and a word that is no option, only memory can fail.
-    ensures plain { (network : Option (List ℕ)) → IsCpmLine (map string_bytes words.entry.now) network
+    ensures cpm { (network : Option (List ℕ)) → IsCpmLine (map string_bytes words.entry.now) network
         → MatchResult result (IsCpmOf network) (λ error. kind_of error ≡ OutOfMemory) }
+    // With `check` and three paths, too.
+    ensures check { (net order plan : List ℕ) → IsCheckLine (map string_bytes words.entry.now) net order plan
+        → MatchResult result (IsCheckOf net order plan) (λ error. kind_of error ≡ OutOfMemory) }
     // Whatever the words are, the parser's account of them says what they ask for, or why they are refused.
     ensures asked { IfOk result (IsAsked (map string_bytes words.entry.now)) }
     ensures faults { FailsBy (fault_of racp (map string_bytes words.entry.now)) result }
 {
     let matches = command(alloc)?.try_get_matches_from(words)?;
-    Ok(Request::Cpm(match matches.subcommand() {
-        Some((_, cpm)) => network_of(cpm),
-        None => Source::StandardInput,
-    }))
+    Ok(request_of(&matches))
+}
+
+/// What the matches of the words ask for.
+fn request_of<'a>(matches: &ArgMatches<'a>) -> Request<'a>
+    ensures { IsRequested (subcommand_rows_of matches.now) result }
+{
+    match entered(matches) {
+        Some((name, words)) => request_named(name, words),
+        None => Request::Cpm(Source::StandardInput),
+    }
+}
+
+/// What a command with this name and these words asks for.
+fn request_named<'a>(name: &str, words: &ArgMatches<'a>) -> Request<'a>
+    ensures { IsRequested (Some (name.now, rows_of (found_of words.now))) result }
+{
+    if name == "check" {
+        Request::Check(PlanFiles {
+            net: path_of(words, "NET"),
+            order: path_of(words, "ORDER"),
+            plan: path_of(words, "PLAN"),
+        })
+    } else {
+        Request::Cpm(network_of(words))
+    }
+}
+
+/// The command that the words name, and its own words.
+fn entered<'a, 'm>(matches: &'m ArgMatches<'a>) -> Option<(&'a str, &'m ArgMatches<'a>)>
+    ensures { option_map (λ command. (command.0.now, rows_of (found_of command.1.now))) result ≡ subcommand_rows_of matches.now }
+{
+    matches.subcommand()
 }
 
 /// The commands of the program, with their words.
 fn command<'a>(alloc: Global) -> Result<Command<'a>, AllocError>
     ensures { IfOk result (λ command. app_of command ≡ racp) }
 {
-    let network = Arg::new(alloc, "NET").help(
-        "The network; standard input where it is - or left out",
-    );
-    let cpm = Command::new(alloc, "cpm")
-        .about("Prints the critical length and the early starts of a network")
-        .arg(network)?;
     Command::new(alloc, "racp")
         .about("Plans the capacities of a project. Without words: cpm, from standard input")
         .version("0.1.0")
-        .subcommand(cpm)
+        .subcommand(cpm_command(alloc)?)?
+        .subcommand(check_command(alloc)?)
+}
+
+/// `cpm`, with its word.
+fn cpm_command<'a>(alloc: Global) -> Result<Command<'a>, AllocError>
+    ensures { IfOk result (IsCommandOf cpm) }
+{
+    let network = Arg::new(alloc, "NET").help(
+        "The network; standard input where it is - or left out",
+    );
+    Command::new(alloc, "cpm")
+        .about("Prints the critical length and the early starts of a network")
+        .arg(network)
+}
+
+/// `check`, with its words.
+fn check_command<'a>(alloc: Global) -> Result<Command<'a>, AllocError>
+    ensures { IfOk result (IsCommandOf check) }
+{
+    Command::new(alloc, "check")
+        .about("Checks a plan against a network and an order")
+        .arg(file_word(alloc, "NET", "The network"))?
+        .arg(file_word(alloc, "ORDER", "The order"))?
+        .arg(file_word(alloc, "PLAN", "The plan"))
+}
+
+/// A word that has to be there, and names a file.
+fn file_word<'a>(alloc: Global, id: &'a str, help: &'a str) -> Arg<'a>
+    ensures rule { rule_of result ≡ file_rule id.entry.now }
+    ensures own { result.global ≡ false }
+{
+    Arg::new(alloc, id).required(true).help(help)
 }
 
 /// Where the network is read from.
@@ -65,5 +137,15 @@ fn network_of<'a>(cpm: &ArgMatches<'a>) -> Source<'a>
     match cpm.get_str("NET") {
         None | Some("-") => Source::StandardInput,
         Some(path) => Source::File(path),
+    }
+}
+
+/// The path that a word gives.
+fn path_of<'a>(words: &ArgMatches<'a>, id: &str) -> &'a str
+    ensures { result.now ≡ path_at id.now (rows_of (found_of words.now)) }
+{
+    match words.get_str(id) {
+        Some(path) => path,
+        None => "",
     }
 }

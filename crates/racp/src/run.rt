@@ -5,9 +5,9 @@ ghost use Rattle.racp.specs.Statuses.{IsStatus, IsStatusOfAnswer};
 ghost use Rattle.racp.specs.declared.failure.Failure.TheVariants as failures;
 ghost use Rattle.racp_cli.specs.declared.fault.StreamFault.TheVariants as streams;
 
-use crate::command_line::{Request, Source, asked};
+use crate::command_line::{PlanFiles, Request, Source, asked};
 use crate::failure::{Failure, report};
-use racp_cli::{StreamFault, cpm_over};
+use racp_cli::{StreamFault, check_over, cpm_over};
 use std::fs::File;
 use std::io::ErrorKind;
 use std::rt::{Env, Files};
@@ -30,6 +30,7 @@ fn answer<R: Env + Files + Input + Print + AllocGlobal>(rt: &R) -> Result<u8, Fa
     let words = words(rt)?;
     match asked(rt.alloc(), words.as_slice())? {
         Request::Cpm(network) => Ok(cpm(rt, network)?),
+        Request::Check(files) => Ok(check(rt, files)?),
     }
 }
 
@@ -57,10 +58,30 @@ fn cpm<R: Files + Input + Print + AllocGlobal>(
     match network {
         Source::StandardInput => cpm_over(rt.alloc(), &mut rt.reader(), &mut out),
         Source::File(path) => {
-            let Ok(mut file) = File::open(rt, path) else {
-                return Err(StreamFault::Read);
-            };
-            cpm_over(rt.alloc(), &mut file, &mut out)
+            cpm_over(rt.alloc(), &mut open(rt, path)?, &mut out)
         }
+    }
+}
+
+/// Writes whether the plan in these files is right.
+fn check<R: Files + Print + AllocGlobal>(
+    rt: &R,
+    files: PlanFiles<'_>,
+) -> Result<u8, StreamFault>
+    ensures { IfOk result IsStatusOfAnswer }
+{
+    let mut net = open(rt, files.net)?;
+    let mut order = open(rt, files.order)?;
+    let mut plan = open(rt, files.plan)?;
+    check_over(rt.alloc(), &mut net, &mut order, &mut plan, &mut io::writer(rt))
+}
+
+/// The file with this path, for reading.
+fn open<R: Files>(rt: &R, path: &str) -> Result<R::File, StreamFault>
+    ensures { IfErr result (λ fault. fault ≡ streams.Read) }
+{
+    match File::open(rt, path) {
+        Ok(file) => Ok(file),
+        Err(_) => Err(StreamFault::Read),
     }
 }
