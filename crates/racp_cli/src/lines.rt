@@ -56,8 +56,18 @@ pub(crate) fn plan_fault_line(alloc: Global, fault: PlanFault) -> Result<Vec<u8>
     match fault {
         PlanFault::Cost => b"fault cost\n".to_vec(alloc),
         PlanFault::Late(job) => numbered_line(alloc, "fault late", job),
-        PlanFault::Order(before, after) => doubly_numbered_line(alloc, "fault order", before, after),
-        PlanFault::Over(resource, time) => doubly_numbered_line(alloc, "fault over", resource, time),
+        PlanFault::Order(before, after) => doubly_numbered_line(
+            alloc,
+            "fault order",
+            before,
+            after,
+        ),
+        PlanFault::Over(resource, time) => doubly_numbered_line(
+            alloc,
+            "fault over",
+            resource,
+            time,
+        ),
         PlanFault::Ceiling(resource) => numbered_line(alloc, "fault ceiling", resource),
         PlanFault::Early(job) => numbered_line(alloc, "fault early", job),
     }

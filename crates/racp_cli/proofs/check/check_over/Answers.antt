@@ -16,7 +16,7 @@ returns g c =
     let third : Reader = record { unread = g.P.Read.remaining c.args.plan.now; left = g.P.Read.remaining c.read_whole-3.new.reader } in
     let are : AreInputs (first ∷ (second ∷ (third ∷ []))) (net ∷ (order ∷ (plan ∷ []))) = (c.in_ok-net.ensures, (c.in_ok-order.ensures, (c.in_ok-plan.ensures, tt))) in
     let made : IfOk c.answer.result (λ answer. IsCheckAnswer net order plan answer.0 answer.1.items) =
-      rw (← c.deref.ensures.value, ← c.deref-2.ensures.value, ← c.deref-3.ensures.value) c.answer.ensures in
+    rw (← c.deref.ensures.value, ← c.deref-2.ensures.value, ← c.deref-3.ensures.value) c.answer.ensures in
     let memory : IsCheckAnswer net order plan 6 memory_line = record { answer = Err OutOfMemory; right = tt; with_status = refl; with_text = refl } in
     run_answered (ToThree IsCheckAnswer) (first ∷ (second ∷ (third ∷ []))) (net ∷ (order ∷ (plan ∷ []))) _ _ c.respond.result are
     (answered_as _ (IsCheckAnswer net order plan) _ _ c.respond.result (made_right (IsCheckAnswer net order plan) c.answer.result made memory) c.respond.ensures)
