@@ -9,8 +9,8 @@ use Rattle.std.proofs.lemmas.List.Sums.{prefix_len-le-length, split_at_first, pr
 use Rattle.std.proofs.lemmas.Slice.Eq.{bytes_eq-Decides}
 use denote.Ref.{Bor}
 use Rattle.std.specs.Fmt.{decimal}
-use Rattle.racp_check.specs.PlanReading.{Rest, is_line_feed, next_line, after_words, words_for}
-use Rattle.racp_check.specs.Steps.{contents}
+use Rattle.racp_check.specs.PlanReading.{words_for}
+use Rattle.racp_check.specs.Steps.{Rest, after_words, contents, is_line_feed, next_line}
 use Rattle.racp_check.specs.TextFaults.{refused}
 use Rattle.racp_check.specs.declared.text_fault.TextFaultKind.TheVariants.{Syntax}
 

@@ -6,3 +6,5 @@ mod Numbered
 mod Numbers
 mod Written
 mod Telling
+mod FirstFaults
+mod Adequate
