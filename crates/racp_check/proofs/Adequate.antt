@@ -1,17 +1,16 @@
 -- Reading stops exactly at the first fault, and what is read is one thing.
-use Rattle.std.proofs.Common.{◌≡◌, refl, sym, ◌∙◌, ap, subst, ℕ, zero, suc, ◌+◌, ◌^◌, ◌<◌, ◌≤◌, ◌⊎◌, inl, inr, List, [], ◌∷◌, ◌++◌, length, drop, arith, codes, Ok, Err, length-append}
+use Rattle.std.proofs.Common.{◌≡◌, refl, sym, ◌∙◌, ap, subst, ℕ, zero, suc, ◌+◌, ◌^◌, ◌<◌, ◌≤◌, inl, inr, List, [], ◌∷◌, ◌++◌, length, drop, arith, codes, Ok, Err, length-append}
 use Rattle.std.specs.Prelude.{Result, ◌≢◌}
 use Rattle.racp_model.specs.Project.{Project, IsWithinLimits}
 use Rattle.racp_check.specs.declared.text_fault.TextFault.{TextFault}
-use Rattle.racp_check.specs.declared.text_fault.TextFaultKind.{TextFaultKind}
-use Rattle.racp_check.specs.declared.text_fault.TextFaultKind.TheVariants.{Syntax, Range, Memory}
+use Rattle.racp_check.specs.declared.text_fault.TextFaultKind.TheVariants.{Memory}
 use Rattle.racp_check.specs.declared.plan.Plan.{Plan}
 use Rattle.racp_check.specs.Texts.{plan_text}
-use Rattle.racp_check.specs.TextFaults.{fault_at, out_of_memory, ◌>>=◌}
-use Rattle.racp_check.specs.PlanReading.{IsPlanReading, IsPlanReadingOrMemory, IsReadable, Form, forms, forms_for, IsWrong, IsWrongEnd, IsFirstFault, words_for, most_number, most_cost}
+use Rattle.racp_check.specs.TextFaults.{fault_at, ◌>>=◌}
+use Rattle.racp_check.specs.PlanReading.{IsPlanReading, IsPlanReadingOrMemory, IsReadable, Form, forms, forms_for, IsWrong, IsFirstFault, words_for, most_number, most_cost}
 use Rattle.racp_check.specs.Steps.{GivesOrMemory, Rest, next_number, next_numbers, last_line, reading}
 use Rattle.racp_check.proofs.Written.{rest_at, own_words, IsFault, written_read, read_written}
-use Rattle.racp_check.proofs.FirstFaults.{IsOneLine, line_right, right_line, line_fault, fault_wrong, wrong_fault, end_fault, end_wrong}
+use Rattle.racp_check.proofs.FirstFaults.{IsOneLine, line_right, right_line, fault_wrong, wrong_fault, end_fault, end_wrong}
 
 -- whether all lines are right, or the first fault
 abbrev pub all_read : List Form → Rest → Result (Unit {0}) TextFault
@@ -97,8 +96,8 @@ numbers-forget word place (suc count) rest next tail same =
     let others = λ (x : ℕ × Rest). next_numbers word (place + 1) count x.1 >>= (λ others. Ok (x.0 ∷ others.0, others.1)) in
     ap forget (bind_bind first others next)
     ∙ forget-bind first (λ x. others x >>= next) (λ x. all_read (forms_for word (place + 1) count ++ tail) x.1)
-      (λ x. ap forget (bind_bind (next_numbers word (place + 1) count x.1) (λ others. Ok (x.0 ∷ others.0, others.1)) next)
-      ∙ numbers-forget word (place + 1) count x.1 (λ others. next (x.0 ∷ others.0, others.1)) tail (λ numbers rest. same (x.0 ∷ numbers) rest))
+    (λ x. ap forget (bind_bind (next_numbers word (place + 1) count x.1) (λ others. Ok (x.0 ∷ others.0, others.1)) next)
+    ∙ numbers-forget word (place + 1) count x.1 (λ others. next (x.0 ∷ others.0, others.1)) tail (λ numbers rest. same (x.0 ∷ numbers) rest))
 
 -- reading a plan from each of its lines on
 abbrev pub from_starts : ℕ → ℕ → ℕ → List ℕ → List ℕ × Rest → Result Plan TextFault

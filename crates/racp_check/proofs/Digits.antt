@@ -1,8 +1,8 @@
 -- Numbers in decimal: the digits of a number, and the number of digits.
-use Rattle.std.proofs.Common.{◌≡◌, refl, sym, ◌∙◌, ap, subst, ℕ, zero, suc, ◌+◌, ◌-◌, ◌*◌, ◌^◌, ◌<◌, ◌≤◌, inl, inr, Bool, true, false, List, [], ◌∷◌, ◌++◌, length, take, slice_index, get_or, arith, append_assoc}
-use Rattle.std.specs.Prelude.{Option, Some, None, min, not, ◌&&◌, ◌||◌, ◌==◌, nat_lt, nat_le, bytes_eq}
+use Rattle.std.proofs.Common.{◌≡◌, refl, sym, ◌∙◌, ap, subst, ℕ, zero, suc, ◌+◌, ◌-◌, ◌*◌, ◌^◌, ◌<◌, ◌≤◌, inl, inr, Bool, true, false, List, [], ◌∷◌, ◌++◌, length, take, slice_index, arith, append_assoc}
+use Rattle.std.specs.Prelude.{Some, None, min, not, ◌&&◌, ◌||◌, ◌==◌, nat_lt, nat_le, bytes_eq}
 use Rattle.std.specs.List.{list_all, list_any, position_or_len}
-use Rattle.std.specs.Char.{is_ascii_digit, digit_value}
+use Rattle.std.specs.Char.{is_ascii_digit}
 use Rattle.std.specs.Fmt.{decimal}
 use Rattle.std.specs.Str.Parse.{AllDigits, digits_value}
 use Rattle.std.proofs.lemmas.Bool.{cases_Bool, and_parts, leb-true, le-leb, true≢false, ne_eqb, eq-eqb, ltb-false}

@@ -1,24 +1,22 @@
 -- The first wrong line of a text: where reading stops.
-use Rattle.std.proofs.Common.{◌≡◌, refl, sym, ◌∙◌, ap, subst, ℕ, zero, suc, ◌+◌, ◌^◌, ◌<◌, ◌≤◌, ◌⊎◌, inl, inr, Bool, true, false, cond, List, [], ◌∷◌, ◌++◌, length, arith, codes, append_assoc, append-nil, Ok, Err}
-use Rattle.std.specs.Prelude.{Option, Some, None, Result, nat_le, bytes_eq, ◌==◌, ◌||◌}
+use Rattle.std.proofs.Common.{◌≡◌, refl, sym, ◌∙◌, ap, subst, ℕ, ◌+◌, ◌^◌, ◌<◌, ◌≤◌, ◌⊎◌, inl, inr, false, cond, List, [], ◌++◌, length, arith, codes, append-nil, Ok, Err}
+use Rattle.std.specs.Prelude.{Some, Result, nat_le, bytes_eq, ◌==◌, ◌||◌}
 use Rattle.std.specs.List.{list_any, before_first, after_first}
 use Rattle.std.specs.Fmt.{decimal}
-use Rattle.std.proofs.lemmas.Bool.{cases_Bool, cond-true, cond-false, le-leb, lt-leb, leb-true, eqb-true, eq-eqb, true≢false}
+use Rattle.std.proofs.lemmas.Bool.{cases_Bool, cond-true, cond-false, le-leb, lt-leb, eq-eqb, true≢false}
 use Rattle.std.proofs.lemmas.Bool.Decides.{leb_tells}
 use Rattle.std.proofs.lemmas.List.Folds.{list_any-append}
 use Rattle.std.proofs.lemmas.Slice.Eq.{bytes_eq-Decides}
-use Rattle.racp_model.specs.Project.{Project, IsWithinLimits}
 use Rattle.racp_check.specs.declared.text_fault.TextFault.{TextFault}
 use Rattle.racp_check.specs.declared.text_fault.TextFaultKind.{TextFaultKind}
 use Rattle.racp_check.specs.declared.text_fault.TextFaultKind.TheVariants.{Syntax, Range, Memory}
-use Rattle.racp_check.specs.declared.plan.Plan.{Plan}
-use Rattle.racp_check.specs.Texts.{line, plan_text}
-use Rattle.racp_check.specs.TextFaults.{fault_at, refused, out_of_memory, ◌>>=◌}
-use Rattle.racp_check.specs.PlanReading.{IsPlanReading, IsPlanReadingOrMemory, IsReadable, Form, forms, forms_for, BeginsWithLine, IsWrong, IsWrongEnd, IsFirstFault, is_decimal, value, words_for, most_number, most_cost}
-use Rattle.racp_check.specs.Steps.{GivesOrMemory, Rest, is_line_feed, next_line, after_words, number_on, next_number, next_numbers, nothing_left, last_line, reading}
-use Rattle.racp_check.proofs.Fronts.{words_before, words_from, words_cases}
+use Rattle.racp_check.specs.Texts.{line}
+use Rattle.racp_check.specs.TextFaults.{fault_at, refused, ◌>>=◌}
+use Rattle.racp_check.specs.PlanReading.{Form, BeginsWithLine, IsWrong, IsWrongEnd, is_decimal, value}
+use Rattle.racp_check.specs.Steps.{Rest, is_line_feed, next_line, after_words, number_on, next_number, nothing_left, last_line}
+use Rattle.racp_check.proofs.Fronts.{words_before, words_cases}
 use Rattle.racp_check.proofs.Digits.{not_in_digits, decimal-is, value-decimal}
-use Rattle.racp_check.proofs.Written.{rest_at, line_next, line_read, own_words, bind_on, no_more, next_read, last_read, IsFault, written_read, read_written}
+use Rattle.racp_check.proofs.Written.{rest_at, line_next, line_read, bind_on, no_more, next_read, last_read, IsFault}
 
 -- words without a line feed
 abbrev pub IsOneLine : List ℕ → Type 0

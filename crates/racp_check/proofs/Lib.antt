@@ -1,10 +1,10 @@
+pub mod lemmas
 mod TextLines
 mod Fronts
 mod Digits
 mod Repeats
-mod Numbered
-mod Numbers
-mod Written
+mod PlanTexts
 mod Telling
+mod Written
 mod FirstFaults
 mod Adequate

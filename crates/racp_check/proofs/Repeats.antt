@@ -1,6 +1,6 @@
 -- Lines of resources or jobs, read one after another: what was read, and what is left to read.
 use Rattle.std.proofs.Common.{◌≡◌, refl, sym, ◌∙◌, ap, ℕ, suc, ◌+◌, ◌-◌, ◌<◌, ◌≤◌, List, [], ◌∷◌, ◌++◌, arith, Ok, Err, append_assoc, append-nil}
-use Rattle.std.specs.Prelude.{Option, Some, None, Result}
+use Rattle.std.specs.Prelude.{Option, Some, Result}
 use Rattle.racp_check.specs.PlanReading.{most_number, words_for}
 use Rattle.racp_check.specs.Steps.{HasItems, Rest, next_number, next_numbers}
 use Rattle.racp_check.specs.TextFaults.{◌>>=◌}

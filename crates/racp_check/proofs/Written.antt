@@ -1,9 +1,9 @@
 -- A written plan is read again, and what is read was written.
-use Rattle.std.proofs.Common.{◌≡◌, refl, sym, ◌∙◌, ap, subst, ℕ, zero, suc, ◌+◌, ◌^◌, ◌<◌, ◌≤◌, ◌⊎◌, inl, inr, Bool, true, false, cond, List, [], ◌∷◌, ◌++◌, length, All, arith, codes, append_assoc, append-nil, Ok, Err}
+use Rattle.std.proofs.Common.{◌≡◌, refl, sym, ◌∙◌, ap, subst, ℕ, zero, suc, ◌+◌, ◌^◌, ◌<◌, ◌≤◌, inl, inr, Bool, true, false, cond, List, [], ◌∷◌, ◌++◌, length, All, arith, codes, append_assoc, append-nil, Ok, Err}
 use Rattle.std.specs.Prelude.{Option, Some, None, Result, nat_le, bytes_eq, ◌==◌, ◌||◌}
-use Rattle.std.specs.List.{list_any, position_or_len, before_first, after_first}
+use Rattle.std.specs.List.{list_any, before_first, after_first}
 use Rattle.std.specs.Fmt.{decimal}
-use Rattle.std.proofs.lemmas.Bool.{cases_Bool, cond-true, cond-false, le-leb, leb-true, eqb-true, true≢false}
+use Rattle.std.proofs.lemmas.Bool.{cases_Bool, cond-true, cond-false, le-leb, leb-true, eqb-true}
 use Rattle.std.proofs.lemmas.List.Elements.{All-head, All-tail, All-nil, All-cons}
 use Rattle.std.proofs.lemmas.List.Folds.{list_any-append}
 use Rattle.std.proofs.lemmas.Slice.Eq.{bytes_eq-Decides}
@@ -13,10 +13,11 @@ use Rattle.racp_check.specs.declared.plan.Plan.{Plan}
 use Rattle.racp_check.specs.Texts.{line, plan_text}
 use Rattle.racp_check.specs.TextFaults.{◌>>=◌}
 use Rattle.racp_check.specs.PlanReading.{IsReadable, is_decimal, value, words_for, most_number, most_cost}
-use Rattle.racp_check.specs.Steps.{Rest, is_line_feed, next_line, after_words, number_on, next_number, next_numbers, nothing_left, last_line, reading}
-use Rattle.racp_check.proofs.Fronts.{AreParts, parts_of, whole_of, words_before, words_from, line_cut, some_place}
+use Rattle.racp_check.specs.Steps.{Rest, is_line_feed, next_line, after_words, number_on, next_number, next_numbers, last_line, reading}
+use Rattle.racp_check.proofs.Fronts.{parts_of, whole_of, words_before, words_from, line_cut, some_place}
 use Rattle.racp_check.proofs.Digits.{decimal-is, value-decimal, decimal-value, not_in_decimal}
-use Rattle.racp_check.proofs.Numbered.{number_line, number_lines, start_word, capacity_word, from_starts, from_capacities, from_cost, from_critical, plan_text_is}
+use Rattle.racp_check.proofs.lemmas.Numbered.{number_line, number_lines, start_word, capacity_word}
+use Rattle.racp_check.proofs.PlanTexts.{from_starts, from_capacities, from_cost, from_critical, plan_text_is}
 
 -- reading goes on with what is read
 pub bind_on : {A B : Type 0} (r : Result A TextFault) (next : A → Result B TextFault) (x : A) (y : Result B TextFault) → r ≡ Ok x → next x ≡ y → (r >>= next) ≡ y

@@ -27,12 +27,7 @@ pub fn read_plan(alloc: Global, bytes: &[u8], net: &Network) -> Result<Plan, Tex
 
 /// The plan of the lines of a text, for so many resources and jobs.
 #[tactic(auto, unfolding(crate::specs::Steps::reading))]
-fn read_lines(
-    alloc: Global,
-    bytes: &[u8],
-    resources: usize,
-    jobs: usize,
-) -> Result<Plan, TextFault>
+fn read_lines(alloc: Global, bytes: &[u8], resources: usize, jobs: usize) -> Result<Plan, TextFault>
     requires resources { resources ≤ 512 }
     requires jobs { jobs ≤ 512 }
     ensures { GivesOrMemory result (reading resources jobs bytes.now) }
