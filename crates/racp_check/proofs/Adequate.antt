@@ -6,9 +6,9 @@ use Rattle.racp_check.specs.declared.text_fault.TextFault.{TextFault}
 use Rattle.racp_check.specs.declared.text_fault.TextFaultKind.TheVariants.{Memory}
 use Rattle.racp_check.specs.declared.plan.Plan.{Plan}
 use Rattle.racp_check.specs.Texts.{plan_text}
-use Rattle.racp_check.specs.TextFaults.{fault_at, ◌>>=◌}
+use Rattle.racp_check.specs.TextFaults.{fault_at}
 use Rattle.racp_check.specs.PlanReading.{IsPlanReading, IsPlanReadingOrMemory, IsReadable, Form, forms, forms_for, IsWrong, IsFirstFault, words_for, most_number, most_cost}
-use Rattle.racp_check.specs.Steps.{GivesOrMemory, Rest, next_number, next_numbers, last_line, reading}
+use Rattle.racp_check.specs.Steps.{GivesOrMemory, Rest, next_number, next_numbers, last_line, reading, ◌>>=◌}
 use Rattle.racp_check.proofs.Written.{rest_at, own_words, IsFault, written_read, read_written}
 use Rattle.racp_check.proofs.FirstFaults.{IsOneLine, line_right, right_line, fault_wrong, wrong_fault, end_fault, end_wrong}
 

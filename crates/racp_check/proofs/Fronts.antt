@@ -10,8 +10,7 @@ use Rattle.std.proofs.lemmas.Slice.Eq.{bytes_eq-Decides}
 use denote.Ref.{Bor}
 use Rattle.std.specs.Fmt.{decimal}
 use Rattle.racp_check.specs.PlanReading.{words_for}
-use Rattle.racp_check.specs.Steps.{Rest, after_words, contents, is_line_feed, next_line}
-use Rattle.racp_check.specs.TextFaults.{refused}
+use Rattle.racp_check.specs.Steps.{Rest, after_words, contents, is_line_feed, next_line, refused}
 use Rattle.racp_check.specs.declared.text_fault.TextFaultKind.TheVariants.{Syntax}
 
 -- where no place is found, no element passes

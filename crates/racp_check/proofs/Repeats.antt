@@ -2,8 +2,7 @@
 use Rattle.std.proofs.Common.{◌≡◌, refl, sym, ◌∙◌, ap, ℕ, suc, ◌+◌, ◌-◌, ◌<◌, ◌≤◌, List, [], ◌∷◌, ◌++◌, arith, Ok, Err, append_assoc, append-nil}
 use Rattle.std.specs.Prelude.{Option, Some, Result}
 use Rattle.racp_check.specs.PlanReading.{most_number, words_for}
-use Rattle.racp_check.specs.Steps.{HasItems, Rest, next_number, next_numbers}
-use Rattle.racp_check.specs.TextFaults.{◌>>=◌}
+use Rattle.racp_check.specs.Steps.{HasItems, Rest, next_number, next_numbers, ◌>>=◌}
 use Rattle.racp_check.specs.declared.text_fault.TextFault.{TextFault}
 
 -- numbers, and what is left after their lines

@@ -11,9 +11,8 @@ use Rattle.racp_model.specs.Project.{Project, IsWithinLimits}
 use Rattle.racp_check.specs.declared.text_fault.TextFault.{TextFault}
 use Rattle.racp_check.specs.declared.plan.Plan.{Plan}
 use Rattle.racp_check.specs.Texts.{line, plan_text}
-use Rattle.racp_check.specs.TextFaults.{◌>>=◌}
 use Rattle.racp_check.specs.PlanReading.{IsReadable, is_decimal, value, words_for, most_number, most_cost}
-use Rattle.racp_check.specs.Steps.{Rest, is_line_feed, next_line, after_words, number_on, next_number, next_numbers, last_line, reading}
+use Rattle.racp_check.specs.Steps.{Rest, is_line_feed, next_line, after_words, number_on, next_number, next_numbers, last_line, reading, ◌>>=◌}
 use Rattle.racp_check.proofs.Fronts.{parts_of, whole_of, words_before, words_from, line_cut, some_place}
 use Rattle.racp_check.proofs.Digits.{decimal-is, value-decimal, decimal-value, not_in_decimal}
 use Rattle.racp_check.proofs.lemmas.Numbered.{number_line, number_lines, start_word, capacity_word}

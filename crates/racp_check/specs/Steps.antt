@@ -3,8 +3,9 @@ use Rattle.std.specs.Prelude.{◌≡◌, ◌⊎◌, ℕ, zero, suc, ◌+◌, ◌
 use Rattle.std.specs.List.{before_first, after_first, position_or_len, list_any}
 use denote.Ref.{Bor}
 use Rattle.racp_check.specs.PlanReading.{most_number, most_cost, is_decimal, value, words_for}
-use Rattle.racp_check.specs.TextFaults.{refused, out_of_memory, ◌>>=◌}
+use Rattle.racp_check.specs.TextFaults.{fault_at, out_of_memory}
 use Rattle.racp_check.specs.declared.text_fault.TextFault.{TextFault}
+use Rattle.racp_check.specs.declared.text_fault.TextFaultKind.{TextFaultKind}
 use Rattle.racp_check.specs.declared.text_fault.TextFaultKind.TheVariants.{Syntax, Range}
 use Rattle.racp_check.specs.declared.plan.Plan.{Plan}
 
@@ -22,6 +23,16 @@ contents None = None
 abbrev pub IsCapped : List ℕ → Option ℕ → Type 0
 IsCapped digits (Some number) = (is_decimal digits ≡ true) × (number ≡ min (value digits) 18446744073709551615)
 IsCapped digits None = is_decimal digits ≡ false
+
+-- a fault in place of what is read
+abbrev pub refused : {A : Type 0} → TextFaultKind → ℕ → Result A TextFault
+refused kind line = Err (fault_at kind line)
+
+-- reading goes on with what was read, or stops at a fault
+infixl 10 ◌>>=◌
+abbrev pub ◌>>=◌ : {A B : Type 0} → Result A TextFault → (A → Result B TextFault) → Result B TextFault
+(Ok x) >>= next = next x
+(Err fault) >>= next = Err fault
 
 -- what is left of a text, from a line on: the number of this line, from 1, and the bytes
 pub record Rest : Type 0 where
