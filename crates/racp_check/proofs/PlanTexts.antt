@@ -2,7 +2,8 @@
 use Rattle.std.proofs.Common.{◌≡◌, ◌∙◌, ℕ, List, ◌++◌, codes, append_assoc}
 use Rattle.racp_check.specs.declared.plan.Plan.{Plan}
 use Rattle.racp_check.specs.Texts.{line, deadline_line, critical_line, cost_line, capacity_lines, start_lines, plan_text}
-use Rattle.racp_check.proofs.lemmas.Numbered.{number_line, number_lines, start_word, capacity_word, start_lines_are, capacity_lines_are}
+use Rattle.racp_check.specs.Steps.{number_line, number_lines}
+use Rattle.racp_check.proofs.lemmas.Numbered.{start_word, capacity_word, start_lines_are, capacity_lines_are}
 
 -- the lines before the last, from each of the first ones on
 abbrev pub from_starts : Plan → List ℕ

@@ -3,7 +3,8 @@ use Rattle.std.proofs.Common.{◌≡◌, ℕ, List, [], ◌∷◌, ◌++◌, get
 use Rattle.racp_check.specs.declared.plan.Plan.{Plan}
 use Rattle.racp_check.specs.Texts.{line, plan_text}
 use Rattle.racp_check.specs.TextLaws.{IsWithin64Bits}
-use Rattle.racp_check.proofs.lemmas.Numbered.{number_lines, start_word, same_line, lines_first, same_lines}
+use Rattle.racp_check.specs.Steps.{number_lines}
+use Rattle.racp_check.proofs.lemmas.Numbered.{start_word, same_line, lines_first, same_lines}
 use Rattle.racp_check.proofs.PlanTexts.{from_starts, from_capacities, from_cost, from_critical, plan_text_is}
 
 -- the last line, and the lines of starts, begin with other letters than the lines of capacities

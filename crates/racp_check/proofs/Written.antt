@@ -12,10 +12,10 @@ use Rattle.racp_check.specs.declared.text_fault.TextFault.{TextFault}
 use Rattle.racp_check.specs.declared.plan.Plan.{Plan}
 use Rattle.racp_check.specs.Texts.{line, plan_text}
 use Rattle.racp_check.specs.PlanReading.{IsReadable, is_decimal, value, words_for, most_number, most_cost}
-use Rattle.racp_check.specs.Steps.{Rest, is_line_feed, next_line, after_words, number_on, next_number, next_numbers, last_line, reading, ◌>>=◌}
+use Rattle.racp_check.specs.Steps.{Rest, is_line_feed, next_line, after_words, number_on, next_number, next_numbers, last_line, reading, ◌>>=◌, number_line, number_lines}
 use Rattle.racp_check.proofs.Fronts.{parts_of, whole_of, words_before, words_from, line_cut, some_place}
 use Rattle.racp_check.proofs.Digits.{decimal-is, value-decimal, decimal-value, not_in_decimal}
-use Rattle.racp_check.proofs.lemmas.Numbered.{number_line, number_lines, start_word, capacity_word}
+use Rattle.racp_check.proofs.lemmas.Numbered.{start_word, capacity_word}
 use Rattle.racp_check.proofs.PlanTexts.{from_starts, from_capacities, from_cost, from_critical, plan_text_is}
 
 -- reading goes on with what is read

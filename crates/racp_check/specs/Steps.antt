@@ -1,13 +1,24 @@
--- What the steps of reading answer: private words.
-use Rattle.std.specs.Prelude.{◌≡◌, ◌⊎◌, ℕ, zero, suc, ◌+◌, ◌<◌, ◌==◌, Bool, true, false, List, [], ◌∷◌, length, take, drop, min, Option, Some, None, Result, Ok, Err, bytes_eq, nat_le, if◌then◌else◌, codes}
+-- What the steps of writing and reading answer: private words.
+use Rattle.std.specs.Prelude.{◌≡◌, ◌⊎◌, ℕ, zero, suc, ◌+◌, ◌<◌, ◌==◌, Bool, true, false, List, [], ◌∷◌, ◌++◌, length, take, drop, min, Option, Some, None, Result, Ok, Err, bytes_eq, nat_le, if◌then◌else◌, codes}
 use Rattle.std.specs.List.{before_first, after_first, position_or_len, list_any}
 use denote.Ref.{Bor}
+use Rattle.std.specs.Fmt.{decimal}
+use Rattle.racp_check.specs.Texts.{line}
 use Rattle.racp_check.specs.PlanReading.{most_number, most_cost, is_decimal, value, words_for}
 use Rattle.racp_check.specs.TextFaults.{fault_at, out_of_memory}
 use Rattle.racp_check.specs.declared.text_fault.TextFault.{TextFault}
 use Rattle.racp_check.specs.declared.text_fault.TextFaultKind.{TextFaultKind}
 use Rattle.racp_check.specs.declared.text_fault.TextFaultKind.TheVariants.{Syntax, Range}
 use Rattle.racp_check.specs.declared.plan.Plan.{Plan}
+
+-- a line of words and a number
+abbrev pub number_line : List ℕ → ℕ → List ℕ
+number_line words number = line (words ++ decimal number)
+
+-- a line for each number, the first of them of this resource or job
+abbrev pub number_lines : List ℕ → ℕ → List ℕ → List ℕ
+number_lines word place [] = []
+number_lines word place (number ∷ numbers) = number_line (words_for word place) number ++ number_lines word (place + 1) numbers
 
 -- what stands before the first byte that passes the test, and what after it, or none where no byte does
 abbrev pub IsCut : (ℕ → Bool) → List ℕ → Option (Bor (List ℕ) × Bor (List ℕ)) → Type 0

@@ -5,16 +5,8 @@ use Rattle.std.proofs.lemmas.List.{append_cancel_left}
 use Rattle.std.proofs.lemmas.List.Elements.{All-head, All-tail}
 use Rattle.racp_check.specs.Texts.{line, capacity_line, capacity_lines, start_line, start_lines}
 use Rattle.racp_check.specs.PlanReading.{words_for}
+use Rattle.racp_check.specs.Steps.{number_line, number_lines}
 use Rattle.racp_check.proofs.lemmas.Numbers.{same_number, feed_is_no_digit}
-
--- a line of words and a number
-abbrev pub number_line : List ℕ → ℕ → List ℕ
-number_line words number = line (words ++ decimal number)
-
--- a line for each number, the first of them of this resource or job
-abbrev pub number_lines : List ℕ → ℕ → List ℕ → List ℕ
-number_lines word place [] = []
-number_lines word place (number ∷ numbers) = number_line (words_for word place) number ++ number_lines word (place + 1) numbers
 
 -- the words of capacities and starts
 abbrev pub capacity_word : List ℕ
