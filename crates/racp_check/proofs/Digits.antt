@@ -1,8 +1,8 @@
 -- Numbers in decimal: the digits of a number, and the number of digits.
-use Rattle.std.proofs.Common.{◌≡◌, refl, sym, ◌∙◌, ap, subst, ℕ, zero, suc, ◌+◌, ◌-◌, ◌*◌, ◌^◌, ◌<◌, ◌≤◌, inl, inr, Bool, true, false, List, [], ◌∷◌, ◌++◌, length, take, slice_index, get_or, arith, append_assoc}
-use Rattle.std.specs.Prelude.{Option, Some, None, min, not, ◌&&◌, ◌||◌, ◌==◌, nat_lt, nat_le, bytes_eq}
+use Rattle.std.proofs.Common.{◌≡◌, refl, sym, ◌∙◌, ap, subst, ℕ, zero, suc, ◌+◌, ◌-◌, ◌*◌, ◌^◌, ◌<◌, ◌≤◌, inl, inr, Bool, true, false, List, [], ◌∷◌, ◌++◌, length, take, slice_index, arith, append_assoc}
+use Rattle.std.specs.Prelude.{Some, None, min, not, ◌&&◌, ◌||◌, ◌==◌, nat_lt, nat_le, bytes_eq}
 use Rattle.std.specs.List.{list_all, list_any, position_or_len}
-use Rattle.std.specs.Char.{is_ascii_digit, digit_value}
+use Rattle.std.specs.Char.{is_ascii_digit}
 use Rattle.std.specs.Fmt.{decimal}
 use Rattle.std.specs.Str.Parse.{AllDigits, digits_value}
 use Rattle.std.proofs.lemmas.Bool.{cases_Bool, and_parts, leb-true, le-leb, true≢false, ne_eqb, eq-eqb, ltb-false}
@@ -13,7 +13,8 @@ use Rattle.std.proofs.lemmas.Str.{digit_value_digit}
 use Rattle.std.proofs.lemmas.Str.Parse.{IsDigitsTest, IsNumeralModel, numerals_by_value, digit_from_value}
 use Rattle.std.proofs.lemmas.Int.Digits.{digits_value_more}
 use Rattle.std.proofs.lemmas.List.Folds.{list_all_at}
-use Rattle.racp_check.specs.PlanReading.{is_decimal, value, after_words}
+use Rattle.racp_check.specs.PlanReading.{is_decimal, value}
+use Rattle.racp_check.specs.Steps.{after_words}
 use Rattle.racp_check.proofs.Fronts.{AreParts, parts_of, whole_of, words_before, words_cases}
 
 -- a byte of a number is a digit
@@ -110,6 +111,12 @@ no_digit byte (c ∷ digits) small all =
     let other : (c == byte) ≡ false = ne_eqb c byte (λ e. omega (arith, e, digit_from_value c all.0)) in
     let rest : list_any (λ b. b == byte) digits ≡ false = no_digit byte digits small all.1 in
     λ i. other i || rest i
+
+pub not_in_digits : (byte : ℕ) (digits : List ℕ) → byte < 48 → is_decimal digits ≡ true → list_any (λ b. b == byte) digits ≡ false
+not_in_digits byte digits small is =
+    let parts = and_parts (not (length digits == 0) && list_all is_ascii_digit digits) _ is in
+    let all = (and_parts (not (length digits == 0)) (list_all is_ascii_digit digits) parts.0).1 in
+    no_digit byte digits small (are_digits.to digits all)
 
 pub not_in_decimal : (byte n : ℕ) → byte < 48 → n < 2 ^ 64 → list_any (λ b. b == byte) (decimal n) ≡ false
 not_in_decimal byte n small fits = no_digit byte (decimal n) small (decimal_is_IsNumeral n fits).0.1

@@ -1,17 +1,16 @@
 -- Bytes cut at the first byte of a kind, and bytes that begin with words.
-use Rattle.std.proofs.Common.{◌≡◌, refl, sym, ◌∙◌, ap, subst, ℕ, zero, suc, ◌+◌, ◌-◌, ◌<◌, ◌≤◌, ◌⊎◌, inl, inr, Bool, true, false, List, [], ◌∷◌, ◌++◌, length, take, drop, get_or, arith, nat_lt, ◌==◌, cond, Ok, Err, length-append, add-one, append_assoc, codes}
-use Rattle.std.specs.Prelude.{Option, Some, None, position, not, MatchOption, bytes_eq, Result}
+use Rattle.std.proofs.Common.{◌≡◌, refl, sym, ◌∙◌, ap, ℕ, suc, ◌+◌, ◌<◌, ◌⊎◌, inl, inr, Bool, true, false, List, [], ◌∷◌, ◌++◌, length, take, drop, get_or, arith, nat_lt, ◌==◌, Ok, length-append, add-one, append_assoc, codes}
+use Rattle.std.specs.Prelude.{Option, Some, None, position, not, MatchOption, bytes_eq}
 use Rattle.std.specs.List.{position_or_len, before_first, after_first, list_any}
-use Rattle.std.proofs.lemmas.Bool.{cases_Bool, true≢false, false≢true, ltb-false, cond-true, cond-false, eqb-true}
+use Rattle.std.proofs.lemmas.Bool.{cases_Bool, true≢false, ltb-false, cond-true, cond-false, eqb-true}
 use Rattle.std.proofs.lemmas.Option.{none-some}
 use Rattle.std.proofs.lemmas.List.{take_at, take-append-drop, append_cancel_left}
 use Rattle.std.proofs.lemmas.List.Sums.{prefix_len-le-length, split_at_first, prefix_len_stops}
 use Rattle.std.proofs.lemmas.Slice.Eq.{bytes_eq-Decides}
 use denote.Ref.{Bor}
 use Rattle.std.specs.Fmt.{decimal}
-use Rattle.racp_check.specs.PlanReading.{Rest, is_line_feed, next_line, after_words, words_for}
-use Rattle.racp_check.specs.Steps.{contents}
-use Rattle.racp_check.specs.TextFaults.{refused}
+use Rattle.racp_check.specs.PlanReading.{words_for}
+use Rattle.racp_check.specs.Steps.{Rest, after_words, contents, is_line_feed, next_line, refused}
 use Rattle.racp_check.specs.declared.text_fault.TextFaultKind.TheVariants.{Syntax}
 
 -- where no place is found, no element passes

@@ -3,9 +3,11 @@ mod TextLines
 mod Fronts
 mod Digits
 mod Repeats
-mod Numbered
-mod Written
+mod PlanTexts
 mod Telling
+mod Written
+mod FirstFaults
+mod Adequate
 mod Precedence
 mod Excess
 mod OneAnswer

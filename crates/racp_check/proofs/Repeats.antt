@@ -1,9 +1,9 @@
 -- Lines of resources or jobs, read one after another: what was read, and what is left to read.
 use Rattle.std.proofs.Common.{◌≡◌, refl, sym, ◌∙◌, ap, ℕ, suc, ◌+◌, ◌-◌, ◌<◌, ◌≤◌, List, [], ◌∷◌, ◌++◌, arith, Ok, Err, append_assoc, append-nil}
-use Rattle.std.specs.Prelude.{Option, Some, None, Result}
-use Rattle.racp_check.specs.PlanReading.{Rest, most_number, next_number, next_numbers, words_for}
-use Rattle.racp_check.specs.Steps.{HasItems}
+use Rattle.std.specs.Prelude.{Option, Some, Result}
+use Rattle.racp_check.specs.PlanReading.{most_number, words_for}
 use Rattle.racp_model.specs.Steps.{◌>>=◌}
+use Rattle.racp_check.specs.Steps.{HasItems, Rest, next_number, next_numbers}
 use Rattle.racp_check.specs.declared.text_fault.TextFault.{TextFault}
 
 -- numbers, and what is left after their lines

@@ -1,9 +1,9 @@
 -- A written plan is read again, and what is read was written.
-use Rattle.std.proofs.Common.{◌≡◌, refl, sym, ◌∙◌, ap, subst, ℕ, zero, suc, ◌+◌, ◌^◌, ◌<◌, ◌≤◌, ◌⊎◌, inl, inr, Bool, true, false, cond, List, [], ◌∷◌, ◌++◌, length, All, arith, codes, append_assoc, append-nil, Ok, Err}
+use Rattle.std.proofs.Common.{◌≡◌, refl, sym, ◌∙◌, ap, subst, ℕ, zero, suc, ◌+◌, ◌^◌, ◌<◌, ◌≤◌, inl, inr, Bool, true, false, cond, List, [], ◌∷◌, ◌++◌, length, All, arith, codes, append_assoc, append-nil, Ok, Err}
 use Rattle.std.specs.Prelude.{Option, Some, None, Result, nat_le, bytes_eq, ◌==◌, ◌||◌}
-use Rattle.std.specs.List.{list_any, position_or_len, before_first, after_first}
+use Rattle.std.specs.List.{list_any, before_first, after_first}
 use Rattle.std.specs.Fmt.{decimal}
-use Rattle.std.proofs.lemmas.Bool.{cases_Bool, cond-true, cond-false, le-leb, leb-true, eqb-true, true≢false}
+use Rattle.std.proofs.lemmas.Bool.{cases_Bool, cond-true, cond-false, le-leb, leb-true, eqb-true}
 use Rattle.std.proofs.lemmas.List.Elements.{All-head, All-tail, All-nil, All-cons}
 use Rattle.std.proofs.lemmas.List.Folds.{list_any-append}
 use Rattle.std.proofs.lemmas.Slice.Eq.{bytes_eq-Decides}
@@ -11,16 +11,17 @@ use Rattle.racp_model.specs.Project.{Project, IsWithinLimits}
 use Rattle.racp_check.specs.declared.text_fault.TextFault.{TextFault}
 use Rattle.racp_check.specs.declared.plan.Plan.{Plan}
 use Rattle.racp_check.specs.Texts.{line, plan_text}
+use Rattle.racp_check.specs.PlanReading.{IsReadable, is_decimal, value, words_for, most_number, most_cost}
 use Rattle.racp_model.specs.Steps.{◌>>=◌}
 use Rattle.racp_model.proofs.lemmas.Results.{IsFault, bind_ok, same_ok}
-use Rattle.racp_check.specs.PlanReading.{Rest, IsPlanReading, is_line_feed, is_decimal, value, next_line, after_words, number_on, next_number, words_for, next_numbers, nothing_left, last_line, reading, most_number, most_cost}
-use Rattle.racp_check.specs.TextLaws.{IsReadable}
-use Rattle.racp_check.proofs.Fronts.{AreParts, parts_of, whole_of, words_before, words_from, line_cut, some_place}
+use Rattle.racp_check.specs.Steps.{Rest, is_line_feed, next_line, after_words, number_on, next_number, next_numbers, last_line, reading, number_line, number_lines}
+use Rattle.racp_check.proofs.Fronts.{parts_of, whole_of, words_before, words_from, line_cut, some_place}
 use Rattle.racp_check.proofs.Digits.{decimal-is, value-decimal, decimal-value, not_in_decimal}
-use Rattle.racp_check.proofs.Numbered.{number_line, number_lines, start_word, capacity_word, from_starts, from_capacities, from_cost, from_critical, plan_text_is}
+use Rattle.racp_check.proofs.lemmas.Numbered.{start_word, capacity_word}
+use Rattle.racp_check.proofs.PlanTexts.{from_starts, from_capacities, from_cost, from_critical, plan_text_is}
 
 -- reading goes on with what is read
-bind_on : {A B : Type 0} (r : Result A TextFault) (next : A → Result B TextFault) (x : A) (y : Result B TextFault) → r ≡ Ok x → next x ≡ y → (r >>= next) ≡ y
+pub bind_on : {A B : Type 0} (r : Result A TextFault) (next : A → Result B TextFault) (x : A) (y : Result B TextFault) → r ≡ Ok x → next x ≡ y → (r >>= next) ≡ y
 bind_on r next x y e f = ap (λ s. s >>= next) e ∙ f
 
 -- what is left of a text from a line on
@@ -28,7 +29,7 @@ abbrev pub rest_at : ℕ → List ℕ → Rest
 rest_at n bytes = record { line = n; bytes = bytes }
 
 -- a line that is written is the next line
-line_next : (n : ℕ) (text more : List ℕ) → list_any is_line_feed text ≡ false → next_line (rest_at n (line text ++ more)) ≡ Ok (text, rest_at (n + 1) more)
+pub line_next : (n : ℕ) (text more : List ℕ) → list_any is_line_feed text ≡ false → next_line (rest_at n (line text ++ more)) ≡ Ok (text, rest_at (n + 1) more)
 unfolding line
 line_next n text more none =
     let whole : line text ++ more ≡ text ++ 10 ∷ more = append_assoc text (10 ∷ []) more in
@@ -56,7 +57,7 @@ number_next words most n number more none within fits =
     ∙ ap (λ r. r >>= (λ value. Ok (value, rest_at (n + 1) more))) read
 
 -- the words of a resource or a job have no line feed
-own_words : (word : List ℕ) (place : ℕ) → place < 2 ^ 64 → list_any is_line_feed word ≡ false → list_any is_line_feed (words_for word place) ≡ false
+pub own_words : (word : List ℕ) (place : ℕ) → place < 2 ^ 64 → list_any is_line_feed word ≡ false → list_any is_line_feed (words_for word place) ≡ false
 unfolding words_for
 own_words word place fits none = list_any-append is_line_feed (word ++ decimal place) (codes " ") ∙ ap (λ b. b || false) (no_feed word place fits none)
 
@@ -99,12 +100,12 @@ plan_reads plan resources jobs deadline critical cost capacities starts =
     (bind_on _ _ (plan.starts, rest_at begun.0 (line (codes "end"))) _ begun.1
     (bind_on _ _ tt _ (last_reads begun.0) refl)))))
 
-pub written_read : (network : Project) (plan : Plan) → IsWithinLimits network.resources network.jobs → IsReadable network plan → IsPlanReading network (plan_text plan) (Ok plan)
+pub written_read : (network : Project) (plan : Plan) → IsWithinLimits network.resources network.jobs → IsReadable network plan → reading network.resources (length network.jobs) (plan_text plan) ≡ Ok plan
 written_read network plan limits h =
     (λ i. reading (sym h.resources i) (sym h.jobs i) (plan_text_is plan i)) ∙ plan_reads plan (omega (arith, h.resources, limits.most_resources)) (omega (arith, h.jobs, limits.most_jobs)) h.deadline h.critical h.cost h.capacities h.starts
 
 -- a line that is read
-line_read : (rest : Rest) (x : List ℕ × Rest) → next_line rest ≡ Ok x → rest.bytes ≡ line x.0 ++ x.1.bytes
+pub line_read : (rest : Rest) (x : List ℕ × Rest) → next_line rest ≡ Ok x → rest.bytes ≡ line x.0 ++ x.1.bytes
 unfolding line
 line_read rest x e = elim (cases_Bool (list_any is_line_feed rest.bytes)) [
   | inl t ↦
@@ -121,7 +122,7 @@ digits_read true true v n f g e = (refl, refl, same_ok v n e)
 digits_read true false v n f g e = absurd (subst IsFault e tt)
 digits_read false fits v n f g e = absurd (subst IsFault e tt)
 
-number_read : (n most number : ℕ) (digits : Option (List ℕ)) → most < 2 ^ 64 → number_on n most digits ≡ Ok number → (digits ≡ Some (decimal number)) × (number ≤ most)
+pub number_read : (n most number : ℕ) (digits : Option (List ℕ)) → most < 2 ^ 64 → number_on n most digits ≡ Ok number → (digits ≡ Some (decimal number)) × (number ≤ most)
 number_read n most number None fits e = absurd (subst IsFault e tt)
 number_read n most number (Some digits) fits e =
     let parts = digits_read (is_decimal digits) (nat_le (value digits) most) (value digits) number _ _ e in
@@ -157,11 +158,11 @@ numbers_read word place (suc count) rest x e =
     (text, ap suc there.1, All-cons Within first.0.0 others.0.0 here.1 there.2)
 
 -- what the last line says
-no_more : (bytes : List ℕ) → (length bytes == 0) ≡ true → bytes ≡ []
+pub no_more : (bytes : List ℕ) → (length bytes == 0) ≡ true → bytes ≡ []
 no_more [] e = refl
 no_more (x ∷ bytes) e = absurd (omega (arith, eqb-true (length (x ∷ bytes)) 0 e))
 
-last_read : (rest : Rest) (x : Unit {0}) → last_line rest ≡ Ok x → rest.bytes ≡ line (codes "end")
+pub last_read : (rest : Rest) (x : Unit {0}) → last_line rest ≡ Ok x → rest.bytes ≡ line (codes "end")
 unfolding last_line
 last_read rest x e =
     let found = bind_ok (next_line rest) _ x e in
@@ -205,10 +206,7 @@ plan_read resources jobs text plan e =
     let whole : text ≡ plan_text made = first.0 ∙ ap (λ (t : List ℕ). number_line (codes "deadline ") deadline.0.0 ++ t) from_two ∙ sym (plan_text_is made) in
     subst (IsWritten resources jobs text) (same_ok made plan end.2) (whole, fourth.1, fifth.1, first.1, second.1, third.1, fourth.2, fifth.2)
 
-pub read_written : (network : Project) (text : List ℕ) (plan : Plan) → IsPlanReading network text (Ok plan) → (text ≡ plan_text plan) × IsReadable network plan
+pub read_written : (network : Project) (text : List ℕ) (plan : Plan) → reading network.resources (length network.jobs) text ≡ Ok plan → (text ≡ plan_text plan) × IsReadable network plan
 read_written network text plan e =
     let h = plan_read network.resources (length network.jobs) text plan e in
     (h.0, record { resources = h.1; jobs = h.2; deadline = h.3; critical = h.4; cost = h.5; capacities = h.6; starts = h.7 })
-
-pub one_reading : (network : Project) (text : List ℕ) → (x : Result Plan TextFault) × IsPlanReading network text x × ((y : Result Plan TextFault) → IsPlanReading network text y → y ≡ x)
-one_reading network text = (reading network.resources (length network.jobs) text, refl, λ y e. sym e)

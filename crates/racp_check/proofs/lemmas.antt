@@ -1,3 +1,5 @@
--- Lemmas on the texts of plans, which the crates above may cite too.
+-- Lemmas on the texts of this crate, which the crates above may cite too. What else stands in proofs/ is about the code of
+-- this crate and its laws.
 pub mod Numbers
+pub mod Numbered
 pub mod StartLines

@@ -1,26 +1,31 @@
 //! Laws of the texts and of the check of plans. Each function does nothing; its contract is the law.
 
 ghost use Rattle.racp_check.specs.CheckLaws.{AnswerIsOne, PlanIsFitting, YesIsFitting};
-ghost use Rattle.racp_check.specs.TextLaws.{OneReading, OneTextOnePlan, ReadIsWritten, WrittenIsRead};
+ghost use Rattle.racp_check.specs.TextLaws.{FaultHasLine, OneTextOnePlan, ReadingIsOne, TextIsRead, WrittenIsRead};
 
 /// No two plans share a text.
 pub fn one_text_one_plan()
     ensures { OneTextOnePlan }
 {}
 
-/// A written plan is read again as itself.
+/// Each text is read as a plan or as a fault.
+pub fn text_is_read()
+    ensures { TextIsRead }
+{}
+
+/// A text is read as one thing only.
+pub fn reading_is_one()
+    ensures { ReadingIsOne }
+{}
+
+/// A written plan is read as itself, and as nothing else.
 pub fn written_is_read()
     ensures { WrittenIsRead }
 {}
 
-/// Where a text is read as a plan, it is that plan's text.
-pub fn read_is_written()
-    ensures { ReadIsWritten }
-{}
-
-/// Each text is read as one thing.
-pub fn one_reading()
-    ensures { OneReading }
+/// A fault of a text has a line: one of those that the text should have, or the next.
+pub fn fault_has_line()
+    ensures { FaultHasLine }
 {}
 
 /// The check says yes exactly where nothing is wrong with a plan, so a fault is answered only where there is one.

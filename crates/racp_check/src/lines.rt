@@ -1,7 +1,9 @@
 //! The lines of a plan's text.
 
-ghost use Rattle.std.specs.Prelude.{◌≡◌, ◌++◌, OnOk, IfOk};
-ghost use Rattle.racp_check.specs.Texts.{capacity_line, capacity_lines, cost_line, critical_line, deadline_line, start_line, start_lines};
+ghost use Rattle.std.specs.Prelude.{◌≡◌, ◌++◌, OnOk, IfOk, codes};
+ghost use Rattle.racp_check.specs.Texts.{capacity_lines, cost_line, critical_line, deadline_line, start_lines};
+ghost use Rattle.racp_check.specs.PlanReading.{words_for};
+ghost use Rattle.racp_check.specs.Steps.{number_line, number_lines};
 
 use std::alloc::{AllocError, Global};
 
@@ -18,7 +20,7 @@ pub(crate) fn head_lines(
     Ok(text.into_bytes())
 }
 
-/// Adds the line of each capacity, given by place from 0.
+/// Adds the line `capacity k a` of each capacity, given by place from 0.
 pub(crate) fn push_capacities(
     alloc: Global,
     text: &mut Vec<u8>,
@@ -26,37 +28,44 @@ pub(crate) fn push_capacities(
 ) -> Result<(), AllocError>
     ensures { OnOk result (text.new.items ≡ text.old.items ++ capacity_lines 1 capacities.now) }
 {
-    for (place, capacity) in capacities.iter().enumerate() {
-        push_capacity(alloc, text, place + 1, *capacity)?;
-    }
-    Ok(())
-}
-
-/// Adds the line of the capacity of a resource.
-fn push_capacity(
-    alloc: Global,
-    text: &mut Vec<u8>,
-    resource: usize,
-    capacity: u32,
-) -> Result<(), AllocError>
-    ensures { OnOk result (text.new.items ≡ text.old.items ++ capacity_line resource capacity) }
-{
-    text.extend_from_slice(format!(in alloc; "capacity {resource} {capacity}\n")?.as_bytes())
+    push_lines(alloc, text, "capacity", capacities)
 }
 
 /// Adds the line `start j s` of the start of each job, given by place from 0.
+///
+/// # Errors
+///
+/// Where memory was refused; a beginning of the lines may then stand in the text.
 pub fn push_starts(alloc: Global, text: &mut Vec<u8>, starts: &[u32]) -> Result<(), AllocError>
     ensures { OnOk result (text.new.items ≡ text.old.items ++ start_lines 1 starts.now) }
 {
-    for (place, start) in starts.iter().enumerate() {
-        push_start(alloc, text, place + 1, *start)?;
+    push_lines(alloc, text, "start", starts)
+}
+
+/// Adds a line for each number: this word, the number of the resource or job, from 1, and the number.
+fn push_lines(
+    alloc: Global,
+    text: &mut Vec<u8>,
+    word: &str,
+    numbers: &[u32],
+) -> Result<(), AllocError>
+    ensures { OnOk result (text.new.items ≡ text.old.items ++ number_lines (word.now ++ codes " ") 1 numbers.now) }
+{
+    for (place, number) in numbers.iter().enumerate() {
+        push_line(alloc, text, word, place + 1, *number)?;
     }
     Ok(())
 }
 
-/// Adds the line of the start of a job.
-fn push_start(alloc: Global, text: &mut Vec<u8>, job: usize, start: u32) -> Result<(), AllocError>
-    ensures { OnOk result (text.new.items ≡ text.old.items ++ start_line job start) }
+/// Adds the line of a resource or a job.
+fn push_line(
+    alloc: Global,
+    text: &mut Vec<u8>,
+    word: &str,
+    owner: usize,
+    number: u32,
+) -> Result<(), AllocError>
+    ensures { OnOk result (text.new.items ≡ text.old.items ++ number_line (words_for (word.now ++ codes " ") owner) number) }
 {
-    text.extend_from_slice(format!(in alloc; "start {job} {start}\n")?.as_bytes())
+    text.extend_from_slice(format!(in alloc; "{word} {owner} {number}\n")?.as_bytes())
 }

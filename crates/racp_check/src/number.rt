@@ -4,8 +4,8 @@ ghost use Rattle.std.specs.Prelude.{◌≡◌, ◌==◌, ◌<◌, ◌^◌, ◌++
 ghost use Rattle.std.specs.List.{list_all};
 ghost use Rattle.std.specs.Char.{is_ascii_digit};
 ghost use Rattle.std.specs.Fmt.{decimal};
-ghost use Rattle.racp_check.specs.PlanReading.{after_words, is_decimal, value};
-ghost use Rattle.racp_check.specs.Steps.{IsCapped, IsCut, contents};
+ghost use Rattle.racp_check.specs.PlanReading.{is_decimal, value};
+ghost use Rattle.racp_check.specs.Steps.{IsCapped, IsCut, after_words, contents};
 
 /// What stands before the first such byte, and what after it, or `None` where there is none.
 pub(crate) fn cut_at(bytes: &[u8], byte: u8) -> Option<(&[u8], &[u8])>

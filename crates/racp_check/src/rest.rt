@@ -1,6 +1,6 @@
 ghost use Rattle.std.specs.Prelude.{◌≡◌, ◌<◌, ◌≤◌, ℕ, List, [], ◌∷◌, ◌++◌, IfOk};
-ghost use Rattle.racp_check.specs.PlanReading.{after_words, last_line, most_number, next_line, next_number, next_numbers, number_on, words_for};
-ghost use Rattle.racp_check.specs.Steps.{GivesNumbers, HasItems, contents, with_rest};
+ghost use Rattle.racp_check.specs.PlanReading.{most_number, words_for};
+ghost use Rattle.racp_check.specs.Steps.{GivesNumbers, HasItems, after_words, contents, last_line, next_line, next_number, next_numbers, number_on, with_rest};
 
 use crate::number::{after_number, after_words, cut_at, number};
 use crate::text_fault::{TextFault, TextFaultKind};
@@ -10,7 +10,7 @@ use std::marker::Model;
 /// The greatest time, capacity or start that a text may say.
 pub(crate) const MOST_NUMBER: u64 = 10_000_000;
 
-/// What is left of a text, from a line on. Contracts see the `Rest` of specs/PlanReading.
+/// What is left of a text, from a line on. Contracts see the `Rest` of specs/Steps.
 #[derive(Debug, Drop)]
 pub(crate) struct Rest<'a> {
     line: usize,
@@ -19,9 +19,9 @@ pub(crate) struct Rest<'a> {
 
 impl<'a> Model for Rest<'a> {
     ghost use Rattle.std.specs.Prelude.{length, ◌+◌, ◌<◌, ◌^◌};
-    ghost use Rattle.racp_check.specs.PlanReading as reading;
+    ghost use Rattle.racp_check.specs.Steps as steps;
 
-    ghost Value = { reading.Rest };
+    ghost Value = { steps.Rest };
 
     ghost view = { λ rest. record { line = rest.line; bytes = rest.bytes.now } };
 
@@ -54,7 +54,7 @@ impl<'a> Rest<'a> {
     }
 
     /// Takes the next line off, which is to be these words and a number up to `most`.
-    #[tactic(auto, unfolding(crate::specs::PlanReading::next_number))]
+    #[tactic(auto, unfolding(crate::specs::Steps::next_number))]
     pub(crate) fn next_number(&mut self, words: &str, most: u64) -> Result<u64, TextFault>
         requires { most < 18446744073709551615 }
         ensures number { with_rest (λ x. x) result self.new ≡ next_number words.now most self.old }
@@ -67,7 +67,7 @@ impl<'a> Rest<'a> {
 
     /// Takes the next line off, which is to be that of a resource or a job: this word, the number, and a number up to
     /// `MOST_NUMBER`.
-    #[tactic(auto, unfolding(crate::specs::PlanReading::next_number))]
+    #[tactic(auto, unfolding(crate::specs::Steps::next_number))]
     fn next_number_for(&mut self, word: &str, number: u32) -> Result<u32, TextFault>
         ensures { with_rest (λ x. x) result self.new ≡ next_number (words_for word.now number) most_number self.old }
     {
@@ -97,7 +97,7 @@ impl<'a> Rest<'a> {
     }
 
     /// Takes the last line off, after which nothing is to be left.
-    #[tactic(auto, unfolding(crate::specs::PlanReading::last_line))]
+    #[tactic(auto, unfolding(crate::specs::Steps::last_line))]
     pub(crate) fn end(&mut self) -> Result<(), TextFault>
         ensures { result ≡ last_line self.old }
     {

@@ -1,5 +1,5 @@
 -- A number in a line ends where its digits end, so that a line says one number.
-use Rattle.std.proofs.Common.{◌≡◌, ℕ, ◌^◌, ◌<◌, List, [], ◌∷◌, ◌++◌, refl, sym, ap, ◌∙◌}
+use Rattle.std.proofs.Common.{◌≡◌, ℕ, ◌^◌, ◌<◌, List, [], ◌∷◌, ◌++◌, refl, sym, ap, ◌∙◌, arith}
 use Rattle.std.specs.Fmt.{decimal}
 use Rattle.std.specs.Str.Parse.{AllDigits, digits_value}
 use Rattle.std.specs.Char.{digit_value}
@@ -23,3 +23,10 @@ same_number m n us vs x fits_m fits_n none e =
     let of_n = decimal_is_IsNumeral n fits_n in
     let rest = same_digits (decimal m) (decimal n) us vs x of_m.0.1 of_n.0.1 none e in
     (sym of_m.1 ∙ ap (digits_value 10) rest.0 ∙ of_n.1, rest.1)
+
+-- a line feed and a blank are no digits
+pub feed_is_no_digit : digit_value 10 < 10 → ⊥
+feed_is_no_digit h = omega arith
+
+pub blank_is_no_digit : digit_value 32 < 10 → ⊥
+blank_is_no_digit h = omega arith

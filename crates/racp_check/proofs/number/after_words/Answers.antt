@@ -1,5 +1,5 @@
 use Rattle.std.proofs.Common.{ap, ◌∙◌}
-use Rattle.racp_check.specs.PlanReading.{after_words}
+use Rattle.racp_check.specs.Steps.{after_words}
 use Rattle.racp_check.proofs.Fronts.{stripped}
 use Rattle.racp_check.proofs.number.after_words.Goals as goal
 

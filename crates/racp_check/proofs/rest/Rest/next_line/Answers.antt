@@ -1,5 +1,5 @@
 use Rattle.std.proofs.Common.{Err, ap, sym, ◌∙◌}
-use Rattle.racp_check.specs.PlanReading.{Rest, next_line}
+use Rattle.racp_check.specs.Steps.{Rest, next_line}
 use Rattle.racp_check.proofs.Fronts.{line_cut, line_none}
 use Rattle.racp_check.proofs.rest.Rest.next_line.Goals as goal
 
