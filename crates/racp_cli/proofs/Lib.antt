@@ -3,4 +3,5 @@ mod Inputs
 mod TextLines
 mod Answering
 mod Responding
+mod Checking
 mod Telling
