@@ -1,0 +1,4 @@
+mod Sums
+mod Parts
+mod Cores
+mod Energy
