@@ -2,3 +2,5 @@ mod Sums
 mod Parts
 mod Cores
 mod Energy
+mod Used
+mod Above

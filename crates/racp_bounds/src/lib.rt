@@ -5,6 +5,7 @@
 #![tactic(auto)]
 
 mod floor;
+pub mod laws;
 mod roof;
 
 pub use floor::floors;
