@@ -36,8 +36,12 @@ core_active p root starts t i lies l core = record {
 pub core_use-use : (p : Project) (root : Bounds) (starts : List ℕ) (k t i : ℕ) → LiesIn p root starts → i < length p.jobs → core_use p root k t i ≤ use_of p starts k t i
 core_use-use p root starts k t i lies l = elim (on_cases (slice_index root.upper) (λ i. slice_index root.lower i + duration p i) (λ i. request p i k) t i) [
   | inl on ↦
-      omega (arith, core_use-part p root k t i, part-on (slice_index root.upper) (λ i. slice_index root.lower i + duration p i) (λ i. request p i k) t i on,
-          use_of-active p starts k t i (core_active p root starts t i lies l (record { started = on.0; runs = on.1 })))
+      omega (
+        arith,
+        core_use-part p root k t i,
+        part-on (slice_index root.upper) (λ i. slice_index root.lower i + duration p i) (λ i. request p i k) t i on,
+        use_of-active p starts k t i (core_active p root starts t i lies l (record { started = on.0; runs = on.1 })),
+      )
   | inr off ↦ omega (arith, core_use-part p root k t i, part-off (slice_index root.upper) (λ i. slice_index root.lower i + duration p i) (λ i. request p i k) t i off)
 ]
 

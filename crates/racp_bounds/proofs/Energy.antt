@@ -25,8 +25,11 @@ sum_below-times (suc n) c f = omega (arith, sum_below-times n c f, mul-add c (su
 -- where no job is longer than the deadline, the energy is at most the roof times the deadline
 pub energy-roof : (p : Project) (k deadline : ℕ) → ((i : ℕ) → i < length p.jobs → duration p i ≤ deadline) → energy p k ≤ deadline * roof p k
 energy-roof p k deadline short =
-    omega (arith, sum_below-mono (length p.jobs) (λ i. duration p i * request p i k) (λ i. deadline * request p i k) (λ i l. mul-le-mul_right (request p i k) (short i l)),
-        sum_below-times (length p.jobs) deadline (λ i. request p i k))
+    omega (
+      arith,
+      sum_below-mono (length p.jobs) (λ i. duration p i * request p i k) (λ i. deadline * request p i k) (λ i l. mul-le-mul_right (request p i k) (short i l)),
+      sum_below-times (length p.jobs) deadline (λ i. request p i k),
+    )
 
 -- a roof is small
 pub roof-small : (p : Project) (k : ℕ) → IsSound p → k < p.resources → roof p k ≤ 5120000

@@ -10,3 +10,6 @@ mod roof;
 
 pub use floor::floors;
 pub use roof::roofs;
+
+#[cfg(test)]
+mod tests;
