@@ -1,17 +1,16 @@
 -- Capacities that admit are at or above each lower bound, and so at or above the floors.
-use Rattle.std.proofs.Common.{◌≡◌, ℕ, zero, suc, ◌+◌, ◌*◌, ◌<◌, ◌≤◌, inl, inr, List, length, slice_index, arith, subst}
+use Rattle.std.proofs.Common.{◌≡◌, ℕ, zero, suc, ◌+◌, ◌<◌, ◌≤◌, inl, inr, List, length, slice_index, arith, subst}
 use Rattle.std.proofs.lemmas.Bool.{cases_lt}
 use Rattle.racp_model.specs.Project.{Project, duration, request}
-use Rattle.racp_model.specs.Schedule.{IsActive, EndsBy, FitsInTime, Admits, use_of, usage, roof, sum_below}
-use Rattle.racp_model.specs.Plan.{IsLeast}
+use Rattle.racp_model.specs.Schedule.{IsActive, EndsBy, FitsInTime, Admits, use_of, usage, sum_below}
 use Rattle.racp_model.specs.Window.{Bounds, LiesIn, IsRootWindow}
 use Rattle.racp_model.proofs.lemmas.Sums.{sum_below-mono, sum_below-bound}
 use Rattle.racp_model.proofs.lemmas.Usage.{use_of-active, usage-roof}
 use Rattle.racp_model.proofs.lemmas.Cuts.{cut_admitting}
 use Rattle.racp_cpm.proofs.lemmas.Roots.{root_in_time}
-use Rattle.racp_bounds.specs.Floors.{IsCoreTime, core_use, core_usage, energy, IsAtBounds, IsFloor, AreFloors, AreRoofs}
+use Rattle.racp_bounds.specs.Floors.{core_use, energy, IsAtBounds, IsFloor, AreRoofs}
 use Rattle.racp_bounds.specs.Laws.{CoreIsActive, AdmittingIsAboveFloors, CutToRoofsAdmits, FloorsAreBelowRoofs}
-use Rattle.racp_bounds.proofs.Parts.{part, on_cases, part-on, part-off}
+use Rattle.racp_bounds.proofs.Parts.{on_cases, part-on, part-off}
 use Rattle.racp_bounds.proofs.Cores.{core_use-part}
 use Rattle.racp_bounds.proofs.Energy.{div_ceil-le}
 use Rattle.racp_bounds.proofs.Used.{energy_used}

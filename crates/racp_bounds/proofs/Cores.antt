@@ -1,14 +1,11 @@
 -- Core usage: it is greatest at some late start, and no starts in the window avoid it.
-use Rattle.std.proofs.Common.{◌≡◌, ℕ, ◌+◌, ◌<◌, ◌≤◌, inl, inr, List, length, slice_index, arith, refl, subst}
+use Rattle.std.proofs.Common.{◌≡◌, ℕ, ◌+◌, ◌<◌, ◌≤◌, List, length, slice_index, arith, refl, subst}
 use Rattle.racp_model.specs.Project.{Project, duration, request}
-use Rattle.racp_model.specs.Schedule.{use_of, usage, IsActive, sum_below}
 use Rattle.racp_model.specs.Plan.{IsLeast}
-use Rattle.racp_model.specs.Window.{Bounds, LiesIn}
-use Rattle.racp_model.proofs.lemmas.Sums.{sum_below-mono}
-use Rattle.racp_model.proofs.lemmas.Usage.{use_of-active}
-use Rattle.racp_bounds.specs.Floors.{IsCoreTime, core_use, core_usage}
+use Rattle.racp_model.specs.Window.{Bounds}
+use Rattle.racp_bounds.specs.Floors.{core_use, core_usage}
 use Rattle.racp_bounds.specs.LowerBounds.{IsAtCore}
-use Rattle.racp_bounds.proofs.Parts.{part, on_cases, part-on, part-off, parts-within}
+use Rattle.racp_bounds.proofs.Parts.{part, parts-within}
 
 -- a core use is the weight of the part from the late start to the early finish
 pub core_use-part : (p : Project) (root : Bounds) (k t i : ℕ) → core_use p root k t i ≡ part (slice_index root.upper) (λ i. slice_index root.lower i + duration p i) (λ i. request p i k) t i

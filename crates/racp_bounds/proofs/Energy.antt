@@ -1,7 +1,7 @@
 -- The energy over the deadline, rounded up, and what the jobs use over all times before the deadline.
-use Rattle.std.proofs.Common.{◌≡◌, ℕ, zero, suc, ◌+◌, ◌*◌, ◌<◌, ◌≤◌, inl, inr, List, length, slice_index, arith}
+use Rattle.std.proofs.Common.{◌≡◌, ℕ, zero, suc, ◌+◌, ◌*◌, ◌<◌, ◌≤◌, inl, inr, length, arith}
 use Rattle.std.specs.Int.{div_ceil}
-use Rattle.std.proofs.Math.Nat.{mul-le-mul_right, mul-le-mul_left, mul-add}
+use Rattle.std.proofs.Math.Nat.{mul-le-mul_right, mul-add}
 use Rattle.std.proofs.lemmas.Bool.{cases_lt}
 use Rattle.std.proofs.lemmas.Grind.{div_ceil_times}
 use Rattle.racp_model.specs.Project.{Project, IsSound, duration, request}

@@ -1,5 +1,5 @@
 -- Sums over the jobs.
-use Rattle.std.proofs.Common.{◌≡◌, ℕ, ◌*◌, ◌<◌, ◌≤◌, List, length, true, false, ◌&&◌, nat_le, nat_lt, cond, slice_index, ◌+◌, arith}
+use Rattle.std.proofs.Common.{ℕ, ◌*◌, ◌<◌, ◌≤◌, length, true, false, ◌&&◌, nat_le, nat_lt, cond, slice_index, ◌+◌, arith}
 use Rattle.std.proofs.lemmas.Nat.{mul-le}
 use Rattle.racp_model.specs.Project.{Project, IsSound, request, duration}
 use Rattle.racp_model.specs.Window.{Bounds}

@@ -1,11 +1,10 @@
 -- What the jobs use over all times before a deadline is the energy.
-use Rattle.std.proofs.Common.{◌≡◌, ℕ, zero, suc, ◌+◌, ◌-◌, ◌*◌, ◌<◌, ◌≤◌, min, inl, inr, List, length, slice_index, arith, ap, refl, ◌∙◌, sym}
+use Rattle.std.proofs.Common.{◌≡◌, ℕ, zero, suc, ◌+◌, ◌-◌, ◌*◌, ◌<◌, ◌≤◌, min, inl, inr, List, length, slice_index, arith, ap, refl, ◌∙◌}
 use Rattle.std.proofs.Math.Nat.{mul-add, mul_comm}
 use Rattle.std.proofs.lemmas.Bool.{cases_lt}
 use Rattle.racp_model.specs.Project.{Project, duration, request}
-use Rattle.racp_model.specs.Schedule.{EndsBy, use_of, usage, sum_below}
+use Rattle.racp_model.specs.Schedule.{use_of, sum_below}
 use Rattle.racp_model.proofs.lemmas.Sums.{sum_below-mono, sum_below-bound}
-use Rattle.racp_bounds.specs.Floors.{energy}
 use Rattle.racp_bounds.specs.Laws.{EnergyIsUsed}
 use Rattle.racp_bounds.proofs.Parts.{part, part-on, part-off}
 

@@ -1,6 +1,6 @@
 -- Laws of floors and roofs. Each is the contract of a public function.
 use Rattle.std.specs.Prelude.{◌≡◌, ℕ, ◌<◌, ◌≤◌, min, List, length, slice_index}
-use Rattle.racp_model.specs.Project.{Project, IsSound}
+use Rattle.racp_model.specs.Project.{Project}
 use Rattle.racp_model.specs.Schedule.{IsActive, EndsBy, Admits, sum_below, usage}
 use Rattle.racp_model.specs.Window.{Bounds, LiesIn, IsRootWindow}
 use Rattle.racp_bounds.specs.Floors.{IsCoreTime, energy, AreFloors, AreRoofs}

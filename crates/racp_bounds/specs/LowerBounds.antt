@@ -1,5 +1,5 @@
 -- Contracts of private functions: the lower bounds of which a floor is the greatest, one by one.
-use Rattle.std.specs.Prelude.{ℕ, ◌<◌, ◌≤◌, length}
+use Rattle.std.specs.Prelude.{ℕ, ◌<◌, ◌≤◌}
 use Rattle.std.specs.Int.{div_ceil}
 use Rattle.racp_model.specs.Project.{Project, duration, request}
 use Rattle.racp_model.specs.Window.{Bounds}
