@@ -1,28 +1,19 @@
 -- Capacities that admit are at or above each lower bound, and so at or above the floors.
-use Rattle.std.proofs.Common.{◌≡◌, ℕ, zero, suc, ◌+◌, ◌<◌, ◌≤◌, inl, inr, List, length, slice_index, arith, subst}
+use Rattle.std.proofs.Common.{ℕ, ◌+◌, ◌<◌, ◌≤◌, inl, inr, List, length, slice_index, arith}
 use Rattle.std.proofs.lemmas.Bool.{cases_lt}
 use Rattle.racp_model.specs.Project.{Project, duration, request}
-use Rattle.racp_model.specs.Schedule.{IsActive, EndsBy, FitsInTime, Admits, use_of, usage, sum_below}
+use Rattle.racp_model.specs.Schedule.{IsActive, EndsBy, FitsInTime, Admits, use_of, usage}
 use Rattle.racp_model.specs.Window.{Bounds, LiesIn, IsRootWindow}
-use Rattle.racp_model.proofs.lemmas.Sums.{sum_below-mono, sum_below-bound}
+use Rattle.racp_model.proofs.lemmas.Sums.{sum_below-mono, sum_below-bound, sum_below-term}
 use Rattle.racp_model.proofs.lemmas.Usage.{use_of-active, usage-roof}
 use Rattle.racp_model.proofs.lemmas.Cuts.{cut_admitting}
 use Rattle.racp_cpm.proofs.lemmas.Roots.{root_in_time}
 use Rattle.racp_bounds.specs.Floors.{core_use, energy, IsAtBounds, IsFloor, AreRoofs}
 use Rattle.racp_bounds.specs.Laws.{CoreIsActive, AdmittingIsAboveFloors, CutToRoofsAdmits, FloorsAreBelowRoofs}
-use Rattle.racp_bounds.proofs.Parts.{on_cases, part-on, part-off}
+use Rattle.racp_model.proofs.lemmas.Parts.{on_cases, part-on, part-off}
 use Rattle.racp_bounds.proofs.Cores.{core_use-part}
 use Rattle.racp_bounds.proofs.Energy.{div_ceil-le}
 use Rattle.racp_bounds.proofs.Used.{energy_used}
-
--- a term is at most the sum
-pub sum_below-term : (n : ℕ) (f : ℕ → ℕ) (i : ℕ) → i < n → f i ≤ sum_below n f
-unfolding sum_below
-sum_below-term zero f i l = omega arith
-sum_below-term (suc n) f i l = elim (cases_lt i n) [
-  | inl below ↦ omega (arith, sum_below-term n f i below)
-  | inr last ↦ let same : n ≡ i = omega arith in let P : ℕ → Type 0 = λ j. f j ≤ sum_below n f + f n in subst P same (omega arith)
-]
 
 -- at its core times a job is active in all starts in the window
 pub core_active : CoreIsActive

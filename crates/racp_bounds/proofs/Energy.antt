@@ -1,12 +1,12 @@
 -- The energy over the deadline, rounded up, and what the jobs use over all times before the deadline.
-use Rattle.std.proofs.Common.{◌≡◌, ℕ, zero, suc, ◌+◌, ◌*◌, ◌<◌, ◌≤◌, inl, inr, length, arith}
+use Rattle.std.proofs.Common.{ℕ, ◌+◌, ◌*◌, ◌<◌, ◌≤◌, inl, inr, length, arith}
 use Rattle.std.specs.Int.{div_ceil}
-use Rattle.std.proofs.Math.Nat.{mul-le-mul_right, mul-add}
+use Rattle.std.proofs.Math.Nat.{mul-le-mul_right}
 use Rattle.std.proofs.lemmas.Bool.{cases_lt}
 use Rattle.std.proofs.lemmas.Grind.{div_ceil_times}
 use Rattle.racp_model.specs.Project.{Project, IsSound, duration, request}
-use Rattle.racp_model.specs.Schedule.{sum_below, roof}
-use Rattle.racp_model.proofs.lemmas.Sums.{sum_below-mono, sum_below-bound, request-small}
+use Rattle.racp_model.specs.Schedule.{roof}
+use Rattle.racp_model.proofs.lemmas.Sums.{sum_below-mono, sum_below-bound, sum_below-times, request-small}
 use Rattle.racp_bounds.specs.Floors.{energy}
 
 -- a quotient that is rounded up is the least number of times that is enough
@@ -15,12 +15,6 @@ div_ceil-le a b units some enough = elim (cases_lt units (div_ceil a b)) [
   | inl less ↦ absurd (omega (arith, (div_ceil_times a b some).1, mul-le-mul_right {m = units + 1} {n = div_ceil a b} b (omega (arith, less))))
   | inr least ↦ least
 ]
-
--- a sum in which each term is multiplied by one number
-pub sum_below-times : (n c : ℕ) (f : ℕ → ℕ) → sum_below n (λ i. c * f i) ≡ c * sum_below n f
-unfolding sum_below
-sum_below-times zero c f = omega arith
-sum_below-times (suc n) c f = omega (arith, sum_below-times n c f, mul-add c (sum_below n f) (f n))
 
 -- where no job is longer than the deadline, the energy is at most the roof times the deadline
 pub energy-roof : (p : Project) (k deadline : ℕ) → ((i : ℕ) → i < length p.jobs → duration p i ≤ deadline) → energy p k ≤ deadline * roof p k

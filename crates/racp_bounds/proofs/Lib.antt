@@ -1,5 +1,4 @@
 mod Sums
-mod Parts
 mod Cores
 mod Energy
 mod Used

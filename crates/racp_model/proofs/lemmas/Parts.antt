@@ -103,10 +103,27 @@ module _ (begin end weight : ℕ → ℕ) where
     | inr off ↦ omega (arith, part-off t i off)
   ]
 
+  -- a part below n begins at t or earlier, and at its begin the parts below n weigh together at least as much as at t
+  abbrev pub IsWeighedAtBegin : ℕ → ℕ → ℕ → Type 0
+  IsWeighedAtBegin n t j = (j < n) × (begin j ≤ t) × (sum_below n (part begin end weight t) ≤ sum_below n (part begin end weight (begin j)))
+
+  -- at t the parts below n weigh nothing, or no more than at the begin of one of them
+  pub parts-at_begin : (n t : ℕ) → (sum_below n (part begin end weight t) ≡ 0) ⊎ ((j : ℕ) × IsWeighedAtBegin n t j)
+  parts-at_begin n t = elim (latest t n) [
+    | inl none ↦ inl (omega (arith, sum_below-bound n 0 (part begin end weight t) (λ i l. omega (arith, part-off t i (none i l)))))
+    | inr some ↦ inr (
+      some.0,
+      (
+        some.1.below,
+        some.1.on.0,
+        sum_below-mono n (part begin end weight t) (part begin end weight (begin some.0)) (λ i l. part-at_latest t n some.0 i some.1 l),
+      ),
+    )
+  ]
+
   -- so what the parts below n weigh together is within a bound where it is at the begin of each of them
   pub parts-within : (n most : ℕ) → ((j : ℕ) → j < n → sum_below n (part begin end weight (begin j)) ≤ most) → (t : ℕ) → sum_below n (part begin end weight t) ≤ most
-  parts-within n most h t = elim (latest t n) [
-    | inl none ↦ omega (arith, sum_below-bound n 0 (part begin end weight t) (λ i l. omega (arith, part-off t i (none i l))))
-    | inr some ↦
-        omega (arith, h some.0 some.1.below, sum_below-mono n (part begin end weight t) (part begin end weight (begin some.0)) (λ i l. part-at_latest t n some.0 i some.1 l))
+  parts-within n most h t = elim (parts-at_begin n t) [
+    | inl none ↦ omega (arith, none)
+    | inr some ↦ omega (arith, h some.0 some.1.0, some.1.2)
   ]
