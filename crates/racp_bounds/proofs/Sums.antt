@@ -13,6 +13,7 @@ core_use-request p root k t i =
     elim (nat_le (slice_index root.upper i) t && nat_lt t (slice_index root.lower i + duration p i)) as (λ v. cond v (request p i k) 0 ≤ request p i k)
     [ true ↦ omega arith | false ↦ omega arith ]
 
+-- which is small
 pub core_use-small : (p : Project) (root : Bounds) (k t i : ℕ) → IsSound p → i < length p.jobs → k < p.resources → core_use p root k t i ≤ 10000
 core_use-small p root k t i sound job resource = omega (arith, core_use-request p root k t i, request-small p i k sound job resource)
 

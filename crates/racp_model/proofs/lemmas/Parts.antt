@@ -11,10 +11,11 @@ unfoldable pub part : (ℕ → ℕ) → (ℕ → ℕ) → (ℕ → ℕ) → ℕ 
 part begin end weight t i = if nat_le (begin i) t && nat_lt t (end i) then weight i else 0
 
 module _ (begin end weight : ℕ → ℕ) where
-  -- the part i weighs at t
+  -- the part i is on at t
   abbrev pub IsOn : ℕ → ℕ → Type 0
   IsOn t i = (begin i ≤ t) × (t < end i)
 
+  -- so it weighs its weight
   pub part-on : (t i : ℕ) → IsOn t i → part begin end weight t i ≡ weight i
   unfolding part
   part-on t i on =
@@ -22,6 +23,7 @@ module _ (begin end weight : ℕ → ℕ) where
       let before : t < end i = on.1 in
       grind (arith, nat_tests)
 
+  -- and otherwise nothing
   pub part-off : (t i : ℕ) → (IsOn t i → ⊥) → part begin end weight t i ≡ 0
   unfolding part
   part-off t i off =
@@ -33,6 +35,7 @@ module _ (begin end weight : ℕ → ℕ) where
         ]
       ]
 
+  -- it is on or it is not
   pub on_cases : (t i : ℕ) → IsOn t i ⊎ (IsOn t i → ⊥)
   on_cases t i =
       elim (cases_lt t (begin i)) [
@@ -43,13 +46,13 @@ module _ (begin end weight : ℕ → ℕ) where
         ]
       ]
 
-  -- of the parts below n that weigh at t, one that begins last
+  -- of the parts below n that are on at t, one that begins last
   pub record IsLatest (t n j : ℕ) : Type 0 where
     pub below : j < n
     pub on : IsOn t j
     pub last : (i : ℕ) → i < n → IsOn t i → begin i ≤ begin j
 
-  -- either no part below n weighs at t, or one of them begins last
+  -- either no part below n is on at t, or one of them begins last
   pub latest : (t n : ℕ) → ((i : ℕ) → i < n → IsOn t i → ⊥) ⊎ ((j : ℕ) × IsLatest t n j)
   latest t zero = inl (λ i l on. omega arith)
   latest t (suc n) = elim (on_cases t n) [

@@ -1,16 +1,16 @@
--- Capacities that admit are at or above each lower bound, and so at or above the floors.
+-- Capacities that admit are at or above each lower bound, and so at or above the floors; cut to the roofs they still admit.
 use Rattle.std.proofs.Common.{ℕ, ◌+◌, ◌<◌, ◌≤◌, inl, inr, List, length, slice_index, arith}
 use Rattle.std.proofs.lemmas.Bool.{cases_lt}
 use Rattle.racp_model.specs.Project.{Project, duration, request}
 use Rattle.racp_model.specs.Schedule.{IsActive, EndsBy, FitsInTime, Admits, use_of, usage}
 use Rattle.racp_model.specs.Window.{Bounds, LiesIn, IsRootWindow}
 use Rattle.racp_model.proofs.lemmas.Sums.{sum_below-mono, sum_below-bound, sum_below-term}
+use Rattle.racp_model.proofs.lemmas.Parts.{on_cases, part-on, part-off}
 use Rattle.racp_model.proofs.lemmas.Usage.{use_of-active, usage-roof}
 use Rattle.racp_model.proofs.lemmas.Cuts.{cut_admitting}
 use Rattle.racp_cpm.proofs.lemmas.Roots.{root_in_time}
 use Rattle.racp_bounds.specs.Floors.{core_use, energy, IsAtBounds, IsFloor, AreRoofs}
 use Rattle.racp_bounds.specs.Laws.{CoreIsActive, AdmittingIsAboveFloors, CutToRoofsAdmits, FloorsAreBelowRoofs}
-use Rattle.racp_model.proofs.lemmas.Parts.{on_cases, part-on, part-off}
 use Rattle.racp_bounds.proofs.Cores.{core_use-part}
 use Rattle.racp_bounds.proofs.Energy.{div_ceil-le}
 use Rattle.racp_bounds.proofs.Used.{energy_used}
@@ -58,6 +58,7 @@ floor-least p root deadline k floor units h at = elim (cases_lt units floor) [
   | inr least ↦ least
 ]
 
+-- capacities that admit are at or above the floors
 pub admitting_above : AdmittingIsAboveFloors
 admitting_above p release due root deadline floors capacities h by floors_are admits k l =
     let starts = admits.0 in
@@ -81,6 +82,7 @@ roofs_admit p release due root roofs h are = (
   },
 )
 
+-- so no floor is above its roof
 pub below_roofs : FloorsAreBelowRoofs
 below_roofs p release due root deadline floors roofs h by floors_are are =
     let admits = roofs_admit p release due root roofs h are in
