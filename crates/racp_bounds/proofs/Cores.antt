@@ -1,0 +1,29 @@
+-- Core usage: it is greatest at some late start, and no starts in the window avoid it.
+use Rattle.std.proofs.Common.{◌≡◌, ℕ, ◌+◌, ◌<◌, ◌≤◌, List, length, slice_index, arith, refl, subst}
+use Rattle.racp_model.specs.Project.{Project, duration, request}
+use Rattle.racp_model.specs.Plan.{IsLeast}
+use Rattle.racp_model.specs.Window.{Bounds}
+use Rattle.racp_model.proofs.lemmas.Parts.{part, parts-within}
+use Rattle.racp_bounds.specs.Floors.{core_use, core_usage}
+use Rattle.racp_bounds.specs.LowerBounds.{IsAtCore}
+
+-- a core use is the weight of the part from the late start to the early finish
+pub core_use-part : (p : Project) (root : Bounds) (k t i : ℕ) → core_use p root k t i ≡ part (slice_index root.upper) (λ i. slice_index root.lower i + duration p i) (λ i. request p i k) t i
+unfolding core_use part
+core_use-part p root k t i = refl
+
+-- so a core usage is within a bound where it is at each late start
+pub core-within : (p : Project) (root : Bounds) (k most : ℕ) → ((j : ℕ) → j < length p.jobs → core_usage p root k (slice_index root.upper j) ≤ most) → IsAtCore p root k most
+unfolding core_use part
+core-within p root k most = parts-within (slice_index root.upper) (λ i. slice_index root.lower i + duration p i) (λ i. request p i k) (length p.jobs) most
+
+-- the greatest core usage at a late start is the greatest at any time
+pub greatest_core : (p : Project) (root : Bounds) (k most n : ℕ) (late : List ℕ) → late ≡ root.upper → n ≡ length p.jobs →
+    IsLeast ◌<◌ (λ units. (j : ℕ) → j < n → core_usage p root k (slice_index late j) ≤ units) most → IsLeast ◌<◌ (IsAtCore p root k) most
+greatest_core p root k most n late same all h = record {
+  is = core-within p root k most
+      (λ j l.
+      let P : List ℕ → Type 0 = λ starts. core_usage p root k (slice_index starts j) ≤ most in
+      subst P same (h.is j (omega (arith, l, all))));
+  least = λ other at less. h.least other (λ j l. at (slice_index late j)) less;
+}

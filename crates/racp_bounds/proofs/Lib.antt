@@ -1,0 +1,5 @@
+pub mod lemmas
+mod Sums
+mod Cores
+mod Energy
+mod Used

@@ -1,0 +1,9 @@
+use Rattle.std.proofs.Common.{◌≡◌, ℕ, ◌<◌, length, slice_index}
+use Rattle.racp_model.specs.Schedule.{roof}
+use Rattle.racp_bounds.proofs.roof.roofs.Given as goal
+
+abbrev pub invariant-loop-k : goal.invariant-loop-k
+invariant-loop-k l = record {
+  places : length l.units.items ≡ l.k;
+  each : (q : ℕ) → q < l.k → slice_index l.units.items q ≡ roof l.net q;
+}

@@ -1,0 +1,50 @@
+-- Floors and roofs: how many units of each resource there have to be at the least, and how many are ever of use.
+use Rattle.std.specs.Prelude.{◌≡◌, ℕ, ◌+◌, ◌*◌, ◌<◌, ◌≤◌, ◌&&◌, Bool, List, length, slice_index, nat_le, nat_lt, if◌then◌else◌}
+use Rattle.std.specs.Int.{div_ceil}
+use Rattle.racp_model.specs.Project.{Project, duration, request}
+use Rattle.racp_model.specs.Schedule.{sum_below, roof}
+use Rattle.racp_model.specs.Plan.{IsLeast}
+use Rattle.racp_model.specs.Window.{Bounds}
+
+-- the energy of resource k: the sum, over all jobs, of duration times request
+abbrev pub energy : Project → ℕ → ℕ
+energy p k = sum_below (length p.jobs) (λ i. duration p i * request p i k)
+
+-- t is a core time of job i: it is active at t wherever it starts in its window, since t is not before its late start and is
+-- before its early finish
+pub record IsCoreTime (p : Project) (root : Bounds) (t i : ℕ) : Type 0 where
+  pub started : slice_index root.upper i ≤ t
+  pub runs : t < slice_index root.lower i + duration p i
+
+-- the test of that
+abbrev pub is_core_time : Project → Bounds → ℕ → ℕ → Bool
+is_core_time p root t i = nat_le (slice_index root.upper i) t && nat_lt t (slice_index root.lower i + duration p i)
+
+-- what job i uses of resource k at time t wherever it starts: its request at its core times
+unfoldable pub core_use : Project → Bounds → ℕ → ℕ → ℕ → ℕ
+core_use p root k t i = if is_core_time p root t i then request p i k else 0
+
+-- what all jobs together use of resource k at time t wherever they start
+abbrev pub core_usage : Project → Bounds → ℕ → ℕ → ℕ
+core_usage p root k t = sum_below (length p.jobs) (core_use p root k t)
+
+-- so many units of resource k are at or above three lower bounds: the largest request of a job that runs for some time; the
+-- energy over the deadline, rounded up; and the core usage at any time
+pub record IsAtBounds (p : Project) (root : Bounds) (deadline k units : ℕ) : Type 0 where
+  pub requests : (i : ℕ) → i < length p.jobs → 0 < duration p i → request p i k ≤ units
+  pub energy : 0 < deadline → div_ceil (energy p k) deadline ≤ units
+  pub core : (t : ℕ) → core_usage p root k t ≤ units
+
+-- the floor of resource k: the greatest of these lower bounds, so the least number that is at or above each
+abbrev pub IsFloor : Project → Bounds → ℕ → ℕ → ℕ → Type 0
+IsFloor p root deadline k = IsLeast ◌<◌ (IsAtBounds p root deadline k)
+
+-- the floor of each resource
+pub record AreFloors (p : Project) (root : Bounds) (deadline : ℕ) (floors : List ℕ) : Type 0 where
+  pub places : length floors ≡ p.resources
+  pub each : (k : ℕ) → k < p.resources → IsFloor p root deadline k (slice_index floors k)
+
+-- the roof of each resource
+pub record AreRoofs (p : Project) (roofs : List ℕ) : Type 0 where
+  pub places : length roofs ≡ p.resources
+  pub each : (k : ℕ) → k < p.resources → slice_index roofs k ≡ roof p k

@@ -1,0 +1,28 @@
+//! Laws of floors and roofs. Each function does nothing; its contract is the law.
+
+ghost use Rattle.racp_bounds.specs.Laws.{EnergyIsUsed, CoreIsActive, AdmittingIsAboveFloors, CutToRoofsAdmits, FloorsAreBelowRoofs};
+
+/// Over all times before a deadline, starts that end by it use the energy.
+pub fn energy_is_used()
+    ensures { EnergyIsUsed }
+{}
+
+/// At its core times a job is active, wherever it starts in its window.
+pub fn core_is_active()
+    ensures { CoreIsActive }
+{}
+
+/// Capacities that admit are at or above the floors.
+pub fn admitting_is_above_floors()
+    ensures { AdmittingIsAboveFloors }
+{}
+
+/// Capacities that admit still admit when they are cut to the roofs.
+pub fn cut_to_roofs_admits()
+    ensures { CutToRoofsAdmits }
+{}
+
+/// Where there is a root window the roofs admit, and no floor is above its roof.
+pub fn floors_are_below_roofs()
+    ensures { FloorsAreBelowRoofs }
+{}
