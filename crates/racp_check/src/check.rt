@@ -1,12 +1,12 @@
 ghost use Rattle.std.specs.Prelude.{◌≡◌, ◌<◌, ◌≤◌, ◌↔◌, length, IsTrue, MatchOption};
-ghost use Rattle.racp_model.specs.Terms.{AreTermsOf, release_of, due_of, cost};
+ghost use Rattle.racp_model.specs.Terms.{AreTermsOf, release_of, due_of};
 ghost use Rattle.racp_check.specs.PlanFaults.{IsChecked};
 ghost use Rattle.racp_check.specs.PlanTests.{IsLateAnswer, IsBrokenAnswer, IsOverAtAnswer, IsOverAnswer, IsAboveAnswer, IsEarlyAnswer};
 
 use crate::plan::Plan;
 use crate::plan_fault::PlanFault;
 use racp_model::{Network, usage_at};
-use racp_prices::Order;
+use racp_prices::{Order, cost_of};
 use std::cmp::min;
 
 /// Whether a plan has the right cost, and its starts fit its capacities on the terms of the order: its deadline, owned units,
@@ -43,20 +43,6 @@ pub fn check_plan(net: &Network, order: &Order, plan: &Plan) -> Result<(), PlanF
         return Err(PlanFault::Early(job));
     }
     Ok(())
-}
-
-/// What the units cost: each that is not owned already costs its price.
-#[tactic(auto, using(racp_model::proofs::lemmas::Sums::sums))]
-fn cost_of(net: &Network, order: &Order, capacities: &[u32]) -> u64
-    requires terms { AreTermsOf net.now order.now }
-    requires capacities { length capacities.now ≡ net.now.resources }
-    ensures { result ≡ cost order.now capacities.now }
-{
-    let mut sum = 0;
-    for k in 0..net.resource_count() {
-        sum += order.prices[k] as u64 * capacities[k].saturating_sub(order.owned[k]) as u64;
-    }
-    sum
 }
 
 /// The number of the first job that ends after its due time or the deadline.

@@ -3,6 +3,7 @@
 //! An order is read from a TOML text. Resources and jobs stand by place, from 0; times are whole time units.
 #![tactic(auto)]
 
+mod cost;
 mod fault;
 pub mod laws;
 mod numbers;
@@ -10,6 +11,7 @@ mod order;
 mod read;
 mod version;
 
+pub use cost::cost_of;
 pub use fault::OrderFault;
 pub use order::Order;
 pub use read::read_order;

@@ -1,6 +1,7 @@
 //! What order texts are read as, and the names of the faults. The texts are for five jobs and one resource, unless said.
 
-use crate::{Order, OrderFault, read_order};
+use crate::{Order, OrderFault, cost_of, read_order};
+use racp_model::{Job, Network};
 use std::alloc::Global;
 use std::process::Abort;
 use std::test::Fail;
@@ -260,5 +261,23 @@ fn cut_orders_are_read_or_refused(rt: HostRuntime) -> Result<(), Fail> {
             }
         }
     }
+    Ok(())
+}
+
+/// The network has two jobs, which request a unit of each of two resources.
+#[test]
+fn orders_are_for_networks(rt: HostRuntime) -> Result<(), Fail> {
+    let alloc = rt.alloc();
+    let mut jobs = Vec::new(alloc);
+    for _ in 0..2 {
+        jobs.push(Job::new(1, [1, 1].to_vec(alloc)?))?;
+    }
+    let net = Network::new(alloc, 2, jobs, Vec::new(alloc))?;
+    let text = b"version = 2\ndeadline = 9\nprices = [3, 5]\nowned = [0, 4]";
+    let order = read_order(alloc, text, net.resource_count(), net.job_count())?;
+    assert!(rt; order.is_for(&net));
+    assert_eq!(rt; cost_of(&net, &order, &[2, 3]), 6);
+    assert_eq!(rt; cost_of(&net, &order, &[2, 7]), 21);
+    assert!(rt; !read_order(alloc, text, 2, 3)?.is_for(&net));
     Ok(())
 }

@@ -5,7 +5,7 @@ use Rattle.racp_model.specs.Path.{IsCriticalLength}
 use Rattle.racp_model.specs.Terms.{Terms, release_of, cost, IsLexBefore}
 use Rattle.racp_model.specs.Plan.{IsLeast, IsPlan, IsTooLong, IsTooLateAt, IsOverCeilings}
 use Rattle.racp_model.specs.Window.{Bounds, Answers, IsNo}
-use Rattle.racp_reference.specs.declared.plan.Plan.{Plan}
+use Rattle.racp_check.specs.declared.plan.Plan.{Plan}
 use Rattle.racp_reference.specs.declared.plan.Outcome.{Outcome}
 use Rattle.racp_reference.specs.declared.plan.Outcome.TheVariants.{Plan as ThePlan, TooLong, TooLate, OverCeilings}
 

@@ -4,9 +4,8 @@ ghost use Rattle.racp_reference.specs.Choices.{cheaper_of, IsPriced, IsCheapest,
 
 use crate::answers::first_answer;
 use crate::boxes::next_in;
-use crate::prices::cost_of;
-use crate::terms::Terms;
 use racp_model::{Capacities, Network, Starts, Window};
+use racp_prices::{Order, cost_of};
 use std::alloc::{AllocError, Global};
 
 /// Capacities with the least start vector that fits them, and what they cost.
@@ -25,19 +24,19 @@ pub(crate) struct Choice {
 pub(crate) fn cheapest(
     alloc: Global,
     net: &Network,
-    terms: &Terms,
+    order: &Order,
     most: &[u32],
     window: &Window,
 ) -> Result<Option<Choice>, AllocError>
-    requires terms { AreTermsOf net.now terms.now }
+    requires terms { AreTermsOf net.now order.now }
     requires bounds { AreBounds net.now most.now window.now }
-    ensures { IfOk result (IsCheapest net.now terms.now window.now most.now) }
+    ensures { IfOk result (IsCheapest net.now order.now window.now most.now) }
 {
     let least = vec![in alloc; 0; most.len()]?;
     let mut capacities = Capacities::new(least.to_vec(alloc)?);
     let mut best = None;
     'vectors: loop {
-        let other = priced(alloc, net, terms, window, &capacities)?;
+        let other = priced(alloc, net, order, window, &capacities)?;
         best = cheaper(best, other);
         match next_in(&least, most, capacities.into_vec()) {
             Some(next) => capacities = Capacities::new(next),
@@ -50,19 +49,19 @@ pub(crate) fn cheapest(
 fn priced(
     alloc: Global,
     net: &Network,
-    terms: &Terms,
+    order: &Order,
     window: &Window,
     capacities: &Capacities,
 ) -> Result<Option<Choice>, AllocError>
-    requires terms { AreTermsOf net.now terms.now }
+    requires terms { AreTermsOf net.now order.now }
     requires bounds { AreBounds net.now capacities.now window.now }
-    ensures { IfOk result (IsPriced net.now terms.now window.now capacities.now) }
+    ensures { IfOk result (IsPriced net.now order.now window.now capacities.now) }
 {
     let Some(starts) = first_answer(alloc, net, capacities, window)? else {
         return Ok(None);
     };
     Ok(Some(Choice {
-        cost: cost_of(net, terms, capacities.as_slice()),
+        cost: cost_of(net, order, capacities.as_slice()),
         capacities: capacities.clone()?,
         starts,
     }))

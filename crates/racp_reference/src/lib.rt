@@ -7,11 +7,9 @@ mod boxes;
 mod choice;
 mod plan;
 mod prices;
-mod terms;
 
 pub use answers::decide_by_definition;
-pub use plan::{Outcome, Plan, plan_by_definition};
-pub use terms::Terms;
+pub use plan::{Outcome, plan_by_definition};
 
 #[cfg(test)]
 mod tests;

@@ -1,8 +1,9 @@
 //! Plans of small orders, why there is none, and questions that are a yes or a no.
 
-use crate::{Outcome, Terms, decide_by_definition, plan_by_definition};
+use crate::{Outcome, decide_by_definition, plan_by_definition};
 use racp_cpm::root;
 use racp_model::{Capacities, Job, NetFault, Network, Question, Starts};
+use racp_prices::Order;
 use std::alloc::{AllocError, Global};
 use std::process::Abort;
 use std::test::Fail;
@@ -89,9 +90,9 @@ fn idle(alloc: Global) -> Result<Network, NetFault> {
 }
 
 /// The outcome of an order.
-fn outcome(rt: &impl Abort, alloc: Global, net: &Network, terms: &Terms) -> Result<Outcome, Fail> {
-    assert!(rt; terms.are_of(net));
-    Ok(plan_by_definition(alloc, net, terms)?)
+fn outcome(rt: &impl Abort, alloc: Global, net: &Network, order: &Order) -> Result<Outcome, Fail> {
+    assert!(rt; order.is_for(net));
+    Ok(plan_by_definition(alloc, net, order)?)
 }
 
 /// Asserts that an order has this plan.
@@ -99,15 +100,15 @@ fn assert_plan(
     rt: &impl Abort,
     alloc: Global,
     net: &Network,
-    terms: &Terms,
+    order: &Order,
     (critical, cost): (u64, u64),
     capacities: &[u32],
     starts: &[u32],
 ) -> Result<(), Fail> {
-    let Outcome::Plan(plan) = outcome(rt, alloc, net, terms)? else {
+    let Outcome::Plan(plan) = outcome(rt, alloc, net, order)? else {
         return Err("no plan".into());
     };
-    assert_eq!(rt; plan.deadline, terms.deadline);
+    assert_eq!(rt; plan.deadline, order.deadline);
     assert_eq!(rt; plan.critical, critical);
     assert_eq!(rt; plan.cost, cost);
     assert_eq!(rt; plan.capacities.as_slice(), capacities);
@@ -115,28 +116,27 @@ fn assert_plan(
     Ok(())
 }
 
-/// Terms where an empty list of ceilings stands for none.
-fn order<'a>(
+/// An order where an empty list of ceilings stands for none.
+fn order(
+    alloc: Global,
     deadline: u32,
-    prices: &'a [u32],
-    owned: &'a [u32],
-    ceilings: &'a [u32],
-    release: &'a [u32],
-    due: &'a [u32],
-) -> Terms<'a> {
+    (prices, owned, ceilings): (&[u32], &[u32], &[u32]),
+    release: &[u32],
+    due: &[u32],
+) -> Result<Order, AllocError> {
     let ceilings = if ceilings.is_empty() {
         None
     } else {
-        Some(ceilings)
+        Some(ceilings.to_vec(alloc)?)
     };
-    Terms {
+    Ok(Order {
         deadline,
-        prices,
-        owned,
+        prices: prices.to_vec(alloc)?,
+        owned: owned.to_vec(alloc)?,
         ceilings,
-        release,
-        due,
-    }
+        release: release.to_vec(alloc)?,
+        due: due.to_vec(alloc)?,
+    })
 }
 
 #[test]
@@ -152,8 +152,8 @@ fn plans_with_one_resource(rt: HostRuntime) -> Result<(), Fail> {
         (5, 0, [0; 5], [5, 5, 2, 5, 5], (3, 20), 2, [0, 2, 0, 0, 5]),
     ] {
         let owned = [owned];
-        let terms = order(deadline, &[10], &owned, &[], &release, &due);
-        assert_plan(&rt, alloc, &net, &terms, found, &[capacity], &starts)?;
+        let order = order(alloc, deadline, (&[10], &owned, &[]), &release, &due)?;
+        assert_plan(&rt, alloc, &net, &order, found, &[capacity], &starts)?;
     }
     Ok(())
 }
@@ -171,15 +171,15 @@ fn plans_with_two_resources(rt: HostRuntime) -> Result<(), Fail> {
         (3, [1, 1], [2, 0], 1, [2, 1], [0, 0, 0, 1, 2, 3]),
     ] {
         let due = [deadline; 6];
-        let terms = order(deadline, &prices, &owned, &[], &[0; 6], &due);
-        assert_plan(&rt, alloc, &net, &terms, (2, cost), &capacities, &starts)?;
+        let order = order(alloc, deadline, (&prices, &owned, &[]), &[0; 6], &due)?;
+        assert_plan(&rt, alloc, &net, &order, (2, cost), &capacities, &starts)?;
     }
-    let terms = order(3, &[1, 1], &[0, 0], &[2, 1], &[0; 6], &[3; 6]);
+    let order = order(alloc, 3, (&[1, 1], &[0, 0], &[2, 1]), &[0; 6], &[3; 6])?;
     assert_plan(
         &rt,
         alloc,
         &net,
-        &terms,
+        &order,
         (2, 3),
         &[2, 1],
         &[0, 0, 0, 1, 2, 3],
@@ -189,11 +189,11 @@ fn plans_with_two_resources(rt: HostRuntime) -> Result<(), Fail> {
 #[test]
 fn plans_without_room(rt: HostRuntime) -> Result<(), Fail> {
     let alloc = rt.alloc();
-    let terms = order(0, &[1], &[0], &[], &[0; 2], &[0; 2]);
-    assert_plan(&rt, alloc, &idle(alloc)?, &terms, (0, 0), &[0], &[0, 0])?;
+    let order = order(alloc, 0, (&[1], &[0], &[]), &[0; 2], &[0; 2])?;
+    assert_plan(&rt, alloc, &idle(alloc)?, &order, (0, 0), &[0], &[0, 0])?;
     let net = chained(alloc)?;
-    let terms = order(8, &[1], &[0], &[], &[0; 6], &[8; 6]);
-    assert_plan(&rt, alloc, &net, &terms, (8, 2), &[2], &[0, 4, 0, 1, 4, 8])
+    let order = order(alloc, 8, (&[1], &[0], &[]), &[0; 6], &[8; 6])?;
+    assert_plan(&rt, alloc, &net, &order, (8, 2), &[2], &[0, 4, 0, 1, 4, 8])
 }
 
 /// Asserts that an order has no plan for this reason, where a number says the critical length or the late job.
@@ -201,10 +201,10 @@ fn assert_no_plan(
     rt: &impl Abort,
     alloc: Global,
     net: &Network,
-    terms: &Terms,
+    order: &Order,
     reason: (&str, u64),
 ) -> Result<(), Fail> {
-    let found = match outcome(rt, alloc, net, terms)? {
+    let found = match outcome(rt, alloc, net, order)? {
         Outcome::TooLong { critical } => ("too long", critical),
         Outcome::TooLate { job } => ("too late", job as u64),
         Outcome::OverCeilings => ("over the ceilings", 0),
@@ -232,12 +232,12 @@ fn says_why_there_is_no_plan(rt: HostRuntime) -> Result<(), Fail> {
         ),
         (4, [2].as_slice(), [0; 5], [4; 5], ("over the ceilings", 0)),
     ] {
-        let terms = order(deadline, &[10], &[0], ceilings, &release, &due);
-        assert_no_plan(&rt, alloc, &net, &terms, reason)?;
+        let order = order(alloc, deadline, (&[10], &[0], ceilings), &release, &due)?;
+        assert_no_plan(&rt, alloc, &net, &order, reason)?;
     }
     let net = crossed(alloc)?;
-    let terms = order(3, &[1, 1], &[0, 0], &[1, 1], &[0; 6], &[3; 6]);
-    assert_no_plan(&rt, alloc, &net, &terms, ("over the ceilings", 0))
+    let order = order(alloc, 3, (&[1, 1], &[0, 0], &[1, 1]), &[0; 6], &[3; 6])?;
+    assert_no_plan(&rt, alloc, &net, &order, ("over the ceilings", 0))
 }
 
 /// The least starts with a capacity in the root window of a deadline.

@@ -35,7 +35,7 @@ vectors-preserved c =
     record {
       within = next.is.within;
       best = rw c.cheaper-best.ensures
-          (best-next c.args.net.now c.args.terms.now c.args.window.now (IsEarlier least most vector) (IsEarlier least most c.new-capacities-in-Some.result) vector
+          (best-next c.args.net.now c.args.order.now c.args.window.now (IsEarlier least most vector) (IsEarlier least most c.new-capacities-in-Some.result) vector
           (one_more-next least most vector c.new-capacities-in-Some.result c.vectors.invariant.within next)
           c.vectors.best c.in_ok-other.other c.vectors.invariant.best c.in_ok-other.ensures);
     }
@@ -49,7 +49,7 @@ returns-in-None c =
     let filled : least ≡ replicate (length most) 0 = search rules in
     let none : (k : ℕ) → slice_index least k ≡ 0 = λ k. rw filled (zeros (length most) k) in
     rw c.cheaper-best.ensures
-    (best-cheapest c.args.net.now c.args.terms.now c.args.window.now least most _ (zeros_places least (length most) filled) (λ k l. none k)
-    (best-next c.args.net.now c.args.terms.now c.args.window.now (IsEarlier least most vector) (IsInBox least most) vector
+    (best-cheapest c.args.net.now c.args.order.now c.args.window.now least most _ (zeros_places least (length most) filled) (λ k l. none k)
+    (best-next c.args.net.now c.args.order.now c.args.window.now (IsEarlier least most vector) (IsInBox least most) vector
     (one_more-last least most vector c.vectors.invariant.within last)
     c.vectors.best c.in_ok-other.other c.vectors.invariant.best c.in_ok-other.ensures))

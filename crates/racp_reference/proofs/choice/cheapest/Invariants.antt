@@ -6,7 +6,7 @@ use Rattle.racp_reference.proofs.choice.cheapest.Given as goal
 abbrev pub invariant-vectors : goal.invariant-vectors
 invariant-vectors l = record {
   within : IsInBox l.least.items l.most l.capacities;
-  best : IsBestOf l.net l.terms l.window (IsEarlier l.least.items l.most l.capacities) l.best;
+  best : IsBestOf l.net l.order l.window (IsEarlier l.least.items l.most l.capacities) l.best;
 }
 
 abbrev pub decreases-vectors : goal.decreases-vectors

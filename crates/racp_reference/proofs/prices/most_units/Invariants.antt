@@ -6,5 +6,5 @@ use Rattle.racp_reference.proofs.prices.most_units.Given as goal
 abbrev pub invariant-loop-k : goal.invariant-loop-k
 invariant-loop-k l = record {
   places : length l.units.items ≡ l.k;
-  each : (q : ℕ) → q < l.k → slice_index l.units.items q ≡ cut_to l.terms.ceilings q (roof l.net q);
+  each : (q : ℕ) → q < l.k → slice_index l.units.items q ≡ cut_to l.order.ceilings q (roof l.net q);
 }

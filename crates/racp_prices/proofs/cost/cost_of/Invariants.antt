@@ -1,6 +1,6 @@
 use Rattle.std.proofs.Common.{◌≡◌, ◌-◌, ◌*◌, ◌≤◌, slice_index}
 use Rattle.racp_model.specs.Schedule.{sum_below}
-use Rattle.racp_check.proofs.check.cost_of.Given as goal
+use Rattle.racp_prices.proofs.cost.cost_of.Given as goal
 
 abbrev pub invariant-loop-k : goal.invariant-loop-k
 invariant-loop-k l = record {

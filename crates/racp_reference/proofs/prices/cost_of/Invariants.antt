@@ -1,9 +1,0 @@
-use Rattle.std.proofs.Common.{◌≡◌, ◌-◌, ◌*◌, ◌≤◌, slice_index}
-use Rattle.racp_model.specs.Schedule.{sum_below}
-use Rattle.racp_reference.proofs.prices.cost_of.Given as goal
-
-abbrev pub invariant-loop-k : goal.invariant-loop-k
-invariant-loop-k l = record {
-  sum : l.sum ≡ sum_below l.k (λ k. slice_index l.terms.prices k * (slice_index l.capacities k - slice_index l.terms.owned k));
-  small : l.sum ≤ l.k * (1000000 * 4294967296);
-}
