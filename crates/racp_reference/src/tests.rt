@@ -117,7 +117,7 @@ fn assert_plan(
 }
 
 /// An order where an empty list of ceilings stands for none.
-fn order(
+fn order_of(
     alloc: Global,
     deadline: u32,
     (prices, owned, ceilings): (&[u32], &[u32], &[u32]),
@@ -152,7 +152,7 @@ fn plans_with_one_resource(rt: HostRuntime) -> Result<(), Fail> {
         (5, 0, [0; 5], [5, 5, 2, 5, 5], (3, 20), 2, [0, 2, 0, 0, 5]),
     ] {
         let owned = [owned];
-        let order = order(alloc, deadline, (&[10], &owned, &[]), &release, &due)?;
+        let order = order_of(alloc, deadline, (&[10], &owned, &[]), &release, &due)?;
         assert_plan(&rt, alloc, &net, &order, found, &[capacity], &starts)?;
     }
     Ok(())
@@ -171,10 +171,10 @@ fn plans_with_two_resources(rt: HostRuntime) -> Result<(), Fail> {
         (3, [1, 1], [2, 0], 1, [2, 1], [0, 0, 0, 1, 2, 3]),
     ] {
         let due = [deadline; 6];
-        let order = order(alloc, deadline, (&prices, &owned, &[]), &[0; 6], &due)?;
+        let order = order_of(alloc, deadline, (&prices, &owned, &[]), &[0; 6], &due)?;
         assert_plan(&rt, alloc, &net, &order, (2, cost), &capacities, &starts)?;
     }
-    let order = order(alloc, 3, (&[1, 1], &[0, 0], &[2, 1]), &[0; 6], &[3; 6])?;
+    let order = order_of(alloc, 3, (&[1, 1], &[0, 0], &[2, 1]), &[0; 6], &[3; 6])?;
     assert_plan(
         &rt,
         alloc,
@@ -189,10 +189,10 @@ fn plans_with_two_resources(rt: HostRuntime) -> Result<(), Fail> {
 #[test]
 fn plans_without_room(rt: HostRuntime) -> Result<(), Fail> {
     let alloc = rt.alloc();
-    let order = order(alloc, 0, (&[1], &[0], &[]), &[0; 2], &[0; 2])?;
+    let order = order_of(alloc, 0, (&[1], &[0], &[]), &[0; 2], &[0; 2])?;
     assert_plan(&rt, alloc, &idle(alloc)?, &order, (0, 0), &[0], &[0, 0])?;
     let net = chained(alloc)?;
-    let order = order(alloc, 8, (&[1], &[0], &[]), &[0; 6], &[8; 6])?;
+    let order = order_of(alloc, 8, (&[1], &[0], &[]), &[0; 6], &[8; 6])?;
     assert_plan(&rt, alloc, &net, &order, (8, 2), &[2], &[0, 4, 0, 1, 4, 8])
 }
 
@@ -232,11 +232,11 @@ fn says_why_there_is_no_plan(rt: HostRuntime) -> Result<(), Fail> {
         ),
         (4, [2].as_slice(), [0; 5], [4; 5], ("over the ceilings", 0)),
     ] {
-        let order = order(alloc, deadline, (&[10], &[0], ceilings), &release, &due)?;
+        let order = order_of(alloc, deadline, (&[10], &[0], ceilings), &release, &due)?;
         assert_no_plan(&rt, alloc, &net, &order, reason)?;
     }
     let net = crossed(alloc)?;
-    let order = order(alloc, 3, (&[1, 1], &[0, 0], &[1, 1]), &[0; 6], &[3; 6])?;
+    let order = order_of(alloc, 3, (&[1, 1], &[0, 0], &[1, 1]), &[0; 6], &[3; 6])?;
     assert_no_plan(&rt, alloc, &net, &order, ("over the ceilings", 0))
 }
 
