@@ -151,9 +151,9 @@ fn plans_with_one_resource(rt: HostRuntime) -> Result<(), Fail> {
         (5, 0, [0, 1, 0, 0, 0], [5; 5], (4, 20), 2, [0, 2, 0, 0, 5]),
         (5, 0, [0; 5], [5, 5, 2, 5, 5], (3, 20), 2, [0, 2, 0, 0, 5]),
     ] {
-        let owned = [owned];
+        let (owned, capacities) = ([owned], [capacity]);
         let order = order_of(alloc, deadline, (&[10], &owned, &[]), &release, &due)?;
-        assert_plan(&rt, alloc, &net, &order, found, &[capacity], &starts)?;
+        assert_plan(&rt, alloc, &net, &order, found, capacities.as_slice(), starts.as_slice())?;
     }
     Ok(())
 }
