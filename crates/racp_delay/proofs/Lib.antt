@@ -1,0 +1,6 @@
+mod Each
+mod Splitting
+mod Tight
+mod Loads
+mod Branching
+mod Rising

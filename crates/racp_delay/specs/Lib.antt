@@ -1,0 +1,4 @@
+pub mod Alternatives
+pub mod Branching
+pub mod Laws
+pub mod Found

@@ -1,0 +1,29 @@
+//! Laws of conflicts, alternatives and child windows. Each function does nothing; its contract is the law.
+
+ghost use Rattle.racp_delay.specs.Laws.{BranchingLosesNothing, ChildrenCover, ChildIsInside, ChildIsHigher, LoadIsUsage};
+
+/// At the first conflict of a window's early starts, whatever answers in the window lies in the child window of some minimal
+/// alternative other than the whole active set.
+pub fn branching_loses_nothing()
+    ensures { BranchingLosesNothing }
+{}
+
+/// So the child windows of these alternatives cover the window.
+pub fn children_cover()
+    ensures { ChildrenCover }
+{}
+
+/// A child window lies inside its window.
+pub fn child_is_inside()
+    ensures { ChildIsInside }
+{}
+
+/// The sum of a child window's lower bounds is greater.
+pub fn child_is_higher()
+    ensures { ChildIsHigher }
+{}
+
+/// What the active jobs request together is what is used.
+pub fn load_is_usage()
+    ensures { LoadIsUsage }
+{}
