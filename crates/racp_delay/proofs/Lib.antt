@@ -4,3 +4,6 @@ mod Tight
 mod Loads
 mod Branching
 mod Rising
+mod Rows
+mod Searching
+mod Adding

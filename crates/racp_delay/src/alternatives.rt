@@ -1,0 +1,106 @@
+ghost use Rattle.std.specs.Prelude.{◌≡◌, ◌↔◌, ℕ, ◌+◌, ◌*◌, ◌<◌, ◌≤◌, IsTrue, IfOk, All, length, slice_index, vec_len};
+ghost use Rattle.std.specs.List.Sorted.{IsStrictlyIncreasing};
+ghost use Rattle.racp_model.specs.Project.{request, IsNumber};
+ghost use Rattle.racp_delay.specs.Alternatives.{place, job_lists};
+ghost use Rattle.racp_delay.specs.Found.{AreWithin, OneMoreRuns, SomeMoreRuns, with_load, AreAdded};
+
+use racp_model::limits::MOST_RESOURCES;
+use racp_model::Network;
+use smallvec::SmallVec;
+use std::alloc::{AllocError, Global};
+
+/// What some jobs request together of each resource, by place from 0.
+type Loads = [u32; MOST_RESOURCES];
+
+/// Whether the loads fit the capacities.
+fn are_within(net: &Network, capacities: &[u32], loads: &Loads) -> bool
+    requires capacities { length capacities.now ≡ net.now.resources }
+    ensures { IsTrue result ↔ AreWithin net.now capacities.now (slice_index loads.now) }
+{
+    (0..net.resource_count()).all(|k| loads[k] <= capacities[k])
+}
+
+/// Whether one job more could run with these loads.
+fn could_stay(net: &Network, capacities: &[u32], loads: &Loads, job: u32) -> bool
+    requires capacities { length capacities.now ≡ net.now.resources }
+    requires job { IsNumber (length net.now.jobs) job }
+    ensures { IsTrue result ↔ OneMoreRuns net.now capacities.now (slice_index loads.now) job }
+{
+    let place = job as usize - 1;
+    (0..net.resource_count()).all(|k| loads[k] as u64 + net.request(place, k) as u64 <= capacities[k] as u64)
+}
+
+/// Whether one of these jobs could run with these loads.
+fn some_could_stay(net: &Network, capacities: &[u32], loads: &Loads, jobs: &[u32]) -> bool
+    requires capacities { length capacities.now ≡ net.now.resources }
+    requires jobs { All (IsNumber (length net.now.jobs)) jobs.now }
+    ensures { IsTrue result ↔ SomeMoreRuns net.now capacities.now (slice_index loads.now) jobs.now }
+{
+    jobs.iter().any(|job| could_stay(net, capacities, loads, *job))
+}
+
+/// The loads with one job more.
+fn with(net: &Network, loads: &Loads, job: u32) -> Loads
+    requires job { IsNumber (length net.now.jobs) job }
+    requires small { (k : ℕ) → k < net.now.resources → slice_index loads.now k ≤ 5120000 }
+    ensures { (k : ℕ) → k < net.now.resources → slice_index result k ≡ slice_index loads.now k + request net.now (place job) k }
+{
+    let mut sums = *loads;
+    for k in 0..net.resource_count() {
+        sums[k] += net.request(job as usize - 1, k);
+    }
+    sums
+}
+
+/// The loads with one job less.
+fn without(net: &Network, loads: &Loads, job: u32) -> Loads
+    requires job { IsNumber (length net.now.jobs) job }
+    requires within { (k : ℕ) → k < net.now.resources → request net.now (place job) k ≤ slice_index loads.now k }
+    ensures { (k : ℕ) → k < net.now.resources → slice_index result k + request net.now (place job) k ≡ slice_index loads.now k }
+{
+    let mut sums = *loads;
+    for k in 0..net.resource_count() {
+        sums[k] -= net.request(job as usize - 1, k);
+    }
+    sums
+}
+
+/// Adds, in lexicographic order, the alternatives in which the jobs of `gone` go and those that load `kept` stay, where the
+/// jobs of `rest` may go or stay. `left` are the loads of the kept and the rest together. Nothing is looked for where the kept
+/// exceed the capacities by themselves, or where one of the gone could stay with all the others.
+fn add(
+    net: &Network,
+    capacities: &[u32],
+    kept: &Loads,
+    left: &Loads,
+    gone: &mut Vec<u32>,
+    rest: &[u32],
+    lists: &mut Vec<SmallVec<u32, 8>>,
+) -> Result<(), AllocError>
+    requires capacities { length capacities.now ≡ net.now.resources }
+    requires gone { All (IsNumber (length net.now.jobs)) gone.old.items }
+    requires rest { All (IsNumber (length net.now.jobs)) rest.now }
+    requires rises { IsStrictlyIncreasing rest.now }
+    requires left { (k : ℕ) → k < net.now.resources → slice_index left.now k ≡ with_load net.now (slice_index kept.now) rest.now k }
+    requires small { (k : ℕ) → k < net.now.resources → slice_index left.now k ≤ 5120000 }
+    ensures gone { IfOk result (λ _. gone.new.items ≡ gone.old.items) }
+    ensures added { IfOk result (λ _. AreAdded net.now capacities.now (slice_index kept.now) gone.old.items rest.now (job_lists lists.old.items) (job_lists lists.new.items)) }
+{
+    if !are_within(net, capacities, kept) || some_could_stay(net, capacities, left, gone) {
+        return Ok(());
+    }
+    if are_within(net, capacities, left) {
+        let alternative = SmallVec::from_slice(*lists.allocator(), gone)?;
+        lists.push(alternative)?;
+        return Ok(());
+    }
+    if let Some((job, others)) = rest.split_first() {
+        gone.push(*job)?;
+        let less = without(net, left, *job);
+        add(net, capacities, kept, &less, gone, others, lists)?;
+        gone.pop();
+        let more = with(net, kept, *job);
+        add(net, capacities, &more, left, gone, others, lists)?;
+    }
+    Ok(())
+}
