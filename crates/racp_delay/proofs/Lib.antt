@@ -7,3 +7,5 @@ mod Rising
 mod Rows
 mod Searching
 mod Adding
+mod JobSets
+mod Bits

@@ -41,3 +41,8 @@ pub record AreFound (p : Project) (capacities : List ℕ) (kept : ℕ → ℕ) (
 abbrev pub AreAdded : Project → List ℕ → (ℕ → ℕ) → List ℕ → List ℕ → List (List ℕ) → List (List ℕ) → Type 0
 AreAdded p capacities kept chosen rest old new =
     (found : List (List ℕ)) × (new ≡ old ++ found) × AreFound p capacities kept chosen rest found
+
+-- what some jobs request together of each resource, each small
+pub record AreLoads (p : Project) (jobs loads : List ℕ) : Type 0 where
+  pub sums : (k : ℕ) → k < p.resources → slice_index loads k ≡ load p k jobs
+  pub small : (k : ℕ) → k < p.resources → slice_index loads k ≤ 5120000

@@ -2,3 +2,4 @@ pub mod Alternatives
 pub mod Branching
 pub mod Laws
 pub mod Found
+pub mod JobSets

@@ -1,11 +1,14 @@
 ghost use Rattle.std.specs.Prelude.{◌≡◌, ◌↔◌, ℕ, ◌+◌, ◌*◌, ◌<◌, ◌≤◌, IsTrue, IfOk, All, length, slice_index, vec_len};
 ghost use Rattle.std.specs.List.Sorted.{IsStrictlyIncreasing};
 ghost use Rattle.racp_model.specs.Project.{request, IsNumber};
-ghost use Rattle.racp_delay.specs.Alternatives.{place, job_lists};
-ghost use Rattle.racp_delay.specs.Found.{AreWithin, OneMoreRuns, SomeMoreRuns, with_load, AreAdded};
+ghost use Rattle.racp_delay.specs.Alternatives.{place, AreAlternatives, job_lists};
+ghost use Rattle.racp_delay.specs.Found.{AreWithin, OneMoreRuns, SomeMoreRuns, with_load, AreAdded, AreLoads};
+ghost use Rattle.racp_delay.specs.JobSets.{AreJobs};
 
+use crate::conflicts::Clash;
+use crate::job_set::JobSet;
 use racp_model::limits::MOST_RESOURCES;
-use racp_model::Network;
+use racp_model::{Capacities, Network};
 use smallvec::SmallVec;
 use std::alloc::{AllocError, Global};
 
@@ -103,4 +106,45 @@ fn add(
         add(net, capacities, &more, left, gone, others, lists)?;
     }
     Ok(())
+}
+
+/// All minimal delaying alternatives of the active jobs of a conflict, each once: the lists of job numbers, from 1 and rising,
+/// of those that may go so that the others can run at once, and of which none can stay with these (Demeulemeester and Herroelen
+/// 1992). The lists stand in lexicographic order. There is a capacity for each resource, by place from 0.
+///
+/// # Errors
+///
+/// Memory was refused.
+pub fn alternatives(
+    alloc: Global,
+    net: &Network,
+    capacities: &Capacities,
+    clash: &Clash,
+) -> Result<Vec<SmallVec<u32, 8>>, AllocError>
+    requires capacities { length capacities.now ≡ net.now.resources }
+    requires active { All (IsNumber (length net.now.jobs)) clash.now.active }
+    ensures { IfOk result (λ lists. AreAlternatives net.now capacities.now clash.now.active (job_lists lists.items)) }
+{
+    let (active, loads) = load_of(alloc, net, &clash.active)?;
+    let mut gone = Vec::new(alloc);
+    let mut lists = Vec::new(alloc);
+    add(net, capacities.as_slice(), &[0; MOST_RESOURCES], &loads, &mut gone, &active, &mut lists)?;
+    Ok(lists)
+}
+
+/// The jobs of a set, and what they request together of each resource.
+fn load_of(alloc: Global, net: &Network, jobs: &JobSet) -> Result<(Vec<u32>, Loads), AllocError>
+    requires { All (IsNumber (length net.now.jobs)) jobs.now }
+    ensures jobs { IfOk result (λ loaded. loaded.0.items ≡ jobs.now) }
+    ensures loads { IfOk result (λ loaded. AreLoads net.now jobs.now loaded.1) }
+    ensures rises { AreJobs jobs.now }
+{
+    let mut list = Vec::new(alloc);
+    let mut loads = [0; MOST_RESOURCES];
+    let mut left = jobs.copy();
+    while let Some(job) = left.pop_first() {
+        list.push(job)?;
+        loads = with(net, &loads, job);
+    }
+    Ok((list, loads))
 }

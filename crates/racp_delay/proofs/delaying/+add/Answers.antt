@@ -2,8 +2,8 @@ use Rattle.std.proofs.Common.{◌≡◌, ℕ, ◌+◌, List, ◌∷◌, ◌++◌
 use Rattle.racp_model.specs.Project.{IsNumber, request}
 use Rattle.racp_delay.specs.Alternatives.{place, job_lists}
 use Rattle.racp_delay.proofs.Adding.{added-over, added-loose, added-here, added-both, lists-push, popped, all-tail, all-head, all-push, all-same, rising-rest, left-is, none-left}
-use Rattle.racp_delay.proofs.alternatives.+add.Goals as goal
-use Rattle.racp_delay.proofs.alternatives.+add.Goals.{then-not-are_within-via-then-not-are_within, then-not-are_within-via-else-not-are_within+then-some_could_stay}
+use Rattle.racp_delay.proofs.delaying.+add.Goals as goal
+use Rattle.racp_delay.proofs.delaying.+add.Goals.{then-not-are_within-via-then-not-are_within, then-not-are_within-via-else-not-are_within+then-some_could_stay}
 
 pub returns-then-not-are_within-clause-added : goal.returns-then-not-are_within-clause-added
 returns-then-not-are_within-clause-added t c =
