@@ -9,3 +9,4 @@ mod Searching
 mod Adding
 mod JobSets
 mod Bits
+mod Loading

@@ -1,6 +1,6 @@
 ghost use Rattle.std.specs.Prelude.{◌≡◌, ◌↔◌, ℕ, ◌+◌, ◌*◌, ◌<◌, ◌≤◌, IsTrue, IfOk, All, length, slice_index, vec_len};
 ghost use Rattle.std.specs.List.Sorted.{IsStrictlyIncreasing};
-ghost use Rattle.racp_model.specs.Project.{request, IsNumber};
+ghost use Rattle.racp_model.specs.Project.{request, IsNumber, IsSound};
 ghost use Rattle.racp_delay.specs.Alternatives.{place, AreAlternatives, job_lists};
 ghost use Rattle.racp_delay.specs.Found.{AreWithin, OneMoreRuns, SomeMoreRuns, with_load, AreAdded, AreLoads};
 ghost use Rattle.racp_delay.specs.JobSets.{AreJobs};
@@ -46,7 +46,8 @@ fn some_could_stay(net: &Network, capacities: &[u32], loads: &Loads, jobs: &[u32
 fn with(net: &Network, loads: &Loads, job: u32) -> Loads
     requires job { IsNumber (length net.now.jobs) job }
     requires small { (k : ℕ) → k < net.now.resources → slice_index loads.now k ≤ 5120000 }
-    ensures { (k : ℕ) → k < net.now.resources → slice_index result k ≡ slice_index loads.now k + request net.now (place job) k }
+    ensures sums { (k : ℕ) → k < net.now.resources → slice_index result k ≡ slice_index loads.now k + request net.now (place job) k }
+    ensures sound { IsSound net.now }
 {
     let mut sums = *loads;
     for k in 0..net.resource_count() {

@@ -43,7 +43,7 @@ returns-in_ok-add-2-clause-added t c =
     let same : c.pop.new.self.items ≡ c.args.gone.now.items = popped c.args.gone.now.items c.add.new.gone.items c.pop.new.self.items c.in-Some.job.now (vec_len c.add.new.gone) (c.in_ok-add.ensures.gone ∙ c.in_ok-push-2.ensures.items) (omega (arith, c.add.new.gone.ok.0)) c.pop.ensures.rest in
     added-both c.args.net.now c.args.capacities.now (slice_index c.args.kept.now) (slice_index c.args.left.now) c.args.gone.now.items c.args.rest.now (job_lists c.args.lists.now.items) (job_lists c.add-in-Some.new.lists.items) c.requires.left
     (job_lists c.add.new.lists.items) c.in-Some.job.now c.in-Some.others.now c.push-in-Some.new.self.items c.pop.new.self.items (slice_index c.with-more.result)
-    c.in-Some.ensures.cases.0 c.requires.rises c.in_ok-push-2.ensures.items same c.with-more.ensures
+    c.in-Some.ensures.cases.0 c.requires.rises c.in_ok-push-2.ensures.items same c.with-more.ensures.sums
     (λ runs. cc (c.are_within-2.ensures.1 runs, c.if-are_within.false)) c.in_ok-add.ensures.added c.in_ok-add-2.ensures.added
 
 pub add-requires : goal.add-requires
@@ -87,7 +87,7 @@ add-requires-in-Some t c =
             all-tail (IsNumber n) c.in-Some.job.now c.args.rest.now c.in-Some.others.now first c.requires.rest,
             (
               rising-rest c.in-Some.job.now c.args.rest.now c.in-Some.others.now first c.requires.rises,
-              ((λ k l. omega (arith, parts k l, c.with-more.ensures k l)), c.requires.small),
+              ((λ k l. omega (arith, parts k l, c.with-more.ensures.sums k l)), c.requires.small),
             ),
           ),
         ),
