@@ -13,7 +13,7 @@ use Rattle.racp_delay.specs.Laws.{LiesInSomeChild, BranchingLosesNothing, Childr
 use Rattle.racp_delay.proofs.Each.{each-map, each-both, each-member, is_member, each-members, some-each, some_not_empty, least_of, Some_of, ascends}
 use Rattle.racp_delay.proofs.Splitting.{each-kept, each-gone, some-splits, split_by, ascends-kept, stays_not_empty}
 use Rattle.racp_delay.proofs.Tight.{minimal-from_tight, minimal_inside}
-use Rattle.racp_delay.proofs.Loads.{IsActiveJob, each-active, load-active}
+use Rattle.racp_delay.proofs.ActiveLoads.{IsActiveJob, each-active, load-active}
 
 -- the jobs that go start when the first of those that stay has ended, or later
 abbrev pub IsPutOff : Project → List ℕ → List ℕ → List ℕ → List ℕ → Type 0
@@ -112,7 +112,7 @@ clash_active p capacities starts t active clash e =
     let nobody : (i : ℕ) → i < length p.jobs → IsActive p starts t i → ⊥ = λ i l a.
     let in' : Contains [] (number i) = let P : List ℕ → Type 0 = λ x. Contains x (number i) in subst P e (in_set p starts t active clash.set i l a) in
     absurd (omega (arith, in'.1)) in
-    absurd (omega (arith, clash.exceeds.2, usage-none p starts clash.exceeds.0 t nobody))
+    absurd (omega (arith, clash.first.exceeds.2, usage-none p starts clash.first.exceeds.0 t nobody))
 
 -- starts in which the alternative was put off lie in the child
 pub lies_in_child : (p : Project) (early gone kept starts : List ℕ) (window child : Bounds) → IsChild p early window gone kept child → IsPutOff p early gone kept starts → LiesIn p window starts → LiesIn p child starts

@@ -1,7 +1,7 @@
 mod Each
 mod Splitting
 mod Tight
-mod Loads
+mod ActiveLoads
 mod Branching
 mod Rising
 mod Rows
@@ -10,3 +10,6 @@ mod Adding
 mod JobSets
 mod Bits
 mod Loading
+mod Events
+mod Sweeping
+mod ActiveSets

@@ -10,7 +10,7 @@ use Rattle.racp_delay.specs.Branching.{IsClash, end_of}
 use Rattle.racp_delay.specs.Laws.{ChildIsHigher}
 use Rattle.racp_delay.proofs.Each.{each-member}
 use Rattle.racp_delay.proofs.Splitting.{each-kept, each-gone, all_stay}
-use Rattle.racp_delay.proofs.Loads.{IsActiveJob, each-active, load_is_usage}
+use Rattle.racp_delay.proofs.ActiveLoads.{IsActiveJob, each-active, load_is_usage}
 use Rattle.racp_delay.proofs.Branching.{child_inside}
 
 -- some job goes
@@ -19,9 +19,9 @@ some_goes p capacities early t active gone kept clash s m e =
     let d = m.delays in
     let P : List ℕ → Type 0 = λ x. Splits active x d.0 in
     let all : d.0 ≡ active = all_stay (subst P e d.1) in
-    let k : ℕ = clash.exceeds.0 in
-    let fits : load p k d.0 ≤ slice_index capacities k = d.2 k clash.exceeds.1 in
-    omega (arith, clash.exceeds.2, load_is_usage p early t k active clash.set, ap (load p k) all)
+    let k : ℕ = clash.first.exceeds.0 in
+    let fits : load p k d.0 ≤ slice_index capacities k = d.2 k clash.first.exceeds.1 in
+    omega (arith, clash.first.exceeds.2, load_is_usage p early t k active clash.set, ap (load p k) all)
 
 -- the sum of a child's lower bounds is greater
 pub child_higher : ChildIsHigher

@@ -3,3 +3,4 @@ pub mod Branching
 pub mod Laws
 pub mod Found
 pub mod JobSets
+pub mod Sweeps

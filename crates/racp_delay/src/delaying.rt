@@ -7,13 +7,11 @@ ghost use Rattle.racp_delay.specs.JobSets.{AreJobs};
 
 use crate::conflicts::Clash;
 use crate::job_set::JobSet;
+use crate::loads::{with, without, Loads};
 use racp_model::limits::MOST_RESOURCES;
 use racp_model::{Capacities, Network};
 use smallvec::SmallVec;
 use std::alloc::{AllocError, Global};
-
-/// What some jobs request together of each resource, by place from 0.
-type Loads = [u32; MOST_RESOURCES];
 
 /// Whether the loads fit the capacities.
 fn are_within(net: &Network, capacities: &[u32], loads: &Loads) -> bool
@@ -40,33 +38,6 @@ fn some_could_stay(net: &Network, capacities: &[u32], loads: &Loads, jobs: &[u32
     ensures { IsTrue result ↔ SomeMoreRuns net.now capacities.now (slice_index loads.now) jobs.now }
 {
     jobs.iter().any(|job| could_stay(net, capacities, loads, *job))
-}
-
-/// The loads with one job more.
-fn with(net: &Network, loads: &Loads, job: u32) -> Loads
-    requires job { IsNumber (length net.now.jobs) job }
-    requires small { (k : ℕ) → k < net.now.resources → slice_index loads.now k ≤ 5120000 }
-    ensures sums { (k : ℕ) → k < net.now.resources → slice_index result k ≡ slice_index loads.now k + request net.now (place job) k }
-    ensures sound { IsSound net.now }
-{
-    let mut sums = *loads;
-    for k in 0..net.resource_count() {
-        sums[k] += net.request(job as usize - 1, k);
-    }
-    sums
-}
-
-/// The loads with one job less.
-fn without(net: &Network, loads: &Loads, job: u32) -> Loads
-    requires job { IsNumber (length net.now.jobs) job }
-    requires within { (k : ℕ) → k < net.now.resources → request net.now (place job) k ≤ slice_index loads.now k }
-    ensures { (k : ℕ) → k < net.now.resources → slice_index result k + request net.now (place job) k ≡ slice_index loads.now k }
-{
-    let mut sums = *loads;
-    for k in 0..net.resource_count() {
-        sums[k] -= net.request(job as usize - 1, k);
-    }
-    sums
 }
 
 /// Adds, in lexicographic order, the alternatives in which the jobs of `gone` go and those that load `kept` stay, where the

@@ -5,7 +5,8 @@ mod conflicts;
 mod delaying;
 mod job_set;
 pub mod laws;
+mod loads;
 
 pub use delaying::alternatives;
-pub use conflicts::Clash;
+pub use conflicts::{conflict, Clash};
 pub use job_set::JobSet;

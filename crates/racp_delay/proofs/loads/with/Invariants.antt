@@ -2,7 +2,7 @@ use Rattle.std.proofs.Common.{◌≡◌, ℕ, ◌+◌, length, slice_index}
 use Rattle.racp_model.specs.Project.{request}
 use Rattle.racp_delay.specs.Alternatives.{place}
 use Rattle.racp_delay.proofs.Rows.{AreWritten}
-use Rattle.racp_delay.proofs.delaying.with.Given as goal
+use Rattle.racp_delay.proofs.loads.with.Given as goal
 
 abbrev pub invariant-loop-k : goal.invariant-loop-k
 invariant-loop-k l = record {
