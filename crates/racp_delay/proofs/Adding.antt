@@ -1,5 +1,5 @@
 -- The search for minimal delaying alternatives, as the code sees it.
-use Rattle.std.proofs.Common.{◌≡◌, ℕ, suc, ◌+◌, ◌-◌, ◌<◌, ◌≤◌, List, [], ◌∷◌, ◌++◌, length, slice_index, arith, refl, ap, sym, ◌∙◌, subst, map, append_assoc, length-append, take, All}
+use Rattle.std.proofs.Common.{◌≡◌, ℕ, suc, ◌+◌, ◌-◌, ◌<◌, List, [], ◌∷◌, ◌++◌, length, slice_index, arith, ap, sym, ◌∙◌, subst, append_assoc, length-append, take, All}
 use Rattle.std.proofs.lemmas.List.{append-nil, map-append, take_all, take-append-le}
 use Rattle.std.proofs.lemmas.List.Elements.{All-tail, All-head, All-push}
 use native.Mathlib.Numerals.{unary_clauses}
@@ -7,7 +7,7 @@ use Rattle.std.specs.List.Sorted.{IsStrictlyIncreasing}
 use Rattle.smallvec.specs.SmallVec.{SmallVec}
 use Rattle.racp_model.specs.Project.{Project, request}
 use Rattle.racp_delay.specs.Alternatives.{place, load, job_lists, AreAlternatives}
-use Rattle.racp_delay.specs.Found.{AreWithin, SomeMoreRuns, Each, with_load, AreFound, AreAdded}
+use Rattle.racp_delay.specs.Found.{AreWithin, SomeMoreRuns, with_load, AreFound, AreAdded}
 use Rattle.racp_delay.proofs.Each.{Ascends, ascends}
 use Rattle.racp_delay.proofs.Tight.{none_kept}
 use Rattle.racp_delay.proofs.Searching.{IsMore, found-over, found-loose, found-here, found-both, found-same, found-alternatives}
@@ -78,8 +78,7 @@ module _ (p : Project) (capacities : List ℕ) (kept left : ℕ → ℕ) (gone r
       let up : Ascends (job ∷ others) = ascends (job ∷ others) (subst (λ (x : List ℕ). IsStrictlyIncreasing x) er rises) in
       let too_much : AreWithin p capacities (with_load p kept (job ∷ others)) → ⊥ = λ runs. over (λ k l. omega (arith, is_left k l, runs k l, ap (λ (x : List ℕ). with_load p kept x k) er)) in
       let hf : AreFound p capacities kept (gone ++ job ∷ []) others f.0 = subst (λ (x : List ℕ). AreFound p capacities kept x others f.0) e1 f.2 in
-      let hg : AreFound p capacities more gone others g.0 = subst (λ (x : List ℕ). AreFound p capacities more x others g.0) e2 g.2 in
-      (
+      let hg : AreFound p capacities more gone others g.0 = subst (λ (x : List ℕ). AreFound p capacities more x others g.0) e2 g.2 in (
         f.0 ++ g.0,
         g.1 ∙ (ap (λ (x : List (List ℕ)). x ++ g.0) f.1 ∙ append_assoc old f.0 g.0),
         subst (λ (x : List ℕ). AreFound p capacities kept gone x (f.0 ++ g.0)) (sym er) (found-both p capacities kept more gone job others f.0 g.0 is_more up.0 too_much hf hg),

@@ -1,5 +1,5 @@
 -- The bits of the jobs of a set, after a job came in or went out, and beside those of another set.
-use Rattle.std.proofs.Common.{◌≡◌, ◌≢◌, ◌↔◌, ◌⊎◌, inl, inr, ℕ, zero, suc, ◌+◌, ◌-◌, ◌*◌, ◌/◌, ◌%◌, ◌<◌, ◌≤◌, ◌^◌, List, [], ◌∷◌, length, slice_index, slice_index_or, arith, refl, ap, sym, ◌∙◌, subst, Contains, AllPairs, set, bit_and, bit_or, w64, min}
+use Rattle.std.proofs.Common.{◌≡◌, ◌≢◌, ◌⊎◌, inl, inr, ℕ, ◌+◌, ◌-◌, ◌*◌, ◌/◌, ◌%◌, ◌<◌, ◌≤◌, ◌^◌, List, [], ◌∷◌, length, slice_index, arith, refl, ap, sym, ◌∙◌, subst, Contains, set, bit_and, bit_or, w64, min}
 use Rattle.std.specs.Int.{bit_at, bit_not, trailing_zeros}
 use Rattle.std.proofs.lemmas.Bool.{cases_lt}
 use Rattle.std.proofs.lemmas.List.Kept.{AllPairs-from_increasing, AllPairs-cons}
@@ -56,12 +56,16 @@ bit_is_set words new job len is e = record {
   where
     q : ℕ
     q = place job / 64
+
     k : ℕ
     k = place job % 64
+
     v : ℕ
     v = bit_or (slice_index words q) (1 * 2 ^ k % 2 ^ 64)
+
     within : q < length words
     within = omega (arith, len, is.0, is.1)
+
     small : k < 64
     small = omega arith
 
@@ -85,8 +89,10 @@ bit_is_cleared words new q k job within small is e = record {
   where
     v : ℕ
     v = bit_and (slice_index words q) (bit_not w64 (1 * 2 ^ k % 2 ^ 64))
+
     word : place job / 64 ≡ q
     word = omega arith
+
     bit : place job % 64 ≡ k
     bit = omega arith
 

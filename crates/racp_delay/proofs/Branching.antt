@@ -6,10 +6,10 @@ use Rattle.racp_model.specs.Schedule.{IsActive, use_of, usage, IsWithinCapacitie
 use Rattle.racp_model.specs.Window.{Bounds, LiesIn}
 use Rattle.racp_model.proofs.lemmas.Usage.{use_of-idle}
 use Rattle.racp_model.proofs.lemmas.Sums.{sum_below-bound}
-use Rattle.racp_delay.specs.Alternatives.{place, Splits, load, CanRun, IsMinimalDelayingAlternative}
+use Rattle.racp_delay.specs.Alternatives.{place, Splits, CanRun, IsMinimalDelayingAlternative}
 use Rattle.racp_delay.specs.Found.{Each}
 use Rattle.racp_delay.specs.Branching.{IsClash, IsActiveSet, IsFirstEnd, IsChild, end_of}
-use Rattle.racp_delay.specs.Laws.{LiesInSomeChild, BranchingLosesNothing, ChildrenCover, ChildIsInside}
+use Rattle.racp_delay.specs.Laws.{BranchingLosesNothing, ChildrenCover, ChildIsInside}
 use Rattle.racp_delay.proofs.Each.{each-map, each-both, each-member, is_member, each-members, some-each, some_not_empty, least_of, Some_of, ascends}
 use Rattle.racp_delay.proofs.Splitting.{each-kept, each-gone, some-splits, split_by, ascends-kept, stays_not_empty}
 use Rattle.racp_delay.proofs.Tight.{minimal-from_tight, minimal_inside}
@@ -53,13 +53,13 @@ module _ (p : Project) (capacities early : List ℕ) (t : ℕ) (active starts : 
     pub all_active : Each (IsActiveJob p starts (f - 1)) kept
     all_active =
         let just_before : (job : ℕ) → (slice_index starts (place job) < f) × (IsActiveJob p early t job × (f ≤ end_of p starts job)) → IsActiveJob p starts (f - 1) job = λ job x.
-            let end : f ≤ slice_index starts (place job) + duration p (place job) = x.1.1 in
-            let start : slice_index starts (place job) < f = x.0 in
-            (x.1.0.0, record { started = omega arith; runs = omega arith }) in
+        let end : f ≤ slice_index starts (place job) + duration p (place job) = x.1.1 in
+        let start : slice_index starts (place job) < f = x.0 in
+        (x.1.0.0, record { started = omega arith; runs = omega arith }) in
         let both : Each (λ job. IsActiveJob p early t job × (f ≤ end_of p starts job)) kept =
-            each-both (IsActiveJob p early t) (λ job. f ≤ end_of p starts job) kept (each-kept (IsActiveJob p early t) splits (each-active p early t active set)) (each-kept (λ job. f ≤ end_of p starts job) splits ends) in
+        each-both (IsActiveJob p early t) (λ job. f ≤ end_of p starts job) kept (each-kept (IsActiveJob p early t) splits (each-active p early t active set)) (each-kept (λ job. f ≤ end_of p starts job) splits ends) in
         let all_three : Each (λ job. (slice_index starts (place job) < f) × (IsActiveJob p early t job × (f ≤ end_of p starts job))) kept =
-            each-both (λ job. slice_index starts (place job) < f) (λ job. IsActiveJob p early t job × (f ≤ end_of p starts job)) kept sooner both in
+        each-both (λ job. slice_index starts (place job) < f) (λ job. IsActiveJob p early t job × (f ≤ end_of p starts job)) kept sooner both in
         each-map (λ job. (slice_index starts (place job) < f) × (IsActiveJob p early t job × (f ≤ end_of p starts job))) (IsActiveJob p starts (f - 1)) kept just_before all_three
 
     -- so they can run at once

@@ -1,15 +1,14 @@
 -- The jobs by rising times, and what those up to a time request together.
-use Rattle.std.proofs.Common.{◌≡◌, ◌⊎◌, inl, inr, ℕ, zero, suc, ◌+◌, ◌*◌, ◌<◌, ◌≤◌, Bool, true, false, nat_le, cond, if◌then◌else◌, List, [], ◌∷◌, length, map, take, slice_index, slice_index_or, set, arith, refl, ap, sym, ◌∙◌, subst, All, get_or-set_same, get_or-set_other, add-one}
+use Rattle.std.proofs.Common.{◌≡◌, inl, inr, ℕ, zero, suc, ◌+◌, ◌<◌, ◌≤◌, nat_le, if◌then◌else◌, List, [], ◌∷◌, length, map, take, slice_index, slice_index_or, set, arith, refl, ap, sym, ◌∙◌, subst, All, get_or-set_same, get_or-set_other, add-one}
 use Rattle.std.specs.List.{sum_by, range_with_len}
-use Rattle.std.specs.List.Sorted.{IsPermutation}
 use Rattle.std.proofs.lemmas.Bool.{cases_lt}
 use Rattle.std.proofs.lemmas.Bool.Decides.{nat_tests}
 use Rattle.std.proofs.lemmas.List.FromFn.{length-map-range_with_len, get_or-map-range_with_len, fill_by_all, sum_by-map-range_with_len_more}
 use Rattle.std.proofs.lemmas.List.Sums.{sum_by-cons}
 use Rattle.std.proofs.lemmas.List.Sorted.{sum_by-IsPermutation, All-permutation, length_permutation}
-use Rattle.racp_model.specs.Project.{Project, duration, request, number, IsNumber, IsSound}
-use Rattle.racp_model.specs.Schedule.{IsActive, use_of, usage, sum_below}
-use Rattle.racp_model.proofs.lemmas.Sums.{request-small, sum_below-mono}
+use Rattle.racp_model.specs.Project.{Project, duration, request, number, IsNumber}
+use Rattle.racp_model.specs.Schedule.{use_of, usage, sum_below}
+use Rattle.racp_model.proofs.lemmas.Sums.{sum_below-mono}
 use Rattle.racp_model.proofs.lemmas.Usage.{use_of-active, use_of-idle}
 use Rattle.racp_delay.specs.Alternatives.{place}
 use Rattle.racp_delay.specs.Sweeps.{events_of, time_at, AreEvents, event_load}
@@ -131,11 +130,11 @@ split_at time (suc n) t rises =
     let h = split_at time n t (λ a b l w. rises a b l (omega arith)) in
     elim (cases_lt t (time n)) [
       | inl later ↦ (
-          h.0,
-          omega (arith, h.1),
-          h.2,
-          λ q l w. elim (cases_lt q n) [ inl less ↦ h.3 q l less | inr most ↦ (let e : n ≡ q = omega arith in subst (λ (i : ℕ). t < time i) e later) ],
-        )
+        h.0,
+        omega (arith, h.1),
+        h.2,
+        λ q l w. elim (cases_lt q n) [ inl less ↦ h.3 q l less | inr most ↦ (let e : n ≡ q = omega arith in subst (λ (i : ℕ). t < time i) e later) ],
+      )
       | inr by ↦ (suc n, omega arith, (λ q l. omega (arith, rises q n (omega arith) (omega arith))), λ q l w. absurd (omega arith))
     ]
 

@@ -1,15 +1,13 @@
 -- The jobs whose bits are set.
-use Rattle.std.proofs.Common.{◌≡◌, ◌≢◌, ◌↔◌, ◌⊎◌, inl, inr, ℕ, zero, suc, ◌+◌, ◌-◌, ◌*◌, ◌/◌, ◌%◌, ◌<◌, ◌≤◌, ◌^◌, Bool, true, false, nat_eq, cond, List, [], ◌∷◌, length, slice_index, slice_index_or, arith, refl, ap, sym, ◌∙◌, subst, Contains, All, set}
+use Rattle.std.proofs.Common.{◌≡◌, inl, inr, ℕ, suc, ◌+◌, ◌-◌, ◌<◌, ◌≤◌, Bool, true, false, nat_eq, cond, List, [], ◌∷◌, length, slice_index_or, arith, refl, ap, sym, ◌∙◌, subst, Contains, All}
 use Rattle.std.specs.List.{filter, range_with_len}
 use Rattle.std.specs.List.Sorted.{IsStrictlyIncreasing}
-use Rattle.std.specs.Int.{bit_at}
 use Rattle.std.proofs.lemmas.List.Kept.{IsStrictlyIncreasing-filter}
 use Rattle.std.proofs.lemmas.List.Elements.{All-filter, filter_passes}
 use Rattle.std.proofs.lemmas.List.FromFn.{length-range_with_len, get_or-range_with_len}
 use Rattle.std.proofs.lemmas.Bool.Decides.{nat_tests}
 use Rattle.racp_model.specs.Project.{IsNumber}
 use Rattle.racp_model.proofs.lemmas.Relations.{member_cases, member_later, member_first, no_member}
-use Rattle.racp_delay.specs.Alternatives.{place}
 use Rattle.racp_delay.specs.JobSets.{bit_of, has_bit, members, AreJobs}
 use Rattle.racp_delay.proofs.Each.{each-member, all-each}
 

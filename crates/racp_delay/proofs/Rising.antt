@@ -6,7 +6,7 @@ use Rattle.racp_model.proofs.lemmas.Sums.{sum_below-lt}
 use Rattle.racp_model.proofs.lemmas.Relations.{member_first}
 use Rattle.racp_delay.specs.Alternatives.{place, Splits, load, IsMinimalDelayingAlternative}
 use Rattle.racp_delay.specs.Found.{Each}
-use Rattle.racp_delay.specs.Branching.{IsClash, end_of}
+use Rattle.racp_delay.specs.Branching.{IsClash}
 use Rattle.racp_delay.specs.Laws.{ChildIsHigher}
 use Rattle.racp_delay.proofs.Each.{each-member}
 use Rattle.racp_delay.proofs.Splitting.{each-kept, each-gone, all_stay}

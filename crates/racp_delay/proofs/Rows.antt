@@ -1,5 +1,5 @@
 -- A row that is written place by place.
-use Rattle.std.proofs.Common.{◌≡◌, ℕ, ◌+◌, ◌<◌, ◌≤◌, inl, inr, List, length, slice_index, set, arith, ap, ◌∙◌}
+use Rattle.std.proofs.Common.{◌≡◌, ℕ, ◌+◌, ◌<◌, ◌≤◌, inl, inr, List, length, slice_index, set, arith, ap}
 use Rattle.racp_model.proofs.lemmas.Lists.{at_set}
 
 -- the places below n have their new value, and the others the old one

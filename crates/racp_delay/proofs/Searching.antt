@@ -1,20 +1,19 @@
 -- The search for minimal delaying alternatives: what is found where it stops, and where it goes on.
-use Rattle.std.proofs.Common.{◌≡◌, ℕ, zero, suc, ◌+◌, ◌-◌, ◌<◌, ◌≤◌, ◌⊎◌, inl, inr, List, [], ◌∷◌, ◌++◌, length, slice_index, slice_index_or, get_or, arith, refl, ap, sym, ◌∙◌, subst, Contains, AllPairs, All, append_assoc, length-append}
+use Rattle.std.proofs.Common.{◌≡◌, ℕ, ◌+◌, ◌-◌, ◌<◌, inl, inr, List, [], ◌∷◌, ◌++◌, length, get_or, arith, refl, ap, sym, ◌∙◌, subst, Contains, AllPairs, append_assoc, length-append}
 use Rattle.std.proofs.lemmas.Bool.{cases_lt}
 use Rattle.std.proofs.lemmas.Bool.Decides.{nat_tests}
 use Rattle.std.proofs.lemmas.Cmp.{tied_itself, nat_cmp_total}
 use Rattle.std.proofs.lemmas.List.{append-nil, get_or_append_left, get_or-append_right}
 use Rattle.std.proofs.lemmas.List.Elements.{Contains-append_left, Contains-append_right, Contains-append_cases, Contains-get_or}
 use Rattle.std.specs.declared.cmp.Ordering.TheVariants.{Less, Equal}
-use Rattle.std.specs.List.Sorted.{IsStrictlyIncreasing}
 use Rattle.std.specs.Ordering.{nat_cmp, ordering_then}
 use Rattle.racp_model.specs.Project.{Project, request}
 use Rattle.racp_model.specs.Terms.{lex_cmp, IsLexBefore}
-use Rattle.racp_model.proofs.lemmas.Relations.{member_cases, member_first, no_member}
+use Rattle.racp_model.proofs.lemmas.Relations.{member_cases, no_member}
 use Rattle.racp_delay.specs.Alternatives.{place, Splits, load, IsMinimalDelayingAlternative, AreAlternatives}
-use Rattle.racp_delay.specs.Alternatives.Splits.{none, goes, stays}
-use Rattle.racp_delay.specs.Found.{AreWithin, OneMoreRuns, SomeMoreRuns, Each, with_load, IsTight, AreFound, AreAdded}
-use Rattle.racp_delay.proofs.Each.{each-left, each-right, each-at, each-from, each-map, ascends}
+use Rattle.racp_delay.specs.Alternatives.Splits.{goes, stays}
+use Rattle.racp_delay.specs.Found.{AreWithin, OneMoreRuns, SomeMoreRuns, Each, with_load, IsTight, AreFound}
+use Rattle.racp_delay.proofs.Each.{each-left, each-right, each-at, each-from, each-map}
 use Rattle.racp_delay.proofs.Splitting.{load-splits, splits-none, all_stay, each-gone}
 use Rattle.racp_delay.proofs.Tight.{none_kept, tight-from_minimal, minimal-from_tight}
 

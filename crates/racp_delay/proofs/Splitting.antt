@@ -1,12 +1,10 @@
 -- The parts of a split.
-use Rattle.std.proofs.Common.{◌≡◌, ◌≢◌, ℕ, ◌+◌, ◌<◌, ◌↔◌, ◌⊎◌, inl, inr, List, [], ◌∷◌, length, arith, refl, ap, Contains}
-use Rattle.std.specs.List.Sorted.{IsStrictlyIncreasing}
+use Rattle.std.proofs.Common.{◌≡◌, ◌≢◌, ℕ, ◌+◌, ◌<◌, ◌⊎◌, inl, inr, List, [], ◌∷◌, length, arith, refl, ap}
 use Rattle.racp_model.specs.Project.{Project}
-use Rattle.racp_model.proofs.lemmas.Relations.{member_cases, member_later, member_first, no_member}
 use Rattle.racp_delay.specs.Alternatives.{Splits, load}
 use Rattle.racp_delay.specs.Alternatives.Splits.{none, goes, stays}
 use Rattle.racp_delay.specs.Found.{Each}
-use Rattle.racp_delay.proofs.Each.{each-member, Some_of, Ascends, ascends}
+use Rattle.racp_delay.proofs.Each.{Some_of, Ascends}
 
 -- the loads of the two parts sum to that of the whole
 pub load-splits : (p : Project) (k : ℕ) {jobs gone kept : List ℕ} → Splits jobs gone kept → load p k jobs ≡ load p k gone + load p k kept

@@ -1,17 +1,16 @@
 -- The sweep over the starts, in which the jobs that started are set against those that ended.
-use Rattle.std.proofs.Common.{◌≡◌, ◌⊎◌, inl, inr, ℕ, zero, suc, ◌+◌, ◌*◌, ◌<◌, ◌≤◌, List, [], ◌∷◌, length, take, slice_index, slice_index_or, arith, refl, ap, sym, ◌∙◌, subst, All, replicate, add-one}
-use Rattle.std.specs.List.{sum_by}
+use Rattle.std.proofs.Common.{◌≡◌, inl, inr, ℕ, zero, suc, ◌+◌, ◌*◌, ◌<◌, ◌≤◌, List, [], ◌∷◌, length, take, slice_index, arith, refl, ap, sym, ◌∙◌, subst, All, replicate, add-one}
 use Rattle.std.proofs.lemmas.Bool.{cases_lt}
 use Rattle.std.proofs.lemmas.List.{take_all}
 use Rattle.std.proofs.lemmas.List.Sums.{sum_by-cons}
-use Rattle.racp_model.specs.Project.{Project, duration, request, number, IsNumber, IsSound}
+use Rattle.racp_model.specs.Project.{Project, request, IsSound}
 use Rattle.racp_model.specs.Schedule.{usage, IsWithinCapacities}
 use Rattle.racp_model.proofs.lemmas.Sums.{request-small}
 use Rattle.racp_model.proofs.lemmas.Zeros.{zeros}
 use Rattle.racp_delay.specs.Alternatives.{place}
 use Rattle.racp_delay.specs.Branching.{IsFirstExcess}
-use Rattle.racp_delay.specs.Sweeps.{time_at, AreEvents, event_load, AreFirstLoads, AreTaken, Exceeds, IsExcessAnswer}
-use Rattle.racp_delay.proofs.Events.{event_at, IsEvent, events-length, each-event, total, ends_of, load-total, load-most, split_at, usage-by_events, total-later, take-cons}
+use Rattle.racp_delay.specs.Sweeps.{time_at, AreEvents, event_load, AreFirstLoads, AreTaken, Exceeds}
+use Rattle.racp_delay.proofs.Events.{event_at, IsEvent, events-length, each-event, total, ends_of, load-total, load-most, split_at, usage-by_events, total-later}
 
 -- no events load nothing
 pub event_load-none : (p : Project) (k : ℕ) (events : List (ℕ × ℕ)) → event_load p k (take 0 events) ≡ 0
@@ -137,7 +136,7 @@ module _ (p : Project) (capacities starts : List ℕ) (by_start by_end : List (�
             let here : n ≡ q = omega arith in
             let kept : slice_index started' k ≤ slice_index capacities k + slice_index ended' k = at_most k r in
             let now : event_load p k (take (n + 1) by_start) ≤ slice_index capacities k + total p (ends_of p starts) k (time_at by_start n) =
-                omega (arith, started-is k r, ended-is k r, ap (total p (ends_of p starts) k) is_time) in
+            omega (arith, started-is k r, ended-is k r, ap (total p (ends_of p starts) k) is_time) in
             subst (λ (i : ℕ). event_load p k (take (i + 1) by_start) ≤ slice_index capacities k + total p (ends_of p starts) k (time_at by_start i)) here now
       ];
     }

@@ -1,5 +1,5 @@
 -- Sets of jobs, as bits.
-use Rattle.std.specs.Prelude.{◌≡◌, ◌↔◌, ◌⊎◌, ℕ, ◌/◌, ◌%◌, ◌≤◌, Bool, List, length, nat_eq, slice_index, Contains, All, ◌<◌, ◌^◌, bit_and}
+use Rattle.std.specs.Prelude.{◌≡◌, ◌↔◌, ◌⊎◌, ℕ, ◌/◌, ◌%◌, Bool, List, length, nat_eq, slice_index, Contains, All, ◌<◌, ◌^◌, bit_and}
 use Rattle.std.specs.Int.{bit_at, bit_not, w64}
 use Rattle.std.specs.List.{filter, range_with_len}
 use Rattle.std.specs.List.Sorted.{IsStrictlyIncreasing}

@@ -1,9 +1,9 @@
 -- Contracts of private functions: those that sweep over the starts and ends of jobs to find the first conflict.
-use Rattle.std.specs.Prelude.{◌≡◌, ◌↔◌, ℕ, ◌+◌, ◌<◌, ◌≤◌, List, length, map, take, slice_index, slice_index_or, nat_le, if◌then◌else◌, Option, Some, None}
+use Rattle.std.specs.Prelude.{◌≡◌, ℕ, ◌+◌, ◌<◌, ◌≤◌, List, length, map, take, slice_index, slice_index_or, Option, Some, None}
 use Rattle.std.specs.List.{sum_by, range_with_len}
 use Rattle.std.specs.List.Sorted.{IsPermutation}
-use Rattle.racp_model.specs.Project.{Project, duration, request, number}
-use Rattle.racp_model.specs.Schedule.{sum_below, IsWithinCapacities}
+use Rattle.racp_model.specs.Project.{Project, request, number}
+use Rattle.racp_model.specs.Schedule.{IsWithinCapacities}
 use Rattle.racp_delay.specs.Alternatives.{place}
 use Rattle.racp_delay.specs.Branching.{IsFirstExcess}
 

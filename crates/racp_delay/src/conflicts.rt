@@ -4,7 +4,7 @@ ghost use Rattle.racp_delay.specs.Branching.{IsActiveSet, IsConflictAnswer};
 ghost use Rattle.racp_delay.specs.Sweeps.{AreEvents, AreFirstLoads, AreTaken, Exceeds, IsExcessAnswer, event_load};
 
 use crate::job_set::JobSet;
-use crate::loads::{with, Loads};
+use crate::loads::{Loads, with};
 use racp_model::limits::{MOST_JOBS, MOST_RESOURCES};
 use racp_model::{Capacities, Network, Starts};
 
@@ -58,7 +58,13 @@ fn first_excess(net: &Network, capacities: &[u32], starts: &[u32]) -> Option<u32
     let count = net.job_count();
     let mut by_start = [(0, 0); MOST_JOBS];
     let mut by_end = [(0, 0); MOST_JOBS];
-    sweep(net, capacities, starts, &mut by_start[..count], &mut by_end[..count])
+    sweep(
+        net,
+        capacities,
+        starts,
+        &mut by_start[..count],
+        &mut by_end[..count],
+    )
 }
 
 /// The same, with room for the events in the order of starts and in that of ends. At each start the jobs that started so far

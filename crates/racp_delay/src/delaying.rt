@@ -7,7 +7,7 @@ ghost use Rattle.racp_delay.specs.JobSets.{AreJobs};
 
 use crate::conflicts::Clash;
 use crate::job_set::JobSet;
-use crate::loads::{with, without, Loads};
+use crate::loads::{Loads, with, without};
 use racp_model::limits::MOST_RESOURCES;
 use racp_model::{Capacities, Network};
 use smallvec::SmallVec;
@@ -28,7 +28,8 @@ fn could_stay(net: &Network, capacities: &[u32], loads: &Loads, job: u32) -> boo
     ensures { IsTrue result ↔ OneMoreRuns net.now capacities.now (slice_index loads.now) job }
 {
     let place = job as usize - 1;
-    (0..net.resource_count()).all(|k| loads[k] as u64 + net.request(place, k) as u64 <= capacities[k] as u64)
+    (0..net.resource_count()).all(|k| loads[k] as u64 + net.request(place, k) as u64
+        <= capacities[k] as u64)
 }
 
 /// Whether one of these jobs could run with these loads.
@@ -37,7 +38,8 @@ fn some_could_stay(net: &Network, capacities: &[u32], loads: &Loads, jobs: &[u32
     requires jobs { All (IsNumber (length net.now.jobs)) jobs.now }
     ensures { IsTrue result ↔ SomeMoreRuns net.now capacities.now (slice_index loads.now) jobs.now }
 {
-    jobs.iter().any(|job| could_stay(net, capacities, loads, *job))
+    jobs.iter()
+        .any(|job| could_stay(net, capacities, loads, *job))
 }
 
 /// Adds, in lexicographic order, the alternatives in which the jobs of `gone` go and those that load `kept` stay, where the
@@ -100,7 +102,15 @@ pub fn alternatives(
     let (active, loads) = load_of(alloc, net, &clash.active)?;
     let mut gone = Vec::new(alloc);
     let mut lists = Vec::new(alloc);
-    add(net, capacities.as_slice(), &[0; MOST_RESOURCES], &loads, &mut gone, &active, &mut lists)?;
+    add(
+        net,
+        capacities.as_slice(),
+        &[0; MOST_RESOURCES],
+        &loads,
+        &mut gone,
+        &active,
+        &mut lists,
+    )?;
     Ok(lists)
 }
 

@@ -7,6 +7,6 @@ mod job_set;
 pub mod laws;
 mod loads;
 
+pub use conflicts::{Clash, conflict};
 pub use delaying::alternatives;
-pub use conflicts::{conflict, Clash};
 pub use job_set::JobSet;

@@ -2,8 +2,8 @@ ghost use Rattle.std.specs.Prelude.{◌≡◌, ℕ, ◌+◌, ◌<◌, ◌≤◌,
 ghost use Rattle.racp_model.specs.Project.{request, IsNumber, IsSound};
 ghost use Rattle.racp_delay.specs.Alternatives.{place};
 
-use racp_model::limits::MOST_RESOURCES;
 use racp_model::Network;
+use racp_model::limits::MOST_RESOURCES;
 
 /// What some jobs request together of each resource, by place from 0.
 pub(crate) type Loads = [u32; MOST_RESOURCES];

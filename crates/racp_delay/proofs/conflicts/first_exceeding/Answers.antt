@@ -1,7 +1,6 @@
-use Rattle.std.proofs.Common.{◌≡◌, ◌∙◌, sym, ap, ℕ, List, ◌-◌, slice_index, slice_index_or, arith, subst, refl, length}
-use Rattle.racp_delay.specs.Alternatives.{place}
+use Rattle.std.proofs.Common.{ℕ, slice_index, arith, subst, refl}
 use Rattle.racp_delay.specs.Branching.{IsFirstExcess}
-use Rattle.racp_delay.proofs.Events.{event_at, IsEvent, events-length, each-event, ends_of}
+use Rattle.racp_delay.proofs.Events.{event_at, IsEvent, each-event, ends_of}
 use Rattle.racp_delay.proofs.Sweeping.{event_load-small, sweeping-start, sweeping-stop, sweeping-next, never-exceeds}
 use Rattle.racp_delay.proofs.conflicts.first_exceeding.Goals as goal
 
@@ -40,8 +39,8 @@ returns-then-exceeds c =
     let event : ℕ × ℕ = event_at c.args.by_start.now c.loop-time.time-index in
     let is : IsEvent c.args.net.now (slice_index c.args.starts.now) event = each-event c.args.net.now (slice_index c.args.starts.now) c.args.by_start.now c.requires.by_start c.loop-time.time-index (0, 0) c.loop-time-test.true in
     let first : IsFirstExcess c.args.net.now c.args.capacities.now c.args.starts.now event.0 =
-        sweeping-stop c.args.net.now c.args.capacities.now c.args.starts.now c.args.by_start.now c.args.by_end.now c.requires.by_start c.requires.by_end c.loop-time.time-index c.loop-time.ended.count c.ended_by-ended.result.count c.loop-time.started c.loop-time.ended.loads c.with-started.result c.ended_by-ended.result.loads
-        event.0 c.loop-time.invariant c.loop-time-test.true refl c.with-started.ensures.sums c.ended_by-ended.ensures (c.exceeds.ensures.0 c.if-exceeds.true) in
+    sweeping-stop c.args.net.now c.args.capacities.now c.args.starts.now c.args.by_start.now c.args.by_end.now c.requires.by_start c.requires.by_end c.loop-time.time-index c.loop-time.ended.count c.ended_by-ended.result.count c.loop-time.started c.loop-time.ended.loads c.with-started.result c.ended_by-ended.result.loads
+    event.0 c.loop-time.invariant c.loop-time-test.true refl c.with-started.ensures.sums c.ended_by-ended.ensures (c.exceeds.ensures.0 c.if-exceeds.true) in
     subst (λ (t : ℕ). IsFirstExcess c.args.net.now c.args.capacities.now c.args.starts.now t) is.1 first
 
 pub loop-time-preserved : goal.loop-time-preserved

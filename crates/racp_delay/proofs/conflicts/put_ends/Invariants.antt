@@ -1,4 +1,3 @@
-use Rattle.std.proofs.Common.{slice_index}
 use Rattle.racp_delay.proofs.Events.{AreWrittenTo, ends_of}
 use Rattle.racp_delay.proofs.conflicts.put_ends.Given as goal
 

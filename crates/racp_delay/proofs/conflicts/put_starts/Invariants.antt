@@ -1,5 +1,5 @@
 use Rattle.std.proofs.Common.{slice_index}
-use Rattle.racp_delay.proofs.Events.{AreWrittenTo, ends_of}
+use Rattle.racp_delay.proofs.Events.{AreWrittenTo}
 use Rattle.racp_delay.proofs.conflicts.put_starts.Given as goal
 
 abbrev pub invariant-loop-i : goal.invariant-loop-i

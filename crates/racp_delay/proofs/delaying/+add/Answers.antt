@@ -1,6 +1,6 @@
-use Rattle.std.proofs.Common.{◌≡◌, ℕ, ◌+◌, List, ◌∷◌, ◌++◌, arith, refl, ap, ◌∙◌, length, slice_index, vec_len}
-use Rattle.racp_model.specs.Project.{IsNumber, request}
-use Rattle.racp_delay.specs.Alternatives.{place, job_lists}
+use Rattle.std.proofs.Common.{◌≡◌, ◌+◌, ◌∷◌, arith, ◌∙◌, length, slice_index, vec_len}
+use Rattle.racp_model.specs.Project.{IsNumber}
+use Rattle.racp_delay.specs.Alternatives.{job_lists}
 use Rattle.racp_delay.proofs.Adding.{added-over, added-loose, added-here, added-both, lists-push, popped, all-tail, all-head, all-push, all-same, rising-rest, left-is, none-left}
 use Rattle.racp_delay.proofs.delaying.+add.Goals as goal
 use Rattle.racp_delay.proofs.delaying.+add.Goals.{then-not-are_within-via-then-not-are_within, then-not-are_within-via-else-not-are_within+then-some_could_stay}

@@ -1,4 +1,3 @@
-use Rattle.std.proofs.Common.{◌≡◌, ◌∷◌}
 use Rattle.racp_delay.proofs.Loading.{loading-start, next-number, loads-small, loading-next, loads-end}
 use Rattle.racp_delay.proofs.delaying.load_of.Goals as goal
 

@@ -1,4 +1,4 @@
-use Rattle.std.proofs.Common.{ℕ, ◌-◌, slice_index}
+use Rattle.std.proofs.Common.{◌-◌, slice_index}
 use Rattle.racp_model.specs.Project.{request}
 use Rattle.racp_delay.specs.Alternatives.{place}
 use Rattle.racp_delay.proofs.Rows.{AreWritten}

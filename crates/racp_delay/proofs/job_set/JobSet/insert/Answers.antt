@@ -1,4 +1,4 @@
-use Rattle.std.proofs.Common.{◌≡◌, ◌/◌, ◌%◌, ◌*◌, ◌^◌, ℕ, List, set, bit_or, slice_index, subst, refl}
+use Rattle.std.proofs.Common.{◌≡◌, ◌/◌, ◌%◌, ◌*◌, ◌^◌, ℕ, List, set, bit_or, slice_index, subst}
 use Rattle.racp_delay.specs.Alternatives.{place}
 use Rattle.racp_delay.specs.JobSets.{members, IsInserted}
 use Rattle.racp_delay.proofs.JobSets.{are_jobs}

@@ -1,4 +1,4 @@
-use Rattle.std.proofs.Common.{◌≡◌, Bool, true, false, not, IsTrue, ◌↔◌, Option, Some, None, MatchOption, ℕ, List, [], subst, refl, sym, ◌∙◌}
+use Rattle.std.proofs.Common.{◌≡◌, Bool, true, false, not, IsTrue, ◌↔◌, Option, Some, None, MatchOption, ℕ, List, [], subst, refl}
 use Rattle.std.specs.Option.{is_some}
 use Rattle.racp_delay.specs.JobSets.{members, AreZero, IsLowestBit}
 use Rattle.racp_delay.proofs.Bits.{no_jobs, some_job}
