@@ -1,4 +1,8 @@
-ghost use Rattle.std.specs.Prelude.{◌≡◌, ◌↔◌, ℕ, IsTrue, MatchOption, [], ◌∷◌, Contains};
+ghost use Rattle.std.specs.Prelude.{◌≡◌, ◌↔◌, ℕ, IsTrue, MatchOption, [], ◌∷◌, Contains, nat_eq};
+ghost use Rattle.std.specs.Cmp.Lexicographic.{pointwise};
+ghost use Rattle.std.specs.Cmp.{partial_equiv_from_equiv};
+ghost use Rattle.std.proofs.lemmas.Cmp.{nat_list_eq_equiv};
+ghost use Rattle.std.specs.Iterator.{YieldsFirst, item_count};
 ghost use Rattle.racp_model.specs.Project.{IsNumber};
 ghost use Rattle.racp_delay.specs.JobSets.{AreJobs, IsInserted, IsSubset, AreWords, AreZero, IsFirstWord, IsLowestBit, AreBitsWithin};
 
@@ -81,11 +85,51 @@ impl JobSet {
         are_within(&self.words, &other.words)
     }
 
-    /// Whether two sets have the same jobs.
-    pub fn is_same(&self, other: &JobSet) -> bool
-        ensures { IsTrue result ↔ (self.now ≡ other.now) }
+    /// The jobs of the set, in rising order.
+    pub fn iter(&self) -> Jobs
+        ensures same { result ≡ self.now }
+        ensures jobs { AreJobs self.now }
+    {
+        Jobs { left: self.copy() }
+    }
+}
+
+impl PartialEq for JobSet {
+    ghost eq = { pointwise nat_eq };
+
+    ghost laws = { partial_equiv_from_equiv nat_list_eq_equiv };
+
+    fn eq(&self, other: &JobSet) -> bool
+        ensures same { IsTrue result ↔ (self.now ≡ other.now) }
+        ensures is { result ≡ pointwise nat_eq self.now other.now }
     {
         are_same(&self.words, &other.words)
+    }
+}
+
+/// The jobs of a set that are still to come, in rising order. Contracts see the list of them.
+#[derive(Drop)]
+pub struct Jobs {
+    left: JobSet,
+}
+
+impl Model for Jobs {
+    ghost use Rattle.std.specs.Prelude.{ℕ, List};
+
+    ghost Value = { List ℕ };
+
+    ghost view = { λ jobs. jobs.left };
+}
+
+impl Iterator for Jobs {
+    type Item = u32;
+
+    ghost next_gives = { YieldsFirst (λ jobs. jobs) };
+
+    ghost remaining = { item_count (λ jobs. jobs) };
+
+    fn next(&mut self) -> Option<u32> {
+        self.left.pop_first()
     }
 }
 

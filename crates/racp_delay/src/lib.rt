@@ -9,4 +9,7 @@ mod loads;
 
 pub use conflicts::{Clash, conflict};
 pub use delaying::alternatives;
-pub use job_set::JobSet;
+pub use job_set::{JobSet, Jobs};
+
+#[cfg(test)]
+mod tests;

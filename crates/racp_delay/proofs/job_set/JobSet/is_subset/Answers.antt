@@ -9,5 +9,5 @@ returns c =
     let whole : List ℕ = c.other.inside.words in
     let e = c.are_within.ensures in
     let by_words : IsTrue c.are_within.result ↔ IsSubset (members part) (members whole) =
-    ((λ yes'. subset_from_words part whole e.whole (e.within.0 yes')), λ sub. e.within.1 (words_from_subset part whole e.part e.whole sub)) in
+    ((λ within. subset_from_words part whole e.whole (e.within.0 within)), λ sub. e.within.1 (words_from_subset part whole e.part e.whole sub)) in
     subst (λ (xs : List ℕ). IsTrue c.are_within.result ↔ IsSubset xs c.args.other.now) c.self.view_is (subst (λ (xs : List ℕ). IsTrue c.are_within.result ↔ IsSubset (members part) xs) c.other.view_is by_words)
