@@ -1,3 +1,4 @@
+pub mod lemmas
 mod Each
 mod Splitting
 mod Tight

@@ -1,0 +1,5 @@
+use Rattle.racp_delay.proofs.lemmas.Clashes.{clash_numbers}
+use Rattle.racp_delay.proofs.tests.told.Goals as goal
+
+pub alternatives-requires-clause-active : goal.alternatives-requires-clause-active
+alternatives-requires-clause-active g c = clash_numbers _ _ _ _ _ c.in-Some.ensures
