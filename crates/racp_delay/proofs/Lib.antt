@@ -14,3 +14,5 @@ mod Loading
 mod Events
 mod Sweeping
 mod ActiveSets
+mod Subsets
+mod Children

@@ -1,5 +1,6 @@
 -- Laws of conflicts, alternatives and child windows. Each is the contract of a public function.
-use Rattle.std.specs.Prelude.{◌≡◌, ◌≢◌, ℕ, ◌<◌, List, [], length, slice_index, Contains}
+use Rattle.std.specs.Prelude.{◌≡◌, ◌≢◌, ◌↔◌, ℕ, ◌<◌, List, [], length, slice_index, Contains}
+use Rattle.std.specs.List.Sorted.{IsStrictlyIncreasing}
 use Rattle.racp_model.specs.Project.{Project}
 use Rattle.racp_model.specs.Schedule.{usage, sum_below}
 use Rattle.racp_model.specs.Path.{IsEarly}
@@ -58,6 +59,28 @@ ChildIsHigher =
 -- what the active jobs request together is what is used
 abbrev pub LoadIsUsage : Type 0
 LoadIsUsage = (p : Project) (starts : List ℕ) (t k : ℕ) (active : List ℕ) → IsActiveSet p starts t active → load p k active ≡ usage p starts k t
+
+-- there is a child for each list of jobs that go, where some stay
+abbrev pub EachHasChild : Type 0
+EachHasChild =
+    (p : Project) (early : List ℕ) (window : Bounds) (gone kept : List ℕ) → kept ≢ [] → (child : Bounds) × IsChild p early window gone kept child
+
+-- the jobs of a rising list that stay are those that do not go
+abbrev pub OthersStay : Type 0
+OthersStay =
+    (jobs gone kept : List ℕ) → IsStrictlyIncreasing jobs → Splits jobs gone kept →
+    (job : ℕ) → Contains kept job ↔ (Contains jobs job × (Contains gone job → ⊥))
+
+-- and what can go are its subsets
+abbrev pub SubsetsGo : Type 0
+SubsetsGo =
+    (jobs gone : List ℕ) → IsStrictlyIncreasing jobs →
+    ((kept : List ℕ) × Splits jobs gone kept) ↔ (IsStrictlyIncreasing gone × ((job : ℕ) → Contains gone job → Contains jobs job))
+
+-- starts have one first conflict
+abbrev pub ConflictIsOne : Type 0
+ConflictIsOne =
+    (p : Project) (capacities starts : List ℕ) (t u : ℕ) (a b : List ℕ) → IsClash p capacities starts t a → IsClash p capacities starts u b → (t ≡ u) × (a ≡ b)
 
 -- there is one list of alternatives
 abbrev pub AlternativesAreOneList : Type 0
