@@ -1,9 +1,8 @@
 -- A child window is made of its window.
-use Rattle.std.proofs.Common.{◌≡◌, ◌≢◌, ◌⊎◌, inl, inr, ℕ, ◌<◌, ◌≤◌, List, [], length, map, slice_index, arith, refl, ◌∙◌, Contains, max}
+use Rattle.std.proofs.Common.{◌≡◌, ◌≢◌, ◌⊎◌, inl, inr, ℕ, ◌≤◌, List, [], length, map, slice_index, arith, refl, ◌∙◌, Contains, max}
 use Rattle.std.specs.List.{range_with_len}
 use Rattle.std.proofs.lemmas.List.FromFn.{get_or-map-range_with_len}
 use Rattle.racp_model.specs.Project.{Project, number}
-use Rattle.racp_delay.specs.Found.{Each}
 use Rattle.racp_delay.specs.Branching.{IsFirstEnd, end_of}
 use Rattle.racp_delay.specs.Laws.{EachHasChild}
 use Rattle.racp_delay.proofs.Each.{each-member, each-members, least_of, some-each, is_member, Some_of}
@@ -39,8 +38,7 @@ first_end_of p early kept some =
 pub has_child : EachHasChild
 has_child p early window gone kept some =
     let end = first_end_of p early kept some in
-    let bound : ℕ → ℕ = λ i. pick (is_member (number i) gone) (max (slice_index window.lower i) end.0) (slice_index window.lower i) in
-    (
+    let bound : ℕ → ℕ = λ i. pick (is_member (number i) gone) (max (slice_index window.lower i) end.0) (slice_index window.lower i) in (
       record { lower = map bound (range_with_len 0 (length p.jobs)); upper = window.upper },
       record {
         end = end.0;

@@ -1,5 +1,5 @@
 -- What goes and what stays, by members.
-use Rattle.std.proofs.Common.{◌≡◌, ◌≢◌, ◌↔◌, ◌⊎◌, inl, inr, ℕ, zero, suc, ◌+◌, ◌<◌, List, [], ◌∷◌, length, slice_index, arith, refl, ap, sym, ◌∙◌, subst, Contains, AllPairs}
+use Rattle.std.proofs.Common.{◌≡◌, ◌⊎◌, inl, inr, ℕ, zero, suc, ◌+◌, ◌<◌, List, [], ◌∷◌, slice_index, arith, refl, sym, subst, Contains}
 use native.Mathlib.Numerals.{unary_clauses}
 use Rattle.std.proofs.lemmas.Bool.{cases_lt}
 use Rattle.std.proofs.lemmas.List.Kept.{AllPairs-from_increasing}
@@ -10,9 +10,8 @@ use Rattle.racp_model.specs.Terms.{IsLexBefore}
 use Rattle.racp_model.specs.Schedule.{IsActive}
 use Rattle.racp_delay.specs.Alternatives.{place, Splits}
 use Rattle.racp_delay.specs.Alternatives.Splits.{none, goes, stays}
-use Rattle.racp_delay.specs.Found.{Each}
 use Rattle.racp_delay.specs.Laws.{OthersStay, SubsetsGo, ConflictIsOne, AlternativesAreOneList}
-use Rattle.racp_delay.proofs.Each.{each-member, each-members, Ascends, ascends}
+use Rattle.racp_delay.proofs.Each.{each-member, Ascends, ascends}
 use Rattle.racp_delay.proofs.Splitting.{each-kept, each-gone, ascends-gone, splits-none}
 
 -- each job goes or stays

@@ -82,7 +82,7 @@ impl JobSet {
     pub fn is_subset(&self, other: &JobSet) -> bool
         ensures { IsTrue result ↔ IsSubset self.now other.now }
     {
-        are_within(&self.words, &other.words)
+        is_within(&self.words, &other.words)
     }
 
     /// The jobs of the set, in rising order.
@@ -103,7 +103,7 @@ impl PartialEq for JobSet {
         ensures same { IsTrue result ↔ (self.now ≡ other.now) }
         ensures is { result ≡ pointwise nat_eq self.now other.now }
     {
-        are_same(&self.words, &other.words)
+        is_same(&self.words, &other.words)
     }
 }
 
@@ -152,7 +152,7 @@ fn first_word(words: &[u64; 8]) -> Option<usize>
 }
 
 /// Whether no bit is set that is not set in the other words.
-fn are_within(part: &[u64; 8], whole: &[u64; 8]) -> bool
+fn is_within(part: &[u64; 8], whole: &[u64; 8]) -> bool
     ensures within { IsTrue result ↔ AreBitsWithin part.now whole.now }
     ensures part { AreWords part.now }
     ensures whole { AreWords whole.now }
@@ -161,7 +161,7 @@ fn are_within(part: &[u64; 8], whole: &[u64; 8]) -> bool
 }
 
 /// Whether the same bits are set.
-fn are_same(a: &[u64; 8], b: &[u64; 8]) -> bool
+fn is_same(a: &[u64; 8], b: &[u64; 8]) -> bool
     ensures same { IsTrue result ↔ (a.now ≡ b.now) }
     ensures a { AreWords a.now }
     ensures b { AreWords b.now }

@@ -44,7 +44,14 @@ fn chained(alloc: Global) -> Result<Network, NetFault> {
     network(
         alloc,
         1,
-        &[(0, &[0]), (4, &[1]), (1, &[1]), (3, &[2]), (4, &[1]), (0, &[0])],
+        &[
+            (0, &[0]),
+            (4, &[1]),
+            (1, &[1]),
+            (3, &[2]),
+            (4, &[1]),
+            (0, &[0]),
+        ],
         &[(1, 2), (1, 3), (2, 6), (3, 4), (4, 5), (5, 6)],
     )
 }
@@ -111,14 +118,23 @@ fn finds_conflicts_and_alternatives(rt: HostRuntime) -> Result<(), Fail> {
         told(&rt, alloc, &net, &[2], &[0, 0, 0, 0, 3])?.as_str(),
         "at 0: 2 3 4 | 2 | 3 4"
     );
-    assert_eq!(rt; told(&rt, alloc, &net, &[4], &[0, 0, 0, 0, 3])?.as_str(), "none");
-    assert_eq!(rt; told(&rt, alloc, &net, &[2], &[0, 0, 3, 3, 5])?.as_str(), "none");
+    assert_eq!(rt;
+        told(&rt, alloc, &net, &[4], &[0, 0, 0, 0, 3])?.as_str(),
+        "none"
+    );
+    assert_eq!(rt;
+        told(&rt, alloc, &net, &[2], &[0, 0, 3, 3, 5])?.as_str(),
+        "none"
+    );
     let net = chained(alloc)?;
     assert_eq!(rt;
         told(&rt, alloc, &net, &[2], &[0, 0, 0, 1, 4, 8])?.as_str(),
         "at 1: 2 4 | 2 | 4"
     );
-    assert_eq!(rt; told(&rt, alloc, &net, &[3], &[0, 0, 0, 1, 4, 8])?.as_str(), "none");
+    assert_eq!(rt;
+        told(&rt, alloc, &net, &[3], &[0, 0, 0, 1, 4, 8])?.as_str(),
+        "none"
+    );
     Ok(())
 }
 
@@ -135,11 +151,20 @@ fn finds_the_conflict_of_many_jobs(rt: HostRuntime) -> Result<(), Fail> {
     for job in 2..130 {
         want.push_str(&format!(in alloc; " | {job}")?)?;
     }
-    assert_eq!(rt; told(&rt, alloc, &wide(alloc)?, &[127], &starts)?.as_str(), want.as_str());
-    assert_eq!(rt; told(&rt, alloc, &wide(alloc)?, &[128], &starts)?.as_str(), "none");
+    assert_eq!(rt;
+        told(&rt, alloc, &wide(alloc)?, &[127], &starts)?.as_str(),
+        want.as_str()
+    );
+    assert_eq!(rt;
+        told(&rt, alloc, &wide(alloc)?, &[128], &starts)?.as_str(),
+        "none"
+    );
     starts[64] = 1;
     starts[129] = 2;
-    assert_eq!(rt; told(&rt, alloc, &wide(alloc)?, &[127], &starts)?.as_str(), "none");
+    assert_eq!(rt;
+        told(&rt, alloc, &wide(alloc)?, &[127], &starts)?.as_str(),
+        "none"
+    );
     Ok(())
 }
 

@@ -10,7 +10,7 @@ loop-i-init c = subst (λ (xs : List ℕ). AreActiveBelow c.args.net.now c.args.
 pub loop-i-preserved : goal.loop-i-preserved
 loop-i-preserved c = elim c.if-starts-i.branch [
   | then-starts-i+then-time-starts w ↦ rw w.active-is
-      (active-more c.args.net.now c.args.starts.now c.args.time c.loop-i.i _ c.loop-i.active _ c.loop-i.invariant refl (record { started = w.if-starts-i.true; runs = omega (arith, w.if-time-starts.true, w.duration.ensures) }) w.insert.ensures.inserted w.insert.ensures.jobs)
+      (active-more c.args.net.now c.args.starts.now c.args.time c.loop-i.i _ c.loop-i.active _ c.loop-i.invariant refl (record { started = omega (arith, w.if-starts-i.true); runs = omega (arith, w.if-time-starts.true, w.duration.ensures) }) w.insert.ensures.inserted w.insert.ensures.jobs)
   | else-starts-i w ↦ rw w.active-is (active-same c.args.net.now c.args.starts.now c.args.time c.loop-i.i c.loop-i.active c.loop-i.invariant
       (λ x.
       let started : slice_index c.args.starts.now c.loop-i.i ≤ c.args.time = x.started in

@@ -12,6 +12,7 @@ loop-count-preserved c = record {
     | inl before ↦ c.loop-count.invariant.past q from before
     | inr most ↦
         let here : c.loop-count.count ≡ q = omega arith in
-        subst (λ (i : ℕ). time_at c.args.by_end.now i ≤ c.args.time) here c.if-by_end-count.true
+        let now : time_at c.args.by_end.now c.loop-count.count ≤ c.args.time = omega (arith, c.if-by_end-count.true) in
+        subst (λ (i : ℕ). time_at c.args.by_end.now i ≤ c.args.time) here now
   ];
 }

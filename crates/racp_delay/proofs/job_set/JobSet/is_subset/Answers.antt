@@ -7,7 +7,7 @@ pub returns : goal.returns
 returns c =
     let part : List ℕ = c.self.inside.words in
     let whole : List ℕ = c.other.inside.words in
-    let e = c.are_within.ensures in
-    let by_words : IsTrue c.are_within.result ↔ IsSubset (members part) (members whole) =
+    let e = c.is_within.ensures in
+    let by_words : IsTrue c.is_within.result ↔ IsSubset (members part) (members whole) =
     ((λ within. subset_from_words part whole e.whole (e.within.0 within)), λ sub. e.within.1 (words_from_subset part whole e.part e.whole sub)) in
-    subst (λ (xs : List ℕ). IsTrue c.are_within.result ↔ IsSubset xs c.args.other.now) c.self.view_is (subst (λ (xs : List ℕ). IsTrue c.are_within.result ↔ IsSubset (members part) xs) c.other.view_is by_words)
+    subst (λ (xs : List ℕ). IsTrue c.is_within.result ↔ IsSubset xs c.args.other.now) c.self.view_is (subst (λ (xs : List ℕ). IsTrue c.is_within.result ↔ IsSubset (members part) xs) c.other.view_is by_words)

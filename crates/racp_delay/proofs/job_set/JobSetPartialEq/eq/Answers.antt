@@ -18,9 +18,9 @@ pub returns-clause-same : goal.returns-clause-same
 returns-clause-same c =
     let a : List ℕ = c.self.inside.words in
     let b : List ℕ = c.other.inside.words in
-    let e = c.are_same.ensures in
-    let by_words : IsTrue c.are_same.result ↔ (members a ≡ members b) = ((λ equal. ap members (e.same.0 equal)), λ same. e.same.1 (same_words a b e.a e.b same)) in
-    subst (λ (xs : List ℕ). IsTrue c.are_same.result ↔ (xs ≡ c.args.other.now)) c.self.view_is (subst (λ (xs : List ℕ). IsTrue c.are_same.result ↔ (members a ≡ xs)) c.other.view_is by_words)
+    let e = c.is_same.ensures in
+    let by_words : IsTrue c.is_same.result ↔ (members a ≡ members b) = ((λ equal. ap members (e.same.0 equal)), λ same. e.same.1 (same_words a b e.a e.b same)) in
+    subst (λ (xs : List ℕ). IsTrue c.is_same.result ↔ (xs ≡ c.args.other.now)) c.self.view_is (subst (λ (xs : List ℕ). IsTrue c.is_same.result ↔ (members a ≡ xs)) c.other.view_is by_words)
 
 pub returns-clause-is : goal.returns-clause-is
-returns-clause-is c = equality c.are_same.result c.args.self.now c.args.other.now (returns-clause-same c)
+returns-clause-is c = equality c.is_same.result c.args.self.now c.args.other.now (returns-clause-same c)
