@@ -16,3 +16,4 @@ mod Sweeping
 mod ActiveSets
 mod Subsets
 mod Children
+mod Ending

@@ -1,6 +1,6 @@
 -- Conflicts, and the child windows that put an alternative off (Demeulemeester and Herroelen 1992). Lists of jobs hold job
 -- numbers, from 1.
-use Rattle.std.specs.Prelude.{◌≡◌, ◌↔◌, ℕ, ◌+◌, ◌<◌, ◌≤◌, List, length, slice_index, Contains, max, Option, Some, None}
+use Rattle.std.specs.Prelude.{◌≡◌, ◌↔◌, ℕ, ◌+◌, ◌<◌, ◌≤◌, List, [], length, slice_index, Contains, max, Option, Some, None}
 use Rattle.std.specs.List.Sorted.{IsStrictlyIncreasing}
 use Rattle.racp_model.specs.Project.{Project, duration, number, IsNumber}
 use Rattle.racp_model.specs.Schedule.{IsActive, usage, IsWithinCapacities}
@@ -31,6 +31,11 @@ end_of p starts job = slice_index starts (place job) + duration p (place job)
 pub record IsFirstEnd (p : Project) (starts jobs : List ℕ) (end : ℕ) : Type 0 where
   pub some : (job : ℕ) × Contains jobs job × (end_of p starts job ≡ end)
   pub first : (job : ℕ) → Contains jobs job → end ≤ end_of p starts job
+
+-- what looking for it answers: the first end, or that there are no jobs
+abbrev pub IsFirstEndAnswer : Project → List ℕ → List ℕ → Option ℕ → Type 0
+IsFirstEndAnswer p starts jobs (Some end) = IsFirstEnd p starts jobs end
+IsFirstEndAnswer p starts jobs None = jobs ≡ []
 
 -- the child window of a window: the lower bounds of the jobs that go are raised to the first end, in the early starts, of
 -- the jobs that stay; the other bounds are those of the window

@@ -1,6 +1,6 @@
 -- Contracts of private functions: those that search for minimal delaying alternatives. Of the active jobs some are chosen to
 -- go, some are kept, of which only the loads are known, and the rest is not decided yet.
-use Rattle.std.specs.Prelude.{◌≡◌, ℕ, ◌+◌, ◌<◌, ◌≤◌, List, [], ◌∷◌, ◌++◌, length, slice_index, Contains, AllPairs}
+use Rattle.std.specs.Prelude.{◌≡◌, ℕ, ◌+◌, ◌<◌, ◌≤◌, List, [], ◌∷◌, ◌++◌, length, slice_index, Contains, AllPairs, min, Option, Some, None}
 use Rattle.racp_model.specs.Project.{Project, request}
 use Rattle.racp_model.specs.Terms.{IsLexBefore}
 use Rattle.racp_delay.specs.Alternatives.{place, Splits, load}
@@ -46,3 +46,8 @@ AreAdded p capacities kept chosen rest old new =
 pub record AreLoads (p : Project) (jobs loads : List ℕ) : Type 0 where
   pub sums : (k : ℕ) → k < p.resources → slice_index loads k ≡ load p k jobs
   pub small : (k : ℕ) → k < p.resources → slice_index loads k ≤ 5120000
+
+-- the earlier of a time that may be known and another time
+abbrev pub IsEarlier : Option ℕ → ℕ → Option ℕ → Type 0
+IsEarlier (Some known) time result = result ≡ Some (min known time)
+IsEarlier None time result = result ≡ Some time

@@ -1,15 +1,16 @@
-ghost use Rattle.std.specs.Prelude.{◌≡◌, ◌↔◌, ℕ, ◌+◌, ◌*◌, ◌<◌, ◌≤◌, IsTrue, IfOk, All, length, slice_index, vec_len};
+ghost use Rattle.std.specs.Prelude.{◌≡◌, ◌↔◌, ℕ, ◌+◌, ◌*◌, ◌<◌, ◌≤◌, IsTrue, List, IfOk, All, List, length, slice_index, vec_len};
 ghost use Rattle.std.specs.List.Sorted.{IsStrictlyIncreasing};
 ghost use Rattle.racp_model.specs.Project.{request, IsNumber, IsSound};
-ghost use Rattle.racp_delay.specs.Alternatives.{place, AreAlternatives, job_lists};
-ghost use Rattle.racp_delay.specs.Found.{AreWithin, OneMoreRuns, SomeMoreRuns, with_load, AreAdded, AreLoads};
+ghost use Rattle.racp_delay.specs.Alternatives.{place, AreAlternatives, Splits, job_lists};
+ghost use Rattle.racp_delay.specs.Found.{AreWithin, OneMoreRuns, SomeMoreRuns, with_load, AreAdded, AreLoads, IsEarlier};
+ghost use Rattle.racp_delay.specs.Branching.{IsFirstEndAnswer};
 ghost use Rattle.racp_delay.specs.JobSets.{AreJobs};
 
 use crate::conflicts::Clash;
 use crate::job_set::JobSet;
 use crate::loads::{Loads, with, without};
 use racp_model::limits::MOST_RESOURCES;
-use racp_model::{Capacities, Network};
+use racp_model::{Capacities, Network, Starts};
 use smallvec::SmallVec;
 use std::alloc::{AllocError, Global};
 
@@ -129,4 +130,33 @@ fn load_of(alloc: Global, net: &Network, jobs: &JobSet) -> Result<(Vec<u32>, Loa
         loads = with(net, &loads, job);
     }
     Ok((list, loads))
+}
+
+/// When the first of the active jobs of a conflict ends that do not go, in time units, or `None` where all go. `gone` are the
+/// numbers, from 1, of those that go. In the child window of the alternative their lower bounds are raised to this time.
+pub fn first_end(net: &Network, starts: &Starts, active: &JobSet, gone: &[u32]) -> Option<u64>
+    requires starts { length starts.now ≡ length net.now.jobs }
+    requires active { All (IsNumber (length net.now.jobs)) active.now }
+    ensures { (kept : List ℕ) → Splits active.now gone.now kept → IsFirstEndAnswer net.now starts.now kept result }
+{
+    let starts = starts.as_slice();
+    let mut first = None;
+    let mut left = active.copy();
+    while let Some(job) = left.pop_first() {
+        if !gone.contains(&job) {
+            let place = job as usize - 1;
+            first = earlier(first, starts[place] as u64 + net.duration(place) as u64);
+        }
+    }
+    first
+}
+
+/// The earlier of two times, where there are two.
+fn earlier(first: Option<u64>, time: u64) -> Option<u64>
+    ensures { IsEarlier first time result }
+{
+    match first {
+        Some(known) if known <= time => first,
+        _ => Some(time),
+    }
 }
