@@ -10,7 +10,8 @@ use Rattle.racp_model.specs.Project.{IsNumber}
 use Rattle.racp_model.proofs.lemmas.Lists.{at_set}
 use Rattle.racp_model.proofs.lemmas.Relations.{member_cases, member_later, member_first, no_member, all_members, same_from_members}
 use Rattle.racp_delay.specs.Alternatives.{place}
-use Rattle.racp_delay.specs.JobSets.{bit_of, members, IsInserted, IsSubset, AreWords, AreZero, IsFirstWord, IsLowestBit, AreBitsWithin}
+use Rattle.racp_delay.specs.JobSets.{bit_of, members, IsInserted, IsSubset}
+use Rattle.racp_delay.specs.Words.{AreWords, AreZero, IsFirstWord, IsLowestBit, AreBitsWithin}
 use Rattle.racp_delay.proofs.JobSets.{are_jobs, in_members, number_of_member, bit_of_member}
 
 -- two numbers are the same or not

@@ -37,7 +37,7 @@ pub record AreFound (p : Project) (capacities : List ℕ) (kept : ℕ → ℕ) (
   pub only : (list : List ℕ) → Contains lists list → (gone : List ℕ) × (stay : List ℕ) × Splits rest gone stay × (list ≡ chosen ++ gone) × IsTight p capacities kept (chosen ++ gone) stay
   pub in_order : AllPairs IsLexBefore lists
 
--- they were added at the end
+-- these, added at the end of a list
 abbrev pub AreAdded : Project → List ℕ → (ℕ → ℕ) → List ℕ → List ℕ → List (List ℕ) → List (List ℕ) → Type 0
 AreAdded p capacities kept chosen rest old new =
     (found : List (List ℕ)) × (new ≡ old ++ found) × AreFound p capacities kept chosen rest found

@@ -3,4 +3,5 @@ pub mod Branching
 pub mod Laws
 pub mod Found
 pub mod JobSets
+pub mod Words
 pub mod Sweeps

@@ -12,7 +12,9 @@ use racp_model::{Capacities, Network, Starts};
 /// units, and the jobs that are active then.
 #[derive(Debug, Drop)]
 pub struct Clash {
+    /// The time.
     pub time: u32,
+    /// The jobs that are active then, by number from 1.
     pub active: JobSet,
 }
 

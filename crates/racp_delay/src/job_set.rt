@@ -4,7 +4,8 @@ ghost use Rattle.std.specs.Cmp.{partial_equiv_from_equiv};
 ghost use Rattle.std.proofs.lemmas.Cmp.{nat_list_eq_equiv};
 ghost use Rattle.std.specs.Iterator.{YieldsFirst, item_count};
 ghost use Rattle.racp_model.specs.Project.{IsNumber};
-ghost use Rattle.racp_delay.specs.JobSets.{AreJobs, IsInserted, IsSubset, AreWords, AreZero, IsFirstWord, IsLowestBit, AreBitsWithin};
+ghost use Rattle.racp_delay.specs.JobSets.{AreJobs, IsInserted, IsSubset};
+ghost use Rattle.racp_delay.specs.Words.{AreWords, AreZero, IsFirstWord, IsLowestBit, AreBitsWithin};
 
 use std::marker::Model;
 

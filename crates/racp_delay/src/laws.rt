@@ -1,4 +1,5 @@
-//! Laws of conflicts, alternatives and child windows. Each function does nothing; its contract is the law.
+//! Laws of conflicts, alternatives and child windows: why branching over minimal delaying alternatives finds all schedules
+//! (Demeulemeester and Herroelen 1992). Each function does nothing; its contract is the law.
 
 ghost use Rattle.racp_delay.specs.Laws.{BranchingLosesNothing, ChildrenCover, EachHasChild, ChildIsInside, ChildIsHigher, LoadIsUsage, OthersStay, SubsetsGo, ConflictIsOne, AlternativesAreOneList};
 

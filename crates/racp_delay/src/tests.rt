@@ -1,6 +1,6 @@
 //! Conflicts and minimal delaying alternatives of small networks.
 
-use crate::{JobSet, alternatives, conflict};
+use crate::{JobSet, alternatives, conflict, first_end};
 use racp_model::{Capacities, Job, NetFault, Network, Starts};
 use std::alloc::{AllocError, Global};
 use std::process::Abort;
@@ -75,7 +75,8 @@ fn wide_parts(alloc: Global) -> Result<(Vec<Job>, Vec<(u32, u32)>), AllocError> 
     Ok((jobs, arcs))
 }
 
-/// The first conflict and its alternatives in words: the time, the active jobs, and after each bar the jobs that go.
+/// The first conflict and its alternatives in words: the time, the active jobs, and after each bar the jobs that go, and the
+/// time to which their lower bounds are raised in the child window.
 fn told(
     rt: &impl Abort,
     alloc: Global,
@@ -94,6 +95,9 @@ fn told(
     let mut text = format!(in alloc; "at {}: {}", clash.time, joined(alloc, &active)?)?;
     for list in &alternatives(alloc, net, &capacities, &clash)? {
         text.push_str(&format!(in alloc; " | {}", joined(alloc, list)?)?)?;
+        if let Some(end) = first_end(net, &starts, &clash.active, list) {
+            text.push_str(&format!(in alloc; " to {end}")?)?;
+        }
     }
     Ok(text)
 }
@@ -116,7 +120,7 @@ fn finds_conflicts_and_alternatives(rt: HostRuntime) -> Result<(), Fail> {
     let net = parallel(alloc)?;
     assert_eq!(rt;
         told(&rt, alloc, &net, &[2], &[0, 0, 0, 0, 3])?.as_str(),
-        "at 0: 2 3 4 | 2 | 3 4"
+        "at 0: 2 3 4 | 2 to 2 | 3 4 to 3"
     );
     assert_eq!(rt;
         told(&rt, alloc, &net, &[4], &[0, 0, 0, 0, 3])?.as_str(),
@@ -129,7 +133,7 @@ fn finds_conflicts_and_alternatives(rt: HostRuntime) -> Result<(), Fail> {
     let net = chained(alloc)?;
     assert_eq!(rt;
         told(&rt, alloc, &net, &[2], &[0, 0, 0, 1, 4, 8])?.as_str(),
-        "at 1: 2 4 | 2 | 4"
+        "at 1: 2 4 | 2 to 4 | 4 to 4"
     );
     assert_eq!(rt;
         told(&rt, alloc, &net, &[3], &[0, 0, 0, 1, 4, 8])?.as_str(),
@@ -149,7 +153,7 @@ fn finds_the_conflict_of_many_jobs(rt: HostRuntime) -> Result<(), Fail> {
         want.push_str(&format!(in alloc; " {job}")?)?;
     }
     for job in 2..130 {
-        want.push_str(&format!(in alloc; " | {job}")?)?;
+        want.push_str(&format!(in alloc; " | {job} to 1")?)?;
     }
     assert_eq!(rt;
         told(&rt, alloc, &wide(alloc)?, &[127], &starts)?.as_str(),
@@ -178,7 +182,7 @@ fn finds_conflicts_of_odd_jobs(rt: HostRuntime) -> Result<(), Fail> {
             &[(2, &[2, 0]), (2, &[0, 2]), (2, &[1, 1]), (2, &[1, 1])],
             &[2, 2],
             &[0, 0, 0, 0],
-            "at 0: 1 2 3 4 | 1 2 | 3 4",
+            "at 0: 1 2 3 4 | 1 2 to 2 | 3 4 to 2",
         ),
         // only the second resource is exceeded, and not at the first start
         (
@@ -186,9 +190,9 @@ fn finds_conflicts_of_odd_jobs(rt: HostRuntime) -> Result<(), Fail> {
             &[(1, &[1, 0]), (3, &[0, 2]), (3, &[0, 2])],
             &[1, 3],
             &[7, 2, 4],
-            "at 4: 2 3 | 2 | 3",
+            "at 4: 2 3 | 2 to 7 | 3 to 5",
         ),
-        // one job alone requests more than there is: nothing but itself can go
+        // one job alone requests more than there is: nothing but itself can go, and there is no child window
         (1, &[(2, &[3]), (2, &[1])], &[2], &[0, 5], "at 0: 1 | 1"),
         // a job of duration 0 is never active, and one that requests nothing never has to go
         (
@@ -196,7 +200,7 @@ fn finds_conflicts_of_odd_jobs(rt: HostRuntime) -> Result<(), Fail> {
             &[(0, &[9]), (2, &[0]), (2, &[2]), (2, &[2])],
             &[3],
             &[0, 0, 0, 0],
-            "at 0: 2 3 4 | 3 | 4",
+            "at 0: 2 3 4 | 3 to 2 | 4 to 2",
         ),
         // a job that ends when another starts is no longer active
         (1, &[(2, &[2]), (2, &[2])], &[3], &[0, 2], "none"),
@@ -206,7 +210,7 @@ fn finds_conflicts_of_odd_jobs(rt: HostRuntime) -> Result<(), Fail> {
             &[(10_000, &[2]), (1, &[2])],
             &[3],
             &[4_294_967_295, 4_294_967_295],
-            "at 4294967295: 1 2 | 1 | 2",
+            "at 4294967295: 1 2 | 1 to 4294967296 | 2 to 4294977295",
         ),
     ];
     for (resources, jobs, capacities, starts, want) in &cases {

@@ -1,9 +1,8 @@
-use Rattle.std.proofs.Common.{◌≡◌, ◌∙◌, ℕ, List, ◌+◌, slice_index, arith, subst, Bool, true, false, Contains, Decides, eqb, ap, length}
+use Rattle.std.proofs.Common.{ℕ, List, ◌+◌, slice_index, arith, subst, Contains, Decides, eqb, ap, length}
 use Rattle.std.proofs.lemmas.Bool.Decides.{Decides-eqb}
 use Rattle.std.proofs.lemmas.List.Elements.{Decides-contains, contains_decides}
-use Rattle.racp_model.specs.Project.{IsNumber, duration}
-use Rattle.racp_delay.specs.Alternatives.{place, Splits}
-use Rattle.racp_delay.specs.Branching.{IsFirstEndAnswer, end_of}
+use Rattle.racp_delay.specs.Alternatives.{place}
+use Rattle.racp_delay.specs.Branching.{IsFirstEndAnswer}
 use Rattle.racp_delay.proofs.Ending.{next-is, seeking-start, seeking-skip, seeking-next, seeking-end}
 use Rattle.racp_delay.proofs.delaying.first_end.Goals as goal
 

@@ -1,6 +1,7 @@
 use Rattle.std.proofs.Common.{◌≡◌, Bool, true, false, not, IsTrue, ◌↔◌, Option, Some, None, MatchOption, ℕ, List, [], subst, refl}
 use Rattle.std.specs.Option.{is_some}
-use Rattle.racp_delay.specs.JobSets.{members, AreZero, IsLowestBit}
+use Rattle.racp_delay.specs.JobSets.{members}
+use Rattle.racp_delay.specs.Words.{AreZero, IsLowestBit}
 use Rattle.racp_delay.proofs.Bits.{no_jobs, some_job}
 use Rattle.racp_delay.proofs.job_set.JobSet.is_empty.Goals as goal
 

@@ -1,6 +1,6 @@
 use Rattle.std.proofs.Common.{◌∙◌, sym, refl, ℕ, ◌*◌, ◌^◌, ◌%◌, List, set, bit_and, slice_index, arith, w64}
 use Rattle.std.specs.Int.{bit_not}
-use Rattle.racp_delay.specs.JobSets.{IsLowestBit}
+use Rattle.racp_delay.specs.Words.{IsLowestBit}
 use Rattle.racp_delay.proofs.JobSets.{are_jobs}
 use Rattle.racp_delay.proofs.Bits.{job_at, no_jobs, popped_first, bit_is_cleared}
 use Rattle.racp_delay.proofs.job_set.JobSet.pop_first.Goals as goal
