@@ -124,8 +124,7 @@ fn load_of(alloc: Global, net: &Network, jobs: &JobSet) -> Result<(Vec<u32>, Loa
 {
     let mut list = Vec::new(alloc);
     let mut loads = [0; MOST_RESOURCES];
-    let mut left = jobs.copy();
-    while let Some(job) = left.pop_first() {
+    for job in jobs.iter() {
         list.push(job)?;
         loads = with(net, &loads, job);
     }
@@ -141,8 +140,7 @@ pub fn first_end(net: &Network, starts: &Starts, active: &JobSet, gone: &[u32]) 
 {
     let starts = starts.as_slice();
     let mut first = None;
-    let mut left = active.copy();
-    while let Some(job) = left.pop_first() {
+    for job in active.iter() {
         if !gone.contains(&job) {
             let place = job as usize - 1;
             first = earlier(first, starts[place] as u64 + net.duration(place) as u64);

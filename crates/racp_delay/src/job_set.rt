@@ -60,8 +60,8 @@ impl JobSet {
         self.words[place / 64] |= 1 << (place % 64);
     }
 
-    /// Takes the least job out of the set. So a loop over a copy goes over the jobs in rising order.
-    pub fn pop_first(&mut self) -> Option<u32>
+    /// Takes the least job out of the set.
+    fn pop_first(&mut self) -> Option<u32>
         ensures first { MatchOption result ((self.old ≡ []) × (self.new ≡ [])) (λ job. self.old ≡ job ∷ self.new) }
         ensures jobs { AreJobs self.old }
     {

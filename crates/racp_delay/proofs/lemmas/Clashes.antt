@@ -1,11 +1,11 @@
 -- What the jobs of a conflict are, and which windows are the children of a window there.
-use Rattle.std.proofs.Common.{◌≡◌, ◌≢◌, ◌∙◌, sym, ℕ, ◌<◌, List, [], length, map, slice_index_or, subst, All, Contains, ap}
+use Rattle.std.proofs.Common.{◌≡◌, ◌≢◌, ◌∙◌, sym, ℕ, ◌<◌, List, [], length, slice_index_or, subst, All, Contains}
 use Rattle.std.proofs.lemmas.List.{get_or_default}
 use Rattle.racp_model.specs.Project.{Project, IsNumber}
 use Rattle.racp_model.specs.Window.{Bounds}
 use Rattle.racp_model.proofs.lemmas.Relations.{all_members}
 use Rattle.racp_delay.specs.Alternatives.{Splits, AreAlternatives}
-use Rattle.racp_delay.specs.Branching.{IsActiveSet, IsClash, IsChild}
+use Rattle.racp_delay.specs.Branching.{IsClash, IsChild}
 use Rattle.racp_delay.specs.Laws.{HaveChildren}
 
 -- the active jobs are jobs of the project, as `alternatives` requires
