@@ -154,10 +154,10 @@ use-by_events p starts k t i =
     ]
 
 -- two sums and their sum
-pub sum_below-add : (n : ℕ) (f g h : ℕ → ℕ) → ((i : ℕ) → f i + g i ≡ h i) → sum_below n f + sum_below n g ≡ sum_below n h
+pub sum_below-parts : (n : ℕ) (f g h : ℕ → ℕ) → ((i : ℕ) → f i + g i ≡ h i) → sum_below n f + sum_below n g ≡ sum_below n h
 unfolding sum_below
-sum_below-add zero f g h e = refl
-sum_below-add (suc n) f g h e = omega (arith, e n, sum_below-add n f g h e)
+sum_below-parts zero f g h e = refl
+sum_below-parts (suc n) f g h e = omega (arith, e n, sum_below-parts n f g h e)
 
 -- when each job ends
 abbrev pub ends_of : Project → List ℕ → ℕ → ℕ
@@ -165,7 +165,7 @@ ends_of p starts i = slice_index starts i + duration p i
 
 -- what is used, and what the ended jobs request, is what the started jobs request
 pub usage-by_events : (p : Project) (starts : List ℕ) (k t : ℕ) → usage p starts k t + total p (ends_of p starts) k t ≡ total p (slice_index starts) k t
-usage-by_events p starts k t = sum_below-add (length p.jobs) (use_of p starts k t) (λ i. due p k t (ends_of p starts i, number i)) (λ i. due p k t (slice_index starts i, number i)) (use-by_events p starts k t)
+usage-by_events p starts k t = sum_below-parts (length p.jobs) (use_of p starts k t) (λ i. due p k t (ends_of p starts i, number i)) (λ i. due p k t (slice_index starts i, number i)) (use-by_events p starts k t)
 
 -- later, more are due
 pub total-later : (p : Project) (time : ℕ → ℕ) (k s t : ℕ) → s ≤ t → total p time k s ≤ total p time k t
