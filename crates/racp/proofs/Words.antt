@@ -100,6 +100,7 @@ check_line words (a ∷ net) [] plan (name, first, none, third, is) = absurd non
 check_line words (a ∷ net) (b ∷ order) [] (name, first, second, none, is) = absurd none
 check_line words (a ∷ net) (b ∷ order) (d ∷ plan) (name, first, second, third, is) =
     let line : List Text = name ∷ codes "check" ∷ (a ∷ net) ∷ (b ∷ order) ∷ (d ∷ plan) ∷ [] in
-    let taken = check_paths name a b d net order plan (ne_eqb a 45 first) (ne_eqb b 45 second) (ne_eqb d 45 third) in
-    (ap (λ (ws : List Text). fault_of racp ws) is ∙ taken.0,
-    λ request. check_asked (subcommand_of racp words) (a ∷ net) (b ∷ order) (d ∷ plan) request (ap (λ (ws : List Text). with_paths (subcommand_of racp ws)) is ∙ taken.1))
+    let taken = check_paths name a b d net order plan (ne_eqb a 45 first) (ne_eqb b 45 second) (ne_eqb d 45 third) in (
+      ap (λ (ws : List Text). fault_of racp ws) is ∙ taken.0,
+      λ request. check_asked (subcommand_of racp words) (a ∷ net) (b ∷ order) (d ∷ plan) request (ap (λ (ws : List Text). with_paths (subcommand_of racp ws)) is ∙ taken.1),
+    )

@@ -57,23 +57,24 @@ fn cpm<R: Files + Input + Print + AllocGlobal>(
     let mut out = io::writer(rt);
     match network {
         Source::StandardInput => cpm_over(rt.alloc(), &mut rt.reader(), &mut out),
-        Source::File(path) => {
-            cpm_over(rt.alloc(), &mut open(rt, path)?, &mut out)
-        }
+        Source::File(path) => { cpm_over(rt.alloc(), &mut open(rt, path)?, &mut out) }
     }
 }
 
 /// Writes whether the plan in these files is right.
-fn check<R: Files + Print + AllocGlobal>(
-    rt: &R,
-    files: PlanFiles<'_>,
-) -> Result<u8, StreamFault>
+fn check<R: Files + Print + AllocGlobal>(rt: &R, files: PlanFiles<'_>) -> Result<u8, StreamFault>
     ensures { IfOk result IsStatusOfAnswer }
 {
     let mut net = open(rt, files.net)?;
     let mut order = open(rt, files.order)?;
     let mut plan = open(rt, files.plan)?;
-    check_over(rt.alloc(), &mut net, &mut order, &mut plan, &mut io::writer(rt))
+    check_over(
+        rt.alloc(),
+        &mut net,
+        &mut order,
+        &mut plan,
+        &mut io::writer(rt),
+    )
 }
 
 /// The file with this path, for reading.

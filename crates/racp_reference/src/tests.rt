@@ -153,7 +153,15 @@ fn plans_with_one_resource(rt: HostRuntime) -> Result<(), Fail> {
     ] {
         let (owned, capacities) = ([owned], [capacity]);
         let order = order_of(alloc, deadline, (&[10], &owned, &[]), &release, &due)?;
-        assert_plan(&rt, alloc, &net, &order, found, capacities.as_slice(), starts.as_slice())?;
+        assert_plan(
+            &rt,
+            alloc,
+            &net,
+            &order,
+            found,
+            capacities.as_slice(),
+            starts.as_slice(),
+        )?;
     }
     Ok(())
 }

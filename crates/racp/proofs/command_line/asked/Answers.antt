@@ -20,7 +20,7 @@ returns-clause-asked c =
     let words : List Text = map string_bytes c.args.words.now in
     let is_racp : app_of c.in_ok-command.field-0 ≡ racp = c.in_ok-command.ensures in
     let entered : subcommand_rows_of c.in_ok-matches.matches ≡ subcommand_of racp words =
-      (c.in_ok-matches.ensures.matches (ap is_simple is_racp ∙ simple)).1 ∙ ap (λ a. subcommand_of a words) is_racp in
+    (c.in_ok-matches.ensures.matches (ap is_simple is_racp ∙ simple)).1 ∙ ap (λ a. subcommand_of a words) is_racp in
     subst (λ (command : Option (Text × List Row)). IsRequested command c.request_of.result) entered c.request_of.ensures
 
 pub returns-clause-faults : goal.returns-clause-faults

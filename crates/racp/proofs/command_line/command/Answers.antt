@@ -9,7 +9,7 @@ pub returns : goal.returns
 unfolding racp
 returns c =
     let top_is : app_of c.version.result ≡ with_version (new_app (codes "racp")) =
-      ap app_of_fields c.version.ensures ∙ ap with_version (ap app_of_fields c.about.ensures ∙ c.new.ensures.app) in
+    ap app_of_fields c.version.ensures ∙ ap with_version (ap app_of_fields c.about.ensures ∙ c.new.ensures.app) in
     let first_is : app_of c.in_ok-subcommand.field-0 ≡ with_subcommand (with_version (new_app (codes "racp"))) cpm.top =
-      c.in_ok-subcommand.ensures.shape c.in_ok-cpm_command.ensures.own ∙ ap₂ with_subcommand top_is (ap (λ (a : App). a.top) c.in_ok-cpm_command.ensures.is) in
+    c.in_ok-subcommand.ensures.shape c.in_ok-cpm_command.ensures.own ∙ ap₂ with_subcommand top_is (ap (λ (a : App). a.top) c.in_ok-cpm_command.ensures.is) in
     IfOk-weaker c.subcommand-2.result _ _ (λ command added. added.shape c.in_ok-check_command.ensures.own ∙ ap₂ with_subcommand first_is (ap (λ (a : App). a.top) c.in_ok-check_command.ensures.is)) c.subcommand-2.ensures

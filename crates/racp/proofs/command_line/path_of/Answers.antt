@@ -7,11 +7,11 @@ use Rattle.racp.proofs.command_line.path_of.Goals as goal
 pub returns-in-Some : goal.returns-in-Some
 returns-in-Some c =
     let word : first_of c.args.id.now (rows_of (found_of c.args.words.now)) ≡ Some c.in-Some.path.now =
-      sym (first_value-rows (found_of c.args.words.now) c.args.id.now) ∙ (sym c.get_str.ensures ∙ ap (option_map (λ p. p.now)) c.in-Some.is) in
+    sym (first_value-rows (found_of c.args.words.now) c.args.id.now) ∙ (sym c.get_str.ensures ∙ ap (option_map (λ p. p.now)) c.in-Some.is) in
     ap (λ (o : Option Text). unwrap_or o []) (sym word)
 
 pub returns-in-None : goal.returns-in-None
 returns-in-None c =
     let word : first_of c.args.id.now (rows_of (found_of c.args.words.now)) ≡ None =
-      sym (first_value-rows (found_of c.args.words.now) c.args.id.now) ∙ (sym c.get_str.ensures ∙ ap (option_map (λ p. p.now)) c.in-None.is) in
+    sym (first_value-rows (found_of c.args.words.now) c.args.id.now) ∙ (sym c.get_str.ensures ∙ ap (option_map (λ p. p.now)) c.in-None.is) in
     ap (λ (o : Option Text). unwrap_or o []) (sym word)
