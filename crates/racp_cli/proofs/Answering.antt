@@ -1,13 +1,12 @@
 -- Texts that stand for an answer, and what is written of them.
 use mathlib.Core.Path.{fun_ext}
-use Rattle.std.proofs.Common.{◌≡◌, ℕ, List, Option, Ok, Err, replicate, slice_index, codes, refl, sym, ap, subst, inl, inr}
+use Rattle.std.proofs.Common.{◌≡◌, ℕ, List, Ok, Err, replicate, slice_index, refl, sym, ap, subst, inl, inr}
 use Rattle.racp_model.specs.Project.{Project}
 use Rattle.racp_model.specs.Path.{IsEarly, IsCriticalLength}
 use Rattle.racp_model.proofs.lemmas.Zeros.{zeros}
 use Rattle.racp_sm.specs.Reading.{IsReading, IsReadingOrMemory}
 use Rattle.racp_sm.specs.declared.fault.SmFault.{SmFault}
 use Rattle.racp_sm.specs.declared.fault.SmFaultKind.TheVariants.{Memory}
-use Rattle.racp_check.specs.Texts.{line}
 use Rattle.racp_cli.specs.Texts.{early_text, refusal_line, memory_line}
 use Rattle.racp_cli.specs.Answers.{Early, Refused, OutOfMemory, IsEarlyAnswer, IsCpmAnswer}
 

@@ -1,5 +1,5 @@
 -- From a plan text that is refused to what is right for the texts.
-use Rattle.std.proofs.Common.{◌≡◌, ℕ, List, Err, inl, inr, ap, sym, subst}
+use Rattle.std.proofs.Common.{ℕ, List, Err, inl, inr, ap, sym, subst}
 use Rattle.racp_model.specs.Project.{Project}
 use Rattle.racp_model.specs.Terms.{Terms}
 use Rattle.racp_check.specs.PlanReading.{IsPlanReadingOrMemory}

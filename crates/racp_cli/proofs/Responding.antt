@@ -1,12 +1,12 @@
 -- From what was read of the readers, and an answer that was written, to a run.
-use Rattle.std.proofs.Common.{◌≡◌, ℕ, List, [], ◌∷◌, Option, Ok, Err, inl, inr, refl, ◌∙◌, sym, subst, IfOk}
+use Rattle.std.proofs.Common.{ℕ, List, Option, Ok, Err, sym, subst, IfOk}
 use Rattle.std.specs.Prelude.{Result, Vec}
 use Rattle.std.specs.declared.alloc.AllocError.{AllocError}
 use Rattle.std.specs.declared.alloc.Global.{Global}
 use Rattle.std.specs.Io.KnownBytes.{Keeps}
 use Rattle.racp_cli.specs.Texts.{memory_line}
 use Rattle.racp_cli.specs.Responses.{IsMade}
-use Rattle.racp_cli.specs.Streams.{Reader, AreInputs, IsReadUntil, IsStopped, IsWritten, IsAnswered, IsRun}
+use Rattle.racp_cli.specs.Streams.{Reader, AreInputs, IsReadUntil, IsStopped, IsAnswered, IsRun}
 use Rattle.racp_cli.specs.declared.fault.StreamFault.{StreamFault}
 use Rattle.racp_cli.specs.declared.fault.StreamFault.TheVariants.{Read, Write, TooLong, Memory}
 

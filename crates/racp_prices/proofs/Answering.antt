@@ -1,5 +1,5 @@
 -- From the table of a text to what the text is read as.
-use Rattle.std.proofs.Common.{◌≡◌, sym, inl, inr, ℕ, List, Some, Ok, Err}
+use Rattle.std.proofs.Common.{sym, inl, inr, ℕ, List, Some, Ok, Err}
 use Rattle.std.specs.Prelude.{Result}
 use Rattle.toml.specs.Data.{Members}
 use Rattle.racp_model.specs.Terms.{Terms}

@@ -1,5 +1,5 @@
 -- Numbers that are cut to the most there may be, one place after another.
-use Rattle.std.proofs.Common.{◌≡◌, refl, sym, ◌∙◌, ap, ap₂, ℕ, zero, suc, ◌+◌, ◌<◌, ◌≤◌, min, List, [], ◌∷◌, map, set, length, get_or, get_or-set_other, get_or-set_same, arith, inl, inr, ◌⊎◌, ◌≢◌, length-set}
+use Rattle.std.proofs.Common.{◌≡◌, refl, sym, ◌∙◌, ap₂, ℕ, suc, ◌+◌, ◌<◌, ◌≤◌, min, List, [], ◌∷◌, map, set, length, arith, inl, inr, ◌⊎◌, ◌≢◌, length-set}
 use Rattle.std.specs.Prelude.{slice_index}
 use Rattle.std.proofs.Math.Seq.{map-set_same}
 use Rattle.racp_model.proofs.lemmas.Lists.{at_set}

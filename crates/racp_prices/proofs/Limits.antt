@@ -1,12 +1,12 @@
 -- What an order text says is within the limits.
-use Rattle.std.proofs.Common.{◌≡◌, refl, sym, ◌∙◌, ap, ℕ, ℤ, pos, negsuc, zero, suc, ◌+◌, ◌<◌, ◌≤◌, ◌⊎◌, min, Bool, true, false, cond, List, [], ◌∷◌, length, map, replicate, arith, Option, Some, None, IfSome, Ok, Err, subst, subst₂, All, IfOk, slice_index_or}
-use Rattle.std.specs.Prelude.{Result, nat_le, is_some, unwrap_or, ◌==◌, codes, slice_index, bytes_eq}
+use Rattle.std.proofs.Common.{◌≡◌, refl, sym, ◌∙◌, ap, ℕ, ℤ, pos, negsuc, zero, suc, ◌+◌, ◌<◌, ◌≤◌, min, true, false, List, [], ◌∷◌, length, map, replicate, arith, Option, Some, None, IfSome, Ok, Err, subst, subst₂, All, IfOk}
+use Rattle.std.specs.Prelude.{Result, nat_le, unwrap_or, ◌==◌, codes, slice_index, bytes_eq}
 use Rattle.std.specs.List.{list_any}
 use Rattle.std.proofs.lemmas.Bool.{and_parts, leb-true, eqb-true, false≢true}
-use Rattle.std.proofs.lemmas.List.Elements.{All-nil, All-cons, All-map, All-replicate, All-weaker}
+use Rattle.std.proofs.lemmas.List.Elements.{All-nil, All-cons, All-replicate}
 use Rattle.std.proofs.lemmas.List.{length-map, length-replicate}
 use Rattle.std.specs.Cmp.Lexicographic.{slice_cmp}
-use Rattle.std.specs.Ordering.{nat_cmp, match_ordering}
+use Rattle.std.specs.Ordering.{nat_cmp}
 use Rattle.std.specs.declared.cmp.Ordering.{Ordering}
 use Rattle.std.specs.declared.cmp.Ordering.TheVariants.{Less, Equal, Greater}
 use Rattle.toml.specs.Data.{Data, Items, no_items, item, Members, no_members, member, get_member}
@@ -14,11 +14,11 @@ use Rattle.racp_model.specs.Project.{Project}
 use Rattle.racp_model.specs.Terms.{Terms, AreTermsOf}
 use Rattle.racp_model.proofs.lemmas.Orders.{lex_same}
 use Rattle.racp_model.proofs.lemmas.Results.{IsFault, bind_ok, same_ok, chosen}
-use Rattle.racp_prices.specs.Orders.{whole, within, array_of, are_whole, count_of, whole_items, counted_items, all_within, number_of, numbers_of, optional_numbers, version_of, numbered_version, plain_keys, keys_of, has_only, required, known_keys, order_of, order_in, IsToml, IsOrder, IsOrderOrMemory, AreTermsFor}
+use Rattle.racp_prices.specs.Orders.{whole, within, array_of, count_of, whole_items, counted_items, all_within, number_of, numbers_of, optional_numbers, version_of, plain_keys, keys_of, has_only, required, known_keys, order_of, IsOrder, IsOrderOrMemory, AreTermsFor}
 use Rattle.racp_prices.specs.declared.fault.OrderFault.{OrderFault}
-use Rattle.racp_prices.specs.declared.fault.OrderFault.TheVariants.{NotWhole, Count, Range, Unknown}
+use Rattle.racp_prices.specs.declared.fault.OrderFault.TheVariants.{Count, Range, Unknown}
 use Rattle.racp_prices.specs.declared.version.Version.{Version}
-use Rattle.racp_prices.specs.declared.version.Version.TheVariants.{First, Second}
+use Rattle.racp_prices.specs.declared.version.Version.TheVariants.{First}
 
 abbrev IsAtMost : ℕ → ℕ → Type 0
 IsAtMost most n = n ≤ most

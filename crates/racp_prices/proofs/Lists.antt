@@ -1,8 +1,6 @@
 -- Reading the elements of a list one after another: what was read, and what is left to read.
-use Rattle.std.proofs.Common.{◌≡◌, refl, sym, ◌∙◌, ap, ℕ, zero, suc, ◌+◌, ◌<◌, ◌≤◌, ◌⊎◌, inl, inr, List, [], ◌∷◌, ◌++◌, drop, length, get_or, arith, Ok, Err, append_assoc, append-nil}
+use Rattle.std.proofs.Common.{◌≡◌, refl, sym, ◌∙◌, ap, ℕ, zero, suc, ◌+◌, ◌<◌, ◌≤◌, List, [], ◌∷◌, ◌++◌, drop, length, get_or, arith, Ok, Err, append_assoc, append-nil}
 use Rattle.std.specs.Prelude.{Result}
-use Rattle.std.proofs.lemmas.List.{drop_more}
-use Rattle.toml.specs.Data.{Items}
 use Rattle.toml.specs.View.{items_view, view}
 use Rattle.toml.specs.declared.value.Value.{Value}
 use Rattle.toml.proofs.Views.{items_view-drop}

@@ -1,15 +1,13 @@
 -- What all items or all keys of a table are, against the tests of the definitions.
-use Rattle.std.proofs.Common.{◌≡◌, ◌≢◌, refl, sym, ◌∙◌, ap, ℕ, suc, ◌+◌, ◌&&◌, Bool, true, false, IsTrue, All, List, [], ◌∷◌, length, is_some, bytes_eq, string_bytes, String, Global, BTreeMap, Ok, Err, arith, ◌==◌, rules}
-use Rattle.std.specs.Prelude.{if◌then◌else◌}
-use Rattle.std.specs.BTreeMap.{keys}
+use Rattle.std.proofs.Common.{◌≡◌, ◌≢◌, refl, ℕ, Bool, true, false, IsTrue, All, List, [], ◌∷◌, length, is_some, bytes_eq, string_bytes, String, Global, Ok, Err, arith}
 use Rattle.std.specs.List.{list_any}
 use Rattle.std.specs.Map.{keys_of as keys_in}
 use Rattle.std.proofs.lemmas.Bool.{and_parts, cond-true, cond-false, ne_eqb, eq-eqb}
 use Rattle.std.proofs.lemmas.List.Elements.{All-cons, All-head, All-tail}
-use Rattle.toml.specs.Data.{Data, as_integer, Items, Members}
-use Rattle.toml.specs.View.{view, items_view, members_view, table_view}
+use Rattle.toml.specs.Data.{as_integer}
+use Rattle.toml.specs.View.{view, items_view, members_view}
 use Rattle.toml.specs.declared.value.Value.{Value}
-use Rattle.racp_prices.specs.Orders.{are_whole, count_of, whole_items, counted_items, has_only, keys_of, known_keys}
+use Rattle.racp_prices.specs.Orders.{are_whole, whole_items, counted_items, has_only, keys_of, known_keys}
 use Rattle.racp_prices.specs.declared.fault.OrderFault.TheVariants.{NotWhole, Count, Unknown}
 use Rattle.racp_prices.specs.declared.version.Version.{Version}
 use Rattle.racp_prices.proofs.Lists.{count_values}

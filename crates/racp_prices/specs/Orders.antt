@@ -1,6 +1,6 @@
 -- What an order text is read as: the terms of an order, or why it is none. The text is TOML; the rules are tested in the
 -- order in which they stand here.
-use Rattle.std.specs.Prelude.{◌≡◌, ◌⊎◌, ℕ, ℤ, pos, negsuc, ◌+◌, ◌==◌, ◌&&◌, Bool, true, false, min, List, [], ◌∷◌, length, map, replicate, Option, Some, None, Result, Ok, Err, is_some, nat_le, if◌then◌else◌, codes, IsUtf8, bytes_eq, unwrap_or}
+use Rattle.std.specs.Prelude.{◌≡◌, ◌⊎◌, ℕ, ℤ, pos, negsuc, ◌+◌, ◌==◌, ◌&&◌, Bool, true, min, List, [], ◌∷◌, length, map, replicate, Option, Some, None, Result, Ok, Err, is_some, nat_le, if◌then◌else◌, codes, IsUtf8, bytes_eq, unwrap_or}
 use Rattle.std.specs.List.{list_any}
 use Rattle.toml.specs.Data.{Data, integer, array, Items, no_items, item, Members, no_members, member, get_member, as_integer}
 use Rattle.toml.specs.Parse.{parse_document}

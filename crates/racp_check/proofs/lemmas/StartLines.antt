@@ -1,5 +1,5 @@
 -- The lines of starts, before the last line of all, tell the starts.
-use Rattle.std.proofs.Common.{◌≡◌, ℕ, ◌^◌, ◌<◌, List, ◌++◌, All, get_or, codes, refl, sym, ap, ◌∙◌, arith}
+use Rattle.std.proofs.Common.{◌≡◌, ℕ, List, ◌++◌, All, get_or, codes, refl, sym, ap, ◌∙◌, arith}
 use Rattle.racp_check.specs.Texts.{line, start_lines}
 use Rattle.racp_check.proofs.lemmas.Numbered.{Fits64, start_lines_are, same_lines}
 

@@ -1,4 +1,4 @@
-use Rattle.std.proofs.Common.{◌≡◌, Ok, rules}
+use Rattle.std.proofs.Common.{rules}
 use Rattle.std.proofs.lemmas.Result.{err_from_is_err_and}
 use Rattle.racp_cli.specs.Checks.{AreTerms, AreRead, HasRightHead}
 use Rattle.racp_cli.proofs.Checking.{plan_refused}

@@ -1,4 +1,4 @@
-use Rattle.std.proofs.Common.{◌≡◌, Err, [], ◌∷◌, IfOk, refl}
+use Rattle.std.proofs.Common.{Err, [], ◌∷◌, IfOk, refl}
 use Rattle.racp_cli.specs.Checks.{IsCheckAnswer}
 use Rattle.racp_cli.specs.Streams.{Reader, AreInputs, ToThree}
 use Rattle.racp_cli.specs.Texts.{memory_line}

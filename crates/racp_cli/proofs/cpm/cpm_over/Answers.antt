@@ -1,4 +1,4 @@
-use Rattle.std.proofs.Common.{◌≡◌, [], ◌∷◌, IfOk}
+use Rattle.std.proofs.Common.{[], ◌∷◌, IfOk}
 use Rattle.racp_cli.specs.Answers.{IsCpmAnswer}
 use Rattle.racp_cli.specs.Streams.{Reader, AreInputs, ToOne}
 use Rattle.racp_cli.proofs.Answering.{answers_memory}

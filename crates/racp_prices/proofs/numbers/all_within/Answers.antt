@@ -1,4 +1,4 @@
-use Rattle.std.proofs.Common.{◌≡◌, arith, sym, inr, refl, ◌∷◌, []}
+use Rattle.std.proofs.Common.{arith, sym, inr}
 use Rattle.std.proofs.lemmas.Result.{err_from_is_err_and}
 use Rattle.racp_prices.proofs.Lists.{read_start, read_step, read_fault, read_end}
 use Rattle.racp_prices.proofs.numbers.all_within.Goals as goal
