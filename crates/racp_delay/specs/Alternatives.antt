@@ -1,0 +1,44 @@
+-- Delaying alternatives: which of the jobs that are active at a conflict have to go so that the others fit the capacities
+-- (Demeulemeester and Herroelen 1992). Lists of jobs hold job numbers, from 1.
+use Rattle.std.specs.Prelude.{◌≢◌, ℕ, ◌+◌, ◌-◌, ◌<◌, ◌≤◌, List, [], ◌∷◌, map, slice_index, Contains, AllPairs}
+use Rattle.smallvec.specs.SmallVec.{SmallVec}
+use Rattle.racp_model.specs.Project.{Project, request}
+use Rattle.racp_model.specs.Terms.{IsLexBefore}
+
+-- the place, from 0, of the job with a number
+abbrev pub place : ℕ → ℕ
+place job = job - 1
+
+-- a list of jobs is split into those that go and those that stay, each in the order of the list
+pub data Splits : List ℕ → List ℕ → List ℕ → Type 0 where
+  none : Splits [] [] []
+  goes : {job : ℕ} {jobs gone kept : List ℕ} → Splits jobs gone kept → Splits (job ∷ jobs) (job ∷ gone) kept
+  stays : {job : ℕ} {jobs gone kept : List ℕ} → Splits jobs gone kept → Splits (job ∷ jobs) gone (job ∷ kept)
+
+-- what the jobs of a list request together of the resource at place k
+unfoldable pub load : Project → ℕ → List ℕ → ℕ
+load p k [] = 0
+load p k (job ∷ jobs) = request p (place job) k + load p k jobs
+
+-- the jobs of a list can run at once
+abbrev pub CanRun : Project → List ℕ → List ℕ → Type 0
+CanRun p capacities jobs = (k : ℕ) → k < p.resources → load p k jobs ≤ slice_index capacities k
+
+-- where these jobs go, the other active jobs can run at once
+abbrev pub IsDelaying : Project → List ℕ → List ℕ → List ℕ → Type 0
+IsDelaying p capacities active gone = (kept : List ℕ) × Splits active gone kept × CanRun p capacities kept
+
+-- a minimal delaying alternative: the other active jobs can run at once, but not with some of these that stay
+pub record IsMinimalDelayingAlternative (p : Project) (capacities active gone : List ℕ) : Type 0 where
+  pub delays : IsDelaying p capacities active gone
+  pub least : (part others : List ℕ) → Splits gone part others → others ≢ [] → IsDelaying p capacities active part → ⊥
+
+-- all minimal delaying alternatives of the active jobs and nothing else, each once, in lexicographic order
+pub record AreAlternatives (p : Project) (capacities active : List ℕ) (lists : List (List ℕ)) : Type 0 where
+  pub all : (gone : List ℕ) → IsMinimalDelayingAlternative p capacities active gone → Contains lists gone
+  pub only : (gone : List ℕ) → Contains lists gone → IsMinimalDelayingAlternative p capacities active gone
+  pub in_order : AllPairs IsLexBefore lists
+
+-- the job numbers of each of some short vectors
+abbrev pub job_lists : List (SmallVec ℕ) → List (List ℕ)
+job_lists vectors = map (λ (v : SmallVec ℕ). v.items) vectors

@@ -1,0 +1,53 @@
+-- Contracts of private functions: those that search for minimal delaying alternatives. Of the active jobs some are chosen to
+-- go, some are kept, of which only the loads are known, and the rest is not decided yet.
+use Rattle.std.specs.Prelude.{◌≡◌, ℕ, ◌+◌, ◌<◌, ◌≤◌, List, [], ◌∷◌, ◌++◌, length, slice_index, Contains, AllPairs, min, Option, Some, None}
+use Rattle.racp_model.specs.Project.{Project, request}
+use Rattle.racp_model.specs.Terms.{IsLexBefore}
+use Rattle.racp_delay.specs.Alternatives.{place, Splits, load}
+
+-- loads that fit the capacities
+abbrev pub AreWithin : Project → List ℕ → (ℕ → ℕ) → Type 0
+AreWithin p capacities loads = (k : ℕ) → k < p.resources → loads k ≤ slice_index capacities k
+
+-- one job more could run with these loads
+abbrev pub OneMoreRuns : Project → List ℕ → (ℕ → ℕ) → ℕ → Type 0
+OneMoreRuns p capacities loads job = (k : ℕ) → k < p.resources → loads k + request p (place job) k ≤ slice_index capacities k
+
+-- some of these jobs could run with these loads
+abbrev pub SomeMoreRuns : Project → List ℕ → (ℕ → ℕ) → List ℕ → Type 0
+SomeMoreRuns p capacities loads jobs = (i : ℕ) × (i < length jobs) × OneMoreRuns p capacities loads (slice_index jobs i)
+
+-- what is true of each job of a list
+abbrev pub Each : (ℕ → Type 0) → List ℕ → Type 0
+Each P [] = Unit {0}
+Each P (job ∷ jobs) = P job × Each P jobs
+
+-- the loads of the kept, and of the jobs that stay beside them
+abbrev pub with_load : Project → (ℕ → ℕ) → List ℕ → ℕ → ℕ
+with_load p kept stay k = kept k + load p k stay
+
+-- those that stay can run with the kept, and none that goes could stay with them
+pub record IsTight (p : Project) (capacities : List ℕ) (kept : ℕ → ℕ) (gone stay : List ℕ) : Type 0 where
+  pub runs : AreWithin p capacities (with_load p kept stay)
+  pub tight : Each (λ job. OneMoreRuns p capacities (with_load p kept stay) job → ⊥) gone
+
+-- all alternatives in which the chosen go and the kept stay, each once, in lexicographic order
+pub record AreFound (p : Project) (capacities : List ℕ) (kept : ℕ → ℕ) (chosen rest : List ℕ) (lists : List (List ℕ)) : Type 0 where
+  pub all : (gone stay : List ℕ) → Splits rest gone stay → IsTight p capacities kept (chosen ++ gone) stay → Contains lists (chosen ++ gone)
+  pub only : (list : List ℕ) → Contains lists list → (gone : List ℕ) × (stay : List ℕ) × Splits rest gone stay × (list ≡ chosen ++ gone) × IsTight p capacities kept (chosen ++ gone) stay
+  pub in_order : AllPairs IsLexBefore lists
+
+-- these, added at the end of a list
+abbrev pub AreAdded : Project → List ℕ → (ℕ → ℕ) → List ℕ → List ℕ → List (List ℕ) → List (List ℕ) → Type 0
+AreAdded p capacities kept chosen rest old new =
+    (found : List (List ℕ)) × (new ≡ old ++ found) × AreFound p capacities kept chosen rest found
+
+-- what some jobs request together of each resource, each small
+pub record AreLoads (p : Project) (jobs loads : List ℕ) : Type 0 where
+  pub sums : (k : ℕ) → k < p.resources → slice_index loads k ≡ load p k jobs
+  pub small : (k : ℕ) → k < p.resources → slice_index loads k ≤ 5120000
+
+-- the earlier of a time that may be known and another time
+abbrev pub IsEarlier : Option ℕ → ℕ → Option ℕ → Type 0
+IsEarlier (Some known) time result = result ≡ Some (min known time)
+IsEarlier None time result = result ≡ Some time

@@ -1,0 +1,7 @@
+pub mod Alternatives
+pub mod Branching
+pub mod Laws
+pub mod Found
+pub mod JobSets
+pub mod Words
+pub mod Sweeps
