@@ -1,0 +1,3 @@
+pub mod Covering
+pub mod Laws
+pub mod Rows
