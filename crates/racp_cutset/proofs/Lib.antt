@@ -1,1 +1,3 @@
 mod Built
+mod Fronts
+mod Nodes

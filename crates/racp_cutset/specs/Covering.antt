@@ -59,9 +59,8 @@ pub record Covers (p : Project) (v w : SearchNode) : Type 0 where
   pub lower : MayStartAsEarly p v w
   pub fits : FitsBeforeTime p v
 
--- a refuted node that can serve as a record: its question is a no, and it fits before its time
+-- a refuted node that can serve as a record: it fits before its time, and its question is a no
 pub record IsRefutedNode (p : Project) (v : SearchNode) : Type 0 where
-  pub node : IsNode p v
   pub fits : FitsBeforeTime p v
   pub refuted : IsNo p v.capacities v.window
 

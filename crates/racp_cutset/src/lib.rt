@@ -4,3 +4,9 @@
 #![tactic(auto)]
 
 pub mod laws;
+mod node;
+mod nogood;
+mod rows;
+
+pub use node::Node;
+pub use nogood::Nogood;
