@@ -1,7 +1,7 @@
 ghost use Rattle.std.specs.Prelude.{◌≡◌, ◌↔◌, ◌≤◌, IsTrue, IfOk, length, slice_index};
 ghost use Rattle.racp_model.specs.Path.{IsEarly};
 ghost use Rattle.racp_model.specs.Project.{IsSound};
-ghost use Rattle.racp_cutset.specs.Covering.{SearchNode, IsNode, AreEnds, Covers, FitsBeforeTime};
+ghost use Rattle.racp_cutset.specs.Covering.{SearchNode, IsNode, AreEnds, Covers, HasCutsetOf, HasRoomOf, EndsNoLater, MayStartAsEarly, FitsBeforeTime};
 ghost use Rattle.racp_cutset.specs.Rows.{AreStartedBefore};
 
 use crate::rows::{ends_of, is_at_least, is_sooner_before, is_sooner_from, started_before};
@@ -118,26 +118,53 @@ impl<N: OfNetwork> Node<N> {
         ensures node { IsNode N.network self.now }
         ensures other { IsNode N.network other.now }
     {
-        self.time <= other.time
-            && self.started == other.started
-            && is_at_least(
-                self.question.capacities.as_slice(),
-                other.question.capacities.as_slice(),
-            )
-            && is_at_least(self.question.window.upper(), other.question.window.upper())
-            && is_sooner_before(
-                self.early.as_slice(),
-                self.time,
-                &self.ends,
-                other.time,
-                &other.ends,
-            )
-            && is_sooner_from(
-                self.early.as_slice(),
-                self.time,
-                self.question.window.lower(),
-                other.time,
-                other.question.window.lower(),
-            )
+        self.has_cutset_of(other)
+            && self.has_room_of(other)
+            && self.ends_no_later(other)
+            && self.may_start_as_early(other)
+    }
+
+    /// Whether the same jobs are started in another node, whose time is no earlier.
+    fn has_cutset_of(&self, other: &Node<N>) -> bool
+        ensures exact { IsTrue result ↔ HasCutsetOf N.network self.now other.now }
+        ensures sound { IsSound N.network }
+        ensures node { IsNode N.network self.now }
+        ensures other { IsNode N.network other.now }
+    {
+        self.time <= other.time && self.started == other.started
+    }
+
+    /// Whether the node has at least the capacities and the upper bounds of another one.
+    fn has_room_of(&self, other: &Node<N>) -> bool
+        ensures { IsTrue result ↔ HasRoomOf N.network self.now other.now }
+    {
+        let question = &other.question;
+        is_at_least(
+            self.question.capacities.as_slice(),
+            question.capacities.as_slice(),
+        ) && is_at_least(self.question.window.upper(), question.window.upper())
+    }
+
+    /// Whether each started job ends no later than in another node, or by the other's time.
+    fn ends_no_later(&self, other: &Node<N>) -> bool
+        ensures { IsTrue result ↔ EndsNoLater N.network self.now other.now }
+    {
+        let early = self.early.as_slice();
+        is_sooner_before(early, self.time, &self.ends, other.time, &other.ends)
+    }
+
+    /// Whether each other job may start as early as in another node, or at the other's time.
+    fn may_start_as_early(&self, other: &Node<N>) -> bool
+        ensures { IsTrue result ↔ MayStartAsEarly N.network self.now other.now }
+    {
+        let early = self.early.as_slice();
+        let other_lower = other.question.window.lower();
+        is_sooner_from(
+            early,
+            self.time,
+            self.question.window.lower(),
+            other.time,
+            other_lower,
+        )
     }
 }
