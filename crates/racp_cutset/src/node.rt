@@ -4,7 +4,7 @@ ghost use Rattle.racp_model.specs.Project.{IsSound};
 ghost use Rattle.racp_cutset.specs.Covering.{SearchNode, IsNode, AreEnds, Covers, HasCutsetOf, HasRoomOf, EndsNoLater, MayStartAsEarly, FitsBeforeTime};
 ghost use Rattle.racp_cutset.specs.Rows.{AreStartedBefore};
 
-use crate::rows::{ends_of, is_at_least, is_sooner_before, is_sooner_from, started_before};
+use crate::rows::{ends_of, hash_of, is_at_least, is_sooner_before, is_sooner_from, started_before};
 use racp_cpm::early;
 use racp_delay::JobSet;
 use racp_model::{Network, OfNetwork, Question, Starts};
@@ -19,6 +19,7 @@ pub struct Node<N: OfNetwork> {
     early: Starts,
     ends: Vec<u32>,
     started: JobSet,
+    key: u64,
     time: u32,
     of: PhantomData<N>,
 }
@@ -61,11 +62,13 @@ impl<N: OfNetwork> Node<N> {
         let early = early(alloc, net, question.window.lower())?;
         let ends = ends_of(alloc, net, early.as_slice())?;
         let started = started_before(early.as_slice(), time);
+        let key = hash_of(&started);
         Ok(Node {
             question,
             early,
             ends,
             started,
+            key,
             time,
             of: PhantomData,
         })
@@ -108,6 +111,11 @@ impl<N: OfNetwork> Node<N> {
         ensures { AreStartedBefore self.now.early self.now.time result.now }
     {
         &self.started
+    }
+
+    /// A hash of the started jobs: equal for nodes with the same started jobs.
+    pub(crate) fn key(&self) -> u64 {
+        self.key
     }
 
     /// Whether the node, which fits before its time, covers another one. Takes no memory.

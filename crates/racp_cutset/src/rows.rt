@@ -87,3 +87,12 @@ fn add_durations(net: &Network, times: &mut [u32])
         times[i] += net.duration(i);
     }
 }
+
+/// A hash of a set of jobs (Fowler, Noll and Vo's, over the numbers of the jobs).
+pub(crate) fn hash_of(jobs: &JobSet) -> u64 {
+    let mut hash: u64 = 0xcbf2_9ce4_8422_2325;
+    for job in jobs.iter() {
+        hash = (hash ^ job as u64).wrapping_mul(0x0100_0000_01b3);
+    }
+    hash
+}
