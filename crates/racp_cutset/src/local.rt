@@ -66,14 +66,8 @@ impl<N: OfNetwork> Local<N> {
             return;
         }
         let place = Place::Kept(self.kept.len());
-        enter(
-            self.alloc,
-            &mut self.index,
-            None,
-            &self.kept,
-            &nogood,
-            place,
-        );
+        forget_kept(&mut self.index, &self.kept, &nogood);
+        enter(self.alloc, &mut self.index, nogood.node().key(), place);
         let _ = self.kept.push(nogood);
     }
 
@@ -108,29 +102,25 @@ impl<N: OfNetwork> Local<N> {
         let key = node.key();
         let places = self.index.get(&key)?;
         for place in places.iter().rev() {
-            if let Some(record) = record_at(Some(board), &self.kept, *place) {
-                if record.covers(node) {
-                    return Some(record);
+            if let Some(found) = self.at(board, *place) {
+                if found.covers(node) {
+                    return Some(found);
                 }
             }
         }
         None
     }
-}
 
-/// What stands at a place now.
-fn record_at<'a, N: OfNetwork>(
-    board: Option<&'a Board<N>>,
-    kept: &'a Vec<Nogood<N>>,
-    place: Place,
-) -> Option<&'a Nogood<N>> {
-    match place {
-        Place::Board(i) => board?.record(i),
-        Place::Kept(i) => kept.get(i),
+    /// What stands at a place now.
+    fn at<'a>(&'a self, board: &'a Board<N>, place: Place) -> Option<&'a Nogood<N>> {
+        match place {
+            Place::Board(i) => board.record(i),
+            Place::Kept(i) => self.kept.get(i),
+        }
     }
 }
 
-/// Enters the records from a place of the board on, and answers the place from which to read the next time.
+/// Enters the records of the board from a place on, and answers the place from which to read the next time.
 fn read_from<N: OfNetwork>(
     first: usize,
     alloc: Global,
@@ -140,26 +130,19 @@ fn read_from<N: OfNetwork>(
 ) -> usize {
     let count = board.count();
     for i in first..count {
-        match board.record(i) {
-            Some(record) => enter(alloc, index, Some(board), kept, record, Place::Board(i)),
-            None => return i,
-        }
+        let Some(nogood) = board.record(i) else {
+            return i;
+        };
+        forget_kept(index, kept, nogood);
+        forget_written(index, board, nogood);
+        enter(alloc, index, nogood.node().key(), Place::Board(i));
     }
     if first < count { count } else { first }
 }
 
-/// Enters the place of a record, and forgets the places of the records that it covers.
-fn enter<N: OfNetwork>(
-    alloc: Global,
-    index: &mut Index,
-    board: Option<&Board<N>>,
-    kept: &Vec<Nogood<N>>,
-    nogood: &Nogood<N>,
-    place: Place,
-) {
-    let key = nogood.node().key();
+/// Enters a place by the hash of the started jobs of what stands there.
+fn enter(alloc: Global, index: &mut Index, key: u64, place: Place) {
     if let Some(places) = index.get_mut(&key) {
-        places.retain(|other| !is_covered(board, kept, nogood, *other));
         if MOST_PLACES <= places.len() {
             places.remove(0);
         }
@@ -172,14 +155,45 @@ fn enter<N: OfNetwork>(
     }
 }
 
-/// Whether a record covers the one at a place.
-fn is_covered<N: OfNetwork>(
-    board: Option<&Board<N>>,
+/// Forgets the places of the kept records that a record covers.
+fn forget_kept<N: OfNetwork>(index: &mut Index, kept: &Vec<Nogood<N>>, nogood: &Nogood<N>) {
+    if let Some(places) = index.get_mut(&nogood.node().key()) {
+        places.retain(|place| !is_kept_covered(kept, nogood, *place));
+    }
+}
+
+/// Forgets the places of the board's records that a record covers.
+fn forget_written<N: OfNetwork>(index: &mut Index, board: &Board<N>, nogood: &Nogood<N>) {
+    if let Some(places) = index.get_mut(&nogood.node().key()) {
+        places.retain(|place| !is_written_covered(board, nogood, *place));
+    }
+}
+
+/// Whether a kept record stands at the place that the record covers.
+fn is_kept_covered<N: OfNetwork>(
     kept: &Vec<Nogood<N>>,
     nogood: &Nogood<N>,
     place: Place,
 ) -> bool {
-    match record_at(board, kept, place) {
+    let Place::Kept(i) = place else {
+        return false;
+    };
+    match kept.get(i) {
+        Some(other) => nogood.covers(other.node()),
+        None => false,
+    }
+}
+
+/// Whether a record of the board stands at the place that the record covers.
+fn is_written_covered<N: OfNetwork>(
+    board: &Board<N>,
+    nogood: &Nogood<N>,
+    place: Place,
+) -> bool {
+    let Place::Board(i) = place else {
+        return false;
+    };
+    match board.record(i) {
         Some(other) => nogood.covers(other.node()),
         None => false,
     }
