@@ -14,3 +14,6 @@ pub use board::Board;
 pub use local::Local;
 pub use node::Node;
 pub use nogood::Nogood;
+
+#[cfg(test)]
+mod tests;
