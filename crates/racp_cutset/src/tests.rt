@@ -238,41 +238,83 @@ fn covers_the_same_started_jobs(rt: HostRuntime) -> Result<(), Fail> {
     check_cutsets::<Brand>(&rt, alloc, &crossed(alloc)?)
 }
 
-fn check_finding<N: OfNetwork, R: Abort + Wait>(
+/// Whether a record that covers the node is found.
+fn is_found<N: OfNetwork>(board: &Board<N>, local: &mut Local<N>, node: &Node<N>) -> bool {
+    match board.find(local, node) {
+        Some(known) => known.covers(node),
+        None => false,
+    }
+}
+
+/// The record of capacity 2 and a deadline of 4.
+fn known_record<N: OfNetwork>(
+    rt: &impl Abort,
+    alloc: Global,
+    net: &Network,
+) -> Result<Nogood<N>, Fail>
+    requires named { net.now ≡ N.network }
+{
+    let (lower, upper) = parallel_bounds(4);
+    nogood(rt, alloc, net, &[2], (&lower, &upper), 0)
+}
+
+/// The node of a capacity and a deadline of 4.
+fn node_of<N: OfNetwork>(
+    rt: &impl Abort,
+    alloc: Global,
+    net: &Network,
+    capacity: u32,
+) -> Result<Node<N>, Fail>
+    requires named { net.now ≡ N.network }
+{
+    let (lower, upper) = parallel_bounds(4);
+    node(rt, alloc, net, &[capacity], (&lower, &upper), 0)
+}
+
+fn check_shared<N: OfNetwork, R: Abort + Wait>(
     rt: &R,
     alloc: Global,
     net: &Network,
 ) -> Result<(), Fail>
     requires named { net.now ≡ N.network }
 {
-    let (lower, upper) = parallel_bounds(4);
-    let root = (lower.as_slice(), upper.as_slice());
-    let covered: Node<N> = node(rt, alloc, net, &[1], root, 0)?;
-    let other: Node<N> = node(rt, alloc, net, &[3], root, 0)?;
-    let shared: Board<N> = Board::new(alloc, net)?;
-    let empty: Board<N> = Board::new(alloc, net)?;
-    let mut keeps: Local<N> = Local::new(alloc, net);
-    assert!(rt; shared.find(&mut keeps, &covered).is_none());
-    shared.push(rt, nogood(rt, alloc, net, &[2], root, 0)?);
-    keeps.keep(nogood(rt, alloc, net, &[2], root, 0)?);
-    let mut reads: Local<N> = Local::new(alloc, net);
-    assert!(rt; shared.find(&mut reads, &covered).is_some());
-    assert!(rt; shared.find(&mut reads, &other).is_none());
-    assert!(rt; empty.find(&mut keeps, &covered).is_some());
-    assert!(rt; empty.find(&mut keeps, &other).is_none());
-    shared.push(rt, nogood(rt, alloc, net, &[2], root, 0)?);
-    assert!(rt; shared.find(&mut reads, &covered).is_some(), "pushed twice");
-    let taken = keeps.take_kept().ok_or("nothing was kept")?;
-    assert!(rt; taken.covers(&covered));
-    assert!(rt; keeps.take_kept().is_none());
-    assert!(rt; empty.find(&mut keeps, &covered).is_none());
+    let covered: Node<N> = node_of(rt, alloc, net, 1)?;
+    let other: Node<N> = node_of(rt, alloc, net, 3)?;
+    let board: Board<N> = Board::new(alloc, net)?;
+    let mut local: Local<N> = Local::new(alloc, net);
+    assert!(rt; !is_found(&board, &mut local, &covered));
+    board.push(rt, known_record(rt, alloc, net)?);
+    assert!(rt; is_found(&board, &mut local, &covered));
+    assert!(rt; !is_found(&board, &mut local, &other));
+    board.push(rt, known_record(rt, alloc, net)?);
+    assert!(rt; is_found(&board, &mut local, &covered), "pushed twice");
     Ok(())
 }
 
 #[test]
-fn finds_records(rt: HostRuntime) -> Result<(), Fail> {
+fn finds_shared_records(rt: HostRuntime) -> Result<(), Fail> {
     let alloc = rt.alloc();
-    check_finding::<Brand, HostRuntime>(&rt, alloc, &parallel(alloc)?)
+    check_shared::<Brand, HostRuntime>(&rt, alloc, &parallel(alloc)?)
+}
+
+fn check_kept<N: OfNetwork>(rt: &impl Abort, alloc: Global, net: &Network) -> Result<(), Fail>
+    requires named { net.now ≡ N.network }
+{
+    let covered: Node<N> = node_of(rt, alloc, net, 1)?;
+    let empty: Board<N> = Board::new(alloc, net)?;
+    let mut local: Local<N> = Local::new(alloc, net);
+    local.keep(known_record(rt, alloc, net)?);
+    assert!(rt; is_found(&empty, &mut local, &covered));
+    assert!(rt; local.take_kept().is_some());
+    assert!(rt; local.take_kept().is_none());
+    assert!(rt; !is_found(&empty, &mut local, &covered));
+    Ok(())
+}
+
+#[test]
+fn finds_kept_records(rt: HostRuntime) -> Result<(), Fail> {
+    let alloc = rt.alloc();
+    check_kept::<Brand>(&rt, alloc, &parallel(alloc)?)
 }
 
 /// Bounds of the parallel jobs for a deadline of 4, later by this time.
