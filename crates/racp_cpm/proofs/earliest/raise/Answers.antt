@@ -1,7 +1,7 @@
 use Rattle.std.proofs.Common.{◌≡◌, ◌<◌, length, slice_index, slice_index_or, arith, refl}
 use Rattle.racp_model.proofs.lemmas.Sums.{duration-small}
 use Rattle.racp_cpm.proofs.Raising.{raised_all, raised-kept, raised-set}
-use Rattle.racp_cpm.proofs.Bounded.{some_starts}
+use Rattle.racp_cpm.proofs.lemmas.Bounded.{some_starts}
 use Rattle.racp_cpm.proofs.earliest.raise.Goals as goal
 use Rattle.racp_cpm.proofs.earliest.raise.Goals.{then-starts-j, else-starts-j}
 

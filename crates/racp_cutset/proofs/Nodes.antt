@@ -1,0 +1,73 @@
+-- What the rows of nodes say of them.
+use Rattle.std.proofs.Common.{◌≡◌, ◌↔◌, ◌∙◌, ℕ, ◌+◌, ◌-◌, ◌<◌, ◌≤◌, List, length, slice_index, Contains, All, arith, subst, sym, ap}
+use Rattle.std.proofs.lemmas.List.Kept.{AllPairs-from_increasing}
+use Rattle.racp_model.specs.Project.{Project, number, IsSound}
+use Rattle.racp_model.specs.Path.{IsEarly}
+use Rattle.racp_model.proofs.lemmas.Relations.{same_from_members}
+use Rattle.racp_cpm.proofs.lemmas.Bounded.{some_starts}
+use Rattle.racp_delay.specs.Alternatives.{place}
+use Rattle.racp_cutset.specs.Covering.{SearchNode, IsNode, IsStarted, HasCutsetOf, HasRoomOf, AreEnds}
+use Rattle.racp_cutset.specs.Rows.{AreStartedBefore, IsAtLeastRow}
+
+-- early starts above bounds of at most 20,000,000 are at most 25,120,000
+pub early_small : (p : Project) (lower early : List ℕ) → IsSound p → length lower ≡ length p.jobs → All (λ x. x ≤ 20000000) lower → IsEarly p (slice_index lower) early
+    → (i : ℕ) → i < length p.jobs → slice_index early i ≤ 25120000
+early_small p lower early sound places small h i l =
+    let some = some_starts p (slice_index lower) 20000000 sound (λ j m. small j 0 (omega (arith, places))) in
+    omega (arith, some.1.small i l, h.least some.0 some.1.above some.1.precedence i l)
+
+-- what is true of each node of the network that its type names
+abbrev pub IsKept : Project → SearchNode → List ℕ → List ℕ → Type 0
+IsKept p v ends started = IsSound p × IsNode p v × AreEnds p v.early ends × AreStartedBefore v.early v.time started
+
+-- a node that is made is such a node
+pub made : (p q : Project) (v : SearchNode) (lower first second ends started : List ℕ) → p ≡ q → IsSound p
+    → length v.capacities ≡ p.resources → length v.window.lower ≡ length p.jobs → length v.window.upper ≡ length p.jobs
+    → lower ≡ v.window.lower → IsEarly p (slice_index lower) v.early → first ≡ v.early → AreEnds p first ends → second ≡ v.early → AreStartedBefore second v.time started
+    → IsKept q v ends started
+made p q v lower first second ends started named sound capacities low high is_lower early is_first are_ends is_second are_started =
+    let e : IsEarly p (slice_index v.window.lower) v.early = subst (λ (xs : List ℕ). IsEarly p (slice_index xs) v.early) is_lower early in
+    let f : AreEnds p v.early ends = subst (λ (xs : List ℕ). AreEnds p xs ends) is_first are_ends in
+    let s : AreStartedBefore v.early v.time started = subst (λ (xs : List ℕ). AreStartedBefore xs v.time started) is_second are_started in
+    let node : IsNode p v = record { resources = capacities; lower = low; upper = high; early = e } in
+    subst (λ (r : Project). IsKept r v ends started) named (sound, node, f, s)
+
+-- a job is in the set of the started jobs where it is started, and only then
+pub in_started : (n : ℕ) (early : List ℕ) (time : ℕ) (started : List ℕ) → length early ≡ n → AreStartedBefore early time started → (i : ℕ) → i < n → (slice_index early i < time) ↔ Contains started (number i)
+in_started n early time started places h i l =
+    let e : place (number i) ≡ i = omega arith in
+    let P : ℕ → Type 0 = λ j. slice_index early j < time in
+    (λ before. (h.members (number i)).1 ((omega arith, omega (arith, places)), subst P (sym e) before), λ c. subst P e ((h.members (number i)).0 c).1)
+
+-- nodes of the same number of jobs whose sets of started jobs are equal have the same started jobs
+pub started_from_sets : (p : Project) (v w : SearchNode) (s r : List ℕ) → IsNode p v → IsNode p w → AreStartedBefore v.early v.time s → AreStartedBefore w.early w.time r → s ≡ r
+    → (i : ℕ) → i < length p.jobs → IsStarted v i ↔ IsStarted w i
+started_from_sets p v w s r hv hw first second same i l =
+    let a = in_started (length p.jobs) v.early v.time s hv.early.places first i l in
+    let b = in_started (length p.jobs) w.early w.time r hw.early.places second i l in
+    (λ x. b.1 (subst (λ (xs : List ℕ). Contains xs (number i)) same (a.0 x)), λ x. a.1 (subst (λ (xs : List ℕ). Contains xs (number i)) (sym same) (b.0 x)))
+
+-- a member of the one set is in the other
+pub started_within : (p : Project) (v w : SearchNode) (s r : List ℕ) → IsNode p v → IsNode p w → AreStartedBefore v.early v.time s → AreStartedBefore w.early w.time r
+    → ((i : ℕ) → i < length p.jobs → IsStarted v i → IsStarted w i) → (job : ℕ) → Contains s job → Contains r job
+started_within p v w s r hv hw first second into job c =
+    let is = (first.members job).0 c in
+    (second.members job).1 ((is.0.0, omega (arith, is.0.1, hv.early.places, hw.early.places)), into (place job) (omega (arith, is.0.0, is.0.1, hv.early.places)) is.1)
+
+-- and nodes with the same started jobs have equal sets
+pub sets_from_started : (p : Project) (v w : SearchNode) (s r : List ℕ) → IsNode p v → IsNode p w → AreStartedBefore v.early v.time s → AreStartedBefore w.early w.time r
+    → ((i : ℕ) → i < length p.jobs → IsStarted v i ↔ IsStarted w i) → s ≡ r
+sets_from_started p v w s r hv hw first second same =
+    same_from_members (λ x y. x < y) (λ x y a b. absurd (omega arith)) s r (AllPairs-from_increasing s first.rises) (AllPairs-from_increasing r second.rises)
+        (started_within p v w s r hv hw first second (λ i l. (same i l).0)) (started_within p w v r s hw hv second first (λ i l. (same i l).1))
+
+-- nodes with equal sets, in the order of their times, have one cutset
+pub cutset_tests : (p : Project) (v w : SearchNode) (s r : List ℕ) → IsNode p v → IsNode p w → AreStartedBefore v.early v.time s → AreStartedBefore w.early w.time r → v.time ≤ w.time
+    → (s ≡ r) ↔ HasCutsetOf p v w
+cutset_tests p v w s r hv hw first second earlier =
+    (λ e. record { started = started_from_sets p v w s r hv hw first second e; time = earlier }, λ h. sets_from_started p v w s r hv hw first second h.started)
+
+-- the room of the capacities, as rows
+pub room_rows : (p : Project) (v w : SearchNode) (high low : List ℕ) → IsNode p v → high ≡ v.capacities → low ≡ w.capacities → HasRoomOf p v w → IsAtLeastRow high low
+room_rows p v w high low hv is_high is_low h i l =
+    omega (arith, ap (λ (xs : List ℕ). slice_index xs i) is_high, ap (λ (xs : List ℕ). slice_index xs i) is_low, h.capacities i (omega (arith, ap length is_high, hv.resources)))

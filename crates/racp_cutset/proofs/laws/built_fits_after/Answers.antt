@@ -1,0 +1,5 @@
+use Rattle.racp_cutset.proofs.Built as laws
+use Rattle.racp_cutset.proofs.laws.built_fits_after.Goals as goal
+
+pub returns : goal.returns
+returns c = laws.built_fits_after

@@ -1,0 +1,4 @@
+pub mod Covering
+pub mod Laws
+pub mod Rows
+pub mod Kept

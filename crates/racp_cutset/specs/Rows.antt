@@ -1,0 +1,24 @@
+-- Contracts of private functions: rows of numbers, one for each job or resource, that are compared place by place.
+use Rattle.std.specs.Prelude.{◌≡◌, ◌↔◌, ℕ, ◌+◌, ◌<◌, ◌≤◌, max, List, length, slice_index, Contains}
+use Rattle.std.specs.List.Sorted.{IsStrictlyIncreasing}
+use Rattle.racp_model.specs.Project.{Project, IsNumber}
+use Rattle.racp_delay.specs.Alternatives.{place}
+
+-- no number of the second row is above that of the first
+abbrev pub IsAtLeastRow : List ℕ → List ℕ → Type 0
+IsAtLeastRow high low = (i : ℕ) → i < length high → slice_index low i ≤ slice_index high i
+
+-- at each place where the early start is before the time, the first row's number is at most the second's, or the limit
+abbrev pub IsSoonerBefore : List ℕ → ℕ → List ℕ → ℕ → List ℕ → Type 0
+IsSoonerBefore early time first limit second =
+    (i : ℕ) → i < length early → slice_index early i < time → slice_index first i ≤ max limit (slice_index second i)
+
+-- at each other place
+abbrev pub IsSoonerFrom : List ℕ → ℕ → List ℕ → ℕ → List ℕ → Type 0
+IsSoonerFrom early time first limit second =
+    (i : ℕ) → i < length early → time ≤ slice_index early i → slice_index first i ≤ max limit (slice_index second i)
+
+-- the numbers of the jobs that start before a time, rising
+pub record AreStartedBefore (early : List ℕ) (time : ℕ) (started : List ℕ) : Type 0 where
+  pub rises : IsStrictlyIncreasing started
+  pub members : (job : ℕ) → Contains started job ↔ (IsNumber (length early) job × (slice_index early (place job) < time))

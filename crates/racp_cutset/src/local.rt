@@ -1,0 +1,207 @@
+ghost use Rattle.std.specs.Prelude.{◌≡◌, IfSome, []};
+ghost use Rattle.racp_model.specs.Window.{IsNo};
+ghost use Rattle.racp_cutset.specs.Covering.{Covers};
+ghost use Rattle.racp_cutset.specs.Kept.{IsKeptOrDropped, IsLastTaken};
+
+use crate::board::Board;
+use crate::node::Node;
+use crate::nogood::Nogood;
+use racp_model::{Network, OfNetwork};
+use std::alloc::Global;
+use std::collections::HashMap;
+use std::marker::Model;
+
+/// How many records with the same started jobs are looked at; where there are more, the oldest are forgotten.
+const MOST_PLACES: usize = 64;
+
+/// Where a record stands: on the board, or among those that the thread keeps, by place from 0.
+#[derive(Debug, Clone, Copy, PartialEq)]
+enum Place {
+    Board(usize),
+    Kept(usize),
+}
+
+/// The places of records, by the hash of their started jobs. Places may be out of date, so what stands there is tested.
+type Index = HashMap<u64, Vec<Place>>;
+
+/// One thread's own part of the records: the records that it made and has not given away, and an index of these and of what it
+/// has read of the board. Contracts see the list of the records that it keeps.
+#[derive(Drop)]
+pub struct Local<N: OfNetwork> {
+    alloc: Global,
+    kept: Vec<Nogood<N>>,
+    index: Index,
+    read: usize,
+}
+
+impl<N: OfNetwork> Model for Local<N> {
+    ghost use Rattle.std.specs.Prelude.{List};
+    ghost use Rattle.racp_cutset.specs.Covering.{SearchNode};
+
+    ghost Value = { List SearchNode };
+
+    ghost view = { λ local. local.kept.items };
+}
+
+impl<N: OfNetwork> Local<N> {
+    /// Keeps no record and has read nothing. Takes no memory until a record is kept or read.
+    pub fn new(alloc: Global, net: &Network) -> Self
+        requires { net.now ≡ N.network }
+        ensures { result ≡ [] }
+    {
+        let _ = net;
+        Local {
+            alloc,
+            kept: Vec::new(alloc),
+            index: HashMap::new(alloc),
+            read: 0,
+        }
+    }
+
+    /// Keeps a record, behind the others; it is dropped where there is no room.
+    pub fn keep(&mut self, nogood: Nogood<N>)
+        ensures { IsKeptOrDropped self.old nogood self.new }
+    {
+        if self.kept.reserve(1).is_err() {
+            return;
+        }
+        let place = Place::Kept(self.kept.len());
+        forget_kept(&mut self.index, &self.kept, &nogood);
+        enter(self.alloc, &mut self.index, nogood.node().key(), place);
+        let _ = self.kept.push(nogood);
+    }
+
+    /// Takes out the record that was kept last, as to push it to the board.
+    pub fn take_kept(&mut self) -> Option<Nogood<N>>
+        ensures { IsLastTaken self.old result self.new }
+    {
+        let record = self.kept.pop()?;
+        let place = Place::Kept(self.kept.len());
+        forget(&mut self.index, record.node().key(), place);
+        Some(record)
+    }
+
+    /// Reads the records that were written to the board since the last time.
+    pub(crate) fn read(&mut self, board: &Board<N>)
+        ensures { self.new ≡ self.old }
+    {
+        self.read = read_from(
+            self.read,
+            self.alloc,
+            &mut self.index,
+            board,
+            &self.kept,
+        );
+    }
+
+    /// A record that covers the node, of those that the index has.
+    pub(crate) fn look<'a>(&'a self, board: &'a Board<N>, node: &Node<N>) -> Option<&'a Nogood<N>>
+        ensures covers { IfSome result (λ found. Covers N.network found.now node.now) }
+        ensures refutes { IfSome result (λ _. IsNo N.network node.now.capacities node.now.window) }
+    {
+        let key = node.key();
+        let places = self.index.get(&key)?;
+        for place in places.iter().rev() {
+            if let Some(found) = self.at(board, *place) {
+                if found.covers(node) {
+                    return Some(found);
+                }
+            }
+        }
+        None
+    }
+
+    /// What stands at a place now.
+    fn at<'a>(&'a self, board: &'a Board<N>, place: Place) -> Option<&'a Nogood<N>> {
+        match place {
+            Place::Board(i) => board.record(i),
+            Place::Kept(i) => self.kept.get(i),
+        }
+    }
+}
+
+/// Enters the records of the board from a place on, and answers the place from which to read the next time.
+fn read_from<N: OfNetwork>(
+    first: usize,
+    alloc: Global,
+    index: &mut Index,
+    board: &Board<N>,
+    kept: &Vec<Nogood<N>>,
+) -> usize {
+    let count = board.count();
+    for i in first..count {
+        let Some(nogood) = board.record(i) else {
+            return i;
+        };
+        forget_kept(index, kept, nogood);
+        forget_written(index, board, nogood);
+        enter(alloc, index, nogood.node().key(), Place::Board(i));
+    }
+    if first < count { count } else { first }
+}
+
+/// Enters a place by the hash of the started jobs of what stands there.
+fn enter(alloc: Global, index: &mut Index, key: u64, place: Place) {
+    if let Some(places) = index.get_mut(&key) {
+        if MOST_PLACES <= places.len() {
+            places.remove(0);
+        }
+        let _ = places.push(place);
+        return;
+    }
+    let mut places = Vec::new(alloc);
+    if places.push(place).is_ok() {
+        let _ = index.insert(key, places);
+    }
+}
+
+/// Forgets the places of the kept records that a record covers.
+fn forget_kept<N: OfNetwork>(index: &mut Index, kept: &Vec<Nogood<N>>, nogood: &Nogood<N>) {
+    if let Some(places) = index.get_mut(&nogood.node().key()) {
+        places.retain(|place| !is_kept_covered(kept, nogood, *place));
+    }
+}
+
+/// Forgets the places of the board's records that a record covers.
+fn forget_written<N: OfNetwork>(index: &mut Index, board: &Board<N>, nogood: &Nogood<N>) {
+    if let Some(places) = index.get_mut(&nogood.node().key()) {
+        places.retain(|place| !is_written_covered(board, nogood, *place));
+    }
+}
+
+/// Whether a kept record stands at the place that the record covers.
+fn is_kept_covered<N: OfNetwork>(
+    kept: &Vec<Nogood<N>>,
+    nogood: &Nogood<N>,
+    place: Place,
+) -> bool {
+    let Place::Kept(i) = place else {
+        return false;
+    };
+    match kept.get(i) {
+        Some(other) => nogood.covers(other.node()),
+        None => false,
+    }
+}
+
+/// Whether a record of the board stands at the place that the record covers.
+fn is_written_covered<N: OfNetwork>(
+    board: &Board<N>,
+    nogood: &Nogood<N>,
+    place: Place,
+) -> bool {
+    let Place::Board(i) = place else {
+        return false;
+    };
+    match board.record(i) {
+        Some(other) => nogood.covers(other.node()),
+        None => false,
+    }
+}
+
+/// Forgets a place.
+fn forget(index: &mut Index, key: u64, place: Place) {
+    if let Some(places) = index.get_mut(&key) {
+        places.retain(|other| *other != place);
+    }
+}

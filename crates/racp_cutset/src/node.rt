@@ -1,0 +1,178 @@
+ghost use Rattle.std.specs.Prelude.{◌≡◌, ◌↔◌, ◌≤◌, IsTrue, IfOk, length, slice_index};
+ghost use Rattle.racp_model.specs.Path.{IsEarly};
+ghost use Rattle.racp_model.specs.Project.{IsSound};
+ghost use Rattle.racp_cutset.specs.Covering.{SearchNode, IsNode, AreEnds, Covers, HasCutsetOf, HasRoomOf, EndsNoLater, MayStartAsEarly, FitsBeforeTime};
+ghost use Rattle.racp_cutset.specs.Rows.{AreStartedBefore};
+
+use crate::rows::{ends_of, hash_of, is_at_least, is_sooner_before, is_sooner_from, started_before};
+use racp_cpm::early;
+use racp_delay::JobSet;
+use racp_model::{Network, OfNetwork, Question, Starts};
+use std::alloc::{AllocError, Global};
+use std::marker::{Model, PhantomData};
+
+/// A node of the search: a question about the network that `N` names, the early starts of its window, and a time.
+/// Contracts see a `SearchNode`.
+#[derive(Debug, Drop)]
+pub struct Node<N: OfNetwork> {
+    question: Question,
+    early: Starts,
+    ends: Vec<u32>,
+    started: JobSet,
+    key: u64,
+    time: u32,
+    of: PhantomData<N>,
+}
+
+impl<N: OfNetwork> Model for Node<N> {
+    ghost use Rattle.racp_model.specs.Project.{IsSound};
+    ghost use Rattle.racp_cutset.specs.Covering.{SearchNode, IsNode, AreEnds};
+    ghost use Rattle.racp_cutset.specs.Rows.{AreStartedBefore};
+
+    ghost Value = { SearchNode };
+
+    ghost view = { λ n. record { capacities = n.question.capacities; window = n.question.window; early = n.early; time = n.time } };
+
+    ghost invariant = { λ n. let v : SearchNode = record { capacities = n.question.capacities; window = n.question.window; early = n.early; time = n.time } in
+        IsSound N.network × IsNode N.network v × AreEnds N.network v.early n.ends.items × AreStartedBefore v.early v.time n.started };
+}
+
+impl<N: OfNetwork> Node<N> {
+    /// The node of a question and a time: with the early starts of the question's window.
+    ///
+    /// # Errors
+    ///
+    /// Memory was refused.
+    pub fn new(
+        alloc: Global,
+        net: &Network,
+        question: Question,
+        time: u32,
+    ) -> Result<Self, AllocError>
+        requires named { net.now ≡ N.network }
+        requires capacities { length question.capacities ≡ net.now.resources }
+        requires lower { length question.window.lower ≡ length net.now.jobs }
+        requires upper { length question.window.upper ≡ length net.now.jobs }
+        ensures capacities { IfOk result (λ node. node.capacities ≡ question.capacities) }
+        ensures window { IfOk result (λ node. node.window ≡ question.window) }
+        ensures early { IfOk result (λ node. IsEarly net.now (slice_index question.window.lower) node.early) }
+        ensures time { IfOk result (λ node. node.time ≡ time) }
+    {
+        prove!(question.window.lower().len() == net.job_count());
+        let early = early(alloc, net, question.window.lower())?;
+        let ends = ends_of(alloc, net, early.as_slice())?;
+        let started = started_before(early.as_slice(), time);
+        let key = hash_of(&started);
+        Ok(Node {
+            question,
+            early,
+            ends,
+            started,
+            key,
+            time,
+            of: PhantomData,
+        })
+    }
+
+    /// The question.
+    pub fn question(&self) -> &Question
+        ensures capacities { result.now.capacities ≡ self.now.capacities }
+        ensures window { result.now.window ≡ self.now.window }
+        ensures node { IsNode N.network self.now }
+        ensures sound { IsSound N.network }
+    {
+        &self.question
+    }
+
+    /// The early starts of the question's window, by place from 0, in time units.
+    pub fn early(&self) -> &Starts
+        ensures starts { result.now ≡ self.now.early }
+        ensures node { IsNode N.network self.now }
+    {
+        &self.early
+    }
+
+    /// When each job ends in the early starts, by place from 0, in time units.
+    pub fn ends(&self) -> &[u32]
+        ensures { AreEnds N.network self.now.early result.now }
+    {
+        &self.ends
+    }
+
+    /// The time of the node, in time units.
+    pub fn time(&self) -> u32
+        ensures { result ≡ self.now.time }
+    {
+        self.time
+    }
+
+    /// The jobs that start before the time of the node in its early starts.
+    pub fn started(&self) -> &JobSet
+        ensures { AreStartedBefore self.now.early self.now.time result.now }
+    {
+        &self.started
+    }
+
+    /// A hash of the started jobs: equal for nodes with the same started jobs.
+    pub(crate) fn key(&self) -> u64 {
+        self.key
+    }
+
+    /// Whether the node, which fits before its time, covers another one. Takes no memory.
+    pub(crate) fn covers(&self, other: &Node<N>) -> bool
+        requires { FitsBeforeTime N.network self.now }
+        ensures exact { IsTrue result ↔ Covers N.network self.now other.now }
+        ensures sound { IsSound N.network }
+        ensures node { IsNode N.network self.now }
+        ensures other { IsNode N.network other.now }
+    {
+        self.has_cutset_of(other)
+            && self.has_room_of(other)
+            && self.ends_no_later(other)
+            && self.may_start_as_early(other)
+    }
+
+    /// Whether the same jobs are started in another node, whose time is no earlier.
+    fn has_cutset_of(&self, other: &Node<N>) -> bool
+        ensures exact { IsTrue result ↔ HasCutsetOf N.network self.now other.now }
+        ensures sound { IsSound N.network }
+        ensures node { IsNode N.network self.now }
+        ensures other { IsNode N.network other.now }
+    {
+        self.time <= other.time && self.started == other.started
+    }
+
+    /// Whether the node has at least the capacities and the upper bounds of another one.
+    fn has_room_of(&self, other: &Node<N>) -> bool
+        ensures { IsTrue result ↔ HasRoomOf N.network self.now other.now }
+    {
+        let question = &other.question;
+        is_at_least(
+            self.question.capacities.as_slice(),
+            question.capacities.as_slice(),
+        ) && is_at_least(self.question.window.upper(), question.window.upper())
+    }
+
+    /// Whether each started job ends no later than in another node, or by the other's time.
+    fn ends_no_later(&self, other: &Node<N>) -> bool
+        ensures { IsTrue result ↔ EndsNoLater N.network self.now other.now }
+    {
+        let early = self.early.as_slice();
+        is_sooner_before(early, self.time, &self.ends, other.time, &other.ends)
+    }
+
+    /// Whether each other job may start as early as in another node, or at the other's time.
+    fn may_start_as_early(&self, other: &Node<N>) -> bool
+        ensures { IsTrue result ↔ MayStartAsEarly N.network self.now other.now }
+    {
+        let early = self.early.as_slice();
+        let other_lower = other.question.window.lower();
+        is_sooner_from(
+            early,
+            self.time,
+            self.question.window.lower(),
+            other.time,
+            other_lower,
+        )
+    }
+}

@@ -1,0 +1,98 @@
+//! Rows of numbers, one for each job or resource, and the jobs that start before a time.
+
+ghost use Rattle.std.specs.Prelude.{◌≡◌, ◌↔◌, ℕ, ◌<◌, ◌≤◌, IsTrue, IfOk, length, slice_index};
+ghost use Rattle.racp_model.specs.Project.{IsSound};
+ghost use Rattle.racp_model.specs.Path.{IsEarly};
+ghost use Rattle.racp_cutset.specs.Covering.{AreEnds};
+ghost use Rattle.racp_cutset.specs.Rows.{IsAtLeastRow, IsSoonerBefore, IsSoonerFrom, AreStartedBefore};
+
+use racp_delay::JobSet;
+use racp_model::Network;
+use std::alloc::{AllocError, Global};
+
+/// Whether no number of the second row is above that of the first.
+pub(crate) fn is_at_least(high: &[u32], low: &[u32]) -> bool
+    requires { length low.now ≡ length high.now }
+    ensures { IsTrue result ↔ IsAtLeastRow high.now low.now }
+{
+    (0..high.len()).all(|i| low[i] <= high[i])
+}
+
+/// Whether at each place where the early start is before the time the first row's number is at most the second's or the limit.
+pub(crate) fn is_sooner_before(
+    early: &[u32],
+    time: u32,
+    first: &[u32],
+    limit: u32,
+    second: &[u32],
+) -> bool
+    requires first { length first.now ≡ length early.now }
+    requires second { length second.now ≡ length early.now }
+    ensures { IsTrue result ↔ IsSoonerBefore early.now time first.now limit second.now }
+{
+    (0..early.len()).all(|i| time <= early[i] || first[i] <= limit || first[i] <= second[i])
+}
+
+/// The same at the places where the early start is not before the time.
+pub(crate) fn is_sooner_from(
+    early: &[u32],
+    time: u32,
+    first: &[u32],
+    limit: u32,
+    second: &[u32],
+) -> bool
+    requires first { length first.now ≡ length early.now }
+    requires second { length second.now ≡ length early.now }
+    ensures { IsTrue result ↔ IsSoonerFrom early.now time first.now limit second.now }
+{
+    (0..early.len()).all(|i| early[i] < time || first[i] <= limit || first[i] <= second[i])
+}
+
+/// The jobs that start before a time.
+pub(crate) fn started_before(early: &[u32], time: u32) -> JobSet
+    requires { length early.now ≤ 512 }
+    ensures { AreStartedBefore early.now time result }
+{
+    let mut started = JobSet::new();
+    for i in 0..early.len() {
+        if early[i] < time {
+            started.insert(i as u32 + 1);
+        }
+    }
+    started
+}
+
+/// When each job ends in early starts.
+///
+/// # Errors
+///
+/// Memory was refused.
+pub(crate) fn ends_of(alloc: Global, net: &Network, early: &[u32]) -> Result<Vec<u32>, AllocError>
+    requires places { length early.now ≡ length net.now.jobs }
+    requires small { (i : ℕ) → i < length net.now.jobs → slice_index early.now i ≤ 25120000 }
+    ensures { IfOk result (λ ends. AreEnds net.now early.now ends.items) }
+{
+    let mut ends = Vec::from_slice(alloc, early)?;
+    add_durations(net, &mut ends);
+    Ok(ends)
+}
+
+/// Adds each job's duration.
+fn add_durations(net: &Network, times: &mut [u32])
+    requires places { length times.old ≡ length net.now.jobs }
+    requires small { (i : ℕ) → i < length net.now.jobs → slice_index times.old i ≤ 25120000 }
+    ensures { AreEnds net.now times.old times.new }
+{
+    for i in 0..net.job_count() {
+        times[i] += net.duration(i);
+    }
+}
+
+/// A hash of a set of jobs (Fowler, Noll and Vo's, over the numbers of the jobs).
+pub(crate) fn hash_of(jobs: &JobSet) -> u64 {
+    let mut hash: u64 = 0xcbf2_9ce4_8422_2325;
+    for job in jobs.iter() {
+        hash = (hash ^ job as u64).wrapping_mul(0x0100_0000_01b3);
+    }
+    hash
+}
