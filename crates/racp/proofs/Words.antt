@@ -1,10 +1,10 @@
 -- Words that the parser takes.
-use Rattle.std.proofs.Common.{◌≡◌, ◌≢◌, ◌==◌, ◌∙◌, ℕ, Bool, ap, sym, subst, refl, true, false, List, [], ◌∷◌, Option, Some, None, option_map, codes, inl, inr, slice_index, arith, rules}
+use Rattle.std.proofs.Common.{◌≡◌, ◌==◌, ◌∙◌, ℕ, Bool, ap, sym, subst, refl, true, false, List, [], ◌∷◌, Option, Some, None, option_map, codes, inl, inr, slice_index, arith, rules}
 use Rattle.std.proofs.lemmas.Bool.{eqb-true, ne_eqb}
 use Rattle.std.proofs.lemmas.Option.{same_Some}
 use Rattle.clap.specs.Words.{Row, Text, fault_of, first_of, subcommand_of}
 use Rattle.clap.proofs.OnLiterals.{clap_on_literals}
-use Rattle.racp.specs.CommandLine.{IsCpmLine, IsCpmOf, IsCheckLine, IsCheckOf, IsPath, IsPlain, IsRequested, path_at, racp}
+use Rattle.racp.specs.CommandLine.{IsCpmLine, IsCpmOf, IsCheckLine, IsCheckOf, IsPlain, IsRequested, path_at, racp}
 use Rattle.racp.specs.declared.command_line.Request.{Request}
 use Rattle.racp.specs.declared.command_line.Request.TheVariants.{Cpm, Check}
 

@@ -3,7 +3,6 @@ use Rattle.std.specs.Prelude.{◌≡◌, ◌≢◌, ◌⊎◌, List, [], ◌∷�
 use Rattle.clap.specs.Words.{App, Row, Rule, Text, first_of, new_app, new_rule, subcommand_of, with_rule, with_subcommand}
 use Rattle.racp.specs.declared.command_line.Request.{Request}
 use Rattle.racp.specs.declared.command_line.Request.TheVariants.{Cpm, Check}
-use Rattle.racp.specs.declared.command_line.PlanFiles.{PlanFiles}
 use Rattle.racp.specs.declared.command_line.Source.{Source}
 use Rattle.racp.specs.declared.command_line.Source.TheVariants.{StandardInput, File}
 

@@ -1,5 +1,5 @@
 -- The faults of a network text: their numbers and names.
-use Rattle.std.specs.Prelude.{ℕ, List, Result, Ok, Err, codes}
+use Rattle.std.specs.Prelude.{ℕ, List, Result, Err, codes}
 use Rattle.racp_sm.specs.declared.fault.SmFault.{SmFault}
 use Rattle.racp_sm.specs.declared.fault.SmFaultKind.{SmFaultKind}
 use Rattle.racp_sm.specs.declared.fault.SmFaultKind.TheVariants.{NoJobs, NoRenewable, ManyProjects, OtherResources, NoPrecedence, NoRequests, BadNumber, Limit, BadRow, NotSingleMode, BadSuccessor, TooFew, TooMany, Cycle, Memory}

@@ -1,8 +1,8 @@
-use Rattle.std.proofs.Common.{◌≡◌, ◌∙◌, ap, ap₂, codes, false}
+use Rattle.std.proofs.Common.{◌≡◌, ◌∙◌, ap, ap₂, codes}
 use Rattle.std.proofs.lemmas.Result.{IfOk-weaker}
 use Rattle.clap.specs.Words.{App, app_of, new_app, with_subcommand}
 use Rattle.clap.specs.Simple.{app_of_fields}
-use Rattle.racp.specs.CommandLine.{check, cpm, racp, with_version}
+use Rattle.racp.specs.CommandLine.{cpm, racp, with_version}
 use Rattle.racp.proofs.command_line.command.Goals as goal
 
 pub returns : goal.returns

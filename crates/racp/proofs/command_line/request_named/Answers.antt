@@ -1,5 +1,5 @@
-use Rattle.std.proofs.Common.{◌≡◌, ◌≢◌, subst, sym, rules, codes, Option}
-use Rattle.clap.specs.Words.{Text, first_of, first_value, found_of, rows_of}
+use Rattle.std.proofs.Common.{◌≢◌, subst, rules, codes, Option}
+use Rattle.clap.specs.Words.{Text, found_of}
 use Rattle.clap.proofs.WalkLemmas.{first_value-rows}
 use Rattle.racp.specs.CommandLine.{IsSource}
 use Rattle.racp.proofs.command_line.request_named.Goals as goal
