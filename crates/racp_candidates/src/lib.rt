@@ -1,0 +1,10 @@
+//! Series of questions about capacities and windows: each is a list of questions, given one by one.
+//!
+//! Resources and jobs stand by place, from 0; pairs of resources name them by number, from 1. Times are whole time units.
+#![tactic(auto)]
+
+mod one;
+mod series;
+
+pub use one::One;
+pub use series::Series;
