@@ -1,1 +1,3 @@
 pub mod Questions
+pub mod FirstYes
+pub mod Laws

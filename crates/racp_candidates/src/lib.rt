@@ -3,8 +3,11 @@
 //! Resources and jobs stand by place, from 0; pairs of resources name them by number, from 1. Times are whole time units.
 #![tactic(auto)]
 
+mod asker;
+pub mod laws;
 mod one;
 mod series;
 
+pub use asker::{AskStop, Asker, First};
 pub use one::One;
 pub use series::Series;
