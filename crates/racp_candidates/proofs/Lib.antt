@@ -1,1 +1,2 @@
 mod FirstYes
+mod Values

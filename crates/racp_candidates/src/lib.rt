@@ -4,10 +4,15 @@
 #![tactic(auto)]
 
 mod asker;
+mod copies;
 pub mod laws;
 mod one;
 mod series;
+mod singles;
+mod start_values;
 
 pub use asker::{AskStop, Asker, First};
 pub use one::One;
 pub use series::Series;
+pub use singles::Singles;
+pub use start_values::Starts1;

@@ -1,6 +1,7 @@
 ghost use Rattle.std.specs.Prelude.{◌≡◌, List, [], ◌∷◌, IfOk};
 ghost use Rattle.racp_candidates.specs.Questions.{question_of};
 
+use crate::copies::copy_of;
 use crate::series::Series;
 use racp_model::{Capacities, Question, Window};
 use std::alloc::{AllocError, Global};
@@ -32,7 +33,7 @@ impl One {
     {
         let question = Question {
             capacities: Capacities::new(capacities.as_slice().to_vec(alloc)?),
-            window: window.clone()?,
+            window: copy_of(window)?,
         };
         Ok(One {
             question: Some(question),
