@@ -4,7 +4,9 @@
 #![tactic(auto)]
 
 mod asker;
+mod children;
 mod copies;
+mod entry;
 pub mod laws;
 mod one;
 mod series;
