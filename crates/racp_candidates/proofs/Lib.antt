@@ -1,2 +1,6 @@
 mod FirstYes
 mod Values
+mod Members
+mod InOrder
+mod Between
+mod Reached
