@@ -4,3 +4,6 @@ mod Members
 mod InOrder
 mod Between
 mod Reached
+mod Distinct
+mod Raised
+
