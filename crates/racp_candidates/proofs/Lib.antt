@@ -7,3 +7,4 @@ mod Reached
 mod Distinct
 mod Raised
 
+mod Frontiers
