@@ -8,3 +8,5 @@ mod Distinct
 mod Raised
 
 mod Frontiers
+mod Entered
+mod Collecting

@@ -7,6 +7,7 @@ mod asker;
 mod children;
 mod copies;
 mod entry;
+mod frontier;
 pub mod laws;
 mod one;
 mod series;

@@ -1,0 +1,32 @@
+-- A vector that is put among entries with what it costs.
+use Rattle.std.proofs.Common.{◌≡◌, ℕ, List, [], ◌∷◌, ◌++◌, map, refl, sym, ◌∙◌, ap, subst, All}
+use Rattle.std.specs.declared.cmp.Reverse.{Reverse}
+use Rattle.std.specs.List.Sorted.{IsPermutation}
+use Rattle.std.specs.BinaryHeap.{IsHeap}
+use Rattle.std.proofs.lemmas.List.Sorted.{IsPermutation-map, All-permutation}
+use Rattle.std.proofs.lemmas.List.Elements.{All-cons}
+use Rattle.racp_model.specs.Terms.{cost}
+use Rattle.racp_candidates.specs.declared.entry.Entry.{Entry}
+use Rattle.racp_candidates.specs.Vectors.{terms_of}
+use Rattle.racp_candidates.specs.Frontier.{vectors_in, ArePriced, entry_cmp, IsEntered}
+
+-- the vectors of entries in another order
+pub vectors_moved : (old new : List (Reverse Entry)) → IsPermutation old new → IsPermutation (vectors_in old) (vectors_in new)
+unfolding vectors_in
+vectors_moved old new moved = IsPermutation-map (λ (entry : Reverse Entry). entry.0.units.items) old new moved
+
+pub entered : (prices owned : List ℕ) (entry : Reverse Entry) (old new : List (Reverse Entry)) →
+    entry.0.cost ≡ cost (terms_of prices owned) entry.0.units.items → IsPermutation (entry ∷ old) new → (IsHeap entry_cmp old → IsHeap entry_cmp new) →
+    IsEntered prices owned entry.0.units.items old new
+unfolding vectors_in
+entered prices owned entry old new priced moved ordered = record {
+  moved = vectors_moved (entry ∷ old) new moved;
+  priced = λ h. all_new h;
+  ordered = ordered;
+}
+  where
+    P : Reverse Entry → Type 0
+    P e = e.0.cost ≡ cost (terms_of prices owned) e.0.units.items
+
+    all_new : ArePriced (terms_of prices owned) old → ArePriced (terms_of prices owned) new
+    all_new h = All-permutation P (entry ∷ old) new moved (All-cons P entry old priced h)
