@@ -9,7 +9,10 @@ use Rattle.racp_model.proofs.lemmas.Lists.{at_set}
 use Rattle.racp_model.proofs.lemmas.Relations.{member_cases, member_later, member_first, no_member, all_members}
 use Rattle.racp_candidates.specs.Box.{IsBetween}
 use Rattle.racp_candidates.specs.Vectors.{IsChildAt, IsChild, AreChildren}
-use Rattle.racp_candidates.specs.Frontier.{IsLastRaised}
+use Rattle.std.specs.declared.cmp.Reverse.{Reverse}
+use Rattle.racp_candidates.specs.declared.entry.Entry.{Entry}
+use Rattle.racp_candidates.specs.Frontier.{vectors_in, IsEntered, IsLastRaised}
+use Rattle.racp_candidates.proofs.Entered.{no_vectors}
 use Rattle.racp_candidates.proofs.Distinct.{Differ, distinct_moved}
 
 -- the vector with one unit more at a place
@@ -124,3 +127,13 @@ module _ (floors roofs v : List ℕ) (h : IsBetween floors roofs v) where
 
       out : (child : List ℕ) (j : ℕ) → IsChildAt floors roofs v j child → IsMoreBelow floors roofs v s.first place child j
       out child j m = record { from = from_first child j m s.last.raised; below = omega (arith, m.is_place, whole); is_place = m.is_place; room = m.room; is = m.is }
+
+  -- the same over the entries of a heap
+  pub collect_none : (first : ℕ) (entries : List (Reverse Entry)) → entries ≡ [] → IsLastRaised floors v first → IsCollecting floors roofs v first (vectors_in entries)
+  collect_none first entries none last = subst (IsCollecting floors roofs v first) (sym (no_vectors entries none)) (collect_start first last)
+
+  pub collect_entered : (prices owned units : List ℕ) (place : ℕ) (old new : List (Reverse Entry)) → place < length floors → slice_index v place < slice_index roofs place →
+      units ≡ more_at v place → IsEntered prices owned units old new → IsCollecting floors roofs v place (vectors_in old) → IsCollecting floors roofs v (place + 1) (vectors_in new)
+  collect_entered prices owned units place old new within room is e s =
+      let moved : IsPermutation (more_at v place ∷ vectors_in old) (vectors_in new) = let P : List ℕ → Type 0 = λ w. IsPermutation (w ∷ vectors_in old) (vectors_in new) in subst P is e.moved in
+      collect_enter place (vectors_in old) (vectors_in new) within room moved s

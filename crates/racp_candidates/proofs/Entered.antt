@@ -4,8 +4,8 @@ use Rattle.std.specs.declared.cmp.Reverse.{Reverse}
 use Rattle.std.specs.List.Sorted.{IsPermutation}
 use Rattle.std.specs.BinaryHeap.{IsHeap}
 use Rattle.std.proofs.lemmas.List.Sorted.{IsPermutation-map, All-permutation}
-use Rattle.std.proofs.lemmas.List.Elements.{All-cons}
-use Rattle.racp_model.specs.Terms.{cost}
+use Rattle.std.proofs.lemmas.List.Elements.{All-nil, All-cons, All-same}
+use Rattle.racp_model.specs.Terms.{Terms, cost}
 use Rattle.racp_candidates.specs.declared.entry.Entry.{Entry}
 use Rattle.racp_candidates.specs.Vectors.{terms_of}
 use Rattle.racp_candidates.specs.Frontier.{vectors_in, ArePriced, entry_cmp, IsEntered}
@@ -30,3 +30,13 @@ entered prices owned entry old new priced moved ordered = record {
 
     all_new : ArePriced (terms_of prices owned) old → ArePriced (terms_of prices owned) new
     all_new h = All-permutation P (entry ∷ old) new moved (All-cons P entry old priced h)
+
+-- without entries there are no vectors, and none that says a wrong cost
+pub no_vectors : (entries : List (Reverse Entry)) → entries ≡ [] → vectors_in entries ≡ []
+unfolding vectors_in
+no_vectors entries none = ap (map (λ (entry : Reverse Entry). entry.0.units.items)) none
+
+pub none_priced : (terms : Terms) (entries : List (Reverse Entry)) → entries ≡ [] → ArePriced terms entries
+none_priced terms entries none =
+    let P : Reverse Entry → Type 0 = λ e. e.0.cost ≡ cost terms e.0.units.items in
+    All-same P entries [] none (All-nil P)
