@@ -1,5 +1,5 @@
 -- A vector that is put among entries with what it costs.
-use Rattle.std.proofs.Common.{◌≡◌, ℕ, List, [], ◌∷◌, ◌++◌, map, refl, sym, ◌∙◌, ap, subst, All}
+use Rattle.std.proofs.Common.{◌≡◌, ℕ, ◌≤◌, List, [], ◌∷◌, ◌++◌, length, map, arith, refl, sym, ◌∙◌, ap, subst, All}
 use Rattle.std.specs.declared.cmp.Reverse.{Reverse}
 use Rattle.std.specs.List.Sorted.{IsPermutation}
 use Rattle.std.specs.BinaryHeap.{IsHeap}
@@ -40,3 +40,8 @@ pub none_priced : (terms : Terms) (entries : List (Reverse Entry)) → entries �
 none_priced terms entries none =
     let P : Reverse Entry → Type 0 = λ e. e.0.cost ≡ cost terms e.0.units.items in
     All-same P entries [] none (All-nil P)
+
+-- a list of no length is empty
+pub none_of : {X : Type 0} (xs : List X) → length xs ≤ 0 → xs ≡ []
+none_of [] l = refl
+none_of (x ∷ xs) l = absurd (omega (arith, l))

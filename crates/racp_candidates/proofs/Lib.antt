@@ -10,3 +10,4 @@ mod Raised
 mod Frontiers
 mod Entered
 mod Collecting
+mod Heaps

@@ -26,3 +26,10 @@ pub(crate) fn copy_of(window: &Window) -> Result<Window, AllocError>
 {
     window.clone()
 }
+
+/// A copy of a list of numbers.
+pub(crate) fn copy_list(alloc: Global, numbers: &[u32]) -> Result<Vec<u32>, AllocError>
+    ensures { IfOk result (λ copy. copy.items ≡ numbers.now) }
+{
+    numbers.to_vec(alloc)
+}

@@ -5,6 +5,7 @@ ghost use Rattle.racp_candidates.specs.Box.{AreBounds};
 ghost use Rattle.racp_candidates.specs.Vectors.{AreVectorsInOrder, IsNextVector};
 
 use crate::children::{children_of, enter};
+use crate::copies::copy_list;
 use crate::entry::Entry;
 use std::alloc::{AllocError, Global};
 use std::cmp::Reverse;
@@ -55,7 +56,7 @@ impl Frontier {
         ensures { IfOk result (AreVectorsInOrder (terms_of prices.items owned.items) floors.items roofs.items) }
     {
         let mut heap = BinaryHeap::new(alloc);
-        enter(&mut heap, &prices, &owned, floors.to_vec(alloc)?)?;
+        enter(&mut heap, &prices, &owned, copy_list(alloc, &floors)?)?;
         Ok(Frontier {
             alloc,
             prices,
