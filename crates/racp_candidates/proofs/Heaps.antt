@@ -14,9 +14,9 @@ use Rattle.racp_model.specs.Terms.{Terms, cost, lex_cmp, vector_cmp, IsBefore}
 use Rattle.racp_model.proofs.lemmas.Orders.{vector_total, vector_same}
 use Rattle.racp_model.proofs.lemmas.Relations.{member_cases, member_first, no_member}
 use Rattle.racp_candidates.specs.declared.entry.Entry.{Entry}
-use Rattle.racp_candidates.specs.Box.{AreBounds, IsBetween}
+use Rattle.racp_candidates.specs.Box.{ArePrices, AreBounds, IsBetween}
 use Rattle.racp_candidates.specs.Vectors.{terms_of, AreVectorsInOrder, AreChildren, to_come, IsFrontier}
-use Rattle.racp_candidates.specs.Frontier.{vectors_in, ArePriced, ArePrices, entry_cmp, IsEntered, IsFrontierHeap}
+use Rattle.racp_candidates.specs.Frontier.{vectors_in, ArePriced, entry_cmp, IsEntered, IsFrontierHeap}
 use Rattle.racp_candidates.proofs.Members.{map_from, map_to}
 use Rattle.racp_candidates.proofs.Reached.{IsNoLater}
 use Rattle.racp_candidates.proofs.Entered.{vectors_moved, no_vectors}

@@ -11,3 +11,4 @@ mod Frontiers
 mod Entered
 mod Collecting
 mod Heaps
+mod Above

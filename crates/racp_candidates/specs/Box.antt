@@ -6,6 +6,12 @@ use Rattle.racp_model.specs.Window.{Bounds}
 use Rattle.racp_model.specs.declared.question.Question.{Question}
 use Rattle.racp_candidates.specs.Questions.{question_of}
 
+-- prices and owned units by resource, in the ranges of an order
+pub record ArePrices (prices owned : List ℕ) : Type 0 where
+  pub resources : length prices ≤ 16
+  pub price_range : All (λ x. x ≤ 1000000) prices
+  pub owned_places : length owned ≡ length prices
+
 -- no floor is above its roof
 abbrev pub AreBounds : (floors roofs : List ℕ) → Type 0
 AreBounds floors roofs = (k : ℕ) → k < length floors → slice_index floors k ≤ slice_index roofs k

@@ -7,6 +7,7 @@ use Rattle.std.specs.Ordering.{nat_cmp, ordering_then}
 use Rattle.std.specs.BinaryHeap.{IsHeap}
 use Rattle.racp_model.specs.Terms.{Terms, cost, lex_cmp}
 use Rattle.racp_candidates.specs.declared.entry.Entry.{Entry}
+use Rattle.racp_candidates.specs.Box.{ArePrices}
 use Rattle.racp_candidates.specs.Vectors.{terms_of, IsFrontier}
 
 -- the vectors of entries
@@ -20,12 +21,6 @@ ArePriced terms entries = All (λ entry. entry.0.cost ≡ cost terms entry.0.uni
 -- entries of a heap are compared the other way round, since the greatest of a heap comes first
 abbrev pub entry_cmp : Reverse Entry → Reverse Entry → Ordering
 entry_cmp a b = ordering_then (nat_cmp b.0.cost a.0.cost) (lex_cmp b.0.units.items a.0.units.items)
-
--- prices and owned units by resource, of which costs fit 64 bits
-pub record ArePrices (prices owned : List ℕ) : Type 0 where
-  pub resources : length prices ≤ 16
-  pub price_range : All (λ x. x ≤ 1000000) prices
-  pub owned_places : length owned ≡ length prices
 
 -- a vector was put among entries
 pub record IsEntered (prices owned units : List ℕ) (old new : List (Reverse Entry)) : Type 0 where

@@ -1,6 +1,6 @@
 -- Contracts of private functions: vectors between floors and roofs in the order of vectors, and their children.
-use Rattle.std.specs.Prelude.{◌≡◌, ◌↔◌, ◌≢◌, ℕ, ◌+◌, ◌-◌, ◌<◌, ◌≤◌, ◌==◌, ◌&&◌, Bool, true, false, not, nat_le, List, [], ◌∷◌, ◌++◌, length, slice_index, set, map, Contains, AllPairs, All, Option, Some, None, Result, Ok, Err}
-use Rattle.std.specs.List.{filter, list_any}
+use Rattle.std.specs.Prelude.{◌≡◌, ◌↔◌, ◌≢◌, ℕ, ◌+◌, ◌-◌, ◌<◌, ◌≤◌, ◌||◌, Bool, true, false, nat_lt, List, [], ◌∷◌, ◌++◌, length, slice_index, set, map, Contains, AllPairs, All, Option, Some, None, Result, Ok, Err}
+use Rattle.std.specs.List.{filter, list_any, list_all}
 use Rattle.std.specs.declared.cmp.Ordering.{Ordering}
 use Rattle.std.specs.declared.cmp.Ordering.TheVariants.{Less, Equal, Greater}
 use Rattle.std.specs.Ordering.{nat_cmp, ordering_then, is_le}
@@ -8,7 +8,9 @@ use Rattle.std.specs.declared.alloc.Global.{Global}
 use Rattle.std.specs.Prelude.{Vec}
 use Rattle.std.specs.declared.alloc.AllocError.{AllocError}
 use Rattle.racp_model.specs.Terms.{Terms, lex_cmp, vector_cmp, IsBefore}
-use Rattle.racp_candidates.specs.Questions.{numbers_between}
+use Rattle.racp_model.specs.Window.{Bounds}
+use Rattle.racp_model.specs.declared.question.Question.{Question}
+use Rattle.racp_candidates.specs.Questions.{numbers_between, question_of}
 use Rattle.racp_candidates.specs.Box.{IsBetween}
 
 -- the terms of which vectors take prices and owned units alone
@@ -88,3 +90,23 @@ pub record IsFrontier (terms : Terms) (floors roofs : List ℕ) (vectors : List 
     (start : List ℕ) × Contains vectors start × LeadsTo floors start vector
   pub parents : (parent child other : List ℕ) → IsBetween floors roofs parent → Contains vectors child → IsChild floors roofs parent child →
     Contains vectors other → IsBefore terms parent other
+
+-- whether a vector is above its floor of the resource with this number
+abbrev pub is_above : (floors vector : List ℕ) → ℕ → Bool
+is_above floors vector resource = nat_lt (slice_index floors (resource - 1)) (slice_index vector (resource - 1))
+
+-- whether of each pair it is above one floor
+unfoldable pub is_above_pairs : (floors : List ℕ) → (pairs : List (ℕ × ℕ)) → List ℕ → Bool
+is_above_pairs floors pairs vector = list_all (λ pair. is_above floors vector pair.0 || is_above floors vector pair.1) pairs
+
+-- the vectors that no pair excludes
+unfoldable pub vectors_above : (floors : List ℕ) → (pairs : List (ℕ × ℕ)) → List (List ℕ) → List (List ℕ)
+vectors_above floors pairs vectors = filter (is_above_pairs floors pairs) vectors
+
+-- their questions
+unfoldable pub box_questions : (floors : List ℕ) → (pairs : List (ℕ × ℕ)) → Bounds → List (List ℕ) → List Question
+box_questions floors pairs window vectors = map (λ vector. question_of vector window) (vectors_above floors pairs vectors)
+
+-- each vector has a place for each floor
+abbrev pub HavePlaces : (floors : List ℕ) → List (List ℕ) → Type 0
+HavePlaces floors vectors = All (λ vector. length vector ≡ length floors) vectors

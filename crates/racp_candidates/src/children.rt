@@ -3,9 +3,9 @@
 ghost use Rattle.std.specs.Prelude.{◌≡◌, length, IfOk};
 ghost use Rattle.std.specs.BinaryHeap.{heap_items};
 ghost use Rattle.racp_model.specs.Terms.{cost};
-ghost use Rattle.racp_candidates.specs.Box.{IsBetween};
+ghost use Rattle.racp_candidates.specs.Box.{ArePrices, IsBetween};
 ghost use Rattle.racp_candidates.specs.Vectors.{terms_of, AreChildren};
-ghost use Rattle.racp_candidates.specs.Frontier.{vectors_in, ArePriced, ArePrices, IsEntered, IsLastRaised};
+ghost use Rattle.racp_candidates.specs.Frontier.{vectors_in, ArePriced, IsEntered, IsLastRaised};
 
 use crate::copies::copy_with;
 use crate::entry::Entry;

@@ -1,7 +1,7 @@
 //! The vectors between floors and roofs in the order of vectors: by cost, and at equal cost in lexicographic order.
 
 ghost use Rattle.std.specs.Prelude.{◌≡◌, length, IfOk};
-ghost use Rattle.racp_candidates.specs.Box.{AreBounds};
+ghost use Rattle.racp_candidates.specs.Box.{ArePrices, AreBounds};
 ghost use Rattle.racp_candidates.specs.Vectors.{AreVectorsInOrder, IsNextVector};
 
 use crate::children::{children_of, enter};
@@ -39,7 +39,6 @@ impl Model for Frontier {
 
 impl Frontier {
     ghost use Rattle.racp_candidates.specs.Vectors.{terms_of};
-    ghost use Rattle.racp_candidates.specs.Frontier.{ArePrices};
 
     /// All vectors between these floors and roofs.
     pub(crate) fn new(

@@ -10,6 +10,7 @@ mod entry;
 mod frontier;
 pub mod laws;
 mod one;
+mod pairs;
 mod series;
 mod singles;
 mod start_values;
