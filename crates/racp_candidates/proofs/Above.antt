@@ -1,6 +1,7 @@
 -- Vectors are taken off a list up to the first that no pair excludes.
 use Rattle.std.proofs.Common.{◌≡◌, ◌⊎◌, ℕ, ◌+◌, ◌-◌, ◌<◌, ◌≤◌, Bool, true, false, cond, ◌||◌, ◌&&◌, List, [], ◌∷◌, length, slice_index, map, inl, inr, arith, refl, sym, ◌∙◌, ap, subst, Contains, AllPairs, All}
-use Rattle.std.specs.Prelude.{◌↔◌, nat_lt}
+use Rattle.std.specs.Prelude.{◌↔◌, nat_lt, Option, Some, Ok, Vec}
+use Rattle.std.specs.declared.alloc.Global.{Global}
 use Rattle.std.specs.List.{filter, list_all}
 use Rattle.std.proofs.lemmas.Bool.{lt-ltb, ltb-true}
 use Rattle.std.proofs.lemmas.List.Elements.{All-rest, All-contains, All-map}
@@ -12,7 +13,7 @@ use Rattle.racp_model.specs.declared.question.Question.{Question}
 use Rattle.racp_model.proofs.lemmas.Relations.{member_cases, member_later, member_first, no_member, all_members}
 use Rattle.racp_candidates.specs.Questions.{question_of}
 use Rattle.racp_candidates.specs.Box.{IsBetween, IsAbovePairs, IsInBox, AreBoxQuestions}
-use Rattle.racp_candidates.specs.Vectors.{terms_of, AreVectorsInOrder, is_above, is_above_pairs, vectors_above, box_questions, HavePlaces}
+use Rattle.racp_candidates.specs.Vectors.{terms_of, AreVectorsInOrder, is_above, is_above_pairs, vectors_above, box_questions, HavePlaces, IsNextVector}
 use Rattle.racp_candidates.proofs.Members.{map_from, map_to, map_pairs, filter_from, filter_to}
 
 module _ (floors : List ℕ) (pairs : List (ℕ × ℕ)) where
@@ -38,3 +39,7 @@ module _ (floors : List ℕ) (pairs : List (ℕ × ℕ)) where
 
   pub shorter : (old new : List (List ℕ)) (v : List ℕ) → old ≡ v ∷ new → length new < length old
   shorter old new v e = let same : length old ≡ length (v ∷ new) = ap length e in omega (arith, same)
+
+-- the vector that was taken off is the first
+pub taken_is : (old new : List (List ℕ)) (answer : Option (Vec ℕ Global)) (v : Vec ℕ Global) → IsNextVector old new (Ok answer) → answer ≡ Some v → old ≡ v.items ∷ new
+taken_is old new answer v h e = let P : Option (Vec ℕ Global) → Type 0 = λ o. IsNextVector old new (Ok o) in subst P e h

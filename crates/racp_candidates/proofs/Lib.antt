@@ -12,3 +12,4 @@ mod Entered
 mod Collecting
 mod Heaps
 mod Above
+mod Boxes

@@ -1,7 +1,7 @@
 -- The members of lists that are made from lists: by a function, by a test, from rising numbers.
-use Rattle.std.proofs.Common.{◌≡◌, ◌⊎◌, ℕ, zero, suc, ◌+◌, ◌-◌, ◌<◌, ◌≤◌, Bool, true, false, cond, ◌||◌, List, [], ◌∷◌, map, inl, inr, arith, refl, sym, ◌∙◌, ap, subst, Contains, AllPairs}
+use Rattle.std.proofs.Common.{◌≡◌, ◌⊎◌, ℕ, zero, suc, ◌+◌, ◌-◌, ◌<◌, ◌≤◌, Bool, true, false, cond, ◌||◌, ◌&&◌, List, [], ◌∷◌, map, inl, inr, arith, refl, sym, ◌∙◌, ap, subst, Contains, AllPairs}
 use Rattle.std.specs.Prelude.{◌↔◌}
-use Rattle.std.specs.List.{filter, list_any, range_with_len}
+use Rattle.std.specs.List.{filter, list_any, list_all, range_with_len}
 use Rattle.std.proofs.lemmas.List.Elements.{All-nil}
 use Rattle.std.proofs.lemmas.List.Kept.{AllPairs-cons}
 use Rattle.std.proofs.lemmas.Bool.{cases_lt}
@@ -98,3 +98,26 @@ range_to a (suc n) x low high = elim (cases_lt a x) [
   | inl less ↦ member_later a (range_with_len (a + 1) n) x (range_to (a + 1) n x (omega (arith, less)) (omega (arith, high)))
   | inr most ↦ let same : a ≡ x = omega (arith, most, low) in member_first a (range_with_len (a + 1) n) x same
 ]
+
+-- all of a list pass
+module _ {X : Type 0} (test : X → Bool) where
+  pub both_true : (a b : Bool) → (a && b) ≡ true → (a ≡ true) × (b ≡ true)
+  both_true true true e = (refl, refl)
+  both_true true false e = cc
+  both_true false b e = cc
+
+  pub all_from : (xs : List X) → list_all test xs ≡ true → (x : X) → Contains xs x → test x ≡ true
+  all_from [] e x c = absurd (no_member x c)
+  all_from (y ∷ ys) e x c =
+      let both = both_true (test y) (list_all test ys) e in
+      elim (member_cases y ys x c) [
+        | inl same ↦ ap test (sym same) ∙ both.0
+        | inr later ↦ all_from ys both.1 x later
+      ]
+
+  pub all_to : (xs : List X) → ((x : X) → Contains xs x → test x ≡ true) → list_all test xs ≡ true
+  all_to [] h = refl
+  all_to (y ∷ ys) h =
+      let rest : list_all test ys ≡ true = all_to ys (λ x c. h x (member_later y ys x c)) in
+      let first : test y ≡ true = h y (member_first y ys y refl) in
+      ap (λ (b : Bool). b && list_all test ys) first ∙ rest

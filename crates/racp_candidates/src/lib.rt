@@ -14,9 +14,11 @@ mod pairs;
 mod series;
 mod singles;
 mod start_values;
+mod vectors;
 
 pub use asker::{AskStop, Asker, First};
 pub use one::One;
 pub use series::Series;
 pub use singles::Singles;
 pub use start_values::Starts1;
+pub use vectors::Vectors;
