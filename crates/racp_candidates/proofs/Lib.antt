@@ -13,3 +13,4 @@ mod Collecting
 mod Heaps
 mod Above
 mod Boxes
+mod OneBox
