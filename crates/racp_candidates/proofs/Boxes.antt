@@ -78,14 +78,14 @@ module _ (floors : List ℕ) (pairs : List (ℕ × ℕ)) where
     unfolding box_questions vectors_above
     questions_rising =
         map_pairs (λ v. question_of v window) (IsBefore terms) (λ (a b : Question). IsBefore terms a.capacities b.capacities) (λ a b before. before)
-          (filter (is_above_pairs floors pairs) vectors) (AllPairs-filter (IsBefore terms) (is_above_pairs floors pairs) vectors h.rising)
+        (filter (is_above_pairs floors pairs) vectors) (AllPairs-filter (IsBefore terms) (is_above_pairs floors pairs) vectors h.rising)
 
     pub questions_windows : All (λ (q : Question). q.window ≡ window) (box_questions floors pairs window vectors)
     unfolding box_questions vectors_above
     questions_windows =
         all_members (λ (q : Question). q.window ≡ window) (map (λ v. question_of v window) (filter (is_above_pairs floors pairs) vectors)) (λ q c.
-          let m = map_from (λ v. question_of v window) (filter (is_above_pairs floors pairs) vectors) q c in
-          ap (λ (p : Question). p.window) m.2)
+        let m = map_from (λ v. question_of v window) (filter (is_above_pairs floors pairs) vectors) q c in
+        ap (λ (p : Question). p.window) m.2)
 
     pub questions_from : (v : List ℕ) → Contains (box_questions floors pairs window vectors) (question_of v window) → IsInBox floors roofs pairs v
     unfolding box_questions vectors_above
@@ -99,7 +99,7 @@ module _ (floors : List ℕ) (pairs : List (ℕ × ℕ)) where
     unfolding box_questions vectors_above
     questions_to v is =
         map_to (λ v. question_of v window) (filter (is_above_pairs floors pairs) vectors) v
-          (filter_to (is_above_pairs floors pairs) vectors v ((h.members v).1 is.between) (above_to v numbers is.above_pairs))
+        (filter_to (is_above_pairs floors pairs) vectors v ((h.members v).1 is.between) (above_to v numbers is.above_pairs))
 
     pub are_box_questions : AreBoxQuestions terms floors roofs pairs window (box_questions floors pairs window vectors)
     are_box_questions = record {

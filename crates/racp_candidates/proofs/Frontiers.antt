@@ -51,7 +51,7 @@ module _ (terms : Terms) (floors roofs : List ℕ) (prices : length terms.prices
       itself = record { places = refl; above = λ k l. omega arith; below = bounds }
 
       parents : (parent child other : List ℕ) → IsBetween floors roofs parent → Contains (floors ∷ []) child → IsChild floors roofs parent child →
-        Contains (floors ∷ []) other → IsBefore terms parent other
+          Contains (floors ∷ []) other → IsBefore terms parent other
       parents parent child other h c is_child d = elim (member_cases floors [] child c) [
         | inl same ↦ absurd (floors_no_child floors roofs parent h (subst (IsChild floors roofs parent) (sym same) is_child))
         | inr later ↦ absurd (no_member child later)
@@ -69,13 +69,13 @@ module _ (terms : Terms) (floors roofs : List ℕ) (prices : length terms.prices
       reached : (v : List ℕ) → IsBetween floors roofs v → is_reached terms (floors ∷ []) v ≡ true
       reached v h =
           reached_to terms (floors ∷ []) v floors (member_first floors [] floors refl)
-            (leads_no_later floors roofs terms floors v prices itself h (floors_lead floors roofs v h))
+          (leads_no_later floors roofs terms floors v prices itself h (floors_lead floors roofs v h))
 
   -- no vector is to come where the frontier is empty
   pub none_to_come : to_come terms floors roofs [] ≡ []
   none_to_come = no_members (to_come terms floors roofs []) (λ v c.
-    let m = reached_from terms [] v (come_from terms floors roofs places [] v c).1 in
-    no_member m.0 m.1)
+      let m = reached_from terms [] v (come_from terms floors roofs places [] v c).1 in
+      no_member m.0 m.1)
 
   -- a step: the first vector of a frontier is taken out, and its children are put in
   pub record IsStep (old more : List (List ℕ)) (x : List ℕ) (new : List (List ℕ)) : Type 0 where
@@ -168,9 +168,9 @@ module _ (terms : Terms) (floors roofs : List ℕ) (prices : length terms.prices
     pub next_to_come : to_come terms floors roofs old ≡ x ∷ to_come terms floors roofs new
     next_to_come =
         same_from_members (IsBefore terms) (before_one_way terms) (to_come terms floors roofs old) (x ∷ to_come terms floors roofs new)
-          (come_rising terms floors roofs places old)
-          (AllPairs-cons (IsBefore terms) x (to_come terms floors roofs new) (all_members (IsBefore terms x) (to_come terms floors roofs new) come_after) (come_rising terms floors roofs places new))
-          into back
+        (come_rising terms floors roofs places old)
+        (AllPairs-cons (IsBefore terms) x (to_come terms floors roofs new) (all_members (IsBefore terms x) (to_come terms floors roofs new) come_after) (come_rising terms floors roofs places new))
+        into back
       where
         after : (v : List ℕ) → IsBetween floors roofs v → IsBefore terms x v → Contains (to_come terms floors roofs new) v
         after v h before =

@@ -121,13 +121,13 @@ module _ (prices owned floors roofs : List ℕ) where
     first_least e c =
         let Q : Reverse Entry → Type 0 = λ y. is_lt (entry_cmp first y) ≡ false in
         no_later_entry (terms_of prices owned) first e (All-contains IsPricedEntry old first s.heap.priced s.member) (All-contains IsPricedEntry old e s.heap.priced c)
-          (All-contains Q old e (All-from_recursion Q old s.top) c)
+        (All-contains Q old e (All-from_recursion Q old s.top) c)
 
     pub popped_least : (e : Reverse Entry) → Contains mid e → IsNoLater (terms_of prices owned) popped.0.units.items e.0.units.items
     popped_least e c =
         let Q : Reverse Entry → Type 0 = λ y. is_lt (entry_cmp popped y) ≡ false in
         no_later_entry (terms_of prices owned) popped e (All-contains IsPricedEntry (popped ∷ new) popped all_new (member_first popped new popped refl)) (All-contains IsPricedEntry mid e all_mid c)
-          (All-contains Q mid e (All-from_recursion Q mid s.greatest) c)
+        (All-contains Q mid e (All-from_recursion Q mid s.greatest) c)
 
     pub first_between : IsBetween floors roofs first.0.units.items
     first_between = All-contains (IsBetween floors roofs) (vectors_in old) first.0.units.items s.heap.frontier.between (vector_of old first s.member)
@@ -179,4 +179,4 @@ module _ (prices owned floors roofs : List ℕ) where
     pub next_list : to_come (terms_of prices owned) floors roofs (vectors_in old) ≡ popped.0.units.items ∷ to_come (terms_of prices owned) floors roofs (vectors_in new)
     next_list =
         next_to_come (terms_of prices owned) floors roofs s.heap.floor_places s.heap.roof_places (vectors_in old) (vectors_in children) first.0.units.items (vectors_in new) step
-          ∙ ap (λ (v : List ℕ). v ∷ to_come (terms_of prices owned) floors roofs (vectors_in new)) (sym popped_is)
+        ∙ ap (λ (v : List ℕ). v ∷ to_come (terms_of prices owned) floors roofs (vectors_in new)) (sym popped_is)

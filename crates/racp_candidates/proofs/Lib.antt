@@ -6,7 +6,6 @@ mod Between
 mod Reached
 mod Distinct
 mod Raised
-
 mod Frontiers
 mod Entered
 mod Collecting

@@ -21,5 +21,5 @@ module _ (terms : Terms) (floors roofs : List ℕ) (pairs : List (ℕ × ℕ)) (
 pub one_box : BoxQuestionsAreOne
 one_box terms floors roofs pairs window a b h g =
     same_from_members (λ (x y : Question). IsBefore terms x.capacities y.capacities)
-      (λ x y there back. before_apart terms x.capacities (before_trans terms x.capacities y.capacities x.capacities there back))
-      a b h.rising g.rising (in_other terms floors roofs pairs window a b h g) (in_other terms floors roofs pairs window b a g h)
+    (λ x y there back. before_apart terms x.capacities (before_trans terms x.capacities y.capacities x.capacities there back))
+    a b h.rising g.rising (in_other terms floors roofs pairs window a b h g) (in_other terms floors roofs pairs window b a g h)

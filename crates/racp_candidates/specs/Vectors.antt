@@ -87,9 +87,9 @@ pub record IsFrontier (terms : Terms) (floors roofs : List ℕ) (vectors : List 
   pub between : All (IsBetween floors roofs) vectors
   pub once : AllPairs (λ a b. a ≢ b) vectors
   pub leads : (vector : List ℕ) → IsBetween floors roofs vector → is_reached terms vectors vector ≡ true →
-    (start : List ℕ) × Contains vectors start × LeadsTo floors start vector
+      (start : List ℕ) × Contains vectors start × LeadsTo floors start vector
   pub parents : (parent child other : List ℕ) → IsBetween floors roofs parent → Contains vectors child → IsChild floors roofs parent child →
-    Contains vectors other → IsBefore terms parent other
+      Contains vectors other → IsBefore terms parent other
 
 -- whether a vector is above its floor of the resource with this number
 abbrev pub is_above : (floors vector : List ℕ) → ℕ → Bool

@@ -35,9 +35,7 @@ fn above_pairs(floors: &[u32], pairs: &[(u32, u32)], units: &[u32]) -> bool
     requires places { length units.now ≡ length floors.now }
     ensures { result ≡ is_above_pairs floors.now pairs.now units.now }
 {
-    pairs
-        .iter()
-        .all(|&(k, l)| above(floors, units, k) || above(floors, units, l))
+    pairs.iter().all(|&(k, l)| above(floors, units, k) || above(floors, units, l))
 }
 
 /// Whether the vector is above its floor of the resource with this number.

@@ -23,7 +23,7 @@ fn first_capacities<S: Series + Send>(
     Ok(list)
 }
 
-/// A window of so many jobs.
+/// Lower and upper bounds.
 fn window(alloc: Global, lower: &[u32], upper: &[u32]) -> Result<(Starts, Starts), AllocError> {
     Ok((
         Starts::new(lower.to_vec(alloc)?),
@@ -75,19 +75,20 @@ fn first_vectors(
         roofs,
         pairs,
     } = *case;
-    let resources = prices.len();
-    assert!(rt; resources <= 16);
-    assert!(rt; prices.iter().all(|price| *price <= 1_000_000));
-    assert_eq!(rt; owned.len(), resources);
-    assert_eq!(rt; floors.len(), resources);
-    assert_eq!(rt; roofs.len(), resources);
-    assert!(rt; floors.iter().zip(roofs).all(|(low, high)| *low <= *high));
-    let last = resources as u32;
-    assert!(rt; pairs.iter().all(|&(k, l)| 1 <= k && k <= last && 1 <= l && l <= last));
     let order = order(alloc, prices, owned)?;
+    assert!(rt; order.prices.len() <= 16);
+    assert!(rt; order.prices.iter().all(|price| *price <= 1_000_000));
+    assert_eq!(rt; order.owned.len(), order.prices.len());
+    assert_eq!(rt; floors.len(), order.prices.len());
+    assert_eq!(rt; roofs.len(), floors.len());
+    assert!(rt; floors.iter().zip(roofs).all(|(low, high)| *low <= *high));
+    let last = floors.len() as u32;
+    let pairs = pairs.to_vec(alloc)?;
+    assert!(rt;
+        pairs.iter().all(|pair| 1 <= pair.0 && pair.0 <= last && 1 <= pair.1 && pair.1 <= last)
+    );
     let floors = Capacities::new(floors.to_vec(alloc)?);
     let roofs = Capacities::new(roofs.to_vec(alloc)?);
-    let pairs = pairs.to_vec(alloc)?;
     let series = Vectors::new(alloc, &order, floors, roofs, pairs, &root(rt, alloc)?)?;
     Ok(first_capacities(alloc, series, count)?)
 }
@@ -142,7 +143,14 @@ fn orders_by_cost(rt: HostRuntime) -> Result<(), Fail> {
         roofs: &[2, 3],
         pairs: &[],
     };
-    gives(&rt, rt.alloc(), &case, &[0, 0, 0, 1, 1, 0, 0, 2, 1, 1, 0, 3, 2, 0, 1, 2, 2, 1, 1, 3, 2, 2, 2, 3])?;
+    gives(
+        &rt,
+        rt.alloc(),
+        &case,
+        &[
+            0, 0, 0, 1, 1, 0, 0, 2, 1, 1, 0, 3, 2, 0, 1, 2, 2, 1, 1, 3, 2, 2, 2, 3,
+        ],
+    )?;
     Ok(())
 }
 
@@ -179,7 +187,10 @@ fn asks_single_values(rt: HostRuntime) -> Result<(), Fail> {
     let roofs = Capacities::new([4].to_vec(alloc)?);
     assert!(rt; floors.as_slice().len() == 1 && roofs.as_slice().len() == 1);
     let singles = Singles::new(alloc, &floors, &roofs, 0, &root)?;
-    assert_eq!(rt; first_capacities(alloc, singles, 3)?.as_slice(), [3, 4].as_slice());
+    assert_eq!(rt;
+        first_capacities(alloc, singles, 3)?.as_slice(),
+        [3, 4].as_slice()
+    );
     let one = One::new(alloc, &floors, &root)?;
     assert_eq!(rt; first_capacities(alloc, one, 2)?.as_slice(), [3].as_slice());
     assert!(rt; 2 < root.lower().len() && 2 < root.upper().len());

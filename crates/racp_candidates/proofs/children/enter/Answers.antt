@@ -7,4 +7,4 @@ use Rattle.racp_candidates.proofs.children.enter.Goals as goal
 pub returns : goal.returns
 returns c =
     entered c.args.prices.now c.args.owned.now _ _ _ (c.cost_of-cost.ensures ∙ ap (cost (terms_of c.args.prices.now c.args.owned.now)) c.deref.ensures.value)
-      c.in_ok-push.ensures.permutation c.in_ok-push.ensures.heap_order
+    c.in_ok-push.ensures.permutation c.in_ok-push.ensures.heap_order

@@ -13,8 +13,8 @@ loop-units-preserved c =
     let first : c.loop-units.frontier ≡ c.in-Some.units.items ∷ c.next.new.self = taken_is c.loop-units.frontier c.next.new.self c.in_ok-units.field-0 c.in-Some.units c.in_ok-units.ensures c.in-Some.is in
     record {
       same =
-        sym (above_skipped c.args.floors.now c.args.pairs.now c.loop-units.frontier c.next.new.self c.in-Some.units.items first
-            (ap (is_above_pairs c.args.floors.now c.args.pairs.now) (sym c.deref.ensures.value) ∙ (sym c.above_pairs.ensures ∙ c.if-above_pairs.false)))
+          sym (above_skipped c.args.floors.now c.args.pairs.now c.loop-units.frontier c.next.new.self c.in-Some.units.items first
+          (ap (is_above_pairs c.args.floors.now c.args.pairs.now) (sym c.deref.ensures.value) ∙ (sym c.above_pairs.ensures ∙ c.if-above_pairs.false)))
           ∙ c.loop-units.invariant.same;
       places = places_rest c.args.floors.now c.args.pairs.now c.loop-units.frontier c.next.new.self c.in-Some.units.items first c.loop-units.invariant.places;
     }

@@ -16,7 +16,7 @@ children_of-requires-clause-units c =
     let within : 0 < length (heap_items i.heap) = search (rules, c.in-Some.ensures) in
     let member : Contains (heap_items i.heap) c.in-Some.first.now = (0, within, sym c.in-Some.ensures.lookup) in
     let between : IsBetween i.floors.items i.roofs.items c.in-Some.first.now.0.units.items =
-      All-contains (IsBetween i.floors.items i.roofs.items) (vectors_in (heap_items i.heap)) _ c.self.invariant.frontier.between (vector_of (heap_items i.heap) c.in-Some.first.now member) in
+    All-contains (IsBetween i.floors.items i.roofs.items) (vectors_in (heap_items i.heap)) _ c.self.invariant.frontier.between (vector_of (heap_items i.heap) c.in-Some.first.now member) in
     rw (c.deref-in-Some-2.ensures.value, c.deref-in-Some-3.ensures.value, c.deref-in-Some-4.ensures.value) between
 
 pub returns-in-None : goal.returns-in-None
@@ -31,21 +31,21 @@ invariant_of-self-in-Some-pop c =
     let i = c.self.inside in
     let within : 0 < length (heap_items i.heap) = search (rules, c.in-Some.ensures) in
     let children : AreChildren i.floors.items i.roofs.items c.in-Some.first.now.0.units.items (vectors_in (heap_items c.in_ok-children-in-Some.children)) =
-      rw (← c.deref-in-Some-2.ensures.value, ← c.deref-in-Some-3.ensures.value, ← c.deref-in-Some-4.ensures.value) c.in_ok-children-in-Some.ensures.children in
+    rw (← c.deref-in-Some-2.ensures.value, ← c.deref-in-Some-3.ensures.value, ← c.deref-in-Some-4.ensures.value) c.in_ok-children-in-Some.ensures.children in
     let priced : ArePriced (terms_of i.prices.items i.owned.items) (heap_items c.in_ok-children-in-Some.children) =
-      rw (← c.deref.ensures.value, ← c.deref-in-Some.ensures.value) c.in_ok-children-in-Some.ensures.priced in
+    rw (← c.deref.ensures.value, ← c.deref-in-Some.ensures.value) c.in_ok-children-in-Some.ensures.priced in
     let step : IsHeapStep i.prices.items i.owned.items i.floors.items i.roofs.items (heap_items i.heap) c.in-Some.first.now (heap_items c.in_ok-children-in-Some.children) (heap_items c.append.new.self) c.in-Some-pop.first (heap_items c.pop.new.self) =
-      record {
-        heap = c.self.invariant;
-        member = (0, within, sym c.in-Some.ensures.lookup);
-        top = c.in-Some.ensures.greatest c.self.invariant.ordered;
-        children_are = children;
-        priced = priced;
-        joined = c.in_ok-append.ensures.permutation;
-        parted = c.in-Some-pop.ensures.permutation;
-        greatest = (c.in-Some-pop.ensures.heap_order (c.in_ok-append.ensures.heap_order c.self.invariant.ordered)).1;
-        ordered = (c.in-Some-pop.ensures.heap_order (c.in_ok-append.ensures.heap_order c.self.invariant.ordered)).0;
-      } in
+    record {
+      heap = c.self.invariant;
+      member = (0, within, sym c.in-Some.ensures.lookup);
+      top = c.in-Some.ensures.greatest c.self.invariant.ordered;
+      children_are = children;
+      priced = priced;
+      joined = c.in_ok-append.ensures.permutation;
+      parted = c.in-Some-pop.ensures.permutation;
+      greatest = (c.in-Some-pop.ensures.heap_order (c.in_ok-append.ensures.heap_order c.self.invariant.ordered)).1;
+      ordered = (c.in-Some-pop.ensures.heap_order (c.in_ok-append.ensures.heap_order c.self.invariant.ordered)).0;
+    } in
     next_heap i.prices.items i.owned.items i.floors.items i.roofs.items (heap_items i.heap) c.in-Some.first.now (heap_items c.in_ok-children-in-Some.children) (heap_items c.append.new.self) c.in-Some-pop.first (heap_items c.pop.new.self) step
 
 pub returns-in-Some-pop : goal.returns-in-Some-pop
@@ -53,19 +53,19 @@ returns-in-Some-pop c =
     let i = c.self.inside in
     let within : 0 < length (heap_items i.heap) = search (rules, c.in-Some.ensures) in
     let children : AreChildren i.floors.items i.roofs.items c.in-Some.first.now.0.units.items (vectors_in (heap_items c.in_ok-children-in-Some.children)) =
-      rw (← c.deref-in-Some-2.ensures.value, ← c.deref-in-Some-3.ensures.value, ← c.deref-in-Some-4.ensures.value) c.in_ok-children-in-Some.ensures.children in
+    rw (← c.deref-in-Some-2.ensures.value, ← c.deref-in-Some-3.ensures.value, ← c.deref-in-Some-4.ensures.value) c.in_ok-children-in-Some.ensures.children in
     let priced : ArePriced (terms_of i.prices.items i.owned.items) (heap_items c.in_ok-children-in-Some.children) =
-      rw (← c.deref.ensures.value, ← c.deref-in-Some.ensures.value) c.in_ok-children-in-Some.ensures.priced in
+    rw (← c.deref.ensures.value, ← c.deref-in-Some.ensures.value) c.in_ok-children-in-Some.ensures.priced in
     let step : IsHeapStep i.prices.items i.owned.items i.floors.items i.roofs.items (heap_items i.heap) c.in-Some.first.now (heap_items c.in_ok-children-in-Some.children) (heap_items c.append.new.self) c.in-Some-pop.first (heap_items c.pop.new.self) =
-      record {
-        heap = c.self.invariant;
-        member = (0, within, sym c.in-Some.ensures.lookup);
-        top = c.in-Some.ensures.greatest c.self.invariant.ordered;
-        children_are = children;
-        priced = priced;
-        joined = c.in_ok-append.ensures.permutation;
-        parted = c.in-Some-pop.ensures.permutation;
-        greatest = (c.in-Some-pop.ensures.heap_order (c.in_ok-append.ensures.heap_order c.self.invariant.ordered)).1;
-        ordered = (c.in-Some-pop.ensures.heap_order (c.in_ok-append.ensures.heap_order c.self.invariant.ordered)).0;
-      } in
+    record {
+      heap = c.self.invariant;
+      member = (0, within, sym c.in-Some.ensures.lookup);
+      top = c.in-Some.ensures.greatest c.self.invariant.ordered;
+      children_are = children;
+      priced = priced;
+      joined = c.in_ok-append.ensures.permutation;
+      parted = c.in-Some-pop.ensures.permutation;
+      greatest = (c.in-Some-pop.ensures.heap_order (c.in_ok-append.ensures.heap_order c.self.invariant.ordered)).1;
+      ordered = (c.in-Some-pop.ensures.heap_order (c.in_ok-append.ensures.heap_order c.self.invariant.ordered)).0;
+    } in
     sym c.self.view_is ∙ next_list i.prices.items i.owned.items i.floors.items i.roofs.items (heap_items i.heap) c.in-Some.first.now (heap_items c.in_ok-children-in-Some.children) (heap_items c.append.new.self) c.in-Some-pop.first (heap_items c.pop.new.self) step
