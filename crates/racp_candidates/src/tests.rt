@@ -1,5 +1,8 @@
 //! The questions of small series, one by one.
 
+ghost use Rattle.std.specs.Prelude.{IsTrue, length};
+ghost use Rattle.racp_model.specs.Project.{AreNumbers};
+
 use crate::{One, Series, Singles, Starts1, Vectors};
 use racp_model::{Capacities, Starts, Window};
 use racp_prices::Order;
@@ -61,6 +64,14 @@ struct Case<'a> {
     pairs: &'a [(u32, u32)],
 }
 
+/// Whether the pairs name resources by their numbers.
+fn are_numbers(floors: &Capacities, pairs: &Vec<(u32, u32)>) -> bool
+    ensures { IsTrue result → AreNumbers (length floors.now) pairs.now.items }
+{
+    let count = floors.as_slice().len();
+    pairs.iter().all(|&(k, l)| 1 <= k && k as usize <= count && 1 <= l && l as usize <= count)
+}
+
 /// The first vectors of a box, at most so many, one after the other.
 fn first_vectors(
     rt: &impl Abort,
@@ -82,13 +93,10 @@ fn first_vectors(
     assert_eq!(rt; floors.len(), order.prices.len());
     assert_eq!(rt; roofs.len(), floors.len());
     assert!(rt; floors.iter().zip(roofs).all(|(low, high)| *low <= *high));
-    let last = floors.len() as u32;
-    let pairs = pairs.to_vec(alloc)?;
-    assert!(rt;
-        pairs.iter().all(|pair| 1 <= pair.0 && pair.0 <= last && 1 <= pair.1 && pair.1 <= last)
-    );
     let floors = Capacities::new(floors.to_vec(alloc)?);
     let roofs = Capacities::new(roofs.to_vec(alloc)?);
+    let pairs = pairs.to_vec(alloc)?;
+    assert!(rt; are_numbers(&floors, &pairs));
     let series = Vectors::new(alloc, &order, floors, roofs, pairs, &root(rt, alloc)?)?;
     Ok(first_capacities(alloc, series, count)?)
 }
