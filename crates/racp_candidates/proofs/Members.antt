@@ -1,0 +1,123 @@
+-- The members of lists that are made from lists: by a function, by a test, from rising numbers.
+use Rattle.std.proofs.Common.{◌≡◌, ◌⊎◌, ℕ, zero, suc, ◌+◌, ◌-◌, ◌<◌, ◌≤◌, Bool, true, false, cond, ◌||◌, ◌&&◌, List, [], ◌∷◌, map, inl, inr, arith, refl, sym, ◌∙◌, ap, subst, Contains, AllPairs}
+use Rattle.std.specs.Prelude.{◌↔◌}
+use Rattle.std.specs.List.{filter, list_any, list_all, range_with_len}
+use Rattle.std.proofs.lemmas.List.Elements.{All-nil}
+use Rattle.std.proofs.lemmas.List.Kept.{AllPairs-cons}
+use Rattle.std.proofs.lemmas.Bool.{cases_lt}
+use Rattle.racp_model.proofs.lemmas.Relations.{member_cases, member_later, member_first, no_member, member_after, rising_tail, all_members}
+
+-- a list made by a function
+module _ {X Y : Type 0} (f : X → Y) where
+  pub map_from : (xs : List X) (y : Y) → Contains (map f xs) y → (x : X) × Contains xs x × (y ≡ f x)
+  map_from [] y c = absurd (no_member y c)
+  map_from (x ∷ xs) y c = elim (member_cases (f x) (map f xs) y c) [
+    | inl same ↦ (x, member_first x xs x refl, sym same)
+    | inr later ↦ let rest = map_from xs y later in (rest.0, member_later x xs rest.0 rest.1, rest.2)
+  ]
+
+  pub map_to : (xs : List X) (x : X) → Contains xs x → Contains (map f xs) (f x)
+  map_to [] x c = absurd (no_member x c)
+  map_to (z ∷ xs) x c = elim (member_cases z xs x c) [
+    | inl same ↦ member_first (f z) (map f xs) (f x) (ap f same)
+    | inr later ↦ member_later (f z) (map f xs) (f x) (map_to xs x later)
+  ]
+
+  -- what holds of each element and each later one holds of what they are made into
+  pub map_pairs : (R : X → X → Type 0) (S : Y → Y → Type 0) → ((a b : X) → R a b → S (f a) (f b)) → (xs : List X) → AllPairs R xs → AllPairs S (map f xs)
+  map_pairs R S into [] h = λ i j d less l. absurd (omega (arith, less, l))
+  map_pairs R S into (x ∷ xs) h =
+      let rest : AllPairs S (map f xs) = map_pairs R S into xs (rising_tail R x xs h) in
+      AllPairs-cons S (f x) (map f xs) (all_members (S (f x)) (map f xs) (λ y c. after y (map_from xs y c))) rest
+    where
+      after : (y : Y) → (z : X) × Contains xs z × (y ≡ f z) → S (f x) y
+      after y m = subst (S (f x)) (sym m.2) (into x m.0 (member_after R x xs m.0 h m.1))
+
+-- a list of what passes a test
+module _ {X : Type 0} (test : X → Bool) where
+  pub filter_from : (xs : List X) (x : X) → Contains (filter test xs) x → Contains xs x × (test x ≡ true)
+  filter_from [] x c = absurd (no_member x c)
+  filter_from (y ∷ ys) x c = go (filter_from ys x) (test y) refl c
+    where
+      go : (Contains (filter test ys) x → Contains ys x × (test x ≡ true)) → (b : Bool) → test y ≡ b → Contains (cond b (y ∷ filter test ys) (filter test ys)) x → Contains (y ∷ ys) x × (test x ≡ true)
+      go more true e m = elim (member_cases y (filter test ys) x m) [
+        | inl same ↦ (member_first y ys x same, ap test (sym same) ∙ e)
+        | inr later ↦ let rest = more later in (member_later y ys x rest.0, rest.1)
+      ]
+      go more false e m = let rest = more m in (member_later y ys x rest.0, rest.1)
+
+  pub filter_to : (xs : List X) (x : X) → Contains xs x → test x ≡ true → Contains (filter test xs) x
+  filter_to [] x c passes = absurd (no_member x c)
+  filter_to (y ∷ ys) x c passes = go (λ later. filter_to ys x later passes) (test y) refl
+    where
+      go : (Contains ys x → Contains (filter test ys) x) → (b : Bool) → test y ≡ b → Contains (cond b (y ∷ filter test ys) (filter test ys)) x
+      go more true e = elim (member_cases y ys x c) [
+        | inl same ↦ member_first y (filter test ys) x same
+        | inr later ↦ member_later y (filter test ys) x (more later)
+      ]
+      go more false e = elim (member_cases y ys x c) [
+        | inl same ↦ let clash : false ≡ true = sym e ∙ (ap test same ∙ passes) in cc
+        | inr later ↦ more later
+      ]
+
+  -- one of a list passes
+  pub any_from : (xs : List X) → list_any test xs ≡ true → (x : X) × Contains xs x × (test x ≡ true)
+  any_from [] e = cc
+  any_from (y ∷ ys) e = go (any_from ys) (test y) refl e
+    where
+      go : (list_any test ys ≡ true → (x : X) × Contains ys x × (test x ≡ true)) → (b : Bool) → test y ≡ b → (b || list_any test ys) ≡ true →
+          (x : X) × Contains (y ∷ ys) x × (test x ≡ true)
+      go more true here one = (y, member_first y ys y refl, here)
+      go more false here one = let rest = more one in (rest.0, member_later y ys rest.0 rest.1, rest.2)
+
+  pub any_to : (xs : List X) (x : X) → Contains xs x → test x ≡ true → list_any test xs ≡ true
+  any_to [] x c passes = absurd (no_member x c)
+  any_to (y ∷ ys) x c passes = elim (member_cases y ys x c) [
+    | inl same ↦ first (ap test same ∙ passes)
+    | inr later ↦ go (test y) (any_to ys x later passes)
+  ]
+    where
+      first : test y ≡ true → list_any test (y ∷ ys) ≡ true
+      first here = ap (λ (b : Bool). b || list_any test ys) here
+
+      go : (b : Bool) → list_any test ys ≡ true → (b || list_any test ys) ≡ true
+      go true later = refl
+      go false later = later
+
+-- rising numbers
+pub range_from : (a n x : ℕ) → Contains (range_with_len a n) x → (a ≤ x) × (x < a + n)
+range_from a zero x c = absurd (no_member x c)
+range_from a (suc n) x c = elim (member_cases a (range_with_len (a + 1) n) x c) [
+  | inl same ↦ (omega (arith, same), omega (arith, same))
+  | inr later ↦ let rest = range_from (a + 1) n x later in (omega (arith, rest.0), omega (arith, rest.1))
+]
+
+pub range_to : (a n x : ℕ) → a ≤ x → x < a + n → Contains (range_with_len a n) x
+range_to a zero x low high = absurd (omega (arith, low, high))
+range_to a (suc n) x low high = elim (cases_lt a x) [
+  | inl less ↦ member_later a (range_with_len (a + 1) n) x (range_to (a + 1) n x (omega (arith, less)) (omega (arith, high)))
+  | inr most ↦ let same : a ≡ x = omega (arith, most, low) in member_first a (range_with_len (a + 1) n) x same
+]
+
+-- all of a list pass
+module _ {X : Type 0} (test : X → Bool) where
+  pub both_true : (a b : Bool) → (a && b) ≡ true → (a ≡ true) × (b ≡ true)
+  both_true true true e = (refl, refl)
+  both_true true false e = cc
+  both_true false b e = cc
+
+  pub all_from : (xs : List X) → list_all test xs ≡ true → (x : X) → Contains xs x → test x ≡ true
+  all_from [] e x c = absurd (no_member x c)
+  all_from (y ∷ ys) e x c =
+      let both = both_true (test y) (list_all test ys) e in
+      elim (member_cases y ys x c) [
+        | inl same ↦ ap test (sym same) ∙ both.0
+        | inr later ↦ all_from ys both.1 x later
+      ]
+
+  pub all_to : (xs : List X) → ((x : X) → Contains xs x → test x ≡ true) → list_all test xs ≡ true
+  all_to [] h = refl
+  all_to (y ∷ ys) h =
+      let rest : list_all test ys ≡ true = all_to ys (λ x c. h x (member_later y ys x c)) in
+      let first : test y ≡ true = h y (member_first y ys y refl) in
+      ap (λ (b : Bool). b && list_all test ys) first ∙ rest

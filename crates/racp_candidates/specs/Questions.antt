@@ -1,0 +1,35 @@
+-- Lists of questions, and the first of them that is a yes.
+use Rattle.std.specs.Prelude.{◌≡◌, ℕ, ◌+◌, ◌-◌, ◌<◌, List, [], ◌∷◌, length, slice_index, slice_index_or, set, map, Option, Some, None, Result, Ok, Err}
+use Rattle.std.specs.List.{range_with_len}
+use Rattle.std.specs.declared.alloc.AllocError.{AllocError}
+use Rattle.racp_model.specs.Project.{Project}
+use Rattle.racp_model.specs.Window.{Bounds, IsYes, IsNo}
+use Rattle.racp_model.specs.declared.question.Question.{Question}
+
+-- the first question was taken off a list, or the list is empty; where memory was refused, the list is as before
+abbrev pub IsNextQuestion : List Question → List Question → Result (Option Question) AllocError → Type 0
+IsNextQuestion before after (Ok (Some question)) = before ≡ question ∷ after
+IsNextQuestion before after (Ok None) = (before ≡ []) × (after ≡ [])
+IsNextQuestion before after (Err _) = after ≡ before
+
+-- the question of capacities and a window
+abbrev pub question_of : List ℕ → Bounds → Question
+question_of capacities window = record { capacities = capacities; window = window }
+
+-- the numbers from one to another, both among them
+abbrev pub numbers_between : ℕ → ℕ → List ℕ
+numbers_between low high = range_with_len low (high + 1 - low)
+
+-- a question for each number of units of the resource at place k from its floor to its roof, with roofs elsewhere
+abbrev pub single_questions : (floors roofs : List ℕ) → ℕ → Bounds → List Question
+single_questions floors roofs k window =
+    map (λ units. question_of (set roofs k units) window) (numbers_between (slice_index floors k) (slice_index roofs k))
+
+-- a window with both bounds of the job at place i at one start
+abbrev pub window_at : Bounds → ℕ → ℕ → Bounds
+window_at window i start = record { lower = set window.lower i start; upper = set window.upper i start }
+
+-- a question for each start of the job at place i from its lower to its upper bound
+abbrev pub start_questions : List ℕ → Bounds → ℕ → List Question
+start_questions capacities window i =
+    map (λ start. question_of capacities (window_at window i start)) (numbers_between (slice_index window.lower i) (slice_index window.upper i))

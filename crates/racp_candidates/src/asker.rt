@@ -1,0 +1,65 @@
+use crate::series::Series;
+use racp_model::{Capacities, Network, Starts};
+use std::alloc::AllocError;
+use thiserror::Error;
+
+/// The first yes of a series.
+#[derive(Debug, Drop)]
+pub enum First {
+    /// The question at this index, from 0, is a yes, and each before it is a no; these starts answer it.
+    Yes { index: usize, starts: Starts },
+    /// No question of the series is a yes.
+    None,
+}
+
+/// Why the first yes of a series is not known.
+#[derive(Debug, Drop, Error)]
+pub enum AskStop {
+    /// The search was stopped. The capacities are those of a question of the series before which each question is a no;
+    /// or there are none.
+    #[error("the search was stopped")]
+    Stopped { reached: Option<Capacities> },
+    /// Memory was refused.
+    #[error("out of memory")]
+    Memory,
+    /// No thread could be started.
+    #[error("no thread could be started")]
+    NoThread,
+}
+
+impl From<AllocError> for AskStop {
+    ghost use Rattle.std.specs.Prelude.{◌≡◌};
+    ghost use Rattle.racp_candidates.specs.declared.asker.AskStop.TheVariants.{Memory};
+
+    ghost from_gives = { λ _ stop. stop ≡ Memory };
+
+    fn from(_error: AllocError) -> AskStop {
+        AskStop::Memory
+    }
+}
+
+/// Finds the first yes of a series of questions about one network.
+pub trait Asker {
+    ghost use Rattle.std.specs.Prelude.{◌≡◌, IfOk, IfErr};
+    ghost use Rattle.racp_model.specs.Project.{Project};
+    ghost use Rattle.racp_candidates.specs.FirstYes.{IsFirst, IsStop};
+
+    ghost network: { Self → Project };
+
+    ghost may_stop: { Self → Type 0 };
+
+    ghost may_want_thread: { Self → Type 0 };
+
+    /// The first yes of the series, with starts in that question's window that keep precedence and its capacities. The
+    /// network is the one that the asker is about.
+    ///
+    /// # Errors
+    ///
+    /// The search was stopped, or no thread could be started, each only where the asker's meaning after the call says that
+    /// it may; or memory was refused.
+    fn first<S: Series + Send>(&mut self, net: &Network, series: S) -> Result<First, AskStop>
+        requires { net.now ≡ network self.old }
+        ensures network { network self.new ≡ network self.old }
+        ensures answer { IfOk result (IsFirst net.now (S.questions series)) }
+        ensures stop { IfErr result (IsStop net.now (S.questions series) (may_stop self.new) (may_want_thread self.new)) };
+}

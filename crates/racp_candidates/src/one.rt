@@ -1,0 +1,50 @@
+ghost use Rattle.std.specs.Prelude.{◌≡◌, List, [], ◌∷◌, IfOk};
+ghost use Rattle.racp_candidates.specs.Questions.{question_of};
+
+use crate::copies::copy_of;
+use crate::series::Series;
+use racp_model::{Capacities, Question, Window};
+use std::alloc::{AllocError, Global};
+use std::marker::Model;
+
+/// A series of one question. Contracts see the list of questions still to come.
+#[derive(Drop)]
+pub struct One {
+    question: Option<Question>,
+}
+
+impl Model for One {
+    ghost use Rattle.std.specs.Prelude.{List, option_to_list};
+    ghost use Rattle.racp_model.specs.declared.question.Question.{Question};
+
+    ghost Value = { List Question };
+
+    ghost view = { λ one. option_to_list one.question };
+}
+
+impl One {
+    /// The question of these capacities and this window. Copies both.
+    ///
+    /// # Errors
+    ///
+    /// Memory was refused.
+    pub fn new(alloc: Global, capacities: &Capacities, window: &Window) -> Result<Self, AllocError>
+        ensures { IfOk result (λ series. series ≡ question_of capacities.now window.now ∷ []) }
+    {
+        let question = Question {
+            capacities: Capacities::new(capacities.as_slice().to_vec(alloc)?),
+            window: copy_of(window)?,
+        };
+        Ok(One {
+            question: Some(question),
+        })
+    }
+}
+
+impl Series for One {
+    ghost questions = { λ series. series };
+
+    fn next(&mut self) -> Result<Option<Question>, AllocError> {
+        Ok(self.question.take())
+    }
+}
