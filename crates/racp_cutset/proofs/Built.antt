@@ -193,8 +193,11 @@ module _ (p : Project) (v w : SearchNode) (starts : List ℕ) (hw : IsNode p w) 
   within-between k t l h =
       elim (cases_lt 0 v.time) [
         | inl some ↦ omega (arith, usage-below p k (built_starts p v w.time starts) v.early t (v.time - 1) (λ i q x. (active-between t i h.0 h.1 q x).1), c.fits.within k (v.time - 1) l (omega arith))
-        | inr none ↦ omega (arith, sum_below-bound (length p.jobs) 0 (use_of p (built_starts p v w.time starts) k t)
-            (λ i q. omega (arith, use_of-idle p (built_starts p v w.time starts) k t i (λ x. let y = active-between t i h.0 h.1 q x in omega (arith, y.0)))))
+        | inr none ↦ omega (
+          arith,
+          sum_below-bound (length p.jobs) 0 (use_of p (built_starts p v w.time starts) k t)
+              (λ i q. omega (arith, use_of-idle p (built_starts p v w.time starts) k t i (λ x. let y = active-between t i h.0 h.1 q x in omega (arith, y.0)))),
+        )
       ]
 
   pub within-after : (k t : ℕ) → k < p.resources → w.time ≤ t → usage p (built_starts p v w.time starts) k t ≤ slice_index v.capacities k

@@ -1,5 +1,5 @@
 -- The set of the jobs that start before a time, as it is collected.
-use Rattle.std.proofs.Common.{◌≡◌, ◌⊎◌, ◌↔◌, inl, inr, ℕ, ◌+◌, ◌<◌, ◌≤◌, List, [], length, slice_index, arith, subst, Contains}
+use Rattle.std.proofs.Common.{◌≡◌, ◌⊎◌, inl, inr, ℕ, ◌+◌, ◌<◌, ◌≤◌, List, [], length, slice_index, arith, subst, Contains}
 use Rattle.std.proofs.lemmas.Bool.{cases_lt}
 use Rattle.std.specs.List.Sorted.{IsStrictlyIncreasing}
 use Rattle.racp_model.specs.Project.{number, IsNumber}

@@ -1,5 +1,5 @@
 -- What the rows of nodes say of them.
-use Rattle.std.proofs.Common.{◌≡◌, ◌↔◌, ◌∙◌, ℕ, ◌+◌, ◌-◌, ◌<◌, ◌≤◌, List, length, slice_index, Contains, All, arith, subst, sym, ap}
+use Rattle.std.proofs.Common.{◌≡◌, ◌↔◌, ℕ, ◌<◌, ◌≤◌, List, length, slice_index, Contains, All, arith, subst, sym, ap}
 use Rattle.std.proofs.lemmas.List.Kept.{AllPairs-from_increasing}
 use Rattle.racp_model.specs.Project.{Project, number, IsSound}
 use Rattle.racp_model.specs.Path.{IsEarly}
@@ -59,7 +59,7 @@ pub sets_from_started : (p : Project) (v w : SearchNode) (s r : List ℕ) → Is
     → ((i : ℕ) → i < length p.jobs → IsStarted v i ↔ IsStarted w i) → s ≡ r
 sets_from_started p v w s r hv hw first second same =
     same_from_members (λ x y. x < y) (λ x y a b. absurd (omega arith)) s r (AllPairs-from_increasing s first.rises) (AllPairs-from_increasing r second.rises)
-        (started_within p v w s r hv hw first second (λ i l. (same i l).0)) (started_within p w v r s hw hv second first (λ i l. (same i l).1))
+    (started_within p v w s r hv hw first second (λ i l. (same i l).0)) (started_within p w v r s hw hv second first (λ i l. (same i l).1))
 
 -- nodes with equal sets, in the order of their times, have one cutset
 pub cutset_tests : (p : Project) (v w : SearchNode) (s r : List ℕ) → IsNode p v → IsNode p w → AreStartedBefore v.early v.time s → AreStartedBefore w.early w.time r → v.time ≤ w.time

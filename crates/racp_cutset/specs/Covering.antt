@@ -1,7 +1,7 @@
 -- When the refutation of one node of the search refutes another: cutsets (Demeulemeester and Herroelen 1992), changed in that
 -- the capacities and the bounds of the windows are compared too, and only refuted nodes are recorded.
 use Rattle.std.specs.Prelude.{◌≡◌, ◌↔◌, ℕ, ◌+◌, ◌<◌, ◌≤◌, max, List, length, slice_index}
-use Rattle.racp_model.specs.Project.{Project, duration, IsSound}
+use Rattle.racp_model.specs.Project.{Project, duration}
 use Rattle.racp_model.specs.Schedule.{usage}
 use Rattle.racp_model.specs.Path.{IsEarly}
 use Rattle.racp_model.specs.Window.{Bounds, IsNo}

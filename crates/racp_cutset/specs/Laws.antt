@@ -2,7 +2,7 @@
 use Rattle.std.specs.Prelude.{◌≡◌, ℕ, ◌+◌, ◌<◌, ◌≤◌, ◌&&◌, List, length, slice_index, map, nat_lt, if◌then◌else◌}
 use Rattle.std.specs.List.{range_with_len}
 use Rattle.racp_model.specs.Project.{Project, IsSound, duration}
-use Rattle.racp_model.specs.Schedule.{KeepsPrecedence, usage, IsWithinCapacities}
+use Rattle.racp_model.specs.Schedule.{KeepsPrecedence, usage}
 use Rattle.racp_model.specs.Window.{LiesIn, Answers, IsYes, IsNo}
 use Rattle.racp_cutset.specs.Covering.{SearchNode, IsNode, IsStarted, Covers}
 

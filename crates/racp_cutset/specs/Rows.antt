@@ -1,7 +1,7 @@
 -- Contracts of private functions: rows of numbers, one for each job or resource, that are compared place by place.
-use Rattle.std.specs.Prelude.{◌≡◌, ◌↔◌, ℕ, ◌+◌, ◌<◌, ◌≤◌, max, List, length, slice_index, Contains}
+use Rattle.std.specs.Prelude.{◌↔◌, ℕ, ◌<◌, ◌≤◌, max, List, length, slice_index, Contains}
 use Rattle.std.specs.List.Sorted.{IsStrictlyIncreasing}
-use Rattle.racp_model.specs.Project.{Project, IsNumber}
+use Rattle.racp_model.specs.Project.{IsNumber}
 use Rattle.racp_delay.specs.Alternatives.{place}
 
 -- no number of the second row is above that of the first

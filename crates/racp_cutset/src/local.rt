@@ -85,13 +85,7 @@ impl<N: OfNetwork> Local<N> {
     pub(crate) fn read(&mut self, board: &Board<N>)
         ensures { self.new ≡ self.old }
     {
-        self.read = read_from(
-            self.read,
-            self.alloc,
-            &mut self.index,
-            board,
-            &self.kept,
-        );
+        self.read = read_from(self.read, self.alloc, &mut self.index, board, &self.kept);
     }
 
     /// A record that covers the node, of those that the index has.
@@ -170,11 +164,7 @@ fn forget_written<N: OfNetwork>(index: &mut Index, board: &Board<N>, nogood: &No
 }
 
 /// Whether a kept record stands at the place that the record covers.
-fn is_kept_covered<N: OfNetwork>(
-    kept: &Vec<Nogood<N>>,
-    nogood: &Nogood<N>,
-    place: Place,
-) -> bool {
+fn is_kept_covered<N: OfNetwork>(kept: &Vec<Nogood<N>>, nogood: &Nogood<N>, place: Place) -> bool {
     let Place::Kept(i) = place else {
         return false;
     };
@@ -185,11 +175,7 @@ fn is_kept_covered<N: OfNetwork>(
 }
 
 /// Whether a record of the board stands at the place that the record covers.
-fn is_written_covered<N: OfNetwork>(
-    board: &Board<N>,
-    nogood: &Nogood<N>,
-    place: Place,
-) -> bool {
+fn is_written_covered<N: OfNetwork>(board: &Board<N>, nogood: &Nogood<N>, place: Place) -> bool {
     let Place::Board(i) = place else {
         return false;
     };

@@ -4,7 +4,9 @@ ghost use Rattle.racp_model.specs.Project.{IsSound};
 ghost use Rattle.racp_cutset.specs.Covering.{SearchNode, IsNode, AreEnds, Covers, HasCutsetOf, HasRoomOf, EndsNoLater, MayStartAsEarly, FitsBeforeTime};
 ghost use Rattle.racp_cutset.specs.Rows.{AreStartedBefore};
 
-use crate::rows::{ends_of, hash_of, is_at_least, is_sooner_before, is_sooner_from, started_before};
+use crate::rows::{
+    ends_of, hash_of, is_at_least, is_sooner_before, is_sooner_from, started_before,
+};
 use racp_cpm::early;
 use racp_delay::JobSet;
 use racp_model::{Network, OfNetwork, Question, Starts};

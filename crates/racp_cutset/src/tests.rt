@@ -81,8 +81,7 @@ fn question(
     capacities: &[u32],
     lower: &[u32],
     upper: &[u32],
-) -> Result<Question, Fail>
-{
+) -> Result<Question, Fail> {
     assert!(rt; lower.iter().all(|bound| *bound <= 20_000_000));
     assert!(rt; upper.iter().all(|bound| *bound <= 10_000_000));
     let window = Window::new(
@@ -220,7 +219,10 @@ fn check_cutsets<N: OfNetwork>(rt: &impl Abort, alloc: Global, net: &Network) ->
     let second: (&[u32], &[u32]) = (&[0, 1, 0, 1, 1, 2], &upper);
     let third: (&[u32], &[u32]) = (&[0, 0, 1, 1, 1, 2], &upper);
     let known: Nogood<N> = nogood(rt, alloc, net, &[1, 1], second, 2)?;
-    assert_eq!(rt; known.node().early().as_slice(), [0, 1, 0, 2, 2, 3].as_slice());
+    assert_eq!(rt;
+        known.node().early().as_slice(),
+        [0, 1, 0, 2, 2, 3].as_slice()
+    );
     assert_eq!(rt; known.node().ends(), [0, 2, 1, 3, 3, 3].as_slice());
     let started = known.node().started();
     assert!(rt; started.contains(3) && !started.contains(4));

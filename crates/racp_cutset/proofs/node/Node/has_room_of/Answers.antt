@@ -1,4 +1,4 @@
-use Rattle.std.proofs.Common.{◌≡◌, ◌∙◌, ap, subst}
+use Rattle.std.proofs.Common.{◌∙◌, ap, subst}
 use Rattle.racp_cutset.specs.Covering.{SearchNode, IsNode}
 use Rattle.racp_cutset.proofs.Nodes.{room_rows}
 use Rattle.racp_cutset.proofs.node.Node.has_room_of.Goals as goal

@@ -1,4 +1,4 @@
-use Rattle.std.proofs.Common.{◌≡◌, ◌≤◌, ◌∙◌, All, List, ℕ, length, slice_index, arith, ap, subst, sym}
+use Rattle.std.proofs.Common.{◌≤◌, All, List, ℕ, length, slice_index, arith, ap, subst}
 use Rattle.racp_model.specs.Path.{IsEarly}
 use Rattle.racp_cutset.specs.Covering.{SearchNode}
 use Rattle.racp_cutset.proofs.Nodes.{early_small, made}
@@ -19,5 +19,5 @@ pub invariant_of-result : goal.invariant_of-result
 invariant_of-result g c =
     let v : SearchNode = record { capacities = c.args.question.capacities; window = c.args.question.window; early = c.in_ok-early.early; time = c.args.time } in
     made c.args.net.now g.N.OfNetwork.network v c.lower-2.result.now c.as_slice.result.now c.as_slice-2.result.now c.in_ok-ends.ends.items c.started_before-started.result
-        c.requires.named c.job_count.ensures.sound c.requires.capacities c.requires.lower c.requires.upper c.lower-2.ensures.bounds c.in_ok-early.ensures
-        c.as_slice.ensures c.in_ok-ends.ensures c.as_slice-2.ensures c.started_before-started.ensures
+    c.requires.named c.job_count.ensures.sound c.requires.capacities c.requires.lower c.requires.upper c.lower-2.ensures.bounds c.in_ok-early.ensures
+    c.as_slice.ensures c.in_ok-ends.ensures c.as_slice-2.ensures c.started_before-started.ensures
