@@ -56,7 +56,7 @@ fn chained(alloc: Global) -> Result<Network, NetFault> {
     )
 }
 
-/// Jobs 2 to 129 after 1 and before 130, each with duration and request 1; the first and the last with 0.
+/// Jobs 2 to 129 after 1 and before 130, each with a duration and a request of 1; the first and the last with none.
 fn wide(alloc: Global) -> Result<Network, NetFault> {
     let (jobs, arcs) = wide_parts(alloc)?;
     Network::new(alloc, 1, jobs, arcs)
