@@ -366,7 +366,7 @@ fn finds_the_newest_of_many(rt: HostRuntime) -> Result<(), Fail> {
     check_many::<Brand, HostRuntime>(&rt, alloc, &parallel(alloc)?)
 }
 
-/// The records of bounds that are ever later, from a time on.
+/// Thirty records of bounds that are ever later, from a time on: those of two threads fit into the places of one index.
 fn later_records<N: OfNetwork>(
     rt: &impl Abort,
     alloc: Global,
@@ -377,7 +377,7 @@ fn later_records<N: OfNetwork>(
     requires small { first ≤ 1000 }
 {
     let mut records = Vec::new(alloc);
-    for time in first..first + 100 {
+    for time in first..first + 30 {
         let (lower, upper) = shifted(time);
         let bounds = (lower.as_slice(), upper.as_slice());
         records.push(nogood(rt, alloc, net, &[2], bounds, 0)?)?;
@@ -415,11 +415,11 @@ fn check_sharing<N: OfNetwork + Send + Sync, R: Abort + Threads + Wait + Sync>(
     requires named { net.now ≡ N.network }
 {
     let board: Board<N> = Board::new(alloc, net)?;
-    let (lower, upper) = shifted(149);
+    let (lower, upper) = shifted(59);
     let bounds = (lower.as_slice(), upper.as_slice());
     let last: Node<N> = node(rt, alloc, net, &[1], bounds, 0)?;
     let first_records = later_records(rt, alloc, net, 0)?;
-    let more_records = later_records(rt, alloc, net, 50)?;
+    let more_records = later_records(rt, alloc, net, 30)?;
     let (one, two) = thread::join(
         rt,
         || -> bool
