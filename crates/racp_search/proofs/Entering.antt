@@ -1,0 +1,72 @@
+-- A window is entered, and how a search ends.
+use Rattle.std.proofs.Common.{◌≡◌, ◌≢◌, ◌⊎◌, inl, inr, ◌∙◌, ℕ, zero, suc, ◌+◌, ◌<◌, ◌≤◌, List, [], ◌∷◌, ◌++◌, length, Bool, true, false, Contains, arith, refl, sym, subst, ap, Option, Some, None, IfSome, IsFalse}
+use Rattle.std.proofs.lemmas.List.Elements.{Contains-append_left, Contains-append_right, Contains-append_cases}
+use Rattle.racp_model.specs.Project.{Project}
+use Rattle.racp_model.specs.Window.{Bounds, Answers, IsNo, WindowsCover}
+use Rattle.racp_model.proofs.lemmas.Relations.{member_cases, member_first, member_later, no_member}
+use Rattle.racp_search.specs.Truth.{IsRestOf, IsTrueFinding}
+use Rattle.racp_search.specs.Searching.{SearchFrame, open_windows, IsHigher, IsPartOf, IsSearching, IsFrameOf, weights}
+use Rattle.racp_search.specs.Ends.{IsClosed, IsSpent}
+use Rattle.racp_search.proofs.Stacks.{searching-refuted, searching-framed, searching-start, covers-more}
+use Rattle.racp_search.proofs.Popping.{open-with}
+use Rattle.racp_search.proofs.Weights.{framed-lighter, closed-lighter}
+
+-- a refuted window is closed
+pub closed-refuted : (p q : Project) (capacities : List ℕ) (whole : Bounds) (stack : List SearchFrame) (window : Bounds) → p ≡ q → IsSearching q capacities whole stack (window ∷ []) → IsNo p capacities window → IsClosed q capacities whole stack window stack
+closed-refuted p q capacities whole stack window named h refuted = record {
+  state = searching-refuted q capacities whole stack window h (subst (λ (r : Project). IsNo r capacities window) named refuted);
+  lighter = closed-lighter q (open_windows stack) window;
+}
+
+-- so is one whose frame is on the stack
+pub closed-framed : (q : Project) (capacities : List ℕ) (whole : Bounds) (stack new : List SearchFrame) (window : Bounds) (f : SearchFrame) → IsSearching q capacities whole stack (window ∷ []) → IsFrameOf q capacities window f → new ≡ stack ++ f ∷ [] → IsClosed q capacities whole stack window new
+closed-framed q capacities whole stack new window f h is e =
+    subst (λ (xs : List SearchFrame). IsClosed q capacities whole stack window xs) (sym e)
+    (record { state = searching-framed q capacities whole stack window f h is; lighter = framed-lighter q capacities stack window f is })
+
+-- the windows of one frame more are gathered
+pub gather : (window : Bounds) (ys : List SearchFrame) (f : SearchFrame) (rest more new : List Bounds) → rest ≡ window ∷ open_windows ys → more ≡ f.children → new ≡ rest ++ more → new ≡ window ∷ open_windows (ys ++ f ∷ [])
+gather window ys f rest more new is_rest is_more is_new =
+    is_new ∙ (ap (λ (xs : List Bounds). xs ++ more) is_rest ∙ (ap (λ (xs : List Bounds). window ∷ (open_windows ys ++ xs)) is_more ∙ ap (λ (xs : List Bounds). window ∷ xs) (sym (open-with ys f))))
+
+-- the members of a window and others, in either order
+swap : (xs : List Bounds) (window v : Bounds) → Contains (xs ++ window ∷ []) v → Contains (window ∷ xs) v
+swap xs window v c = elim (Contains-append_cases xs (window ∷ []) v c) [
+  | inl before ↦ member_later window xs v before
+  | inr here ↦ elim (member_cases window [] v here) [ inl same ↦ member_first window xs v same | inr none ↦ absurd (no_member v none) ]
+]
+
+swap-back : (xs : List Bounds) (window v : Bounds) → Contains (window ∷ xs) v → Contains (xs ++ window ∷ []) v
+swap-back xs window v c = elim (member_cases window xs v c) [
+  | inl same ↦ Contains-append_right xs (window ∷ []) v (member_first window [] v same)
+  | inr there ↦ Contains-append_left xs (window ∷ []) v there
+]
+
+-- what is open is left of the whole window
+pub open_left : (p : Project) (capacities : List ℕ) (whole : Bounds) (stack : List SearchFrame) (window : Bounds) (rest : List Bounds) → IsSearching p capacities whole stack (window ∷ []) → rest ≡ window ∷ open_windows stack → IsRestOf p capacities whole rest
+open_left p capacities whole stack window rest h e =
+    subst (λ (xs : List Bounds). IsRestOf p capacities whole xs) (sym e) (record {
+      covers = covers-more p capacities whole (open_windows stack ++ window ∷ []) (window ∷ open_windows stack) h.covers (swap (open_windows stack) window);
+      inside = λ part c. (h.parts part (swap-back (open_windows stack) window part c)).inside;
+    })
+
+-- and is higher, where the window is
+pub left_higher : (p : Project) (capacities : List ℕ) (whole : Bounds) (stack : List SearchFrame) (window : Bounds) (rest : List Bounds) → IsSearching p capacities whole stack (window ∷ []) → rest ≡ window ∷ open_windows stack → IsHigher p whole window →
+    (part : Bounds) → Contains rest part → IsHigher p whole part
+left_higher p capacities whole stack window rest h e higher part c = elim (member_cases window (open_windows stack) part (subst (λ (xs : List Bounds). Contains xs part) e c)) [
+  | inl same ↦ subst (λ (x : Bounds). IsHigher p whole x) same higher
+  | inr there ↦ h.higher part there
+]
+
+-- a spent quantum allows some node, and is there
+pub spent_some : (quantum : Option ℕ) (nodes : ℕ) → IsSpent quantum nodes true → IfSome quantum (λ most. 1 ≤ most) → 0 < nodes
+spent_some (Some most) nodes h some = omega (arith, h.0 refl, some)
+spent_some None nodes h some = absurd (cc h)
+
+pub spent_there : (quantum : Option ℕ) (nodes : ℕ) → IsSpent quantum nodes true → quantum ≡ None → ⊥
+spent_there (Some most) nodes h e = absurd (cc e)
+spent_there None nodes h e = absurd (cc h)
+
+-- true is not false
+pub not_false : IsFalse true → ⊥
+not_false h = absurd (cc h)

@@ -1,0 +1,57 @@
+-- The last frame of a stack is taken out: its last window is searched next, or it has run out.
+use Rattle.std.proofs.Common.{◌≡◌, ◌∙◌, ℕ, zero, suc, ◌+◌, ◌<◌, ◌≤◌, List, [], ◌∷◌, ◌++◌, length, Contains, arith, refl, sym, subst, ap}
+use Rattle.std.proofs.lemmas.List.{append-nil}
+use Rattle.std.proofs.lemmas.List.Elements.{Contains-append_right}
+use Rattle.racp_model.specs.Project.{Project}
+use Rattle.racp_model.specs.Window.{Bounds, IsNo}
+use Rattle.racp_model.proofs.lemmas.Relations.{member_first}
+use Rattle.racp_cutset.specs.Covering.{SearchNode}
+use Rattle.racp_search.specs.Searching.{SearchFrame, open_windows, IsHigher, IsSearching, weight, weights}
+use Rattle.racp_search.specs.Steps.{IsNext}
+use Rattle.racp_search.proofs.Stacks.{open-last, searching-next, searching-popped, split-higher, frame-refuted}
+use Rattle.racp_search.proofs.Weights.{weights-append}
+
+-- a list without elements
+pub empty : {X : Type 0} (xs : List X) → length xs ≡ 0 → xs ≡ []
+empty [] e = refl
+empty (x ∷ xs) e = absurd (omega (arith, e))
+
+-- the windows of a stack with one frame more
+pub open-with : (fs : List SearchFrame) (f : SearchFrame) → open_windows (fs ++ f ∷ []) ≡ open_windows fs ++ f.children
+open-with fs f = sym (append-nil (open_windows (fs ++ f ∷ []))) ∙ (open-last fs f [] ∙ ap (λ (xs : List Bounds). open_windows fs ++ xs) (append-nil f.children))
+
+-- the same windows are open where the last is searched next
+pub open-next : (fs : List SearchFrame) (f g : SearchFrame) (window : Bounds) → f.children ≡ g.children ++ window ∷ [] → open_windows (fs ++ g ∷ []) ++ window ∷ [] ≡ open_windows (fs ++ f ∷ [])
+open-next fs f g window e = open-last fs g (window ∷ []) ∙ (ap (λ (xs : List Bounds). open_windows fs ++ xs) (sym e) ∙ sym (open-with fs f))
+
+module _ (p : Project) (capacities : List ℕ) (whole : Bounds) (start stack fs : List SearchFrame) (f : SearchFrame) (node : SearchNode) (children : List Bounds) where
+  -- the last window of the last frame
+  pub is_next : (left : List Bounds) (window : Bounds) (new : List SearchFrame) → stack ≡ fs ++ f ∷ [] → record { node = node; children = children } ≡ f → IsSearching p capacities whole stack [] →
+      weights p (open_windows stack) ≤ weights p (open_windows start) →
+      children ≡ left ++ window ∷ [] → new ≡ fs ++ record { node = node; children = left } ∷ [] → IsNext p capacities whole start window new
+  is_next left window new is_stack is_f h lighter is_children is_new =
+      let g : SearchFrame = record { node = node; children = left } in
+      let all : f.children ≡ g.children ++ window ∷ [] = sym (ap (λ (x : SearchFrame). x.children) is_f) ∙ is_children in
+      let at : IsSearching p capacities whole (fs ++ f ∷ []) [] = subst (λ (xs : List SearchFrame). IsSearching p capacities whole xs []) is_stack h in
+      subst (λ (xs : List SearchFrame). IsNext p capacities whole start window xs) (sym is_new)
+      (record {
+        state = searching-next p capacities whole fs f g window at (ap (λ (x : SearchFrame). x.node) is_f) all;
+        higher = split-higher p capacities whole fs f [] at window (subst (λ (xs : List Bounds). Contains xs window) (sym all) (Contains-append_right g.children (window ∷ []) window (member_first window [] window refl)));
+        lighter = omega (arith, ap (weights p) (open-next fs f g window all), ap (λ (xs : List SearchFrame). weights p (open_windows xs)) is_stack, lighter);
+      })
+
+  -- the frame has run out
+  pub is_refuted : stack ≡ fs ++ f ∷ [] → record { node = node; children = children } ≡ f → IsSearching p capacities whole stack [] → length children ≡ 0 → IsNo p node.capacities node.window
+  is_refuted is_stack is_f h none =
+      let at : IsSearching p capacities whole (fs ++ f ∷ []) [] = subst (λ (xs : List SearchFrame). IsSearching p capacities whole xs []) is_stack h in
+      let gone : f.children ≡ [] = sym (ap (λ (x : SearchFrame). x.children) is_f) ∙ empty children none in
+      subst (λ (v : SearchNode). IsNo p v.capacities v.window) (sym (ap (λ (x : SearchFrame). x.node) is_f)) (frame-refuted p capacities whole fs f at gone)
+
+  pub is_popped : stack ≡ fs ++ f ∷ [] → record { node = node; children = children } ≡ f → IsSearching p capacities whole stack [] → length children ≡ 0 → IsSearching p capacities whole fs []
+  is_popped is_stack is_f h none =
+      let at : IsSearching p capacities whole (fs ++ f ∷ []) [] = subst (λ (xs : List SearchFrame). IsSearching p capacities whole xs []) is_stack h in
+      searching-popped p capacities whole fs f at (sym (ap (λ (x : SearchFrame). x.children) is_f) ∙ empty children none)
+
+  pub popped-lighter : stack ≡ fs ++ f ∷ [] → weights p (open_windows stack) ≤ weights p (open_windows start) → weights p (open_windows fs) ≤ weights p (open_windows start)
+  popped-lighter is_stack lighter =
+      omega (arith, lighter, ap (λ (xs : List SearchFrame). weights p (open_windows xs)) is_stack, ap (weights p) (open-with fs f), weights-append p (open_windows fs) f.children)

@@ -1,0 +1,13 @@
+use Rattle.std.proofs.Common.{◌<◌, ◌≤◌, ◌++◌, ◌∷◌, [], IfSome}
+use Rattle.racp_search.specs.Searching.{IsSearching, IsHigher, open_windows, weights}
+use Rattle.racp_search.proofs.searching.search.Given as goal
+
+abbrev pub invariant-next : goal.invariant-next
+invariant-next g l = record {
+  state : IsSearching g.N.OfNetwork.network l.question.capacities l.question.window l.stack.items (l.window ∷ []);
+  higher : 0 < l.nodes → IsHigher g.N.OfNetwork.network l.question.window l.window;
+  bounded : IfSome l.quantum (λ most. l.nodes ≤ most);
+}
+
+abbrev pub decreases-next : goal.decreases-next
+decreases-next g l = weights g.N.OfNetwork.network (open_windows l.stack.items ++ l.window ∷ [])

@@ -1,0 +1,33 @@
+-- Contracts of private functions: how a search by depth ends.
+use Rattle.std.specs.Prelude.{◌≡◌, ◌↔◌, ℕ, ◌+◌, ◌<◌, ◌≤◌, List, [], ◌∷◌, ◌++◌, Bool, IsTrue, IsFalse, Option, Some, None, Contains}
+use Rattle.racp_model.specs.Project.{Project}
+use Rattle.racp_model.specs.Window.{Bounds, Answers}
+use Rattle.racp_search.specs.Truth.{IsTrueFinding}
+use Rattle.racp_search.specs.Searching.{SearchFrame, open_windows, IsHigher, IsSearching, weights}
+use Rattle.racp_search.specs.declared.searching.Ended.{Ended}
+
+-- whether as many nodes were entered as the quantum allows
+abbrev pub IsSpent : Option ℕ → ℕ → Bool → Type 0
+IsSpent (Some most) nodes result = IsTrue result ↔ (most ≤ nodes)
+IsSpent None nodes result = IsFalse result
+
+-- a window is not open any more: its child windows are on the stack, or nothing in it answers
+pub record IsClosed (p : Project) (capacities : List ℕ) (whole : Bounds) (old : List SearchFrame) (window : Bounds) (new : List SearchFrame) : Type 0 where
+  pub state : IsSearching p capacities whole new []
+  pub lighter : weights p (open_windows new) < weights p (open_windows old ++ window ∷ [])
+
+-- what entering a window answers: starts that answer the question, or that the window is closed
+abbrev pub IsEntered : Project → List ℕ → Bounds → List SearchFrame → Bounds → List SearchFrame → Option (List ℕ) → Type 0
+IsEntered p capacities whole old window new (Some starts) = Answers p capacities whole starts
+IsEntered p capacities whole old window new None = IsClosed p capacities whole old window new
+
+-- how a search of a window ended
+pub record IsEnd (p : Project) (capacities : List ℕ) (window : Bounds) (quantum : Option ℕ) (ended : Ended) : Type 0 where
+  pub is_true : IsTrueFinding p capacities window ended.found ended.rest.items
+  pub higher : IsFalse ended.stopped → ended.found ≡ None → (part : Bounds) → Contains ended.rest.items part → IsHigher p window part
+  pub all : IsFalse ended.stopped → ended.found ≡ None → quantum ≡ None → ended.rest.items ≡ []
+
+-- whether the quantum allows no node
+abbrev pub AllowsNone : Option ℕ → Bool → Type 0
+AllowsNone (Some most) result = IsTrue result ↔ (most ≡ 0)
+AllowsNone None result = IsFalse result

@@ -1,0 +1,67 @@
+ghost use Rattle.std.specs.Prelude.{◌≡◌, ◌≢◌, ℕ, ◌<◌, ◌≤◌, [], All, IfOk, length, slice_index};
+ghost use Rattle.racp_model.specs.Project.{IsNumber, IsSound};
+ghost use Rattle.racp_delay.specs.Branching.{IsClash};
+ghost use Rattle.racp_search.specs.Children.{AreChildren, IsPutOff, IsRaised};
+
+use racp_delay::{Clash, alternatives, first_end, laws};
+use racp_model::{Capacities, Network, Starts, Window};
+use std::alloc::{AllocError, Global};
+
+/// The child windows of a window at the first conflict of its early starts, which are at most 10,000,000: one for each minimal
+/// delaying alternative other than the whole active set, in the order of the alternatives. In it the lower bounds of the jobs
+/// that go are raised to the first end of a job that stays (Demeulemeester and Herroelen 1992).
+pub(crate) fn children(
+    alloc: Global,
+    net: &Network,
+    capacities: &Capacities,
+    window: &Window,
+    early: &Starts,
+    clash: &Clash,
+) -> Result<Vec<Window>, AllocError>
+    requires sound { IsSound net.now }
+    requires capacities { length capacities.now ≡ net.now.resources }
+    requires lower { length window.now.lower ≡ length net.now.jobs }
+    requires early { length early.now ≡ length net.now.jobs }
+    requires small { (i : ℕ) → i < length net.now.jobs → slice_index early.now i ≤ 10000000 }
+    requires clash { IsClash net.now capacities.now early.now clash.now.time clash.now.active }
+    ensures { IfOk result (λ windows. AreChildren net.now capacities.now early.now clash.now.active window.now windows.items) }
+{
+    laws::others_stay();
+    laws::subsets_go();
+    let lists = alternatives(alloc, net, capacities, clash)?;
+    let mut windows = Vec::new(alloc);
+    for list in &lists {
+        let gone = list.as_slice();
+        let end = match first_end(net, early, &clash.active, gone) {
+            Some(end) => end,
+            None => continue,
+        };
+        windows.push(put_off(alloc, window, gone, end as u32)?)?;
+    }
+    Ok(windows)
+}
+
+/// The window with the lower bounds of these jobs raised to a time.
+fn put_off(alloc: Global, window: &Window, gone: &[u32], end: u32) -> Result<Window, AllocError>
+    requires gone { All (IsNumber (length window.now.lower)) gone.now }
+    requires end { end ≤ 20000000 }
+    ensures { IfOk result (IsPutOff window.now gone.now end) }
+{
+    let mut lower = Vec::from_slice(alloc, window.lower())?;
+    raise(&mut lower, gone, end);
+    let upper = Vec::from_slice(alloc, window.upper())?;
+    Ok(Window::new(Starts::new(lower), Starts::new(upper)))
+}
+
+/// Raises the times of these jobs to a time at least.
+fn raise(times: &mut [u32], gone: &[u32], end: u32)
+    requires { All (IsNumber (length times.old)) gone.now }
+    ensures { IsRaised times.old gone.now end times.new }
+{
+    for job in gone {
+        let place = *job as usize - 1;
+        if times[place] < end {
+            times[place] = end;
+        }
+    }
+}

@@ -1,0 +1,97 @@
+ghost use Rattle.std.specs.Prelude.{◌≡◌, IsTrue, IsFalse, IfOk, length};
+ghost use Rattle.racp_search.specs.Truth.{IsExplored, IsDecision};
+ghost use Rattle.racp_search.specs.Ends.{AllowsNone};
+
+use crate::finding::Finding;
+use crate::piece::Piece;
+use crate::searching::search;
+use crate::stop::{Never, Stop};
+use racp_cutset::{Board, Local};
+use racp_model::{Network, OfNetwork, Question, Starts};
+use std::alloc::{AllocError, Global};
+use std::marker::Brand;
+
+/// Searches a piece: branches at the first conflict of the early starts over the minimal delaying alternatives
+/// (Demeulemeester and Herroelen 1992), by depth, until starts are found, nothing is left, as many nodes were searched as the
+/// quantum allows, or the search is stopped. `None` is no bound on the nodes. The stop is asked before each node.
+///
+/// A node that a record of the board or of `local` covers is skipped. A node is kept in `local` once all of its window has been
+/// refuted. Where memory is refused the finding is short and leaves the whole window of the piece.
+pub fn explore<N: OfNetwork, S: Stop>(
+    alloc: Global,
+    net: &Network,
+    piece: Piece,
+    quantum: Option<u64>,
+    board: &Board<N>,
+    local: &mut Local<N>,
+    stop: &S,
+) -> Finding<N>
+    requires named { net.now ≡ N.network }
+    requires capacities { length piece.question.capacities ≡ net.now.resources }
+    requires lower { length piece.question.window.lower ≡ length net.now.jobs }
+    requires upper { length piece.question.window.upper ≡ length net.now.jobs }
+    ensures explored { IsExplored N.network piece quantum result }
+    ensures quiet { IsTrue S.QUIET → IsFalse result.stopped }
+{
+    if allows_none(quantum) {
+        return Finding::whole(piece, 0, false);
+    }
+    let mut nodes = 0;
+    let question = piece.question();
+    match search(
+        alloc, net, question, quantum, &mut nodes, board, local, stop,
+    ) {
+        Ok(ended) => Finding::new(piece, ended.rest, ended.found, nodes, ended.stopped),
+        Err(_) => Finding::whole(piece, nodes, true),
+    }
+}
+
+/// Whether the quantum allows no node.
+fn allows_none(quantum: Option<u64>) -> bool
+    ensures { AllowsNone quantum result }
+{
+    match quantum {
+        Some(most) => most == 0,
+        None => false,
+    }
+}
+
+/// Decides a question on one thread: starts that answer it, or `None` where nothing does. There is a capacity for each resource
+/// and a bound for each job, by place from 0. Always ends.
+///
+/// # Errors
+///
+/// Memory was refused.
+pub fn decide(
+    alloc: Global,
+    net: &Network,
+    question: &Question,
+) -> Result<Option<Starts>, AllocError>
+    requires capacities { length question.now.capacities ≡ net.now.resources }
+    requires lower { length question.now.window.lower ≡ length net.now.jobs }
+    requires upper { length question.now.window.upper ≡ length net.now.jobs }
+    ensures { IfOk result (IsDecision net.now question.now.capacities question.now.window) }
+{
+    decide_named::<Brand>(alloc, net, question)
+}
+
+/// The same, for the network that `N` names.
+fn decide_named<N: OfNetwork>(
+    alloc: Global,
+    net: &Network,
+    question: &Question,
+) -> Result<Option<Starts>, AllocError>
+    requires named { net.now ≡ N.network }
+    requires capacities { length question.now.capacities ≡ net.now.resources }
+    requires lower { length question.now.window.lower ≡ length net.now.jobs }
+    requires upper { length question.now.window.upper ≡ length net.now.jobs }
+    ensures { IfOk result (IsDecision net.now question.now.capacities question.now.window) }
+{
+    let board: Board<N> = Board::new(alloc, net)?;
+    let mut local: Local<N> = Local::new(alloc, net);
+    let mut nodes = 0;
+    let ended = search(
+        alloc, net, question, None, &mut nodes, &board, &mut local, &Never,
+    )?;
+    Ok(ended.found)
+}

@@ -1,0 +1,156 @@
+ghost use Rattle.std.specs.Prelude.{◌≡◌, option_copied, false};
+ghost use Rattle.racp_search.specs.Truth.{IsTrueFinding, rest_windows};
+
+use crate::piece::Piece;
+use racp_model::{OfNetwork, Starts, Window};
+use std::marker::{Model, PhantomData};
+
+/// The windows in which a search has still to look.
+#[derive(Debug, Drop)]
+pub enum Rest {
+    /// The window of the piece itself.
+    Whole,
+    /// These windows.
+    Windows(Vec<Window>),
+}
+
+/// What a search of a piece found, of the network that `N` names. It is true: either the found starts answer the piece's
+/// question and nothing is left to be searched, or nothing is found, and whatever answers lies in a window of the rest.
+/// Contracts see a `SearchFinding`.
+#[derive(Debug)]
+pub struct Finding<N: OfNetwork> {
+    piece: Piece,
+    rest: Rest,
+    found: Option<Starts>,
+    nodes: u64,
+    stopped: bool,
+    short: bool,
+    of: PhantomData<N>,
+}
+
+impl<N: OfNetwork> Model for Finding<N> {
+    ghost use Rattle.racp_search.specs.Truth.{SearchFinding, IsTrueFinding, rest_windows};
+
+    ghost Value = { SearchFinding };
+
+    ghost view = { λ f. record { piece = f.piece; rest = f.rest; found = f.found; nodes = f.nodes; stopped = f.stopped; short = f.short } };
+
+    ghost invariant = { λ f. IsTrueFinding N.network f.piece.question.capacities f.piece.question.window f.found (rest_windows f.piece.question.window f.rest) };
+}
+
+impl<N: OfNetwork> Finding<N> {
+    /// What a search of a piece found and left. Takes no memory.
+    pub(crate) fn new(
+        piece: Piece,
+        rest: Vec<Window>,
+        found: Option<Starts>,
+        nodes: u64,
+        stopped: bool,
+    ) -> Self
+        requires { IsTrueFinding N.network piece.question.capacities piece.question.window found rest.items }
+        ensures { result ≡ record { piece = piece; rest = Rest.Windows rest; found = found; nodes = nodes; stopped = stopped; short = false } }
+    {
+        Finding {
+            piece,
+            rest: Rest::Windows(rest),
+            found,
+            nodes,
+            stopped,
+            short: false,
+            of: PhantomData,
+        }
+    }
+
+    /// Nothing found, and the whole window of the piece left. Takes no memory.
+    pub(crate) fn whole(piece: Piece, nodes: u64, short: bool) -> Self
+        ensures { result ≡ record { piece = piece; rest = Rest.Whole; found = None; nodes = nodes; stopped = false; short = short } }
+    {
+        Finding {
+            piece,
+            rest: Rest::Whole,
+            found: None,
+            nodes,
+            stopped: false,
+            short,
+            of: PhantomData,
+        }
+    }
+
+    /// The piece that was searched.
+    pub fn piece(&self) -> &Piece
+        ensures piece { result.now ≡ self.now.piece }
+        ensures is_true { IsTrueFinding N.network self.now.piece.question.capacities self.now.piece.question.window self.now.found (rest_windows self.now.piece.question.window self.now.rest) }
+    {
+        &self.piece
+    }
+
+    /// The windows in which is still to be looked.
+    pub fn rest(&self) -> &Rest
+        ensures rest { result.now ≡ self.now.rest }
+        ensures is_true { IsTrueFinding N.network self.now.piece.question.capacities self.now.piece.question.window self.now.found (rest_windows self.now.piece.question.window self.now.rest) }
+    {
+        &self.rest
+    }
+
+    /// The starts that answer the piece's question, if such were found.
+    pub fn found(&self) -> Option<&Starts>
+        ensures { option_copied result ≡ self.now.found }
+    {
+        self.found.as_ref()
+    }
+
+    /// How many nodes were searched: windows whose early starts were computed. Stays at the greatest `u64` once there.
+    pub fn nodes(&self) -> u64
+        ensures { result ≡ self.now.nodes }
+    {
+        self.nodes
+    }
+
+    /// Whether the search was stopped.
+    pub fn stopped(&self) -> bool
+        ensures { result ≡ self.now.stopped }
+    {
+        self.stopped
+    }
+
+    /// Whether memory was refused to the search.
+    pub fn short(&self) -> bool
+        ensures { result ≡ self.now.short }
+    {
+        self.short
+    }
+
+    /// Gives the piece back. Takes no memory.
+    pub fn into_piece(self) -> Piece
+        ensures { result ≡ self.piece }
+    {
+        let Finding {
+            piece,
+            rest: _rest,
+            found: _found,
+            nodes: _,
+            stopped: _,
+            short: _,
+            of: _,
+        } = self;
+        piece
+    }
+
+    /// Spends the piece, and answers what was found. Takes no memory.
+    pub fn into_found(self) -> Option<Starts>
+        ensures found { result ≡ self.found }
+        ensures is_true { IsTrueFinding N.network self.piece.question.capacities self.piece.question.window self.found (rest_windows self.piece.question.window self.rest) }
+    {
+        let Finding {
+            piece,
+            rest: _rest,
+            found,
+            nodes: _,
+            stopped: _,
+            short: _,
+            of: _,
+        } = self;
+        let _ = piece.into_question();
+        found
+    }
+}
