@@ -18,12 +18,13 @@ pub fn early(alloc: Global, net: &Network, lower: &[u32]) -> Result<Starts, Allo
     ensures { IfOk result (IsEarly net.now (slice_index lower.now)) }
 {
     let mut starts = Vec::from_slice(alloc, lower)?;
-    raise(net, &mut starts);
+    settle_early(net, &mut starts);
     Ok(Starts::new(starts))
 }
 
-/// Raises each start to the end of the jobs before it, in one sweep.
-fn raise(net: &Network, starts: &mut [u32])
+/// Turns lower bounds into the early starts above them, in place: raises each start to the end of the jobs before it, in one
+/// sweep. There is a bound for each job, by place from 0, of at most 20,000,000 time units. Takes no memory.
+pub fn settle_early(net: &Network, starts: &mut [u32])
     requires places { length starts.old ≡ length net.now.jobs }
     requires small { All (λ x. x ≤ 20000000) starts.old }
     ensures { IsEarly net.now (slice_index starts.old) starts.new }

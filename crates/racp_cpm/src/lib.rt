@@ -8,7 +8,7 @@ mod latest;
 pub mod laws;
 mod root_window;
 
-pub use earliest::{early, longest};
+pub use earliest::{early, longest, settle_early};
 pub use latest::late;
 pub use root_window::{first_late, root};
 

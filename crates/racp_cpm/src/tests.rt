@@ -1,6 +1,6 @@
 //! Early and late starts, critical lengths and root windows of small networks.
 
-use crate::{early, first_late, late, longest, root};
+use crate::{early, first_late, late, longest, root, settle_early};
 use racp_model::{Job, NetFault, Network};
 use std::alloc::{AllocError, Global};
 use std::process::Abort;
@@ -104,6 +104,9 @@ fn finds_early_and_late_starts(rt: HostRuntime) -> Result<(), Fail> {
         early(alloc, &net, &zeros)?.as_slice(),
         [0, 0, 0, 0, 3].as_slice()
     );
+    let mut starts = zeros;
+    settle_early(&net, &mut starts);
+    assert_eq!(rt; starts, [0, 0, 0, 0, 3]);
     let starts = late(alloc, &net, &due)?.ok_or("no late starts")?;
     assert_eq!(rt; starts.as_slice(), [1, 1, 2, 2, 4].as_slice());
     assert!(rt; late(alloc, &net, &[2; 5])?.is_none());

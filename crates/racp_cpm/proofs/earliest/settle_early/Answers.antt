@@ -2,8 +2,8 @@ use Rattle.std.proofs.Common.{◌≡◌, ◌<◌, length, slice_index, slice_ind
 use Rattle.racp_model.proofs.lemmas.Sums.{duration-small}
 use Rattle.racp_cpm.proofs.Raising.{raised_all, raised-kept, raised-set}
 use Rattle.racp_cpm.proofs.lemmas.Bounded.{some_starts}
-use Rattle.racp_cpm.proofs.earliest.raise.Goals as goal
-use Rattle.racp_cpm.proofs.earliest.raise.Goals.{then-starts-j, else-starts-j}
+use Rattle.racp_cpm.proofs.earliest.settle_early.Goals as goal
+use Rattle.racp_cpm.proofs.earliest.settle_early.Goals.{then-starts-j, else-starts-j}
 
 pub overflow_add-end : goal.overflow_add-end
 overflow_add-end c =
