@@ -48,6 +48,9 @@ fn active_at(net: &Network, starts: &[u32], time: u32) -> JobSet
     active
 }
 
+/// Up to this number of jobs, smaller rows are set up for the events.
+const FEW_JOBS: usize = 64;
+
 /// A time, and the number, from 1, of a job that starts or ends then.
 type Event = (u64, u32);
 
@@ -58,15 +61,16 @@ fn first_excess(net: &Network, capacities: &[u32], starts: &[u32]) -> Option<u32
     ensures { IsExcessAnswer net.now capacities.now starts.now result }
 {
     let count = net.job_count();
+    if count <= FEW_JOBS {
+        let mut by_start = [(0, 0); FEW_JOBS];
+        let mut by_end = [(0, 0); FEW_JOBS];
+        let (first, second) = (&mut by_start[..count], &mut by_end[..count]);
+        return sweep(net, capacities, starts, first, second);
+    }
     let mut by_start = [(0, 0); MOST_JOBS];
     let mut by_end = [(0, 0); MOST_JOBS];
-    sweep(
-        net,
-        capacities,
-        starts,
-        &mut by_start[..count],
-        &mut by_end[..count],
-    )
+    let (first, second) = (&mut by_start[..count], &mut by_end[..count]);
+    sweep(net, capacities, starts, first, second)
 }
 
 /// The same, with room for the events in the order of starts and in that of ends. At each start the jobs that started so far

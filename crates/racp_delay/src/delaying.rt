@@ -1,4 +1,4 @@
-ghost use Rattle.std.specs.Prelude.{◌≡◌, ◌↔◌, ℕ, ◌+◌, ◌*◌, ◌<◌, ◌≤◌, IsTrue, List, IfOk, All, List, length, slice_index, vec_len};
+ghost use Rattle.std.specs.Prelude.{◌≡◌, ◌↔◌, ℕ, ◌+◌, ◌*◌, ◌<◌, ◌≤◌, IsTrue, [], IfOk, OnOk, All, List, length, slice_index, vec_len};
 ghost use Rattle.std.specs.List.Sorted.{IsStrictlyIncreasing};
 ghost use Rattle.racp_model.specs.Project.{request, IsNumber, IsSound};
 ghost use Rattle.racp_delay.specs.Alternatives.{place, AreAlternatives, Splits, job_lists};
@@ -13,6 +13,7 @@ use racp_model::limits::MOST_RESOURCES;
 use racp_model::{Capacities, Network, Starts};
 use smallvec::SmallVec;
 use std::alloc::{AllocError, Global};
+use std::marker::Model;
 
 /// Whether the loads fit the capacities.
 fn are_within(net: &Network, capacities: &[u32], loads: &Loads) -> bool
@@ -100,35 +101,100 @@ pub fn alternatives(
     requires active { All (IsNumber (length net.now.jobs)) clash.now.active }
     ensures { IfOk result (λ lists. AreAlternatives net.now capacities.now clash.now.active (job_lists lists.items)) }
 {
-    let (active, loads) = load_of(alloc, net, &clash.active)?;
-    let mut gone = Vec::new(alloc);
-    let mut lists = Vec::new(alloc);
-    add(
-        net,
-        capacities.as_slice(),
-        &[0; MOST_RESOURCES],
-        &loads,
-        &mut gone,
-        &active,
-        &mut lists,
-    )?;
-    Ok(lists)
+    let mut found = DelayingAlternatives::new(alloc);
+    found.find(net, capacities, clash)?;
+    Ok(found.into_lists())
 }
 
-/// The jobs of a set, and what they request together of each resource.
-fn load_of(alloc: Global, net: &Network, jobs: &JobSet) -> Result<(Vec<u32>, Loads), AllocError>
+/// The alternatives of the conflict that was looked at last, in memory that is used again from one conflict to the next.
+/// Contracts see the list of them.
+#[derive(Drop)]
+pub struct DelayingAlternatives {
+    active: Vec<u32>,
+    gone: Vec<u32>,
+    lists: Vec<SmallVec<u32, 8>>,
+}
+
+impl Model for DelayingAlternatives {
+    ghost use Rattle.std.specs.Prelude.{ℕ, List};
+    ghost use Rattle.racp_delay.specs.Alternatives.{job_lists};
+
+    ghost Value = { List (List ℕ) };
+
+    ghost view = { λ found. job_lists found.lists.items };
+}
+
+impl DelayingAlternatives {
+    /// No alternatives. Takes no memory.
+    pub fn new(alloc: Global) -> Self
+        ensures { result ≡ [] }
+    {
+        DelayingAlternatives {
+            active: Vec::new(alloc),
+            gone: Vec::new(alloc),
+            lists: Vec::new(alloc),
+        }
+    }
+
+    /// Finds what `alternatives` answers, in place of what was found before.
+    ///
+    /// # Errors
+    ///
+    /// Memory was refused; then the alternatives are any.
+    pub fn find(
+        &mut self,
+        net: &Network,
+        capacities: &Capacities,
+        clash: &Clash,
+    ) -> Result<(), AllocError>
+        requires capacities { length capacities.now ≡ net.now.resources }
+        requires active { All (IsNumber (length net.now.jobs)) clash.now.active }
+        ensures { OnOk result (AreAlternatives net.now capacities.now clash.now.active self.new) }
+    {
+        self.gone.clear();
+        self.lists.clear();
+        let loads = load_of(net, &clash.active, &mut self.active)?;
+        add(
+            net,
+            capacities.as_slice(),
+            &[0; MOST_RESOURCES],
+            &loads,
+            &mut self.gone,
+            &self.active,
+            &mut self.lists,
+        )?;
+        Ok(())
+    }
+
+    /// The lists of the alternatives.
+    pub fn lists(&self) -> &[SmallVec<u32, 8>]
+        ensures { job_lists result.now ≡ self.now }
+    {
+        &self.lists
+    }
+
+    /// Gives the lists. Takes no memory.
+    pub fn into_lists(self) -> Vec<SmallVec<u32, 8>>
+        ensures { job_lists result.items ≡ self }
+    {
+        self.lists
+    }
+}
+
+/// Puts the jobs of a set into a list, in place of what was there, and sums up what they request of each resource.
+fn load_of(net: &Network, jobs: &JobSet, list: &mut Vec<u32>) -> Result<Loads, AllocError>
     requires { All (IsNumber (length net.now.jobs)) jobs.now }
-    ensures jobs { IfOk result (λ loaded. loaded.0.items ≡ jobs.now) }
-    ensures loads { IfOk result (λ loaded. AreLoads net.now jobs.now loaded.1) }
+    ensures jobs { OnOk result (list.new.items ≡ jobs.now) }
+    ensures loads { IfOk result (AreLoads net.now jobs.now) }
     ensures rises { AreJobs jobs.now }
 {
-    let mut list = Vec::new(alloc);
+    list.clear();
     let mut loads = [0; MOST_RESOURCES];
     for job in jobs.iter() {
         list.push(job)?;
         loads = with(net, &loads, job);
     }
-    Ok((list, loads))
+    Ok(loads)
 }
 
 /// When the first of the active jobs of a conflict ends that do not go, in time units, or `None` where all go. `gone` are the

@@ -8,7 +8,7 @@ pub mod laws;
 mod loads;
 
 pub use conflicts::{Clash, conflict};
-pub use delaying::{alternatives, first_end};
+pub use delaying::{DelayingAlternatives, alternatives, first_end};
 pub use job_set::{JobSet, Jobs};
 
 #[cfg(test)]

@@ -3,7 +3,7 @@ use Rattle.racp_delay.proofs.Loading.{loading-start, next-number, loads-small, l
 use Rattle.racp_delay.proofs.delaying.load_of.Goals as goal
 
 pub loop-job-init : goal.loop-job-init
-loop-job-init c = loading-start c.args.net.now c.args.jobs.now c.new-list.result.items c.into_iter-job-iterator.result 16 c.new-list.ensures.items (c.into_iter-job-iterator.ensures.into_iter_gives ∙ c.iter-job-items.ensures.same)
+loop-job-init c = loading-start c.args.net.now c.args.jobs.now c.clear.new.self.items c.into_iter-job-iterator.result 16 c.clear.ensures.items (c.into_iter-job-iterator.ensures.into_iter_gives ∙ c.iter-job-items.ensures.same)
 
 pub with-loads-requires-clause-job : goal.with-loads-requires-clause-job
 with-loads-requires-clause-job c =
