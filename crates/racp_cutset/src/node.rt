@@ -62,7 +62,33 @@ impl<N: OfNetwork> Node<N> {
     {
         prove!(question.window.lower().len() == net.job_count());
         let early = early(alloc, net, question.window.lower())?;
-        let ends = ends_of(alloc, net, early.as_slice())?;
+        Node::reusing(net, question, early, Vec::new(alloc), time)
+    }
+
+    /// The node of a question, the early starts of its window and a time. The memory of `room` is used again, for the ends.
+    ///
+    /// # Errors
+    ///
+    /// Memory was refused.
+    pub fn reusing(
+        net: &Network,
+        question: Question,
+        early: Starts,
+        room: Vec<u32>,
+        time: u32,
+    ) -> Result<Self, AllocError>
+        requires named { net.now ≡ N.network }
+        requires capacities { length question.capacities ≡ net.now.resources }
+        requires lower { length question.window.lower ≡ length net.now.jobs }
+        requires upper { length question.window.upper ≡ length net.now.jobs }
+        requires early { IsEarly net.now (slice_index question.window.lower) early }
+        ensures capacities { IfOk result (λ node. node.capacities ≡ question.capacities) }
+        ensures window { IfOk result (λ node. node.window ≡ question.window) }
+        ensures early { IfOk result (λ node. node.early ≡ early) }
+        ensures time { IfOk result (λ node. node.time ≡ time) }
+    {
+        prove!(question.window.lower().len() == net.job_count());
+        let ends = ends_of(room, net, early.as_slice())?;
         let started = started_before(early.as_slice(), time);
         let key = hash_of(&started);
         Ok(Node {
@@ -74,6 +100,15 @@ impl<N: OfNetwork> Node<N> {
             time,
             of: PhantomData,
         })
+    }
+
+    /// Gives the rows back: the question, the early starts, and the row of the ends. Takes no memory.
+    pub fn into_rows(self) -> (Question, Starts, Vec<u32>)
+        ensures capacities { result.0.capacities ≡ self.capacities }
+        ensures window { result.0.window ≡ self.window }
+        ensures early { result.1 ≡ self.early }
+    {
+        (self.question, self.early, self.ends)
     }
 
     /// The question.

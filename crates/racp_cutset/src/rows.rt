@@ -8,7 +8,7 @@ ghost use Rattle.racp_cutset.specs.Rows.{IsAtLeastRow, IsSoonerBefore, IsSoonerF
 
 use racp_delay::JobSet;
 use racp_model::Network;
-use std::alloc::{AllocError, Global};
+use std::alloc::AllocError;
 
 /// Whether no number of the second row is above that of the first.
 pub(crate) fn is_at_least(high: &[u32], low: &[u32]) -> bool
@@ -62,19 +62,24 @@ pub(crate) fn started_before(early: &[u32], time: u32) -> JobSet
     started
 }
 
-/// When each job ends in early starts.
+/// When each job ends in early starts, in the memory of `room`.
 ///
 /// # Errors
 ///
 /// Memory was refused.
-pub(crate) fn ends_of(alloc: Global, net: &Network, early: &[u32]) -> Result<Vec<u32>, AllocError>
+pub(crate) fn ends_of(
+    mut room: Vec<u32>,
+    net: &Network,
+    early: &[u32],
+) -> Result<Vec<u32>, AllocError>
     requires places { length early.now ≡ length net.now.jobs }
     requires small { (i : ℕ) → i < length net.now.jobs → slice_index early.now i ≤ 25120000 }
     ensures { IfOk result (λ ends. AreEnds net.now early.now ends.items) }
 {
-    let mut ends = Vec::from_slice(alloc, early)?;
-    add_durations(net, &mut ends);
-    Ok(ends)
+    room.clear();
+    room.extend_from_slice(early)?;
+    add_durations(net, &mut room);
+    Ok(room)
 }
 
 /// Adds each job's duration.
