@@ -1,6 +1,6 @@
 //! Conflicts and minimal delaying alternatives of small networks.
 
-use crate::{JobSet, alternatives, conflict, first_end};
+use crate::{DelayingAlternatives, JobSet, alternatives, conflict, first_end};
 use racp_model::{Capacities, Job, NetFault, Network, Starts};
 use std::alloc::{AllocError, Global};
 use std::process::Abort;
@@ -93,7 +93,13 @@ fn told(
     };
     let active: Vec<u32> = clash.active.iter().collect(alloc)?;
     let mut text = format!(in alloc; "at {}: {}", clash.time, joined(alloc, &active)?)?;
-    for list in &alternatives(alloc, net, &capacities, &clash)? {
+    let count = alternatives(alloc, net, &capacities, &clash)?.len();
+    let mut found = DelayingAlternatives::new(alloc);
+    for _round in 0..2 {
+        found.find(net, &capacities, &clash)?;
+        assert_eq!(rt; found.lists().len(), count);
+    }
+    for list in found.lists() {
         text.push_str(&format!(in alloc; " | {}", joined(alloc, list)?)?)?;
         if let Some(end) = first_end(net, &starts, &clash.active, list) {
             text.push_str(&format!(in alloc; " to {end}")?)?;

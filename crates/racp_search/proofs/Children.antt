@@ -22,10 +22,10 @@ pub lists_length : (vectors : List (SmallVec ℕ)) → length (job_lists vectors
 lists_length vectors = length-map vectors (λ (w : SmallVec ℕ). w.items)
 
 -- it is an alternative where they are
-pub alternative_at : (p : Project) (capacities active : List ℕ) (vectors lists : List (SmallVec ℕ)) (k : ℕ) (v : SmallVec ℕ) (gone : List ℕ) → AreAlternatives p capacities active (job_lists lists) → vectors ≡ lists → k < length vectors → v ≡ slice_index_or vectors k v → gone ≡ v.items →
+pub alternative_at : (p : Project) (capacities active : List ℕ) (vectors : List (SmallVec ℕ)) (lists : List (List ℕ)) (k : ℕ) (v : SmallVec ℕ) (gone : List ℕ) → AreAlternatives p capacities active lists → job_lists vectors ≡ lists → k < length vectors → v ≡ slice_index_or vectors k v → gone ≡ v.items →
     IsMinimalDelayingAlternative p capacities active gone
 alternative_at p capacities active vectors lists k v gone are e l is same =
-    let here : AreAlternatives p capacities active (job_lists vectors) = subst (λ (xs : List (SmallVec ℕ)). AreAlternatives p capacities active (job_lists xs)) (sym e) are in
+    let here : AreAlternatives p capacities active (job_lists vectors) = subst (λ (xs : List (List ℕ)). AreAlternatives p capacities active xs) (sym e) are in
     here.only gone (k, omega (arith, l, lists_length vectors), list_at vectors k v gone gone l is same)
 
 module _ (p : Project) (early active : List ℕ) (window : Bounds) where

@@ -18,17 +18,11 @@ pub if_some : {A : Type 0} (r : Option A) (P : Type 0) → is_some r ≡ true �
 if_some (Some x) P e h = h
 if_some None P e h = absurd (cc e)
 
--- a window has one vector of early starts
-pub one_early : (p : Project) (lower : ℕ → ℕ) (a b : List ℕ) → IsEarly p lower a → IsEarly p lower b → a ≡ b
-one_early p lower a b ha hb = same_number_lists a b (omega (arith, ha.places, hb.places))
-    (λ i l. let in' : i < length p.jobs = omega (arith, ha.places) in omega (arith, ha.least b hb.above hb.precedence i in', hb.least a ha.above ha.precedence i in'))
-
 -- a node whose time is that of the first conflict fits before its time
 pub fits_before : (p q : Project) (v : SearchNode) (capacities starts : List ℕ) (window : Bounds) (t : ℕ) (active : List ℕ) → p ≡ q →
-    IsEarly p (slice_index window.lower) starts → IsEarly p (slice_index window.lower) v.early → v.capacities ≡ capacities → v.window ≡ window → v.time ≡ t →
+    v.early ≡ starts → v.capacities ≡ capacities → v.window ≡ window → v.time ≡ t →
     ((i : ℕ) → i < length p.jobs → slice_index starts i ≤ slice_index window.upper i) → IsClash p capacities starts t active → FitsBeforeTime q v
-fits_before p q v capacities starts window t active named early other is_capacities is_window is_time below clash =
-    let e : v.early ≡ starts = one_early p (slice_index window.lower) v.early starts other early in
+fits_before p q v capacities starts window t active named e is_capacities is_window is_time below clash =
     subst (λ (r : Project). FitsBeforeTime r v) named (record {
       within = λ k s resource before. omega (arith, ap (λ (xs : List ℕ). usage p xs k s) e, ap (λ (xs : List ℕ). slice_index xs k) is_capacities, clash.first.before k s resource (omega (arith, is_time)));
       below = λ i l started. omega (arith, ap (λ (xs : List ℕ). slice_index xs i) e, ap (λ (w : Bounds). slice_index w.upper i) is_window, below i l);

@@ -3,15 +3,16 @@ ghost use Rattle.racp_model.specs.Project.{IsNumber, IsSound};
 ghost use Rattle.racp_delay.specs.Branching.{IsClash};
 ghost use Rattle.racp_search.specs.Children.{AreChildren, IsPutOff, IsRaised};
 
-use racp_delay::{Clash, alternatives, first_end, laws};
+use crate::workspace::{Spare, Workspace};
+use racp_delay::{Clash, first_end, laws};
 use racp_model::{Capacities, Network, Starts, Window};
-use std::alloc::{AllocError, Global};
+use std::alloc::AllocError;
 
 /// The child windows of a window at the first conflict of its early starts, which are at most 10,000,000: one for each minimal
 /// delaying alternative other than the whole active set, in the order of the alternatives. In it the lower bounds of the jobs
 /// that go are raised to the first end of a job that stays (Demeulemeester and Herroelen 1992).
 pub(crate) fn children(
-    alloc: Global,
+    workspace: &mut Workspace,
     net: &Network,
     capacities: &Capacities,
     window: &Window,
@@ -28,28 +29,28 @@ pub(crate) fn children(
 {
     laws::others_stay();
     laws::subsets_go();
-    let lists = alternatives(alloc, net, capacities, clash)?;
-    let mut windows = Vec::new(alloc);
-    for list in &lists {
+    workspace.found.find(net, capacities, clash)?;
+    let mut windows = workspace.spare.list();
+    for list in workspace.found.lists() {
         let gone = list.as_slice();
         let end = match first_end(net, early, &clash.active, gone) {
             Some(end) => end,
             None => continue,
         };
-        windows.push(put_off(alloc, window, gone, end as u32)?)?;
+        windows.push(put_off(&mut workspace.spare, window, gone, end as u32)?)?;
     }
     Ok(windows)
 }
 
 /// The window with the lower bounds of these jobs raised to a time.
-fn put_off(alloc: Global, window: &Window, gone: &[u32], end: u32) -> Result<Window, AllocError>
+fn put_off(spare: &mut Spare, window: &Window, gone: &[u32], end: u32) -> Result<Window, AllocError>
     requires gone { All (IsNumber (length window.now.lower)) gone.now }
     requires end { end ≤ 20000000 }
     ensures { IfOk result (IsPutOff window.now gone.now end) }
 {
-    let mut lower = Vec::from_slice(alloc, window.lower())?;
+    let mut lower = spare.row_of(window.lower())?;
     raise(&mut lower, gone, end);
-    let upper = Vec::from_slice(alloc, window.upper())?;
+    let upper = spare.row_of(window.upper())?;
     Ok(Window::new(Starts::new(lower), Starts::new(upper)))
 }
 

@@ -1,16 +1,16 @@
-ghost use Rattle.std.specs.Prelude.{◌≡◌, ◌↔◌, ℕ, ◌<◌, ◌≤◌, IsTrue, IfOk, length, slice_index};
+ghost use Rattle.std.specs.Prelude.{◌≡◌, ◌↔◌, ℕ, ◌<◌, ◌≤◌, IsTrue, All, IfOk, length, slice_index};
 ghost use Rattle.racp_model.specs.Path.{IsEarly};
 ghost use Rattle.racp_delay.specs.Branching.{IsClash};
 ghost use Rattle.racp_search.specs.Glances.{IsGlance, IsExpanded};
 
 use crate::branching::children;
-use crate::copies::copy_of_capacities;
 use crate::frame::Frame;
-use racp_cpm::early;
+use crate::workspace::{Spare, Workspace};
+use racp_cpm::settle_early;
 use racp_cutset::{Board, Local, Node};
 use racp_delay::{Clash, conflict, laws};
 use racp_model::{Capacities, Network, OfNetwork, Question, Starts, Window};
-use std::alloc::{AllocError, Global};
+use std::alloc::AllocError;
 
 /// What the early starts of a window say of it.
 #[derive(Drop)]
@@ -25,7 +25,7 @@ pub(crate) enum Glance {
 
 /// Looks at the early starts of a window.
 pub(crate) fn look_at(
-    alloc: Global,
+    workspace: &mut Workspace,
     net: &Network,
     capacities: &Capacities,
     window: &Window,
@@ -35,14 +35,26 @@ pub(crate) fn look_at(
     requires upper { length window.now.upper ≡ length net.now.jobs }
     ensures { IfOk result (IsGlance net.now capacities.now window.now) }
 {
-    let starts = early(alloc, net, window.lower())?;
+    let starts = early_in(&mut workspace.spare, net, window.lower())?;
     if !are_below(starts.as_slice(), window.upper()) {
+        workspace.spare.give_row(starts.into_vec());
         return Ok(Glance::Refuted);
     }
     match conflict(net, capacities, &starts) {
         Some(clash) => Ok(Glance::Clashes(starts, clash)),
         None => Ok(Glance::Found(starts)),
     }
+}
+
+/// The early starts above lower bounds, in a row that is used again.
+fn early_in(spare: &mut Spare, net: &Network, lower: &[u32]) -> Result<Starts, AllocError>
+    requires places { length lower.now ≡ length net.now.jobs }
+    requires small { All (λ x. x ≤ 20000000) lower.now }
+    ensures { IfOk result (IsEarly net.now (slice_index lower.now)) }
+{
+    let mut starts = spare.row_of(lower)?;
+    settle_early(net, &mut starts);
+    Ok(Starts::new(starts))
 }
 
 /// Whether no start exceeds its upper bound.
@@ -56,11 +68,11 @@ fn are_below(starts: &[u32], upper: &[u32]) -> bool
 /// The frame of a window's node at the first conflict of its early starts, with all child windows; or `None` where a record
 /// covers the node, so that nothing in the window answers.
 pub(crate) fn expand<N: OfNetwork>(
-    alloc: Global,
+    workspace: &mut Workspace,
     net: &Network,
     capacities: &Capacities,
     window: Window,
-    starts: &Starts,
+    starts: Starts,
     clash: &Clash,
     board: &Board<N>,
     local: &mut Local<N>,
@@ -69,29 +81,31 @@ pub(crate) fn expand<N: OfNetwork>(
     requires capacities { length capacities.now ≡ net.now.resources }
     requires lower { length window.lower ≡ length net.now.jobs }
     requires upper { length window.upper ≡ length net.now.jobs }
-    requires early { IsEarly net.now (slice_index window.lower) starts.now }
-    requires below { (i : ℕ) → i < length net.now.jobs → slice_index starts.now i ≤ slice_index window.upper i }
-    requires small { (i : ℕ) → i < length net.now.jobs → slice_index starts.now i ≤ 10000000 }
-    requires clash { IsClash net.now capacities.now starts.now clash.now.time clash.now.active }
+    requires early { IsEarly net.now (slice_index window.lower) starts }
+    requires below { (i : ℕ) → i < length net.now.jobs → slice_index starts i ≤ slice_index window.upper i }
+    requires small { (i : ℕ) → i < length net.now.jobs → slice_index starts i ≤ 10000000 }
+    requires clash { IsClash net.now capacities.now starts clash.now.time clash.now.active }
     ensures { IfOk result (IsExpanded N.network capacities.now window) }
 {
     laws::children_cover();
     laws::child_is_inside();
     laws::child_is_higher();
     let question = Question {
-        capacities: copy_of_capacities(alloc, capacities)?,
+        capacities: Capacities::new(workspace.spare.row_of(capacities.as_slice())?),
         window,
     };
-    let node = Node::new(alloc, net, question, clash.time)?;
+    let node = Node::reusing(net, question, starts, workspace.spare.row(), clash.time)?;
     if board.find(local, &node).is_some() {
+        workspace.spare.give_node(node);
         return Ok(None);
     }
+    let asked = node.question();
     let children = children(
-        alloc,
+        workspace,
         net,
         capacities,
-        &node.question().window,
-        starts,
+        &asked.window,
+        node.early(),
         clash,
     )?;
     Ok(Some(Frame::new(node, children)))

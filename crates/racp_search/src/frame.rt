@@ -4,9 +4,10 @@ ghost use Rattle.racp_cutset.specs.Covering.{FitsBeforeTime};
 ghost use Rattle.racp_search.specs.Searching.{IsSearching, open_windows};
 ghost use Rattle.racp_search.specs.Steps.{IsNextAnswer};
 
+use crate::workspace::Workspace;
 use racp_cutset::{Local, Node, Nogood};
 use racp_model::{OfNetwork, Question, Window};
-use std::alloc::{AllocError, Global};
+use std::alloc::AllocError;
 use std::marker::Model;
 
 /// A node on the way to the window that is searched next, with its child windows that are still to be searched. Contracts see a
@@ -50,6 +51,7 @@ impl<N: OfNetwork> Frame<N> {
 /// and their nodes, which are refuted, are kept as records.
 pub(crate) fn next_window<N: OfNetwork>(
     question: &Question,
+    workspace: &mut Workspace,
     stack: &mut Vec<Frame<N>>,
     local: &mut Local<N>,
 ) -> Result<Option<Window>, AllocError>
@@ -63,7 +65,10 @@ pub(crate) fn next_window<N: OfNetwork>(
                 stack.push(Frame { node, children })?;
                 return Ok(Some(window));
             }
-            None => local.keep(Nogood::of(node)),
+            None => {
+                workspace.spare.give_list(children);
+                local.keep(Nogood::of(node));
+            }
         }
     }
     Ok(None)

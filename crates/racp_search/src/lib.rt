@@ -5,7 +5,6 @@
 #![tactic(auto)]
 
 mod branching;
-mod copies;
 mod expanding;
 mod exploring;
 mod finding;
@@ -13,6 +12,7 @@ mod frame;
 mod piece;
 mod searching;
 mod stop;
+mod workspace;
 
 pub use exploring::{decide, explore};
 pub use finding::{Finding, Rest};

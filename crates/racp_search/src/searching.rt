@@ -2,10 +2,10 @@ ghost use Rattle.std.specs.Prelude.{◌≡◌, ◌↔◌, ◌≤◌, ◌++◌, �
 ghost use Rattle.racp_search.specs.Searching.{IsSearching, open_windows};
 ghost use Rattle.racp_search.specs.Ends.{IsEntered, IsEnd, IsSpent};
 
-use crate::copies::copy_of_window;
 use crate::expanding::{Glance, expand, look_at};
 use crate::frame::{Frame, next_window};
 use crate::stop::Stop;
+use crate::workspace::Workspace;
 use racp_cutset::{Board, Local};
 use racp_model::{Network, OfNetwork, Question, Starts, Window};
 use std::alloc::{AllocError, Global};
@@ -40,8 +40,9 @@ pub(crate) fn search<N: OfNetwork, S: Stop>(
     ensures quiet { IfOk result (λ ended. IsTrue S.QUIET → IsFalse ended.stopped) }
     ensures nodes { IfSome quantum (λ most. nodes.new ≤ most) }
 {
+    let mut workspace = Workspace::new(alloc);
     let mut stack = Vec::new(alloc);
-    let mut window = copy_of_window(alloc, &question.window)?;
+    let mut window = workspace.spare.window_of(&question.window)?;
     'next: loop {
         if is_spent(quantum, *nodes) {
             let rest = open_rest(alloc, stack, window)?;
@@ -60,7 +61,15 @@ pub(crate) fn search<N: OfNetwork, S: Stop>(
             });
         }
         *nodes = nodes.saturating_add(1);
-        let entered = enter(alloc, net, question, window, &mut stack, board, local)?;
+        let entered = enter(
+            &mut workspace,
+            net,
+            question,
+            window,
+            &mut stack,
+            board,
+            local,
+        )?;
         if entered.is_some() {
             return Ok(Ended {
                 found: entered,
@@ -68,7 +77,7 @@ pub(crate) fn search<N: OfNetwork, S: Stop>(
                 stopped: false,
             });
         }
-        match next_window(question, &mut stack, local)? {
+        match next_window(question, &mut workspace, &mut stack, local)? {
             Some(next) => window = next,
             None => {
                 return Ok(Ended {
@@ -94,7 +103,7 @@ fn is_spent(quantum: Option<u64>, nodes: u64) -> bool
 /// Enters the node of a window: answers the early starts where they answer, and puts a frame on the stack where they have a
 /// conflict.
 fn enter<N: OfNetwork>(
-    alloc: Global,
+    workspace: &mut Workspace,
     net: &Network,
     question: &Question,
     window: Window,
@@ -109,16 +118,19 @@ fn enter<N: OfNetwork>(
     requires state { IsSearching N.network question.now.capacities question.now.window stack.old.items (window ∷ []) }
     ensures { IfOk result (IsEntered N.network question.now.capacities question.now.window stack.old.items window stack.new.items) }
 {
-    match look_at(alloc, net, &question.capacities, &window)? {
-        Glance::Refuted => Ok(None),
+    match look_at(workspace, net, &question.capacities, &window)? {
+        Glance::Refuted => {
+            workspace.spare.give_window(window);
+            Ok(None)
+        }
         Glance::Found(starts) => Ok(Some(starts)),
         Glance::Clashes(starts, clash) => {
             match expand(
-                alloc,
+                workspace,
                 net,
                 &question.capacities,
                 window,
-                &starts,
+                starts,
                 &clash,
                 board,
                 local,

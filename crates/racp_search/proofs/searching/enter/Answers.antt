@@ -19,12 +19,12 @@ returns-in-Found g c =
     (next-part g.N.OfNetwork.network c.args.question.now.capacities c.args.question.now.window c.args.stack.now.items c.args.window c.requires.state)
     (subst (λ (r : Project). Answers r c.args.question.now.capacities c.args.window c.in-Found.starts) c.requires.named answers)
 
-pub returns-in-Some : goal.returns-in-Some
-returns-in-Some g c =
+pub returns-in_ok-push-in-Some : goal.returns-in_ok-push-in-Some
+returns-in_ok-push-in-Some g c =
     let is : IsFrameOf g.N.OfNetwork.network c.args.question.now.capacities c.args.window c.in-Some.frame = subst (IsExpanded g.N.OfNetwork.network c.args.question.now.capacities c.args.window) c.in-Some.is c.in_ok-frame-in-Clashes.ensures in
     closed-framed g.N.OfNetwork.network c.args.question.now.capacities c.args.question.now.window c.args.stack.now.items c.push.new.self.items c.args.window c.in-Some.frame c.requires.state is c.in_ok-push-in-Some.ensures.items
 
-pub returns : goal.returns
-returns g c =
+pub returns-in-None : goal.returns-in-None
+returns-in-None g c =
     closed-refuted g.N.OfNetwork.network g.N.OfNetwork.network c.args.question.now.capacities c.args.question.now.window c.args.stack.now.items c.args.window refl c.requires.state
     (subst (IsExpanded g.N.OfNetwork.network c.args.question.now.capacities c.args.window) c.in-None.is c.in_ok-frame-in-Clashes.ensures)

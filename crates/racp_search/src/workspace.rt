@@ -1,0 +1,106 @@
+//! Memory that a search uses again from node to node.
+
+ghost use Rattle.std.specs.Prelude.{◌≡◌, [], IfOk};
+
+use racp_cutset::Node;
+use racp_delay::DelayingAlternatives;
+use racp_model::{OfNetwork, Starts, Window};
+use std::alloc::{AllocError, Global};
+
+/// The memory of a search: of the alternatives of the conflict that was looked at last, and of what is not in use.
+#[derive(Drop)]
+pub(crate) struct Workspace {
+    pub(crate) found: DelayingAlternatives,
+    pub(crate) spare: Spare,
+}
+
+impl Workspace {
+    /// Takes no memory until it is used.
+    pub(crate) fn new(alloc: Global) -> Self {
+        Workspace {
+            found: DelayingAlternatives::new(alloc),
+            spare: Spare {
+                alloc,
+                rows: Vec::new(alloc),
+                lists: Vec::new(alloc),
+            },
+        }
+    }
+}
+
+/// Rows of numbers and lists of windows that are not in use. What they hold is of no use either.
+#[derive(Drop)]
+pub(crate) struct Spare {
+    alloc: Global,
+    rows: Vec<Vec<u32>>,
+    lists: Vec<Vec<Window>>,
+}
+
+impl Spare {
+    /// A row of any numbers.
+    pub(crate) fn row(&mut self) -> Vec<u32> {
+        match self.rows.pop() {
+            Some(row) => row,
+            None => Vec::new(self.alloc),
+        }
+    }
+
+    /// A row with these numbers.
+    pub(crate) fn row_of(&mut self, numbers: &[u32]) -> Result<Vec<u32>, AllocError>
+        ensures { IfOk result (λ row. row.items ≡ numbers.now) }
+    {
+        let mut row = self.row();
+        row.clear();
+        row.extend_from_slice(numbers)?;
+        Ok(row)
+    }
+
+    /// A window with the same bounds.
+    pub(crate) fn window_of(&mut self, window: &Window) -> Result<Window, AllocError>
+        ensures lower { IfOk result (λ copy. copy.lower ≡ window.now.lower) }
+        ensures upper { IfOk result (λ copy. copy.upper ≡ window.now.upper) }
+    {
+        let lower = Starts::new(self.row_of(window.lower())?);
+        let upper = Starts::new(self.row_of(window.upper())?);
+        Ok(Window::new(lower, upper))
+    }
+
+    /// A list without windows.
+    pub(crate) fn list(&mut self) -> Vec<Window>
+        ensures { result.items ≡ [] }
+    {
+        match self.lists.pop() {
+            Some(mut list) => {
+                list.clear();
+                list
+            }
+            None => Vec::new(self.alloc),
+        }
+    }
+
+    /// Takes a row that is not in use any more.
+    pub(crate) fn give_row(&mut self, row: Vec<u32>) {
+        let _ = self.rows.push(row);
+    }
+
+    /// Takes a list that is not in use any more.
+    pub(crate) fn give_list(&mut self, list: Vec<Window>) {
+        let _ = self.lists.push(list);
+    }
+
+    /// Takes the rows of a window.
+    pub(crate) fn give_window(&mut self, window: Window) {
+        let (lower, upper) = window.into_bounds();
+        self.give_row(lower.into_vec());
+        self.give_row(upper.into_vec());
+    }
+
+    /// Takes the rows of a node.
+    pub(crate) fn give_node<N: OfNetwork>(&mut self, node: Node<N>) {
+        let (question, early, ends) = node.into_rows();
+        self.give_row(question.capacities.into_vec());
+        self.give_window(question.window);
+        self.give_row(early.into_vec());
+        self.give_row(ends);
+    }
+}
