@@ -4,6 +4,7 @@ pub mod Path
 pub mod Terms
 pub mod Plan
 pub mod Window
+pub mod Formed
 pub mod Made
 pub mod Steps
 pub mod Laws

@@ -48,6 +48,9 @@ open_left p capacities whole stack window rest h e =
     subst (λ (xs : List Bounds). IsRestOf p capacities whole xs) (sym e) (record {
       covers = covers-more p capacities whole (open_windows stack ++ window ∷ []) (window ∷ open_windows stack) h.covers (swap (open_windows stack) window);
       inside = λ part c. (h.parts part (swap-back (open_windows stack) window part c)).inside;
+      bounds = λ part c.
+          let is = h.parts part (swap-back (open_windows stack) window part c) in
+          record { lower = is.lower; upper = is.upper };
     })
 
 -- and is higher, where the window is

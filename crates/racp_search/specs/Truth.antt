@@ -2,6 +2,7 @@
 use Rattle.std.specs.Prelude.{◌≡◌, ◌≢◌, ℕ, ◌<◌, ◌≤◌, Bool, IsFalse, List, [], ◌∷◌, Option, Some, None, IfSome, Contains}
 use Rattle.racp_model.specs.Project.{Project}
 use Rattle.racp_model.specs.Window.{Bounds, Answers, IsNo, WindowsCover, IsInside}
+use Rattle.racp_model.specs.Formed.{HasBounds}
 use Rattle.racp_delay.specs.Laws.{lower_sum}
 use Rattle.racp_search.specs.declared.piece.Piece.{Piece}
 use Rattle.racp_search.specs.declared.finding.Rest.{Rest}
@@ -22,10 +23,11 @@ abbrev pub rest_windows : Bounds → Rest → List Bounds
 rest_windows window Whole = window ∷ []
 rest_windows window (Windows list) = list.items
 
--- what is left of a window: it covers the window, and each part of it lies inside
+-- what is left of a window: it covers the window, and each part of it lies inside and has bounds for each job
 pub record IsRestOf (p : Project) (capacities : List ℕ) (window : Bounds) (rest : List Bounds) : Type 0 where
   pub covers : WindowsCover p capacities window rest
   pub inside : (part : Bounds) → Contains rest part → IsInside p window part
+  pub bounds : (part : Bounds) → Contains rest part → HasBounds p part
 
 -- a true finding: the found starts answer the question, and nothing is left; or none are found, and what is left covers
 abbrev pub IsTrueFinding : Project → List ℕ → Bounds → Option (List ℕ) → List Bounds → Type 0

@@ -1,4 +1,5 @@
 ghost use Rattle.std.specs.Prelude.{◌≡◌, option_copied, false};
+ghost use Rattle.racp_model.specs.Formed.{HasBounds};
 ghost use Rattle.racp_search.specs.Truth.{IsTrueFinding, rest_windows};
 
 use crate::piece::Piece;
@@ -63,6 +64,7 @@ impl<N: OfNetwork> Finding<N> {
 
     /// Nothing found, and the whole window of the piece left. Takes no memory.
     pub(crate) fn whole(piece: Piece, nodes: u64, short: bool) -> Self
+        requires { HasBounds N.network piece.question.window }
         ensures { result ≡ record { piece = piece; rest = Rest.Whole; found = None; nodes = nodes; stopped = false; short = short } }
     {
         Finding {
@@ -134,6 +136,24 @@ impl<N: OfNetwork> Finding<N> {
             of: _,
         } = self;
         piece
+    }
+
+    /// Gives the piece back, with what was left of it and what was found. Takes no memory.
+    pub fn into_parts(self) -> (Piece, Rest, Option<Starts>)
+        ensures piece { result.0 ≡ self.piece }
+        ensures rest { result.1 ≡ self.rest }
+        ensures found { result.2 ≡ self.found }
+    {
+        let Finding {
+            piece,
+            rest,
+            found,
+            nodes: _,
+            stopped: _,
+            short: _,
+            of: _,
+        } = self;
+        (piece, rest, found)
     }
 
     /// Spends the piece, and answers what was found. Takes no memory.

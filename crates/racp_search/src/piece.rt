@@ -4,7 +4,7 @@ use racp_model::Question;
 
 /// A piece of work: a question to be searched, the number that it was given, from 0, the seat of the worker that took it, from
 /// 0, and the place, from 0, of the question to which it belongs in the series of questions. It cannot be dropped, so that no
-/// part of a question is lost: `explore` spends it.
+/// part of a question is lost: `explore` and `into_question` spend it.
 #[derive(Debug)]
 pub struct Piece {
     number: u64,
@@ -54,8 +54,8 @@ impl Piece {
         &self.question
     }
 
-    /// Spends the piece. Takes no memory.
-    pub(crate) fn into_question(self) -> Question
+    /// Spends the piece, and gives its question back. Takes no memory.
+    pub fn into_question(self) -> Question
         ensures { result ≡ self.question }
     {
         let Piece {
