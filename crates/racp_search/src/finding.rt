@@ -126,16 +126,18 @@ impl<N: OfNetwork> Finding<N> {
     pub fn into_piece(self) -> Piece
         ensures { result ≡ self.piece }
     {
-        let Finding {
-            piece,
-            rest: _rest,
-            found: _found,
-            nodes: _,
-            stopped: _,
-            short: _,
-            of: _,
-        } = self;
+        let (piece, _rest, _found) = self.into_parts();
         piece
+    }
+
+    /// Spends the piece, and answers what was found. Takes no memory.
+    pub fn into_found(self) -> Option<Starts>
+        ensures found { result ≡ self.found }
+        ensures is_true { IsTrueFinding N.network self.piece.question.capacities self.piece.question.window self.found (rest_windows self.piece.question.window self.rest) }
+    {
+        let (piece, _rest, found) = self.into_parts();
+        let _ = piece.into_question();
+        found
     }
 
     /// Gives the piece back, with what was left of it and what was found. Takes no memory.
@@ -143,6 +145,7 @@ impl<N: OfNetwork> Finding<N> {
         ensures piece { result.0 ≡ self.piece }
         ensures rest { result.1 ≡ self.rest }
         ensures found { result.2 ≡ self.found }
+        ensures is_true { IsTrueFinding N.network self.piece.question.capacities self.piece.question.window self.found (rest_windows self.piece.question.window self.rest) }
     {
         let Finding {
             piece,
@@ -154,23 +157,5 @@ impl<N: OfNetwork> Finding<N> {
             of: _,
         } = self;
         (piece, rest, found)
-    }
-
-    /// Spends the piece, and answers what was found. Takes no memory.
-    pub fn into_found(self) -> Option<Starts>
-        ensures found { result ≡ self.found }
-        ensures is_true { IsTrueFinding N.network self.piece.question.capacities self.piece.question.window self.found (rest_windows self.piece.question.window self.rest) }
-    {
-        let Finding {
-            piece,
-            rest: _rest,
-            found,
-            nodes: _,
-            stopped: _,
-            short: _,
-            of: _,
-        } = self;
-        let _ = piece.into_question();
-        found
     }
 }
