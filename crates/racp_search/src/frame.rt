@@ -66,8 +66,11 @@ pub(crate) fn next_window<N: OfNetwork>(
                 return Ok(Some(window));
             }
             None => {
+                let (nogood, lower, early) = Nogood::of_reusing(node);
+                local.keep(nogood);
                 workspace.spare.give_list(children);
-                local.keep(Nogood::of(node));
+                workspace.spare.give_row(lower.into_vec());
+                workspace.spare.give_row(early.into_vec());
             }
         }
     }

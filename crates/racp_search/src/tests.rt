@@ -126,6 +126,14 @@ fn decided(
     Ok(decide(alloc, net, question)?)
 }
 
+/// Whether some starts answer a question, by its definition.
+fn holds(rt: &impl Abort, alloc: Global, net: &Network, question: &Question) -> Result<bool, Fail> {
+    assert_eq!(rt; question.capacities.as_slice().len(), net.resource_count());
+    assert_eq!(rt; question.window.lower().len(), net.job_count());
+    assert_eq!(rt; question.window.upper().len(), net.job_count());
+    Ok(decide_by_definition(alloc, net, question)?.is_some())
+}
+
 /// The root window of a deadline.
 fn root_of(rt: &impl Abort, alloc: Global, net: &Network, deadline: u32) -> Result<Window, Fail> {
     let mut release: Vec<u32> = Vec::new(alloc);
@@ -251,7 +259,7 @@ fn decides_as_by_definition(rt: HostRuntime) -> Result<(), Fail> {
         ];
         let asked = question(&rt, alloc, &capacities, &lower, &upper)?;
         let found = decided(&rt, alloc, &net, &asked)?.is_some();
-        assert_eq!(rt; found, decide_by_definition(alloc, &net, &asked)?.is_some());
+        assert_eq!(rt; found, holds(&rt, alloc, &net, &asked)?);
         answers[found as usize] = answers[found as usize].saturating_add(1);
     }
     assert!(rt; answers[0] >= 50);
