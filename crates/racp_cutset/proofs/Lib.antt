@@ -1,3 +1,4 @@
 mod Built
 mod Fronts
 mod Nodes
+mod Packing

@@ -1,13 +1,14 @@
 -- What the rows of nodes say of them.
-use Rattle.std.proofs.Common.{◌≡◌, ◌↔◌, ℕ, ◌<◌, ◌≤◌, List, length, slice_index, Contains, All, arith, subst, sym, ap}
+use Rattle.std.proofs.Common.{◌≡◌, ◌↔◌, ℕ, ◌<◌, ◌≤◌, List, length, slice_index, Contains, All, arith, subst, ap}
 use Rattle.std.proofs.lemmas.List.Kept.{AllPairs-from_increasing}
-use Rattle.racp_model.specs.Project.{Project, number, IsSound}
+use Rattle.racp_model.specs.Project.{Project, IsSound}
 use Rattle.racp_model.specs.Path.{IsEarly}
 use Rattle.racp_model.proofs.lemmas.Relations.{same_from_members}
 use Rattle.racp_cpm.proofs.lemmas.Bounded.{some_starts}
 use Rattle.racp_delay.specs.Alternatives.{place}
 use Rattle.racp_cutset.specs.Covering.{SearchNode, IsNode, IsStarted, HasCutsetOf, HasRoomOf, AreEnds}
 use Rattle.racp_cutset.specs.Rows.{AreStartedBefore, IsAtLeastRow}
+use Rattle.racp_cutset.specs.Told.{started_from_sets}
 
 -- early starts above bounds of at most 20,000,000 are at most 25,120,000
 pub early_small : (p : Project) (lower early : List ℕ) → IsSound p → length lower ≡ length p.jobs → All (λ x. x ≤ 20000000) lower → IsEarly p (slice_index lower) early
@@ -31,21 +32,6 @@ made p q v lower first second ends started named sound capacities low high is_lo
     let s : AreStartedBefore v.early v.time started = subst (λ (xs : List ℕ). AreStartedBefore xs v.time started) is_second are_started in
     let node : IsNode p v = record { resources = capacities; lower = low; upper = high; early = e } in
     subst (λ (r : Project). IsKept r v ends started) named (sound, node, f, s)
-
--- a job is in the set of the started jobs where it is started, and only then
-pub in_started : (n : ℕ) (early : List ℕ) (time : ℕ) (started : List ℕ) → length early ≡ n → AreStartedBefore early time started → (i : ℕ) → i < n → (slice_index early i < time) ↔ Contains started (number i)
-in_started n early time started places h i l =
-    let e : place (number i) ≡ i = omega arith in
-    let P : ℕ → Type 0 = λ j. slice_index early j < time in
-    (λ before. (h.members (number i)).1 ((omega arith, omega (arith, places)), subst P (sym e) before), λ c. subst P e ((h.members (number i)).0 c).1)
-
--- nodes of the same number of jobs whose sets of started jobs are equal have the same started jobs
-pub started_from_sets : (p : Project) (v w : SearchNode) (s r : List ℕ) → IsNode p v → IsNode p w → AreStartedBefore v.early v.time s → AreStartedBefore w.early w.time r → s ≡ r
-    → (i : ℕ) → i < length p.jobs → IsStarted v i ↔ IsStarted w i
-started_from_sets p v w s r hv hw first second same i l =
-    let a = in_started (length p.jobs) v.early v.time s hv.early.places first i l in
-    let b = in_started (length p.jobs) w.early w.time r hw.early.places second i l in
-    (λ x. b.1 (subst (λ (xs : List ℕ). Contains xs (number i)) same (a.0 x)), λ x. a.1 (subst (λ (xs : List ℕ). Contains xs (number i)) (sym same) (b.0 x)))
 
 -- a member of the one set is in the other
 pub started_within : (p : Project) (v w : SearchNode) (s r : List ℕ) → IsNode p v → IsNode p w → AreStartedBefore v.early v.time s → AreStartedBefore w.early w.time r

@@ -2,3 +2,5 @@ pub mod Covering
 pub mod Laws
 pub mod Rows
 pub mod Kept
+pub mod Records
+pub mod Told

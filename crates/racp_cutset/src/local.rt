@@ -67,7 +67,7 @@ impl<N: OfNetwork> Local<N> {
         }
         let place = Place::Kept(self.kept.len());
         forget_kept(&mut self.index, &self.kept, &nogood);
-        enter(self.alloc, &mut self.index, nogood.node().key(), place);
+        enter(self.alloc, &mut self.index, nogood.key(), place);
         let _ = self.kept.push(nogood);
     }
 
@@ -77,7 +77,7 @@ impl<N: OfNetwork> Local<N> {
     {
         let record = self.kept.pop()?;
         let place = Place::Kept(self.kept.len());
-        forget(&mut self.index, record.node().key(), place);
+        forget(&mut self.index, record.key(), place);
         Some(record)
     }
 
@@ -129,7 +129,7 @@ fn read_from<N: OfNetwork>(
         };
         forget_kept(index, kept, nogood);
         forget_written(index, board, nogood);
-        enter(alloc, index, nogood.node().key(), Place::Board(i));
+        enter(alloc, index, nogood.key(), Place::Board(i));
     }
     if first < count { count } else { first }
 }
@@ -151,14 +151,14 @@ fn enter(alloc: Global, index: &mut Index, key: u64, place: Place) {
 
 /// Forgets the places of the kept records that a record covers.
 fn forget_kept<N: OfNetwork>(index: &mut Index, kept: &Vec<Nogood<N>>, nogood: &Nogood<N>) {
-    if let Some(places) = index.get_mut(&nogood.node().key()) {
+    if let Some(places) = index.get_mut(&nogood.key()) {
         places.retain(|place| !is_kept_covered(kept, nogood, *place));
     }
 }
 
 /// Forgets the places of the board's records that a record covers.
 fn forget_written<N: OfNetwork>(index: &mut Index, board: &Board<N>, nogood: &Nogood<N>) {
-    if let Some(places) = index.get_mut(&nogood.node().key()) {
+    if let Some(places) = index.get_mut(&nogood.key()) {
         places.retain(|place| !is_written_covered(board, nogood, *place));
     }
 }
@@ -169,7 +169,7 @@ fn is_kept_covered<N: OfNetwork>(kept: &Vec<Nogood<N>>, nogood: &Nogood<N>, plac
         return false;
     };
     match kept.get(i) {
-        Some(other) => nogood.covers(other.node()),
+        Some(other) => nogood.covers_record(other),
         None => false,
     }
 }
@@ -180,7 +180,7 @@ fn is_written_covered<N: OfNetwork>(board: &Board<N>, nogood: &Nogood<N>, place:
         return false;
     };
     match board.record(i) {
-        Some(other) => nogood.covers(other.node()),
+        Some(other) => nogood.covers_record(other),
         None => false,
     }
 }

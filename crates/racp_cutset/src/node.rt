@@ -1,12 +1,10 @@
-ghost use Rattle.std.specs.Prelude.{◌≡◌, ◌↔◌, ◌≤◌, IsTrue, IfOk, length, slice_index};
+ghost use Rattle.std.specs.Prelude.{◌≡◌, IfOk, length, slice_index};
 ghost use Rattle.racp_model.specs.Path.{IsEarly};
 ghost use Rattle.racp_model.specs.Project.{IsSound};
-ghost use Rattle.racp_cutset.specs.Covering.{SearchNode, IsNode, AreEnds, Covers, HasCutsetOf, HasRoomOf, EndsNoLater, MayStartAsEarly, FitsBeforeTime};
+ghost use Rattle.racp_cutset.specs.Covering.{SearchNode, IsNode, AreEnds};
 ghost use Rattle.racp_cutset.specs.Rows.{AreStartedBefore};
 
-use crate::rows::{
-    ends_of, hash_of, is_at_least, is_sooner_before, is_sooner_from, started_before,
-};
+use crate::rows::{ends_of, hash_of, started_before};
 use racp_cpm::early;
 use racp_delay::JobSet;
 use racp_model::{Network, OfNetwork, Question, Starts};
@@ -17,13 +15,13 @@ use std::marker::{Model, PhantomData};
 /// Contracts see a `SearchNode`.
 #[derive(Debug, Drop)]
 pub struct Node<N: OfNetwork> {
-    question: Question,
-    early: Starts,
-    ends: Vec<u32>,
-    started: JobSet,
-    key: u64,
-    time: u32,
-    of: PhantomData<N>,
+    pub(crate) question: Question,
+    pub(crate) early: Starts,
+    pub(crate) ends: Vec<u32>,
+    pub(crate) started: JobSet,
+    pub(crate) key: u64,
+    pub(crate) time: u32,
+    pub(crate) of: PhantomData<N>,
 }
 
 impl<N: OfNetwork> Model for Node<N> {
@@ -107,6 +105,7 @@ impl<N: OfNetwork> Node<N> {
         ensures capacities { result.0.capacities ≡ self.capacities }
         ensures window { result.0.window ≡ self.window }
         ensures early { result.1 ≡ self.early }
+        ensures node { IsNode N.network self }
     {
         (self.question, self.early, self.ends)
     }
@@ -153,63 +152,5 @@ impl<N: OfNetwork> Node<N> {
     /// A hash of the started jobs: equal for nodes with the same started jobs.
     pub(crate) fn key(&self) -> u64 {
         self.key
-    }
-
-    /// Whether the node, which fits before its time, covers another one. Takes no memory.
-    pub(crate) fn covers(&self, other: &Node<N>) -> bool
-        requires { FitsBeforeTime N.network self.now }
-        ensures exact { IsTrue result ↔ Covers N.network self.now other.now }
-        ensures sound { IsSound N.network }
-        ensures node { IsNode N.network self.now }
-        ensures other { IsNode N.network other.now }
-    {
-        self.has_cutset_of(other)
-            && self.has_room_of(other)
-            && self.ends_no_later(other)
-            && self.may_start_as_early(other)
-    }
-
-    /// Whether the same jobs are started in another node, whose time is no earlier.
-    fn has_cutset_of(&self, other: &Node<N>) -> bool
-        ensures exact { IsTrue result ↔ HasCutsetOf N.network self.now other.now }
-        ensures sound { IsSound N.network }
-        ensures node { IsNode N.network self.now }
-        ensures other { IsNode N.network other.now }
-    {
-        self.time <= other.time && self.started == other.started
-    }
-
-    /// Whether the node has at least the capacities and the upper bounds of another one.
-    fn has_room_of(&self, other: &Node<N>) -> bool
-        ensures { IsTrue result ↔ HasRoomOf N.network self.now other.now }
-    {
-        let question = &other.question;
-        is_at_least(
-            self.question.capacities.as_slice(),
-            question.capacities.as_slice(),
-        ) && is_at_least(self.question.window.upper(), question.window.upper())
-    }
-
-    /// Whether each started job ends no later than in another node, or by the other's time.
-    fn ends_no_later(&self, other: &Node<N>) -> bool
-        ensures { IsTrue result ↔ EndsNoLater N.network self.now other.now }
-    {
-        let early = self.early.as_slice();
-        is_sooner_before(early, self.time, &self.ends, other.time, &other.ends)
-    }
-
-    /// Whether each other job may start as early as in another node, or at the other's time.
-    fn may_start_as_early(&self, other: &Node<N>) -> bool
-        ensures { IsTrue result ↔ MayStartAsEarly N.network self.now other.now }
-    {
-        let early = self.early.as_slice();
-        let other_lower = other.question.window.lower();
-        is_sooner_from(
-            early,
-            self.time,
-            self.question.window.lower(),
-            other.time,
-            other_lower,
-        )
     }
 }

@@ -1,26 +1,41 @@
 ghost use Rattle.std.specs.Prelude.{◌≡◌, ◌↔◌, IsTrue};
+ghost use Rattle.racp_model.specs.Project.{IsSound};
 ghost use Rattle.racp_model.specs.Window.{IsNo};
-ghost use Rattle.racp_cutset.specs.Covering.{SearchNode, Covers, FitsBeforeTime, IsRefutedNode};
+ghost use Rattle.racp_cutset.specs.Covering.{SearchNode, IsNode, Covers, HasCutsetOf, HasRoomOf, EndsNoLater, MayStartAsEarly, FitsBeforeTime, IsRefutedNode};
+ghost use Rattle.racp_cutset.specs.Records.{settled, Told};
+ghost use Rattle.racp_cutset.specs.Told.{told_once};
 
 use crate::node::Node;
-use racp_model::OfNetwork;
-use std::marker::Model;
+use crate::rows::{bounds_of, is_at_least, is_sooner, is_sooner_row};
+use racp_delay::JobSet;
+use racp_model::{Capacities, OfNetwork, Question, Starts};
+use std::marker::{Model, PhantomData};
 
 /// The record of a refuted node: its question is a no, its early starts keep the capacities before its time, and the jobs that
-/// start before its time keep their upper bounds. Contracts see the `SearchNode`.
+/// start before its time keep their upper bounds. It holds one number for each job: the end of a started job, the lower bound
+/// of another. Contracts see the `SearchNode`, with the early starts of its started jobs as their lower bounds.
 #[derive(Debug, Drop)]
 pub struct Nogood<N: OfNetwork> {
-    node: Node<N>,
+    capacities: Capacities,
+    upper: Starts,
+    bounds: Vec<u32>,
+    started: JobSet,
+    key: u64,
+    time: u32,
+    of: PhantomData<N>,
+    ghost told: { Told N.network capacities upper bounds.items started time } by { told_once N.network capacities upper bounds.items started time },
 }
 
 impl<N: OfNetwork> Model for Nogood<N> {
+    ghost use Rattle.racp_model.specs.Project.{IsSound};
     ghost use Rattle.racp_cutset.specs.Covering.{SearchNode, IsRefutedNode};
+    ghost use Rattle.racp_cutset.specs.Records.{IsPacked};
 
     ghost Value = { SearchNode };
 
-    ghost view = { λ n. n.node };
+    ghost view = { λ n. n.told.0 };
 
-    ghost invariant = { λ n. IsRefutedNode N.network n.node };
+    ghost invariant = { λ n. IsSound N.network × IsPacked N.network n.capacities n.upper n.bounds.items n.started n.time n.told.0 × IsRefutedNode N.network n.told.0 };
 }
 
 impl<N: OfNetwork> Nogood<N> {
@@ -28,17 +43,50 @@ impl<N: OfNetwork> Nogood<N> {
     pub fn of(node: Node<N>) -> Self
         requires fits { FitsBeforeTime N.network node }
         requires refuted { IsNo N.network node.capacities node.window }
-        ensures { result ≡ node }
+        ensures record { result ≡ settled N.network node }
+        ensures covers { (other : SearchNode) → Covers N.network result other ↔ Covers N.network node other }
     {
-        Nogood { node }
+        let (nogood, _, _) = Nogood::of_reusing(node);
+        nogood
     }
 
-    /// The refuted node.
-    pub fn node(&self) -> &Node<N>
-        ensures node { result.now ≡ self.now }
-        ensures refuted { IsRefutedNode N.network self.now }
+    /// The record of a refuted node, and the two rows that it does not need: the lower bounds and the early starts. Takes no
+    /// memory.
+    pub fn of_reusing(node: Node<N>) -> (Self, Starts, Starts)
+        requires fits { FitsBeforeTime N.network node }
+        requires refuted { IsNo N.network node.capacities node.window }
+        ensures record { result.0 ≡ settled N.network node }
+        ensures covers { (other : SearchNode) → Covers N.network result.0 other ↔ Covers N.network node other }
+        ensures lower { result.1 ≡ node.window.lower }
+        ensures early { result.2 ≡ node.early }
     {
-        &self.node
+        let Node {
+            question,
+            early,
+            ends,
+            started,
+            key,
+            time,
+            of,
+        } = node;
+        let Question { capacities, window } = question;
+        let (lower, upper) = window.into_bounds();
+        let bounds = bounds_of(ends, early.as_slice(), time, lower.as_slice());
+        let nogood = Nogood {
+            capacities,
+            upper,
+            bounds,
+            started,
+            key,
+            time,
+            of,
+        };
+        (nogood, lower, early)
+    }
+
+    /// A hash of the started jobs: equal for records with the same started jobs.
+    pub(crate) fn key(&self) -> u64 {
+        self.key
     }
 
     /// Whether the record covers a node; then the node's question is a no. Takes no memory.
@@ -46,6 +94,81 @@ impl<N: OfNetwork> Nogood<N> {
         ensures exact { IsTrue result ↔ Covers N.network self.now node.now }
         ensures refutes { IsTrue result → IsNo N.network node.now.capacities node.now.window }
     {
-        self.node.covers(node)
+        self.is_over(node)
+    }
+
+    /// The same, with what is true of both.
+    fn is_over(&self, node: &Node<N>) -> bool
+        ensures exact { IsTrue result ↔ Covers N.network self.now node.now }
+        ensures sound { IsSound N.network }
+        ensures node { IsNode N.network node.now }
+        ensures own { IsNode N.network self.now }
+        ensures refuted { IsRefutedNode N.network self.now }
+    {
+        self.has_cutset_of(node) && self.is_sooner_than(node) && self.has_room_of(node)
+    }
+
+    /// Whether the same jobs are started in a node, whose time is no earlier.
+    fn has_cutset_of(&self, node: &Node<N>) -> bool
+        ensures exact { IsTrue result ↔ HasCutsetOf N.network self.now node.now }
+        ensures sound { IsSound N.network }
+        ensures node { IsNode N.network node.now }
+        ensures own { IsNode N.network self.now }
+        ensures refuted { IsRefutedNode N.network self.now }
+    {
+        self.time <= node.time && self.started == node.started
+    }
+
+    /// Whether each started job ends no later than in a node, or by the node's time, and each other job may start as early, or
+    /// at the node's time.
+    fn is_sooner_than(&self, node: &Node<N>) -> bool
+        requires { HasCutsetOf N.network self.now node.now }
+        ensures { IsTrue result ↔ (EndsNoLater N.network self.now node.now × MayStartAsEarly N.network self.now node.now) }
+    {
+        let early = node.early.as_slice();
+        let lower = node.question.window.lower();
+        is_sooner(&self.bounds, early, node.time, &node.ends, lower)
+    }
+
+    /// Whether the record has at least the upper bounds and the capacities of a node.
+    fn has_room_of(&self, node: &Node<N>) -> bool
+        ensures { IsTrue result ↔ HasRoomOf N.network self.now node.now }
+    {
+        let question = &node.question;
+        is_at_least(self.upper.as_slice(), question.window.upper())
+            && is_at_least(self.capacities.as_slice(), question.capacities.as_slice())
+    }
+
+    /// Whether the record covers the node of another one. Takes no memory.
+    pub fn covers_record(&self, other: &Nogood<N>) -> bool
+        ensures { IsTrue result ↔ Covers N.network self.now other.now }
+    {
+        self.has_cutset_of_record(other)
+            && self.is_sooner_than_record(other)
+            && self.has_room_of_record(other)
+    }
+
+    /// Whether the same jobs are started in the node of another record, whose time is no earlier.
+    fn has_cutset_of_record(&self, other: &Nogood<N>) -> bool
+        ensures exact { IsTrue result ↔ HasCutsetOf N.network self.now other.now }
+        ensures refuted { IsRefutedNode N.network self.now }
+    {
+        self.time <= other.time && self.started == other.started
+    }
+
+    /// Whether each job ends no later, or may start as early, than in the node of another record, or does by its time.
+    fn is_sooner_than_record(&self, other: &Nogood<N>) -> bool
+        requires { HasCutsetOf N.network self.now other.now }
+        ensures { IsTrue result ↔ (EndsNoLater N.network self.now other.now × MayStartAsEarly N.network self.now other.now) }
+    {
+        is_sooner_row(&self.bounds, other.time, &other.bounds)
+    }
+
+    /// Whether the record has at least the upper bounds and the capacities of another one.
+    fn has_room_of_record(&self, other: &Nogood<N>) -> bool
+        ensures { IsTrue result ↔ HasRoomOf N.network self.now other.now }
+    {
+        is_at_least(self.upper.as_slice(), other.upper.as_slice())
+            && is_at_least(self.capacities.as_slice(), other.capacities.as_slice())
     }
 }

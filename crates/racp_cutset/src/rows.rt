@@ -4,7 +4,7 @@ ghost use Rattle.std.specs.Prelude.{◌≡◌, ◌↔◌, ℕ, ◌<◌, ◌≤�
 ghost use Rattle.racp_model.specs.Project.{IsSound};
 ghost use Rattle.racp_model.specs.Path.{IsEarly};
 ghost use Rattle.racp_cutset.specs.Covering.{AreEnds};
-ghost use Rattle.racp_cutset.specs.Rows.{IsAtLeastRow, IsSoonerBefore, IsSoonerFrom, AreStartedBefore};
+ghost use Rattle.racp_cutset.specs.Rows.{IsAtLeastRow, IsSoonerBefore, IsSoonerFrom, IsSoonerRow, AreBounds, AreStartedBefore};
 
 use racp_delay::JobSet;
 use racp_model::Network;
@@ -18,34 +18,54 @@ pub(crate) fn is_at_least(high: &[u32], low: &[u32]) -> bool
     (0..high.len()).all(|i| low[i] <= high[i])
 }
 
-/// Whether at each place where the early start is before the time the first row's number is at most the second's or the limit.
-pub(crate) fn is_sooner_before(
+/// Whether each bound is at most the time or, at the places where the early start is before the time, the end there, and at
+/// the others the lower bound.
+pub(crate) fn is_sooner(
+    bounds: &[u32],
     early: &[u32],
     time: u32,
-    first: &[u32],
-    limit: u32,
-    second: &[u32],
+    ends: &[u32],
+    lower: &[u32],
 ) -> bool
-    requires first { length first.now ≡ length early.now }
-    requires second { length second.now ≡ length early.now }
-    ensures { IsTrue result ↔ IsSoonerBefore early.now time first.now limit second.now }
+    requires bounds { length bounds.now ≡ length early.now }
+    requires ends { length ends.now ≡ length early.now }
+    requires lower { length lower.now ≡ length early.now }
+    ensures { IsTrue result ↔ (IsSoonerBefore early.now time bounds.now time ends.now × IsSoonerFrom early.now time bounds.now time lower.now) }
 {
-    (0..early.len()).all(|i| time <= early[i] || first[i] <= limit || first[i] <= second[i])
+    (0..early.len()).all(|i| {
+        bounds[i] <= time || bounds[i] <= (if early[i] < time { ends[i] } else { lower[i] })
+    })
 }
 
-/// The same at the places where the early start is not before the time.
-pub(crate) fn is_sooner_from(
-    early: &[u32],
-    time: u32,
-    first: &[u32],
-    limit: u32,
-    second: &[u32],
-) -> bool
-    requires first { length first.now ≡ length early.now }
-    requires second { length second.now ≡ length early.now }
-    ensures { IsTrue result ↔ IsSoonerFrom early.now time first.now limit second.now }
+/// Whether at each place the first row's number is at most the limit or the second's.
+pub(crate) fn is_sooner_row(first: &[u32], limit: u32, second: &[u32]) -> bool
+    requires { length second.now ≡ length first.now }
+    ensures { IsTrue result ↔ IsSoonerRow first.now limit second.now }
 {
-    (0..early.len()).all(|i| early[i] < time || first[i] <= limit || first[i] <= second[i])
+    (0..first.len()).all(|i| first[i] <= limit || first[i] <= second[i])
+}
+
+/// The ends, with the lower bounds in place of those of the jobs that do not start before the time. Takes no memory.
+pub(crate) fn bounds_of(mut ends: Vec<u32>, early: &[u32], time: u32, lower: &[u32]) -> Vec<u32>
+    requires ends { length ends.items ≡ length early.now }
+    requires lower { length lower.now ≡ length early.now }
+    ensures { AreBounds early.now time ends.items lower.now result.items }
+{
+    write_lower(&mut ends, early, time, lower);
+    ends
+}
+
+/// Writes the lower bounds over the ends of the jobs that do not start before the time.
+fn write_lower(ends: &mut [u32], early: &[u32], time: u32, lower: &[u32])
+    requires ends { length ends.old ≡ length early.now }
+    requires lower { length lower.now ≡ length early.now }
+    ensures { AreBounds early.now time ends.old lower.now ends.new }
+{
+    for i in 0..early.len() {
+        if time <= early[i] {
+            ends[i] = lower[i];
+        }
+    }
 }
 
 /// The jobs that start before a time.
