@@ -14,6 +14,10 @@ use std::marker::Model;
 /// How many records with the same started jobs are looked at; where there are more, the oldest are forgotten.
 const MOST_PLACES: usize = 64;
 
+/// How many places of the board, behind those of the records that are still to be read, are looked at. A place stays empty
+/// where the push to it was refused.
+const EMPTY_PLACES: usize = 8;
+
 /// Where a record stands: on the board, or among those that the thread keeps, by place from 0.
 #[derive(Debug, Clone, Copy, PartialEq)]
 enum Place {
@@ -24,6 +28,15 @@ enum Place {
 /// The places of records, by the hash of their started jobs. Places may be out of date, so what stands there is tested.
 type Index = HashMap<u64, Vec<Place>>;
 
+/// How far the board has been read.
+#[derive(Clone, Copy, Drop)]
+struct Reading {
+    /// The place from which to read the next time: behind the last that had a record.
+    next: usize,
+    /// How many records were read.
+    records: usize,
+}
+
 /// One thread's own part of the records: the records that it made and has not given away, and an index of these and of what it
 /// has read of the board. Contracts see the list of the records that it keeps.
 #[derive(Drop)]
@@ -31,7 +44,7 @@ pub struct Local<N: OfNetwork> {
     alloc: Global,
     kept: Vec<Nogood<N>>,
     index: Index,
-    read: usize,
+    reading: Reading,
 }
 
 impl<N: OfNetwork> Model for Local<N> {
@@ -54,7 +67,10 @@ impl<N: OfNetwork> Local<N> {
             alloc,
             kept: Vec::new(alloc),
             index: HashMap::new(alloc),
-            read: 0,
+            reading: Reading {
+                next: 0,
+                records: 0,
+            },
         }
     }
 
@@ -85,7 +101,7 @@ impl<N: OfNetwork> Local<N> {
     pub(crate) fn read(&mut self, board: &Board<N>)
         ensures { self.new ≡ self.old }
     {
-        self.read = read_from(self.read, self.alloc, &mut self.index, board, &self.kept);
+        self.reading = read_from(self.reading, self.alloc, &mut self.index, board, &self.kept);
     }
 
     /// A record that covers the node, of those that the index has.
@@ -114,24 +130,36 @@ impl<N: OfNetwork> Local<N> {
     }
 }
 
-/// Enters the records of the board from a place on, and answers the place from which to read the next time.
+/// Enters the records of the board that were not read, and answers how far it has been read. Places that are empty are read past
+/// where a record stands behind them.
 fn read_from<N: OfNetwork>(
-    first: usize,
+    reading: Reading,
     alloc: Global,
     index: &mut Index,
     board: &Board<N>,
     kept: &Vec<Nogood<N>>,
-) -> usize {
-    let count = board.count();
-    for i in first..count {
-        let Some(nogood) = board.record(i) else {
-            return i;
-        };
-        forget_kept(index, kept, nogood);
-        forget_written(index, board, nogood);
-        enter(alloc, index, nogood.key(), Place::Board(i));
+) -> Reading {
+    let mut read = reading;
+    let unread = board.count().saturating_sub(read.records);
+    if unread == 0 {
+        return read;
     }
-    if first < count { count } else { first }
+    let end = read
+        .next
+        .saturating_add(unread)
+        .saturating_add(EMPTY_PLACES);
+    for i in read.next..end {
+        if let Some(nogood) = board.record(i) {
+            forget_kept(index, kept, nogood);
+            forget_written(index, board, nogood);
+            enter(alloc, index, nogood.key(), Place::Board(i));
+            read = Reading {
+                next: i + 1,
+                records: read.records.saturating_add(1),
+            };
+        }
+    }
+    read
 }
 
 /// Enters a place by the hash of the started jobs of what stands there.

@@ -113,11 +113,11 @@ fn add_durations(net: &Network, times: &mut [u32])
     }
 }
 
-/// A hash of a set of jobs (Fowler, Noll and Vo's, over the numbers of the jobs).
+/// A hash of a set of jobs, over its words (Firefox's).
 pub(crate) fn hash_of(jobs: &JobSet) -> u64 {
-    let mut hash: u64 = 0xcbf2_9ce4_8422_2325;
-    for job in jobs.iter() {
-        hash = (hash ^ job as u64).wrapping_mul(0x0100_0000_01b3);
+    let mut hash: u64 = 0;
+    for word in jobs.words() {
+        hash = (hash.rotate_left(5) ^ *word).wrapping_mul(0x517c_c1b7_2722_0a95);
     }
     hash
 }

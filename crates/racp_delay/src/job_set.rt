@@ -4,7 +4,7 @@ ghost use Rattle.std.specs.Cmp.{partial_equiv_from_equiv};
 ghost use Rattle.std.proofs.lemmas.Cmp.{nat_list_eq_equiv};
 ghost use Rattle.std.specs.Iterator.{YieldsFirst, item_count};
 ghost use Rattle.racp_model.specs.Project.{IsNumber};
-ghost use Rattle.racp_delay.specs.JobSets.{AreJobs, IsInserted, IsSubset};
+ghost use Rattle.racp_delay.specs.JobSets.{members, AreJobs, IsInserted, IsSubset};
 ghost use Rattle.racp_delay.specs.Words.{AreWords, AreZero, IsFirstWord, IsLowestBit, AreBitsWithin};
 
 use std::marker::Model;
@@ -40,6 +40,14 @@ impl JobSet {
         JobSet { words: self.words }
     }
 
+    /// The set as words of 64 bits: the job at place i, from 0, has bit i % 64 of word i / 64.
+    #[inline]
+    pub fn words(&self) -> &[u64; 8]
+        ensures { self.now ≡ members result.now }
+    {
+        &self.words
+    }
+
     /// Whether a job, from 1 to 512, is in the set.
     pub fn contains(&self, job: u32) -> bool
         requires { IsNumber 512 job }
@@ -51,6 +59,7 @@ impl JobSet {
     }
 
     /// Puts a job, from 1 to 512, into the set, where it may be already.
+    #[inline]
     pub fn insert(&mut self, job: u32)
         requires { IsNumber 512 job }
         ensures inserted { IsInserted self.old job self.new }
