@@ -2,5 +2,6 @@ pub mod Covering
 pub mod Laws
 pub mod Rows
 pub mod Kept
+pub mod Lending
 pub mod Records
 pub mod Told

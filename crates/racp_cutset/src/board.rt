@@ -36,13 +36,12 @@ impl<N: OfNetwork> Board<N> {
     }
 
     /// A record that covers the node, whose question is then a no; of the board or of those kept in `local`, which reads the
-    /// board's new records first. `None` says nothing: which records are found is not promised.
+    /// board's new records first. `None` says nothing: which records are found is not promised. The same as [`Local::find`].
     pub fn find<'a>(&'a self, local: &'a mut Local<N>, node: &Node<N>) -> Option<&'a Nogood<N>>
         ensures covers { IfSome result (λ found. Covers N.network found.now node.now) }
         ensures refutes { IfSome result (λ _. IsNo N.network node.now.capacities node.now.window) }
     {
-        local.read(self);
-        local.look(self, node)
+        local.find(self, node)
     }
 
     /// The record at a place, from 0, if it has been written.

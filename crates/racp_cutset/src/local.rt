@@ -57,6 +57,10 @@ impl<N: OfNetwork> Model for Local<N> {
 }
 
 impl<N: OfNetwork> Local<N> {
+    ghost use Rattle.std.specs.Borrow.{sem};
+    ghost use Rattle.racp_cutset.specs.Lending.{EndsAsLent};
+    ghost use Rattle.racp_cutset.specs.contracts.local.Local.{the_row};
+
     /// Keeps no record and has read nothing. Takes no memory until a record is kept or read.
     pub fn new(alloc: Global, net: &Network) -> Self
         requires { net.now ≡ N.network }
@@ -119,6 +123,17 @@ impl<N: OfNetwork> Local<N> {
             }
         }
         None
+    }
+
+    /// A record that covers the node, whose question is then a no; of those that are kept and of the board, whose new records
+    /// are read first. `None` says nothing: which records are found is not promised. The kept records stay as they are.
+    pub fn find<'a>(&'a mut self, board: &'a Board<N>, node: &Node<N>) -> Option<&'a Nogood<N>>
+        ensures* kept { sem 𝓛 (EndsAsLent (the_row N.row N.OfNetwork) self.entry self.old) }
+        ensures covers { IfSome result (λ found. Covers N.network found.now node.now) }
+        ensures refutes { IfSome result (λ _. IsNo N.network node.now.capacities node.now.window) }
+    {
+        self.read(board);
+        self.look(board, node)
     }
 
     /// What stands at a place now.

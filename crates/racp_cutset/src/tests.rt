@@ -247,8 +247,10 @@ fn covers_the_same_started_jobs(rt: HostRuntime) -> Result<(), Fail> {
 }
 
 /// Whether a record that covers the node is found.
-fn is_found<N: OfNetwork>(board: &Board<N>, local: &mut Local<N>, node: &Node<N>) -> bool {
-    match board.find(local, node) {
+fn is_found<N: OfNetwork>(board: &Board<N>, local: &mut Local<N>, node: &Node<N>) -> bool
+    ensures { local.new ≡ local.old }
+{
+    match local.find(board, node) {
         Some(known) => known.covers(node),
         None => false,
     }
