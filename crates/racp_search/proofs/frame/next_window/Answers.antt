@@ -7,8 +7,8 @@ returns-in-Some-pop g c =
     is_next g.N.OfNetwork.network c.args.question.now.capacities c.args.question.now.window c.args.stack.now.items c.loop-frame.stack.items c.pop.new.self.items c.in-Some.frame c.frame.inside.node c.frame.inside.children.items
     c.pop-in-Some.new.self.items c.in-Some-pop.window c.push.new.self.items c.in-Some.ensures.items c.frame.view_is c.loop-frame.invariant.state c.loop-frame.invariant.lighter c.in-Some-pop.ensures.items c.in_ok-push-in-Some-pop.ensures.items
 
-pub of-requires-clause-refuted : goal.of-requires-clause-refuted
-of-requires-clause-refuted g c =
+pub of_reusing-nogood-requires-clause-refuted : goal.of_reusing-nogood-requires-clause-refuted
+of_reusing-nogood-requires-clause-refuted g c =
     is_refuted g.N.OfNetwork.network c.args.question.now.capacities c.args.question.now.window c.args.stack.now.items c.loop-frame.stack.items c.pop.new.self.items c.in-Some.frame c.frame.inside.node c.frame.inside.children.items
     c.in-Some.ensures.items c.frame.view_is c.loop-frame.invariant.state (omega (arith, c.frame.inside.children.ok.0, c.in-None.ensures.cases.0))
 
