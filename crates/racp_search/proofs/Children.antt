@@ -1,16 +1,15 @@
 -- Child windows, one alternative after another.
-use Rattle.std.proofs.Common.{◌≡◌, ◌≢◌, ◌⊎◌, inl, inr, ◌∙◌, ℕ, ◌+◌, ◌-◌, ◌<◌, ◌≤◌, max, List, [], ◌∷◌, ◌++◌, length, slice_index, slice_index_or, take, map, Contains, arith, refl, sym, subst, ap, All}
+use Rattle.std.proofs.Common.{◌≡◌, ◌≢◌, inl, inr, ◌∙◌, ℕ, ◌+◌, ◌<◌, ◌≤◌, List, [], ◌∷◌, ◌++◌, length, slice_index, slice_index_or, take, Contains, arith, refl, sym, subst, ap, All}
 use Rattle.std.proofs.lemmas.List.{take_more, get_or-map, length-map}
 use Rattle.smallvec.specs.SmallVec.{SmallVec}
-use Rattle.racp_model.specs.Project.{Project, number, duration, IsNumber, IsSound}
-use Rattle.racp_model.specs.Window.{Bounds, IsInside, WindowsCover}
-use Rattle.racp_model.specs.Path.{IsEarly}
+use Rattle.racp_model.specs.Project.{Project, IsNumber, IsSound}
+use Rattle.racp_model.specs.Window.{Bounds}
 use Rattle.racp_model.proofs.lemmas.Relations.{member_cases, member_first, member_later, no_member, all_members}
 use Rattle.racp_model.proofs.lemmas.Sums.{duration-small}
 use Rattle.racp_delay.specs.Alternatives.{Splits, place, job_lists, AreAlternatives, IsMinimalDelayingAlternative}
-use Rattle.racp_delay.specs.Branching.{IsClash, IsChild, IsFirstEnd, end_of}
-use Rattle.racp_delay.specs.Laws.{HaveChildren, ChildrenCover, ChildIsInside, ChildIsHigher, OthersStay, SubsetsGo, lower_sum}
-use Rattle.racp_search.specs.Children.{NoneStays, IsChildFor, AreChildrenOf, AreChildren, IsRaised, IsPutOff}
+use Rattle.racp_delay.specs.Branching.{IsClash, IsChild, IsFirstEnd}
+use Rattle.racp_delay.specs.Laws.{OthersStay, SubsetsGo}
+use Rattle.racp_search.specs.Children.{NoneStays, IsChildFor, AreChildrenOf, IsPutOff}
 
 -- the jobs of a short vector among some
 pub list_at : (vectors : List (SmallVec ℕ)) (k : ℕ) (v : SmallVec ℕ) (gone d : List ℕ) → k < length vectors → v ≡ slice_index_or vectors k v → gone ≡ v.items → slice_index_or (job_lists vectors) k d ≡ gone

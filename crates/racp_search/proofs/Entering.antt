@@ -1,13 +1,13 @@
 -- A window is entered, and how a search ends.
-use Rattle.std.proofs.Common.{◌≡◌, ◌≢◌, ◌⊎◌, inl, inr, ◌∙◌, ℕ, zero, suc, ◌+◌, ◌<◌, ◌≤◌, List, [], ◌∷◌, ◌++◌, length, Bool, true, false, Contains, arith, refl, sym, subst, ap, Option, Some, None, IfSome, IsFalse}
+use Rattle.std.proofs.Common.{◌≡◌, inl, inr, ◌∙◌, ℕ, ◌<◌, ◌≤◌, List, [], ◌∷◌, ◌++◌, true, Contains, arith, refl, sym, subst, ap, Option, Some, None, IfSome, IsFalse}
 use Rattle.std.proofs.lemmas.List.Elements.{Contains-append_left, Contains-append_right, Contains-append_cases}
 use Rattle.racp_model.specs.Project.{Project}
-use Rattle.racp_model.specs.Window.{Bounds, Answers, IsNo, WindowsCover}
+use Rattle.racp_model.specs.Window.{Bounds, IsNo}
 use Rattle.racp_model.proofs.lemmas.Relations.{member_cases, member_first, member_later, no_member}
-use Rattle.racp_search.specs.Truth.{IsRestOf, IsTrueFinding}
-use Rattle.racp_search.specs.Searching.{SearchFrame, open_windows, IsHigher, IsPartOf, IsSearching, IsFrameOf, weights}
+use Rattle.racp_search.specs.Truth.{IsRestOf}
+use Rattle.racp_search.specs.Searching.{SearchFrame, open_windows, IsHigher, IsSearching, IsFrameOf}
 use Rattle.racp_search.specs.Ends.{IsClosed, IsSpent}
-use Rattle.racp_search.proofs.Stacks.{searching-refuted, searching-framed, searching-start, covers-more}
+use Rattle.racp_search.proofs.Stacks.{searching-refuted, searching-framed, covers-more}
 use Rattle.racp_search.proofs.Popping.{open-with}
 use Rattle.racp_search.proofs.Weights.{framed-lighter, closed-lighter}
 

@@ -1,16 +1,15 @@
 -- The frame that is made for a window at a conflict of its early starts.
-use Rattle.std.proofs.Common.{◌≡◌, ◌≢◌, ◌∙◌, ℕ, ◌+◌, ◌*◌, ◌^◌, ◌<◌, ◌≤◌, List, [], ◌∷◌, length, slice_index, Contains, arith, refl, sym, subst, ap, true, Option, Some, None, is_some, IfSome}
-use Rattle.std.proofs.lemmas.Grind.{same_number_lists}
+use Rattle.std.proofs.Common.{◌≡◌, ◌∙◌, ℕ, ◌^◌, ◌<◌, ◌≤◌, List, length, slice_index, Contains, arith, sym, subst, ap, true, Option, Some, None, is_some, IfSome}
 use Rattle.racp_model.specs.Project.{Project}
 use Rattle.racp_model.specs.Path.{IsEarly}
-use Rattle.racp_model.specs.Schedule.{sum_below, usage}
-use Rattle.racp_model.specs.Window.{Bounds, IsNo, IsInside, WindowsCover}
+use Rattle.racp_model.specs.Schedule.{usage}
+use Rattle.racp_model.specs.Window.{Bounds, WindowsCover}
 use Rattle.racp_model.proofs.lemmas.Sums.{sum_below-bound}
 use Rattle.racp_delay.specs.Branching.{IsClash, IsChild}
-use Rattle.racp_delay.specs.Laws.{ChildrenCover, ChildIsInside, ChildIsHigher, lower_sum}
+use Rattle.racp_delay.specs.Laws.{ChildrenCover, ChildIsInside, ChildIsHigher}
 use Rattle.racp_cutset.specs.Covering.{SearchNode, FitsBeforeTime}
 use Rattle.racp_search.specs.Children.{AreChildren}
-use Rattle.racp_search.specs.Searching.{SearchFrame, IsPartOf, IsHigher, IsFrameOf}
+use Rattle.racp_search.specs.Searching.{SearchFrame, IsFrameOf}
 use Rattle.racp_search.proofs.Children.{child_of, list_of}
 
 -- what holds of a value that is there

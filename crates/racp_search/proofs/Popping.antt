@@ -1,12 +1,12 @@
 -- The last frame of a stack is taken out: its last window is searched next, or it has run out.
-use Rattle.std.proofs.Common.{◌≡◌, ◌∙◌, ℕ, zero, suc, ◌+◌, ◌<◌, ◌≤◌, List, [], ◌∷◌, ◌++◌, length, Contains, arith, refl, sym, subst, ap}
+use Rattle.std.proofs.Common.{◌≡◌, ◌∙◌, ℕ, ◌≤◌, List, [], ◌∷◌, ◌++◌, length, Contains, arith, refl, sym, subst, ap}
 use Rattle.std.proofs.lemmas.List.{append-nil}
 use Rattle.std.proofs.lemmas.List.Elements.{Contains-append_right}
 use Rattle.racp_model.specs.Project.{Project}
 use Rattle.racp_model.specs.Window.{Bounds, IsNo}
 use Rattle.racp_model.proofs.lemmas.Relations.{member_first}
 use Rattle.racp_cutset.specs.Covering.{SearchNode}
-use Rattle.racp_search.specs.Searching.{SearchFrame, open_windows, IsHigher, IsSearching, weight, weights}
+use Rattle.racp_search.specs.Searching.{SearchFrame, open_windows, IsSearching, weights}
 use Rattle.racp_search.specs.Steps.{IsNext}
 use Rattle.racp_search.proofs.Stacks.{open-last, searching-next, searching-popped, split-higher, frame-refuted}
 use Rattle.racp_search.proofs.Weights.{weights-append}

@@ -1,10 +1,9 @@
 -- The stack of a search: what is still open covers, from step to step.
-use Rattle.std.proofs.Common.{◌≡◌, ◌⊎◌, inl, inr, ◌∙◌, ℕ, ◌+◌, ◌<◌, ◌≤◌, List, [], ◌∷◌, ◌++◌, length, slice_index, Contains, arith, refl, sym, subst, ap, append_assoc}
+use Rattle.std.proofs.Common.{◌≡◌, inl, inr, ◌∙◌, ℕ, ◌≤◌, List, [], ◌∷◌, ◌++◌, length, slice_index, Contains, arith, refl, sym, subst, ap, append_assoc}
 use Rattle.std.proofs.lemmas.List.{append-nil}
 use Rattle.std.proofs.lemmas.List.Elements.{Contains-append_left, Contains-append_right, Contains-append_cases}
 use Rattle.racp_model.specs.Project.{Project}
-use Rattle.racp_model.specs.Schedule.{sum_below}
-use Rattle.racp_model.specs.Window.{Bounds, LiesIn, Answers, IsNo, WindowsCover, IsInside}
+use Rattle.racp_model.specs.Window.{Bounds, Answers, IsNo, WindowsCover, IsInside}
 use Rattle.racp_model.proofs.lemmas.Sums.{sum_below-mono}
 use Rattle.racp_model.proofs.lemmas.Relations.{member_cases, member_first, no_member}
 use Rattle.racp_delay.specs.Laws.{lower_sum}

@@ -1,11 +1,11 @@
 -- The weights of open windows: a search of a window takes its weight out and puts less in.
-use Rattle.std.proofs.Common.{◌≡◌, ◌∙◌, ℕ, zero, suc, ◌+◌, ◌-◌, ◌*◌, ◌^◌, ◌<◌, ◌≤◌, List, [], ◌∷◌, ◌++◌, length, Contains, arith, refl, sym, subst, ap}
+use Rattle.std.proofs.Common.{◌≡◌, ◌∙◌, ℕ, suc, ◌+◌, ◌-◌, ◌*◌, ◌^◌, ◌<◌, ◌≤◌, List, [], ◌∷◌, ◌++◌, length, Contains, arith, refl, sym, ap}
 use Rattle.std.proofs.Math.Nat.{mul-le-mul_left, one-le-pow, pow-le-pow_right, pow-suc}
 use Rattle.racp_model.specs.Project.{Project}
 use Rattle.racp_model.specs.Window.{Bounds}
 use Rattle.racp_model.proofs.lemmas.Relations.{member_first, member_later}
 use Rattle.racp_delay.specs.Laws.{lower_sum}
-use Rattle.racp_search.specs.Searching.{SearchFrame, open_windows, IsHigher, IsFrameOf, weight, weights}
+use Rattle.racp_search.specs.Searching.{SearchFrame, open_windows, IsFrameOf, weight, weights}
 use Rattle.racp_search.proofs.Stacks.{open-last}
 
 -- the weights of two lists

@@ -1,8 +1,8 @@
 -- Contracts of private functions: a search by depth. A stack holds the nodes on the way to the window that is searched next,
 -- the first node first, each with the child windows of it that are still to be searched.
-use Rattle.std.specs.Prelude.{◌≡◌, ◌↔◌, ℕ, ◌+◌, ◌-◌, ◌*◌, ◌^◌, ◌<◌, ◌≤◌, List, [], ◌∷◌, ◌++◌, length, slice_index, Contains, Option, Some, None}
+use Rattle.std.specs.Prelude.{◌≡◌, ℕ, ◌+◌, ◌-◌, ◌*◌, ◌^◌, ◌<◌, ◌≤◌, List, [], ◌∷◌, ◌++◌, length, Contains}
 use Rattle.racp_model.specs.Project.{Project}
-use Rattle.racp_model.specs.Window.{Bounds, Answers, IsNo, WindowsCover, IsInside}
+use Rattle.racp_model.specs.Window.{Bounds, WindowsCover, IsInside}
 use Rattle.racp_delay.specs.Laws.{lower_sum}
 use Rattle.racp_cutset.specs.Covering.{SearchNode}
 

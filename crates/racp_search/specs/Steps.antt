@@ -1,7 +1,7 @@
 -- Contracts of private functions: the steps of a search by depth.
-use Rattle.std.specs.Prelude.{◌≡◌, ℕ, ◌+◌, ◌<◌, ◌≤◌, List, [], ◌∷◌, ◌++◌, Option, Some, None}
+use Rattle.std.specs.Prelude.{ℕ, ◌≤◌, List, [], ◌∷◌, ◌++◌, Option, Some, None}
 use Rattle.racp_model.specs.Project.{Project}
-use Rattle.racp_model.specs.Window.{Bounds, Answers}
+use Rattle.racp_model.specs.Window.{Bounds}
 use Rattle.racp_search.specs.Searching.{SearchFrame, open_windows, IsHigher, IsSearching, weights}
 
 -- a window that is searched next, and the stack without it

@@ -1,8 +1,5 @@
-use Rattle.std.proofs.Common.{◌≡◌, ◌∙◌, ◌≤◌, ◌++◌, ◌∷◌, [], ℕ, List, take, subst, sym, ap, arith, Fits}
-use Rattle.racp_model.specs.Window.{Bounds}
-use Rattle.racp_delay.specs.Alternatives.{IsMinimalDelayingAlternative, job_lists}
+use Rattle.std.proofs.Common.{◌≤◌, arith}
 use Rattle.racp_delay.proofs.lemmas.Clashes.{clash_numbers}
-use Rattle.racp_search.specs.Children.{AreChildrenOf}
 use Rattle.racp_search.proofs.Children.{alternative_at, gone_numbers, end_small, skip-next, child-next, child_from_put_off}
 use Rattle.racp_search.proofs.branching.children.Goals as goal
 

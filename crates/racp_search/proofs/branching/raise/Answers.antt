@@ -1,4 +1,4 @@
-use Rattle.std.proofs.Common.{◌≡◌, ◌+◌, ◌-◌, ◌∙◌, ℕ, List, slice_index, take, arith, subst, sym}
+use Rattle.std.proofs.Common.{◌+◌, ◌-◌, ℕ, List, slice_index, take, arith, subst, sym}
 use Rattle.racp_search.proofs.Raising.{IsRaising, raising-write, raising-skip}
 use Rattle.racp_search.proofs.branching.raise.Goals as goal
 use Rattle.racp_search.proofs.branching.raise.Goals.{then-times-place, else-times-place}

@@ -1,4 +1,4 @@
-use Rattle.std.proofs.Common.{◌≡◌, ◌∙◌, List, length, arith, sym}
+use Rattle.std.proofs.Common.{arith}
 use Rattle.racp_search.proofs.Popping.{is_next, is_refuted, is_popped, popped-lighter}
 use Rattle.racp_search.proofs.frame.next_window.Goals as goal
 

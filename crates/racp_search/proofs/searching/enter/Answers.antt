@@ -1,6 +1,6 @@
-use Rattle.std.proofs.Common.{List, ℕ, subst, refl}
+use Rattle.std.proofs.Common.{subst, refl}
 use Rattle.racp_model.specs.Project.{Project}
-use Rattle.racp_model.specs.Window.{Answers, IsNo}
+use Rattle.racp_model.specs.Window.{Answers}
 use Rattle.racp_search.specs.Glances.{IsGlance, IsExpanded}
 use Rattle.racp_search.specs.Searching.{IsFrameOf}
 use Rattle.racp_search.proofs.Stacks.{answers-whole, next-part}

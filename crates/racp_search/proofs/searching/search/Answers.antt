@@ -1,4 +1,4 @@
-use Rattle.std.proofs.Common.{◌≡◌, ◌∙◌, List, ℕ, Bool, true, length, arith, ap, sym, subst}
+use Rattle.std.proofs.Common.{◌∙◌, true, length, ap, sym, subst}
 use Rattle.racp_model.specs.Project.{Project}
 use Rattle.racp_search.specs.Ends.{IsSpent}
 use Rattle.racp_search.proofs.Stacks.{next-part}
