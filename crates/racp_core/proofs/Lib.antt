@@ -1,0 +1,2 @@
+pub mod OutAndBack
+pub mod Places

@@ -1,0 +1,85 @@
+-- The collector as a machine: what it has been asked, what is still to be searched, and what it knows.
+use Rattle.std.specs.Prelude.{◌≡◌, ℕ, ◌+◌, ◌<◌, Bool, true, false, nat_lt, if◌then◌else◌, IsTrue, List, [], ◌∷◌, ◌++◌, length, map, slice_index_or, Option, Some, None}
+use Rattle.racp_model.specs.Window.{Bounds}
+use Rattle.racp_model.specs.declared.question.Question.{Question}
+use Rattle.racp_candidates.specs.FirstYes.{no_question}
+
+-- a piece that is out: its number, the seat of the worker that took it, and its window
+pub record PieceOut : Type 0 where
+  pub number : ℕ
+  pub seat : ℕ
+  pub window : Bounds
+
+-- a question that was asked, the windows of it that are open, and the pieces of it that are out
+pub record QuestionRow : Type 0 where
+  pub question : Question
+  pub ready : List Bounds
+  pub out : List PieceOut
+
+-- a yes: the place of its question, and starts that answer it
+pub record KnownYes : Type 0 where
+  pub index : ℕ
+  pub starts : List ℕ
+
+-- a state: the questions that were asked, those still to come, the least yes that is known, how many pieces were taken (so the
+-- next number), whether the series has ended, and whether the collector was halted
+pub record Machine : Type 0 where
+  pub asked : List QuestionRow
+  pub to_come : List Question
+  pub least : Option KnownYes
+  pub taken : ℕ
+  pub ended : Bool
+  pub halted : Bool
+
+-- a collector of which nothing was asked
+abbrev pub fresh : List Question → Machine
+fresh questions = record { asked = []; to_come = questions; least = None; taken = 0; ended = false; halted = false }
+
+-- all questions: those that were asked, and those still to come
+abbrev pub all_questions : Machine → List Question
+all_questions m = map (λ row. row.question) m.asked ++ m.to_come
+
+-- a question whose window is open
+abbrev pub opened : Question → QuestionRow
+opened question = record { question = question; ready = question.window ∷ []; out = [] }
+
+-- what is read at a place where no question was asked
+abbrev pub no_row : QuestionRow
+no_row = record { question = no_question; ready = []; out = [] }
+
+-- the asked question at a place
+abbrev pub row_at : List QuestionRow → ℕ → QuestionRow
+row_at asked i = slice_index_or asked i no_row
+
+-- the place stands before the least yes
+abbrev pub is_before : Option KnownYes → ℕ → Bool
+is_before None i = true
+is_before (Some y) i = nat_lt i y.index
+
+abbrev pub IsBefore : Option KnownYes → ℕ → Type 0
+IsBefore None i = Unit {0}
+IsBefore (Some y) i = i < y.index
+
+-- nothing of the question is open or out
+abbrev pub IsDone : QuestionRow → Type 0
+IsDone row = (row.ready ≡ []) × (row.out ≡ [])
+
+-- each asked question before a place is done
+abbrev pub AreDone : List QuestionRow → ℕ → Type 0
+AreDone asked n = (i : ℕ) → i < n → IsDone (row_at asked i)
+
+-- the question is decided: it stands at or after the least yes, or nothing of it is open or out
+abbrev pub IsDecided : Machine → ℕ → Type 0
+IsDecided m i = IsBefore m.least i → IsDone (row_at m.asked i)
+
+-- the answer is known: of the questions before the least yes each is decided; or the series has ended, and each is
+abbrev pub IsSettledBy : Option KnownYes → Bool → List QuestionRow → Type 0
+IsSettledBy (Some y) ended asked = AreDone asked y.index
+IsSettledBy None ended asked = IsTrue ended × AreDone asked (length asked)
+
+abbrev pub IsSettled : Machine → Type 0
+IsSettled m = IsSettledBy m.least m.ended m.asked
+
+-- something of the question is open or out, and it stands before the least yes
+abbrev pub IsUndecided : Option KnownYes → List QuestionRow → ℕ → Type 0
+IsUndecided least asked i = (i < length asked) × IsBefore least i × (0 < length (row_at asked i).ready + length (row_at asked i).out)

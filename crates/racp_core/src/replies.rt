@@ -1,0 +1,75 @@
+use racp_model::Starts;
+use racp_search::Piece;
+
+/// What asking answers.
+#[derive(Debug, Drop)]
+pub enum Asked {
+    /// The question at this place of the series was asked.
+    Question(usize),
+    /// The series has ended.
+    End,
+    /// A yes is known, so that no later question matters.
+    Enough,
+    /// The collector was halted.
+    Halted,
+}
+
+/// What taking a piece answers.
+#[derive(Debug)]
+pub enum Reply {
+    /// A piece to be searched.
+    Piece(Piece),
+    /// No window is open now.
+    Nothing,
+    /// The answer is known.
+    Done,
+    /// The collector was halted.
+    Halted,
+}
+
+/// What handing in a finding, or giving back a piece, answers.
+#[derive(Debug, Drop)]
+pub enum Merged {
+    /// It was taken in.
+    Taken,
+    /// No piece of that number, seat, place and question is out; nothing has changed.
+    Stale,
+}
+
+/// What is known of the series.
+#[derive(Debug, Drop)]
+pub enum Verdict<'a> {
+    /// The question at this place is a yes, answered by these starts, and each question before it is a no.
+    First {
+        /// The place of the question.
+        index: usize,
+        /// Starts that answer it.
+        starts: &'a Starts,
+    },
+    /// Each question of the series is a no.
+    NoYes,
+    /// Not known yet: each question before this place is a no.
+    Pending {
+        /// The place of the first asked question that is not decided, or the number of asked questions.
+        first_open: usize,
+    },
+}
+
+/// What was known of the series at the end.
+#[derive(Debug, Drop)]
+pub enum Outcome {
+    /// The question at this place is a yes, answered by these starts, and each question before it is a no.
+    First {
+        /// The place of the question.
+        index: usize,
+        /// Starts that answer it.
+        starts: Starts,
+    },
+    /// Each question of the series is a no.
+    NoYes,
+    /// Not known: each question before this place is a no.
+    Open {
+        /// The place of the first asked question that is not decided, or the number of asked questions.
+        first_open: usize,
+    },
+}
