@@ -1,6 +1,6 @@
 mod FirstYes
 mod Values
-mod Members
+pub mod Members
 mod InOrder
 mod Between
 mod Reached

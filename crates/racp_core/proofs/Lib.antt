@@ -1,2 +1,14 @@
 pub mod OutAndBack
 pub mod Places
+pub mod Kept
+pub mod Questions
+pub mod Sound
+pub mod Answered
+pub mod Open
+pub mod States
+pub mod Verdicts
+pub mod Taking
+pub mod Asking
+pub mod Counting
+pub mod Running
+pub mod Shutting

@@ -8,7 +8,7 @@ use Rattle.racp_model.specs.declared.question.Question.{Question}
 use Rattle.racp_candidates.specs.FirstYes.{question_at, IsFirstYes, AreNoBefore}
 use Rattle.racp_search.specs.declared.piece.Piece.{Piece}
 use Rattle.racp_search.specs.Truth.{SearchFinding, rest_windows}
-use Rattle.racp_core.specs.Machine.{KnownYes, Machine, IsSettled, IsDecided}
+use Rattle.racp_core.specs.Machine.{QuestionRow, KnownYes, Machine, IsSettled, IsDecided}
 use Rattle.racp_core.specs.Steps.{IsNextAsked, IsPieceTaken, HasNoOpen, IsOut, IsReturned, IsAnswered}
 use Rattle.racp_core.specs.declared.replies.Asked.{Asked}
 use Rattle.racp_core.specs.declared.replies.Asked.TheVariants.{Question as Next, End, Enough, Halted as AskHalted}
@@ -85,8 +85,11 @@ IsOutcomeKnown p questions (Open index) = AreNoBefore p questions index
 
 -- the capacities that were reached where the answer is open: those of the first open question, of the last asked where that one
 -- is not asked, or none
+abbrev pub capacities_at : List QuestionRow → ℕ → Option (List ℕ)
+capacities_at asked place = option_map (λ row. row.question.capacities) (slice_get asked (min place (length asked - 1)))
+
 abbrev pub reached_by : Machine → Outcome → Option (List ℕ)
-reached_by m (Open index) = option_map (λ row. row.question.capacities) (slice_get m.asked (min index (length m.asked - 1)))
+reached_by m (Open index) = capacities_at m.asked index
 reached_by m (FirstOutcome index starts) = None
 reached_by m NoYesOutcome = None
 

@@ -1,11 +1,13 @@
 -- Contracts of private functions: rows of questions, and the places of those that are not decided.
 use Rattle.std.specs.Prelude.{◌≡◌, ◌↔◌, ◌⊎◌, ℕ, ◌+◌, ◌<◌, ◌≤◌, Bool, true, false, List, [], ◌∷◌, ◌++◌, length, slice_index_or, slice_set, Option, Some, None, Contains, option_to_list}
+use Rattle.racp_model.specs.Project.{Project}
 use Rattle.racp_model.specs.Window.{Bounds}
 use Rattle.racp_model.specs.declared.question.Question.{Question}
 use Rattle.racp_search.specs.declared.piece.Piece.{Piece}
 use Rattle.racp_search.specs.declared.finding.Rest.{Rest}
 use Rattle.racp_search.specs.declared.finding.Rest.TheVariants.{Whole, Windows}
-use Rattle.racp_core.specs.Machine.{PieceOut, QuestionRow, KnownYes, opened, row_at, IsUndecided}
+use Rattle.racp_core.specs.Machine.{PieceOut, QuestionRow, KnownYes, Machine, opened, row_at, IsUndecided}
+use Rattle.racp_core.specs.Truth.{IsSound}
 use Rattle.racp_core.specs.Steps.{out_of, IsSent}
 
 -- what is read at a place where no piece is out
@@ -39,6 +41,11 @@ listed (Windows windows) = length windows.items
 -- the places of the undecided questions
 abbrev pub AreUndecided : Option KnownYes → List QuestionRow → List ℕ → Type 0
 AreUndecided least asked places = (i : ℕ) → Contains places i ↔ IsUndecided least asked i
+
+-- a state with the places of its undecided questions, of which all is true
+pub record IsState (p : Project) (m : Machine) (places : List ℕ) : Type 0 where
+  pub sound : IsSound p m
+  pub undecided : AreUndecided m.least m.asked places
 
 -- a place is added to some, where it is one of them; it is taken from them; the later ones are
 abbrev pub IsAdded : List ℕ → ℕ → List ℕ → Type 0

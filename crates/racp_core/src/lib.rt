@@ -4,11 +4,12 @@
 //! Questions stand by their place in the series, from 0, and pieces by their number, from 0.
 #![tactic(auto)]
 
-// mod collector;
+mod collector;
 mod copies;
+pub mod laws;
 mod replies;
 mod row;
 mod undecided;
 
-// pub use collector::Core;
+pub use collector::Core;
 pub use replies::{Asked, Merged, Outcome, Reply, Verdict};

@@ -1,6 +1,6 @@
 //! A question that was asked, with its open windows and the pieces of it that are out.
 
-ghost use Rattle.std.specs.Prelude.{◌≡◌, ◌↔◌, ◌+◌, ◌<◌, ◌≤◌, [], ◌∷◌, None, length, vec_capacity, slice_index_or, IsTrue, IfOk, IfErr, OnOk, OnErr, IfSome, IfNone, Contains};
+ghost use Rattle.std.specs.Prelude.{◌≡◌, ◌↔◌, ◌+◌, ◌<◌, ◌≤◌, [], ◌∷◌, None, length, vec_capacity, slice_index_or, if◌then◌else◌, IsTrue, IfOk, IfErr, OnOk, OnErr, IfSome, IfNone, Contains};
 ghost use Rattle.racp_search.specs.Truth.{rest_windows};
 ghost use Rattle.racp_core.specs.Machine.{IsDone};
 ghost use Rattle.racp_core.specs.Steps.{IsBack, out_of, shut};
@@ -143,7 +143,7 @@ impl Row {
         None
     }
 
-    /// The piece at this place is in, and what the finding leaves is open in its place.
+    /// The piece at this place is in, and what the finding leaves is open in its place, if windows may open.
     ///
     /// # Errors
     ///
@@ -152,11 +152,17 @@ impl Row {
         &mut self,
         at: usize,
         finding: Finding<N>,
+        opens: bool,
     ) -> Result<(), (Finding<N>, AllocError)>
         requires { at < length self.old.out }
-        ensures ok { IfOk result (λ _. IsBack (slice_index_or self.old.out at no_out) (rest_windows finding.piece.question.window finding.rest) self.old self.new) }
+        ensures ok { IfOk result (λ _. IsBack (slice_index_or self.old.out at no_out) (if opens then rest_windows finding.piece.question.window finding.rest else []) self.old self.new) }
         ensures err { IfErr result (λ e. (self.new ≡ self.old) × (e.0 ≡ finding) × (0 < listed finding.rest)) }
     {
+        if !opens {
+            let _ = finding.into_found();
+            self.close(at);
+            return Ok(());
+        }
         if let Err(error) = make_room(&mut self.ready, &self.out, finding.rest()) {
             return Err((finding, error));
         }
@@ -174,11 +180,15 @@ impl Row {
         Ok(())
     }
 
-    /// The piece at this place is in, and this window is open in its place.
-    pub(crate) fn put_whole(&mut self, at: usize, window: Window)
+    /// The piece at this place is in, and this window is open in its place, if windows may open.
+    pub(crate) fn put_whole(&mut self, at: usize, window: Window, opens: bool)
         requires { at < length self.old.out }
-        ensures { IsBack (slice_index_or self.old.out at no_out) (window ∷ []) self.old self.new }
+        ensures { IsBack (slice_index_or self.old.out at no_out) (if opens then window ∷ [] else []) self.old self.new }
     {
+        if !opens {
+            self.close(at);
+            return;
+        }
         let _ = self.out.swap_remove(at);
         self.ready.push_reserved(window);
     }

@@ -1,6 +1,8 @@
 //! The places of the questions that are not decided.
 
 ghost use Rattle.std.specs.Prelude.{◌≡◌, ◌<◌, ℕ, [], length, IfOk, IfErr, IfSome, IfNone, Contains};
+ghost use Rattle.std.specs.List.Sorted.{IsStrictlySortedBy};
+ghost use Rattle.std.specs.Ordering.{nat_cmp};
 ghost use Rattle.racp_core.specs.Machine.{row_at};
 ghost use Rattle.racp_core.specs.Rows.{IsAdded, IsRemoved, IsCutAt, IsFirstPlace, IsFirstReady};
 
@@ -35,7 +37,8 @@ impl Undecided {
 
     /// How many there are.
     pub(crate) fn len(&self) -> usize
-        ensures { result ≡ length self.now }
+        ensures count { result ≡ length self.now }
+        ensures rising { IsStrictlySortedBy nat_cmp self.now }
     {
         self.places.len()
     }

@@ -1,0 +1,143 @@
+//! The collector and its readers.
+
+ghost use Rattle.std.specs.Prelude.{◌≡◌, ◌↔◌, ◌<◌, length, Some, None, IsTrue, true};
+ghost use Rattle.racp_model.specs.Formed.{AreFormed};
+ghost use Rattle.racp_candidates.specs.FirstYes.{question_at};
+ghost use Rattle.racp_core.specs.Machine.{fresh, all_questions, row_at, is_before, IsSettled};
+ghost use Rattle.racp_core.specs.Counts.{undecided_count};
+ghost use Rattle.racp_core.specs.Runs.{Step, Halt, OfHalt};
+
+use crate::replies::Verdict;
+use crate::row::Row;
+use crate::undecided::Undecided;
+use racp_candidates::Series;
+use racp_model::{Network, OfNetwork, Question, Starts};
+use std::alloc::Global;
+use std::marker::{Model, PhantomData};
+
+mod answering;
+mod asking;
+mod handing;
+mod taking;
+
+/// The least yes that is known.
+#[derive(Drop)]
+struct Best {
+    index: usize,
+    starts: Starts,
+}
+
+impl Model for Best {
+    ghost use Rattle.racp_core.specs.Machine.{KnownYes};
+
+    ghost Value = { KnownYes };
+
+    ghost view = { λ b. record { index = b.index; starts = b.starts } };
+}
+
+/// A collector for the questions of one series, about the network that `N` names. Contracts see a `Machine`.
+#[derive(Drop)]
+pub struct Core<N: OfNetwork, S: Series> {
+    alloc: Global,
+    series: S,
+    next: Option<Question>,
+    rows: Vec<Row>,
+    undecided: Undecided,
+    best: Option<Best>,
+    taken: u64,
+    ended: bool,
+    halted: bool,
+    of: PhantomData<N>,
+}
+
+impl<N: OfNetwork, S: Series> Model for Core<N, S> {
+    ghost use Rattle.std.specs.Prelude.{◌++◌, option_to_list};
+    ghost use Rattle.racp_core.specs.Machine.{Machine};
+    ghost use Rattle.racp_core.specs.Rows.{IsState};
+
+    ghost Value = { Machine };
+
+    ghost view = { λ c. record { asked = c.rows.items; to_come = option_to_list c.next ++ S.questions c.series; least = c.best; taken = c.taken; ended = c.ended; halted = c.halted } };
+
+    ghost invariant = { λ c. IsState N.network (record { asked = c.rows.items; to_come = option_to_list c.next ++ S.questions c.series; least = c.best; taken = c.taken; ended = c.ended; halted = c.halted }) c.undecided };
+}
+
+impl<N: OfNetwork, S: Series> Core<N, S> {
+    /// A collector of which no question was asked. The network is the one that `N` names, and the questions have its form: a
+    /// capacity for each resource, and bounds for each job. Takes no memory.
+    pub fn new(alloc: Global, net: &Network, series: S) -> Self
+        requires named { net.now ≡ N.network }
+        requires formed { AreFormed net.now (S.questions series) }
+        ensures { result ≡ fresh (S.questions series) }
+    {
+        let _ = net;
+        Core {
+            alloc,
+            series,
+            next: None,
+            rows: Vec::new(alloc),
+            undecided: Undecided::new(alloc),
+            best: None,
+            taken: 0,
+            ended: false,
+            halted: false,
+            of: PhantomData,
+        }
+    }
+
+    /// Halts the collector: no question is asked and no piece is handed out any more. Takes no memory.
+    pub fn halt(&mut self)
+        ensures step { Step self.old Halt OfHalt self.new }
+        ensures questions { all_questions self.new ≡ all_questions self.old }
+    {
+        self.halted = true;
+    }
+
+    /// How many pieces were taken: the number of the next one. Takes no memory.
+    pub fn taken(&self) -> u64
+        ensures { result ≡ self.now.taken }
+    {
+        self.taken
+    }
+
+    /// How many of the questions that were asked are not decided: each of them stands before the least yes that is known, and a
+    /// window of it is open or out. Takes no memory.
+    pub fn undecided(&self) -> usize
+        ensures { result ≡ undecided_count self.now }
+    {
+        self.undecided.len()
+    }
+
+    /// The question at a place, from 0, which was asked. Takes no memory.
+    pub fn question(&self, index: usize) -> &Question
+        requires { index < length self.now.asked }
+        ensures { result.now ≡ question_at (all_questions self.now) index }
+    {
+        let row = &self.rows[index];
+        row.question()
+    }
+
+    /// Whether the answer is known.
+    fn is_settled(&self) -> bool
+        ensures { IsTrue result ↔ IsSettled self.now }
+    {
+        match self.answer() {
+            Verdict::First {
+                index: _,
+                starts: _,
+            } => true,
+            Verdict::NoYes => true,
+            Verdict::Pending { first_open: _ } => false,
+        }
+    }
+
+    /// Whether a place stands before the least yes.
+    fn is_before(&self, index: usize) -> bool
+        ensures { result ≡ is_before self.now.least index }
+    {
+        match &self.best {
+            Some(best) => index < best.index,
+            None => true,
+        }
+    }
+}

@@ -1,0 +1,93 @@
+//! What is known of the series.
+
+ghost use Rattle.std.specs.Prelude.{◌≡◌, ◌<◌, length, None, Some};
+ghost use Rattle.std.specs.List.{slice_get};
+ghost use Rattle.racp_candidates.specs.FirstYes.{IsReached};
+ghost use Rattle.racp_core.specs.Machine.{all_questions};
+ghost use Rattle.racp_core.specs.Replies.{IsVerdict, IsKnown, IsOutcome, IsOutcomeKnown, reached_by, capacities_at};
+
+use super::Core;
+use crate::replies::{Outcome, Verdict};
+use crate::row::Row;
+use racp_candidates::Series;
+use racp_model::{Capacities, OfNetwork};
+
+impl<N: OfNetwork, S: Series> Core<N, S> {
+    /// What is known of the series. Takes no memory.
+    pub fn answer(&self) -> Verdict<'_>
+        ensures answer { IsVerdict self.now result }
+        ensures known { IsKnown N.network (all_questions self.now) result }
+    {
+        if let Some(first_open) = self.undecided.first() {
+            return Verdict::Pending { first_open };
+        }
+        match &self.best {
+            Some(best) => Verdict::First {
+                index: best.index,
+                starts: &best.starts,
+            },
+            None => {
+                if self.ended {
+                    Verdict::NoYes
+                } else {
+                    Verdict::Pending {
+                        first_open: self.rows.len(),
+                    }
+                }
+            }
+        }
+    }
+
+    /// The same, with the starts moved out. Where the answer is open, also the capacities that were reached: those of the first
+    /// open question, of the last asked where that one is not asked, or none. Takes no memory.
+    pub fn into_answer(self) -> (Outcome, Option<Capacities>)
+        ensures answer { IsOutcome self result.0 }
+        ensures known { IsOutcomeKnown N.network (all_questions self) result.0 }
+        ensures capacities { result.1 ≡ reached_by self result.0 }
+        ensures reached { IsReached N.network (all_questions self) result.1 }
+    {
+        let Core {
+            alloc: _,
+            series: _series,
+            next: _next,
+            rows,
+            undecided,
+            best,
+            taken: _,
+            ended,
+            halted: _,
+            of: _,
+        } = self;
+        if let Some(first_open) = undecided.first() {
+            return (Outcome::Open { first_open }, capacities_of(rows, first_open));
+        }
+        match best {
+            Some(best) => (
+                Outcome::First {
+                    index: best.index,
+                    starts: best.starts,
+                },
+                None,
+            ),
+            None => {
+                if ended {
+                    return (Outcome::NoYes, None);
+                }
+                let first_open = rows.len();
+                (Outcome::Open { first_open }, capacities_of(rows, first_open))
+            }
+        }
+    }
+}
+
+/// The capacities of the question at a place, or of the last one where there is none.
+fn capacities_of(rows: Vec<Row>, place: usize) -> Option<Capacities>
+    ensures { result ≡ capacities_at rows.items place }
+{
+    let mut rows = rows;
+    if rows.is_empty() {
+        return None;
+    }
+    let at = place.min(rows.len() - 1);
+    Some(rows.swap_remove(at).into_capacities())
+}

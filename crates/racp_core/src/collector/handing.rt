@@ -1,0 +1,151 @@
+//! Taking in findings, and pieces that are given back.
+
+ghost use Rattle.std.specs.Prelude.{◌≡◌, ◌<◌, ◌∷◌, [], None, Some, length, IfOk, IfErr, IfSome, IfNone};
+ghost use Rattle.racp_model.specs.Window.{Answers};
+ghost use Rattle.racp_search.specs.Truth.{rest_windows};
+ghost use Rattle.racp_core.specs.Machine.{all_questions, row_at};
+ghost use Rattle.racp_core.specs.Steps.{IsOut, IsReturned, IsAnswered, AreShutFrom, lesser};
+ghost use Rattle.racp_core.specs.Rows.{IsPlaceIn, IsSettledAt, IsCutAt, listed};
+ghost use Rattle.racp_core.specs.Runs.{Step, Hand, GiveBack, OfMerge};
+
+use super::{Best, Core};
+use crate::replies::Merged;
+use crate::row::Row;
+use crate::undecided::Undecided;
+use racp_candidates::Series;
+use racp_model::{OfNetwork, Starts};
+use racp_search::{Finding, Piece};
+use std::alloc::AllocError;
+
+impl<N: OfNetwork, S: Series> Core<N, S> {
+    /// Takes in a finding. A yes discards the open windows of its question and of each later one; else what is left of the piece
+    /// is open again, where its question stands before each known yes. Whether the finding is true is not tested: its type keeps
+    /// that.
+    ///
+    /// # Errors
+    ///
+    /// Memory was refused, for windows that are left of the piece. Nothing has changed, and the finding comes back.
+    pub fn hand(&mut self, finding: Finding<N>) -> Result<Merged, (Finding<N>, AllocError)>
+        ensures step { IfOk result (λ merged. Step self.old (Hand finding) (OfMerge merged) self.new) }
+        ensures questions { all_questions self.new ≡ all_questions self.old }
+        ensures err { IfErr result (λ e. (self.new ≡ self.old) × (e.0 ≡ finding) × (finding.found ≡ None) × (0 < listed finding.rest)) }
+    {
+        let Some(at) = self.place(finding.piece()) else {
+            let _ = finding.into_found();
+            return Ok(Merged::Stale);
+        };
+        if finding.found().is_none() {
+            self.put(at, finding)?;
+            return Ok(Merged::Taken);
+        }
+        let (piece, _rest, found) = finding.into_parts();
+        if let Some(starts) = found {
+            self.put_yes(at, &piece, starts);
+        }
+        let _ = piece.into_question();
+        Ok(Merged::Taken)
+    }
+
+    /// Takes back a piece that was not searched: its window is open again, where its question stands before each known yes. Takes
+    /// no memory.
+    pub fn give_back(&mut self, piece: Piece) -> Merged
+        ensures step { Step self.old (GiveBack piece) (OfMerge result) self.new }
+        ensures questions { all_questions self.new ≡ all_questions self.old }
+    {
+        match self.place(&piece) {
+            Some(at) => {
+                self.put_whole(at, piece);
+                Merged::Taken
+            }
+            None => {
+                let _ = piece.into_question();
+                Merged::Stale
+            }
+        }
+    }
+
+    /// Where the piece stands among those that are out of its question.
+    fn place(&self, piece: &Piece) -> Option<usize>
+        ensures some { IfSome result (IsPlaceIn self.now.asked piece.now) }
+        ensures none { IfNone result (IsOut self.now piece.now → ⊥) }
+    {
+        let index = piece.index() as usize;
+        if index >= self.rows.len() {
+            return None;
+        }
+        let row = &self.rows[index];
+        row.place_of(piece)
+    }
+
+    /// A finding without a yes is in.
+    fn put(&mut self, at: usize, finding: Finding<N>) -> Result<(), (Finding<N>, AllocError)>
+        requires place { IsPlaceIn self.old.asked finding.piece at }
+        requires none { finding.found ≡ None }
+        ensures ok { IfOk result (λ _. IsReturned self.old finding.piece (rest_windows finding.piece.question.window finding.rest) self.new) }
+        ensures err { IfErr result (λ e. (self.new ≡ self.old) × (e.0 ≡ finding) × (0 < listed finding.rest)) }
+    {
+        let index = finding.piece().index() as usize;
+        let opens = self.is_before(index);
+        let row = &mut self.rows[index];
+        row.put(at, finding, opens)?;
+        settle(&mut self.undecided, &self.rows, index);
+        Ok(())
+    }
+
+    /// A piece is in, and its window is open in its place.
+    fn put_whole(&mut self, at: usize, piece: Piece)
+        requires { IsPlaceIn self.old.asked piece at }
+        ensures { IsReturned self.old piece (piece.question.window ∷ []) self.new }
+    {
+        let index = piece.index() as usize;
+        let opens = self.is_before(index);
+        let question = piece.into_question();
+        let row = &mut self.rows[index];
+        row.put_whole(at, question.window, opens);
+        settle(&mut self.undecided, &self.rows, index);
+    }
+
+    /// A piece is in, with a yes.
+    fn put_yes(&mut self, at: usize, piece: &Piece, starts: Starts)
+        requires place { IsPlaceIn self.old.asked piece.now at }
+        requires yes { Answers N.network piece.now.question.capacities piece.now.question.window starts }
+        ensures { IsAnswered self.old piece.now starts self.new }
+    {
+        let index = piece.index() as usize;
+        let row = &mut self.rows[index];
+        row.close(at);
+        shut_from(&mut self.rows, index);
+        self.undecided.cut_at(index);
+        self.best = Some(better(self.best.take(), index, starts));
+    }
+}
+
+/// Takes a place away where nothing of its question is open or out.
+fn settle(undecided: &mut Undecided, rows: &[Row], index: usize)
+    requires { index < length rows.now }
+    ensures { IsSettledAt rows.now undecided.old index undecided.new }
+{
+    if rows[index].is_done() {
+        undecided.remove(index);
+    }
+}
+
+/// Discards the open windows of all questions from a place on.
+fn shut_from(rows: &mut Vec<Row>, index: usize)
+    ensures { AreShutFrom index rows.old.items rows.new.items }
+{
+    for place in index..rows.len() {
+        let row = &mut rows[place];
+        row.shut();
+    }
+}
+
+/// The lesser of two yeses.
+fn better(best: Option<Best>, index: usize, starts: Starts) -> Best
+    ensures { result ≡ lesser best (record { index = index; starts = starts }) }
+{
+    match best {
+        Some(best) if best.index <= index => best,
+        _ => Best { index, starts },
+    }
+}
