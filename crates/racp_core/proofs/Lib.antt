@@ -11,4 +11,5 @@ pub mod Taking
 pub mod Asking
 pub mod Counting
 pub mod Running
+pub mod Boxed
 pub mod Shutting
