@@ -56,19 +56,24 @@ sound_answered p m piece starts row next (there, capacities, out) back shutting 
   where
     set_there : AreSameQuestions m.asked (slice_set m.asked piece.index row)
     set_there = set_same m.asked piece.index row there back.0
+
     same : AreSameQuestions m.asked next
     same = same_trans m.asked (slice_set m.asked piece.index row) next set_there (shut_same piece.index (slice_set m.asked piece.index row) next shutting)
+
     stays : (i : ℕ) → i < piece.index → row_at next i ≡ row_at m.asked i
     stays i l = shutting.before i l ∙ get_or-set_other m.asked piece.index i row no_row (λ e. absurd (omega (arith, e, l)))
+
     kept : (i : ℕ) → i < length next → IsBefore (Some (lesser m.least (record { index = piece.index; starts = starts }))) i → IsKept p (row_at next i)
     kept i l b =
         let both = before_lesser m.least (record { index = piece.index; starts = starts }) i b in
         rw (stays i both.1) (h.kept i (let e = same.places in omega (arith, l, e)) both.0)
+
     new : IsBefore m.least piece.index → Answers p (row_at m.asked piece.index).question.capacities (row_at m.asked piece.index).question.window starts
     new b = record {
       lies = lies_inside p (row_at m.asked piece.index).question.window piece.question.window starts ((h.kept piece.index there b).inside piece.question.window (out_held (out_of piece) (row_at m.asked piece.index) out)) answer.lies;
       fits = rw (← capacities) answer.fits;
     }
+
     shut_after : (i : ℕ) → i < length next → (IsBefore (Some (lesser m.least (record { index = piece.index; starts = starts }))) i → ⊥) → (row_at next i).ready ≡ []
     shut_after i l b = elim (cases_lt i piece.index) [
       | inl before ↦ rw (stays i before) (h.shut i (let e = same.places in omega (arith, l, e)) (λ was. b (lesser_after m.least (record { index = piece.index; starts = starts }) i was before)))

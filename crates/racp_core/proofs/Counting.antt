@@ -47,9 +47,9 @@ counted m places h rising = ap length (same_from_members (λ a b. a < b) (λ a b
     (λ i j d less l. below_from_sorted places i j d rising less l)
     (AllPairs-filter (λ a b. a < b) (is_undecided m) (range_with_len 0 (length m.asked)) (range_rises (length m.asked)))
     (λ i c. (let u = (h i).0 c in
-        filter_to (is_undecided m) (range_with_len 0 (length m.asked)) i (range_to 0 (length m.asked) i (omega arith) (omega (arith, u.0)))
-        (and_true (is_before m.least i) (nat_lt 0 (length (row_at m.asked i).ready + length (row_at m.asked i).out)) (before_true m.least i u.1) (positive (length (row_at m.asked i).ready + length (row_at m.asked i).out) u.2))))
+    filter_to (is_undecided m) (range_with_len 0 (length m.asked)) i (range_to 0 (length m.asked) i (omega arith) (omega (arith, u.0)))
+    (and_true (is_before m.least i) (nat_lt 0 (length (row_at m.asked i).ready + length (row_at m.asked i).out)) (before_true m.least i u.1) (positive (length (row_at m.asked i).ready + length (row_at m.asked i).out) u.2))))
     (λ i c. (let f = filter_from (is_undecided m) (range_with_len 0 (length m.asked)) i c in
-        let r = range_from 0 (length m.asked) i f.0 in
-        let t = both (is_before m.least i) (nat_lt 0 (length (row_at m.asked i).ready + length (row_at m.asked i).out)) f.1 in
-        (h i).1 (omega (arith, r.1), before_from m.least i t.0, ltb-true 0 (length (row_at m.asked i).ready + length (row_at m.asked i).out) t.1))))
+    let r = range_from 0 (length m.asked) i f.0 in
+    let t = both (is_before m.least i) (nat_lt 0 (length (row_at m.asked i).ready + length (row_at m.asked i).out)) f.1 in
+    (h i).1 (omega (arith, r.1), before_from m.least i t.0, ltb-true 0 (length (row_at m.asked i).ready + length (row_at m.asked i).out) t.1))))

@@ -55,6 +55,7 @@ kept_sent p piece old new (same, ready, out) h =
   where
     outs : windows_out new.out ≡ windows_out old.out ++ piece.window ∷ []
     outs = ap windows_out out ∙ map-append (λ (o : PieceOut). o.window) old.out (piece ∷ [])
+
     fwd : (v : Bounds) → Contains (held_windows old) v → Contains (held_windows new) v
     fwd v c = elim (Contains-append_cases old.ready (windows_out old.out) v c) [
       | inl in_ready ↦ elim (member_cases piece.window new.ready v (Contains-permutation old.ready (piece.window ∷ new.ready) v ready in_ready)) [
@@ -63,8 +64,10 @@ kept_sent p piece old new (same, ready, out) h =
       ]
       | inr in_out ↦ Contains-append_right new.ready (windows_out new.out) v (rw outs (Contains-append_left (windows_out old.out) (piece.window ∷ []) v in_out))
     ]
+
     was_ready : (v : Bounds) → Contains (piece.window ∷ new.ready) v → Contains (held_windows old) v
     was_ready v c = Contains-append_left old.ready (windows_out old.out) v (Contains-permutation (piece.window ∷ new.ready) old.ready v (IsPermutation-sym old.ready (piece.window ∷ new.ready) ready) c)
+
     back : (v : Bounds) → Contains (held_windows new) v → Contains (held_windows old) v
     back v c = elim (Contains-append_cases new.ready (windows_out new.out) v c) [
       | inl in_ready ↦ was_ready v (member_later piece.window new.ready v in_ready)
@@ -81,12 +84,16 @@ kept_back p piece windows old new (same, ready, out) rest h =
   where
     outs : IsPermutation (windows_out old.out) (piece.window ∷ windows_out new.out)
     outs = IsPermutation-map (λ (o : PieceOut). o.window) old.out (piece ∷ new.out) out
+
     was_out : (v : Bounds) → Contains (piece.window ∷ windows_out new.out) v → Contains (held_windows old) v
     was_out v c = Contains-append_right old.ready (windows_out old.out) v (Contains-permutation (piece.window ∷ windows_out new.out) (windows_out old.out) v (IsPermutation-sym (windows_out old.out) (piece.window ∷ windows_out new.out) outs) c)
+
     here : Contains (held_windows old) piece.window
     here = was_out piece.window (member_first piece.window (windows_out new.out) piece.window refl)
+
     in_ready : (v : Bounds) → Contains (old.ready ++ windows) v → Contains (held_windows new) v
     in_ready v c = Contains-append_left new.ready (windows_out new.out) v (rw ready c)
+
     covers : WindowsCover p old.question.capacities old.question.window (held_windows new)
     covers starts answer =
         let found = h.covers starts answer in
@@ -99,6 +106,7 @@ kept_back p piece windows old new (same, ready, out) rest h =
             | inr other ↦ (found.0, Contains-append_right new.ready (windows_out new.out) found.0 other, found.2)
           ]
         ]
+
     cases : (v : Bounds) → Contains (held_windows new) v → Contains (held_windows old) v ⊎ Contains windows v
     cases v c = elim (Contains-append_cases new.ready (windows_out new.out) v c) [
       | inl open_there ↦ elim (Contains-append_cases old.ready windows v (subst (λ (xs : List Bounds). Contains xs v) ready open_there)) [
@@ -107,11 +115,13 @@ kept_back p piece windows old new (same, ready, out) rest h =
       ]
       | inr out_there ↦ inl (was_out v (member_later piece.window (windows_out new.out) v out_there))
     ]
+
     inside : (v : Bounds) → Contains (held_windows new) v → IsInside p old.question.window v
     inside v c = elim (cases v c) [
       | inl was ↦ h.inside v was
       | inr part ↦ inside_trans p old.question.window piece.window v (h.inside piece.window here) (rest.inside v part)
     ]
+
     bounds : (v : Bounds) → Contains (held_windows new) v → HasBounds p v
     bounds v c = elim (cases v c) [ inl was ↦ h.bounds v was | inr part ↦ rest.bounds v part ]
 

@@ -14,8 +14,10 @@ open_asked asked question places more h added i = (there, back)
   where
     long : length (asked ++ opened question ∷ []) ≡ length asked + 1
     long = length-append asked (opened question ∷ [])
+
     at_end : (k : ℕ) → length asked ≡ k → row_at (asked ++ opened question ∷ []) k ≡ opened question
     at_end k e = get_or_push asked (opened question) no_row k e
+
     there : Contains more i → IsUndecided None (asked ++ opened question ∷ []) i
     there c = elim ((added i).0 c) [
       | inl old ↦
@@ -23,6 +25,7 @@ open_asked asked question places more h added i = (there, back)
           (omega (arith, was.0, long), tt, rw (get_or_append_left asked (opened question ∷ []) no_row i was.0) was.2)
       | inr e ↦ (omega (arith, e, long), tt, rw (at_end i (sym e)) (omega arith))
     ]
+
     back : IsUndecided None (asked ++ opened question ∷ []) i → Contains more i
     back (l, b, busy) = elim (cases_lt i (length asked)) [
       | inl before ↦ (added i).1 (inl ((h i).1 (before, tt, subst (λ (r : QuestionRow). 0 < length r.ready + length r.out) (get_or_append_left asked (opened question ∷ []) no_row i before) busy)))
@@ -36,14 +39,19 @@ open_set least asked index row places more l busy h settled i = (there, back)
   where
     long : length (slice_set asked index row) ≡ length asked
     long = length-set asked index row
+
     there : Contains more i → IsUndecided least (slice_set asked index row) i
     there c =
         let was = (settled i).0 c in
-        let old = (h i).0 was.0 in
-        (omega (arith, old.0, long), old.1, elim (cases_eq i index) [
-          | inl e ↦ rw e (was.1 e)
-          | inr other ↦ rw (get_or-set_other asked index i row no_row other) old.2
-        ])
+        let old = (h i).0 was.0 in (
+          omega (arith, old.0, long),
+          old.1,
+          elim (cases_eq i index) [
+            | inl e ↦ rw e (was.1 e)
+            | inr other ↦ rw (get_or-set_other asked index i row no_row other) old.2
+          ],
+        )
+
     back : IsUndecided least (slice_set asked index row) i → Contains more i
     back (m, b, held) = (settled i).1 (elim (cases_eq i index) [
       | inl e ↦ ((h i).1 (omega (arith, m, long), b, rw e busy), λ _. subst (λ (k : ℕ). 0 < length (row_at (slice_set asked index row) k).ready + length (row_at (slice_set asked index row) k).out) e held)
@@ -58,6 +66,7 @@ open_sent least asked index piece row places l some sent h =
   where
     long : length row.out ≡ length (row_at asked index).out + 1
     long = ap (λ (xs : List PieceOut). length xs) sent.2 ∙ length-append (row_at asked index).out (piece ∷ [])
+
     busy : 0 < length row.ready + length row.out
     busy = omega (arith, long)
 
@@ -68,13 +77,16 @@ open_cut least asked next index row starts places more l shutting cutting h i = 
   where
     long : length next ≡ length asked
     long = shutting.places ∙ length-set asked index row
+
     stays : i < index → row_at next i ≡ row_at asked i
     stays b = shutting.before i b ∙ get_or-set_other asked index i row no_row (λ e. absurd (omega (arith, e, b)))
+
     there : Contains more i → IsUndecided (Some (lesser least (record { index = index; starts = starts }))) next i
     there c =
         let was = (cutting i).0 c in
         let old = (h i).0 was.0 in
         (omega (arith, old.0, long), lesser_after least (record { index = index; starts = starts }) i old.1 was.1, rw (stays was.1) old.2)
+
     back : IsUndecided (Some (lesser least (record { index = index; starts = starts }))) next i → Contains more i
     back (m, b, held) =
         let both = before_lesser least (record { index = index; starts = starts }) i b in

@@ -36,6 +36,7 @@ added s n place h i = (there, back)
       | inl same ↦ inr (sym same)
       | inr other ↦ inl (has s i (sym (h.2 i other) ∙ in_set n i c))
     ]
+
     back : Contains s.keys i ⊎ (i ≡ place) → Contains n.keys i
     back (inl c) = elim (same_or_other place i) [
       | inl same ↦ has n i (subst (λ (k : ℕ). contains nat_cmp n k ≡ true) same h.1)
@@ -48,11 +49,13 @@ removed s n place h i = (there, back)
   where
     gone : (k : ℕ) → place ≡ k → Contains n.keys k → ⊥
     gone k same c = let e : true ≡ false = sym (in_set n k c) ∙ subst (λ (j : ℕ). contains nat_cmp n j ≡ false) same h.1 in absurd (cc e)
+
     there : Contains n.keys i → Contains s.keys i × (i ≡ place → ⊥)
     there c = elim (same_or_other place i) [
       | inl same ↦ absurd (gone i same c)
       | inr other ↦ (has s i (sym (h.2 i other) ∙ in_set n i c), λ e. gone i (sym e) c)
     ]
+
     back : Contains s.keys i × (i ≡ place → ⊥) → Contains n.keys i
     back (c, apart) = elim (same_or_other place i) [
       | inl same ↦ absurd (apart (sym same))
@@ -69,8 +72,10 @@ cut_last old end last s n place h e is greatest later i = (there, back)
   where
     there : Contains n.keys i → Contains old i
     there c = (h i).0 (subst (λ (xs : List ℕ). Contains xs i) (sym e) (Contains-append_left n.keys (place ∷ []) i c))
+
     high : last ≤ place
     high = ge_from_not_lt place last (greatest last is)
+
     back : i < end → Contains old i → Contains n.keys i
     back l c = elim (Contains-push_cases n.keys place i (subst (λ (xs : List ℕ). Contains xs i) e ((h i).1 l c))) [
       | inl stays ↦ stays

@@ -31,15 +31,18 @@ follows_same : (p : Project) (old new : Machine) → new ≡ old → IsSound p o
 follows_same p old new e h = (subst (λ (m : Machine). IsSound p m) (sym e) h, ap all_questions e)
 
 after_returned : (p : Project) (old : Machine) (piece : Piece) (windows : List Bounds) (new : Machine) → (IsBefore old.least piece.index → IsRestOf p piece.question.capacities piece.question.window windows) → IsReturned old piece windows new → IsSound p old → Follows p old new
-after_returned p old piece windows new rest step h =
-    (subst (λ (m : Machine). IsSound p m) (sym step.row.2)
-    (sound_back p old piece.index (out_of piece) windows step.row.0 step.out.0 step.row.1 (λ b. subst (λ (c : List ℕ). IsRestOf p c piece.question.window windows) step.out.1 (rest b)) h), returned_all old piece windows new step)
+after_returned p old piece windows new rest step h = (
+  subst (λ (m : Machine). IsSound p m) (sym step.row.2)
+      (sound_back p old piece.index (out_of piece) windows step.row.0 step.out.0 step.row.1 (λ b. subst (λ (c : List ℕ). IsRestOf p c piece.question.window windows) step.out.1 (rest b)) h),
+  returned_all old piece windows new step,
+)
 
 after_asked : (p : Project) (old : Machine) (asked : Asked) (new : Machine) → IsAsked old asked new → IsSound p old → Follows p old new
 after_asked p old (Next index) new step h =
-    let first = step.first in
-    (subst (λ (m : Machine). IsSound p m) (sym first.3) (sound_asked p old first.0 first.1 step.unknown first.2 h),
-        ap all_questions first.3 ∙ (asked_all old.asked first.0 first.1 ∙ ap (λ (qs : List Question). questions_in old.asked ++ qs) (sym first.2)))
+    let first = step.first in (
+      subst (λ (m : Machine). IsSound p m) (sym first.3) (sound_asked p old first.0 first.1 step.unknown first.2 h),
+      ap all_questions first.3 ∙ (asked_all old.asked first.0 first.1 ∙ ap (λ (qs : List Question). questions_in old.asked ++ qs) (sym first.2)),
+    )
 after_asked p old End new step h = (subst (λ (m : Machine). IsSound p m) (sym step.3) (sound_ended p old step.2 h), ap all_questions step.3)
 after_asked p old Enough new step h = follows_same p old new step.2 h
 after_asked p old AskHalted new step h = follows_same p old new step.1 h

@@ -78,6 +78,7 @@ sound_asked p m question rest none next h = record {
   where
     bounds : HasBounds p question.window
     bounds = (h.formed question (Contains-append_right (questions_in m.asked) m.to_come question (rw next (member_first question rest question refl)))).bounds
+
     kept : (i : ℕ) → i < length (m.asked ++ opened question ∷ []) → IsBefore m.least i → IsKept p (row_at (m.asked ++ opened question ∷ []) i)
     kept i l b = elim (cases_lt i (length m.asked)) [
       | inl before ↦ rw (get_or_append_left m.asked (opened question ∷ []) no_row i before) (h.kept i before b)
@@ -114,8 +115,8 @@ pub sound_back : (p : Project) (m : Machine) (index : ℕ) (piece : PieceOut) (w
     (IsBefore m.least index → IsRestOf p (row_at m.asked index).question.capacities piece.window windows) → IsSound p m → IsSound p (record m { asked = slice_set m.asked index row })
 sound_back p m index piece windows row there back rest h =
     sound_set p m index m.taken row there back.0
-        (λ b. kept_back p piece windows (row_at m.asked index) row (subst (λ (ws : List Bounds). IsBack piece ws (row_at m.asked index) row) (windows_there m.least index windows b) back) (rest b))
-        (λ not none. back.1 ∙ (ap (λ (ws : List Bounds). (row_at m.asked index).ready ++ ws) (windows_gone m.least index windows not) ∙ ap (λ (ws : List Bounds). ws ++ []) none)) h
+    (λ b. kept_back p piece windows (row_at m.asked index) row (subst (λ (ws : List Bounds). IsBack piece ws (row_at m.asked index) row) (windows_there m.least index windows b) back) (rest b))
+    (λ not none. back.1 ∙ (ap (λ (ws : List Bounds). (row_at m.asked index).ready ++ ws) (windows_gone m.least index windows not) ∙ ap (λ (ws : List Bounds). ws ++ []) none)) h
 
 -- nothing of a question is noticed of a number or a mark
 pub sound_halted : (p : Project) (m : Machine) (halted : Bool) → IsSound p m → IsSound p (record m { halted = halted })

@@ -67,10 +67,13 @@ state_put p m now places more piece at index opens windows row new same e place 
   where
     there : IsPlaceIn m.asked piece at
     there = subst (λ (x : Machine). IsPlaceIn x.asked piece at) (sym same) place
+
     test : opens ≡ is_before m.least piece.index
     test = is ∙ (ap (λ (x : Machine). is_before x.least index) (sym same) ∙ ap (λ (k : ℕ). is_before m.least k) e)
+
     old : row ≡ row_at m.asked piece.index
     old = get_or_read m.asked index row (let l = there.index in omega (arith, e, l)) here no_row ∙ ap (λ (k : ℕ). row_at m.asked k) e
+
     moved : IsBack (out_of piece) (windows_before m.least piece.index windows) (row_at m.asked piece.index) new
     moved =
         subst (λ (o : PieceOut). IsBack o (windows_before m.least piece.index windows) (row_at m.asked piece.index) new) there.place.is

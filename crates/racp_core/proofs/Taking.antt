@@ -65,11 +65,11 @@ module _ (p : Project) (m : Machine) (places : List ℕ) (h : IsState p m places
         let least = least_ready index first in
         let kept = h.sound.kept index least.asked least.before in
         let ready : Contains (row_at m.asked index).ready piece.question.window =
-            Contains-permutation (piece.question.window ∷ new.ready) (row_at m.asked index).ready piece.question.window (IsPermutation-sym (row_at m.asked index).ready (piece.question.window ∷ new.ready) taken_sent.1) (member_first piece.question.window new.ready piece.question.window refl) in
+        Contains-permutation (piece.question.window ∷ new.ready) (row_at m.asked index).ready piece.question.window (IsPermutation-sym (row_at m.asked index).ready (piece.question.window ∷ new.ready) taken_sent.1) (member_first piece.question.window new.ready piece.question.window refl) in
         let long : length (questions_in m.asked) ≡ length m.asked = length-map m.asked (λ (r : QuestionRow). r.question) in
         let there : Contains (all_questions m) (row_at m.asked index).question =
-            Contains-append_left (questions_in m.asked) m.to_come (row_at m.asked index).question
-            (subst (λ (q : Question). Contains (questions_in m.asked) q) (get_or-map (λ (r : QuestionRow). r.question) m.asked index no_row no_question least.asked) (Contains-get_or (questions_in m.asked) index no_question (let l = least.asked in omega (arith, long, l)))) in
+        Contains-append_left (questions_in m.asked) m.to_come (row_at m.asked index).question
+        (subst (λ (q : Question). Contains (questions_in m.asked) q) (get_or-map (λ (r : QuestionRow). r.question) m.asked index no_row no_question least.asked) (Contains-get_or (questions_in m.asked) index no_question (let l = least.asked in omega (arith, long, l)))) in
         let formed = h.sound.formed (row_at m.asked index).question there in
         record {
           capacities = ap length (cut.capacities ∙ ap (λ (r : QuestionRow). r.question.capacities) taken_row) ∙ formed.capacities;

@@ -100,7 +100,7 @@ module _ (p : Project) (m : Machine) (sound : IsSound p m) where
       let long = length-append (questions_in m.asked) m.to_come in
       let same = length-map m.asked (λ (r : QuestionRow). r.question) in
       let answer : Answers p (question_at (all_questions m) y.index).capacities (question_at (all_questions m) y.index).window y.starts =
-          subst (λ (q : Question). Answers p q.capacities q.window y.starts) (sym (question_there m y.index there.0)) there.1 in
+      subst (λ (q : Question). Answers p q.capacities q.window y.starts) (sym (question_there m y.index there.0)) there.1 in
       let noes : AreNoBefore p (all_questions m) y.index = λ j l. no_at j (omega (arith, l, there.0)) (subst (λ (least : Option KnownYes). IsBefore least j) (sym known) l) (done j l) in
       ((omega (arith, there.0, long, same), (y.starts, answer), noes), answer)
 

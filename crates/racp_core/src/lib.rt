@@ -13,3 +13,6 @@ mod undecided;
 
 pub use collector::Core;
 pub use replies::{Asked, Merged, Outcome, Reply, Verdict};
+
+#[cfg(test)]
+mod tests;

@@ -59,7 +59,10 @@ impl<N: OfNetwork, S: Series> Core<N, S> {
             of: _,
         } = self;
         if let Some(first_open) = undecided.first() {
-            return (Outcome::Open { first_open }, capacities_of(rows, first_open));
+            return (
+                Outcome::Open { first_open },
+                capacities_of(rows, first_open),
+            );
         }
         match best {
             Some(best) => (
@@ -74,7 +77,10 @@ impl<N: OfNetwork, S: Series> Core<N, S> {
                     return (Outcome::NoYes, None);
                 }
                 let first_open = rows.len();
-                (Outcome::Open { first_open }, capacities_of(rows, first_open))
+                (
+                    Outcome::Open { first_open },
+                    capacities_of(rows, first_open),
+                )
             }
         }
     }

@@ -32,7 +32,12 @@ impl<N: OfNetwork, S: Series> Core<N, S> {
             return Ok(Asked::Enough);
         }
         fetch(&mut self.next, &mut self.series)?;
-        if open(self.alloc, &mut self.next, &mut self.rows, &mut self.undecided)? {
+        if open(
+            self.alloc,
+            &mut self.next,
+            &mut self.rows,
+            &mut self.undecided,
+        )? {
             Ok(Asked::Question(self.rows.len() - 1))
         } else {
             self.ended = true;

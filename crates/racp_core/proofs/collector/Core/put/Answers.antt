@@ -22,6 +22,6 @@ invariant_of-self-2 g c =
     let piece = c.args.finding.piece in
     let same : c.index-index.result ≡ piece.index = c.index-index.ensures ∙ ap (λ (q : Piece). q.index) c.piece.ensures.piece in
     state_put g.N.OfNetwork.network m c.args.self.now i.undecided c.settle.new.undecided piece c.args.at c.index-index.result c.is_before-opens.result (rest_windows piece.question.window c.args.finding.rest) c.index_mut-row.result.now c.put.new.self c.self.view_is same c.requires.place
-        c.is_before-opens.ensures c.index_mut-row.ensures.value c.in_ok-put.ensures.ok
-        (λ _. rest_left g.N.OfNetwork.network piece.question.capacities piece.question.window c.args.finding.found (rest_windows piece.question.window c.args.finding.rest) c.piece.ensures.is_true c.requires.none)
-        (subst (λ (xs : List QuestionRow). IsSettledAt xs i.undecided c.index-index.result c.settle.new.undecided) c.deref.ensures.value c.settle.ensures) c.self.invariant
+    c.is_before-opens.ensures c.index_mut-row.ensures.value c.in_ok-put.ensures.ok
+    (λ _. rest_left g.N.OfNetwork.network piece.question.capacities piece.question.window c.args.finding.found (rest_windows piece.question.window c.args.finding.rest) c.piece.ensures.is_true c.requires.none)
+    (subst (λ (xs : List QuestionRow). IsSettledAt xs i.undecided c.index-index.result c.settle.new.undecided) c.deref.ensures.value c.settle.ensures) c.self.invariant

@@ -17,5 +17,5 @@ invariant_of-self g c =
     let row = c.index_mut-row.result.now in
     let back = subst (λ (w : Bounds). IsBack (slice_index_or row.out c.args.at no_out) (if c.is_before-opens.result then w ∷ [] else []) row c.put_whole.new.self) window c.put_whole.ensures in
     state_put g.N.OfNetwork.network m c.args.self.now i.undecided c.settle.new.undecided c.args.piece c.args.at c.index-index.result c.is_before-opens.result (c.args.piece.question.window ∷ []) c.index_mut-row.result.now c.put_whole.new.self c.self.view_is c.index-index.ensures c.requires
-        c.is_before-opens.ensures c.index_mut-row.ensures.value back (whole_left g.N.OfNetwork.network m i.undecided c.args.piece out c.self.invariant)
-        (subst (λ (xs : List QuestionRow). IsSettledAt xs i.undecided c.index-index.result c.settle.new.undecided) c.deref.ensures.value c.settle.ensures) c.self.invariant
+    c.is_before-opens.ensures c.index_mut-row.ensures.value back (whole_left g.N.OfNetwork.network m i.undecided c.args.piece out c.self.invariant)
+    (subst (λ (xs : List QuestionRow). IsSettledAt xs i.undecided c.index-index.result c.settle.new.undecided) c.deref.ensures.value c.settle.ensures) c.self.invariant

@@ -15,9 +15,9 @@ loop-place-init c =
 pub returns-then-has_open-clause-some : goal.returns-then-has_open-clause-some
 returns-then-has_open-clause-some c =
     let row : c.index-rows-place.result ≡ row_at c.args.rows.now c.in-Some.field-0.now =
-        get_or_read c.args.rows.now c.in-Some.field-0.now c.index-rows-place.result c.if-place-rows.true c.index-rows-place.is no_row in
+    get_or_read c.args.rows.now c.in-Some.field-0.now c.index-rows-place.result c.if-place-rows.true c.index-rows-place.is no_row in
     look_found c.args.rows.now c.args.self.now c.loop-place.place-iterator c.next.new.self c.in-Some.field-0.now c.loop-place.invariant.2 c.in-Some.ensures.steps c.if-place-rows.true
-        (subst (λ (r : QuestionRow). 0 < length r.ready) row (c.if-has_open.ensures.0 refl))
+    (subst (λ (r : QuestionRow). 0 < length r.ready) row (c.if-has_open.ensures.0 refl))
 
 pub loop-place-preserved : goal.loop-place-preserved
 loop-place-preserved c =
@@ -25,7 +25,7 @@ loop-place-preserved c =
     elim c.else-place-rows.branch [
       | else-place-rows-via-then-place-rows+else-has_open w ↦
           let row : w.index-rows-place.result ≡ row_at c.args.rows.now c.in-Some.field-0.now =
-              get_or_read c.args.rows.now c.in-Some.field-0.now w.index-rows-place.result w.if-place-rows.true w.index-rows-place.is no_row in
+          get_or_read c.args.rows.now c.in-Some.field-0.now w.index-rows-place.result w.if-place-rows.true w.index-rows-place.is no_row in
           (tt, tt, step (λ l. subst (λ (r : QuestionRow). r.ready ≡ []) row (none_ready w.index-rows-place.result (λ some. (let e = w.if-has_open.ensures.1 some in absurd (cc e))))))
       | else-place-rows-via-else-place-rows w ↦ (tt, tt, step (λ l. absurd (omega (arith, l, w.if-place-rows.false))))
     ]
