@@ -6,3 +6,4 @@ pub mod TextLaws
 pub mod PlanFaults
 pub mod PlanTests
 pub mod CheckLaws
+pub mod Plans

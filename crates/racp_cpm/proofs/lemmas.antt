@@ -2,3 +2,5 @@
 -- of this crate and its laws.
 pub mod Roots
 pub mod Bounded
+pub mod Rooted
+pub mod Openings

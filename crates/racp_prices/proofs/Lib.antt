@@ -1,3 +1,4 @@
+pub mod lemmas
 mod Lists
 mod Cutting
 mod Tables

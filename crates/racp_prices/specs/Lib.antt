@@ -2,3 +2,4 @@ pub mod Orders
 pub mod Faults
 pub mod Laws
 pub mod Steps
+pub mod Units

@@ -4,6 +4,7 @@
 #![tactic(auto)]
 
 mod cost;
+mod due;
 mod fault;
 pub mod laws;
 mod numbers;
@@ -12,6 +13,7 @@ mod read;
 mod version;
 
 pub use cost::cost_of;
+pub use due::due_times;
 pub use fault::OrderFault;
 pub use order::Order;
 pub use read::read_order;

@@ -1,5 +1,5 @@
 -- A capacity vector cut to the roofs is one of the vectors that are looked at.
-use Rattle.std.proofs.Common.{◌≡◌, ℕ, ◌<◌, ◌≤◌, min, List, length, slice_index, Option, Some, None, IfSome, inl, inr, arith, subst}
+use Rattle.std.proofs.Common.{ℕ, ◌<◌, List, length, slice_index, inl, inr, arith, subst}
 use Rattle.racp_model.specs.Project.{Project}
 use Rattle.racp_model.specs.Schedule.{roof}
 use Rattle.racp_model.specs.Terms.{Terms, AreTermsOf, release_of, due_of, IsBefore}
@@ -8,20 +8,10 @@ use Rattle.racp_model.specs.Window.{Bounds, IsRootWindow}
 use Rattle.racp_model.proofs.lemmas.Orders.{vectors_ordered}
 use Rattle.racp_model.proofs.lemmas.Costs.{before_trans}
 use Rattle.racp_model.proofs.lemmas.Cuts.{cut_admitting, cut, cut-at, cut_places, cut-no_later}
-use Rattle.racp_reference.specs.Choices.{cut_to, AreMostUnits, IsCandidate}
-use Rattle.racp_reference.proofs.Rooted.{fits-answers, answers-fit}
-
--- cut to the roofs, units within the ceilings are at most the most units
-pub cut-below : (ceilings : Option (List ℕ)) (units n k x top : ℕ) → (whole : List ℕ) → IfSome ceilings (λ most. (q : ℕ) → q < n → slice_index whole q ≤ slice_index most q) → k < n →
-    x ≡ min (slice_index whole k) top → units ≡ cut_to ceilings k top → x ≤ units
-cut-below None units n k x top whole h l e f = omega (arith, e, f)
-cut-below (Some most) units n k x top whole h l e f = omega (arith, e, f, h k l)
-
--- and the most units are within the ceilings
-pub most-within : (ceilings : Option (List ℕ)) (n : ℕ) (whole : List ℕ) (top : ℕ → ℕ) → ((k : ℕ) → k < n → slice_index whole k ≤ cut_to ceilings k (top k)) →
-    IfSome ceilings (λ most. (q : ℕ) → q < n → slice_index whole q ≤ slice_index most q)
-most-within None n whole top h = tt
-most-within (Some most) n whole top h = λ q l. omega (arith, h q l)
+use Rattle.racp_cpm.proofs.lemmas.Rooted.{fits-answers, answers-fit}
+use Rattle.racp_prices.specs.Units.{AreMostUnits}
+use Rattle.racp_prices.proofs.lemmas.Ceilings.{cut-below, most-within}
+use Rattle.racp_reference.specs.Choices.{IsCandidate}
 
 module _ (p : Project) (terms : Terms) (window : Bounds) (most : List ℕ) (t : AreTermsOf p terms) (root : IsRootWindow p (release_of terms) (due_of terms) window) (units : AreMostUnits p terms most) where
   -- capacities that are enough are a candidate when they are cut to the roofs

@@ -3,6 +3,5 @@ mod Counts
 mod Totals
 mod Searching
 mod Choosing
-mod Rooted
 mod Cutting
 mod Planning

@@ -1,7 +1,6 @@
 -- Contracts of private functions: the cheapest of the capacity vectors under which some starts fit.
-use Rattle.std.specs.Prelude.{◌≡◌, ℕ, ◌<◌, ◌≤◌, min, List, length, slice_index, Option, Some, None, nat_lt, if◌then◌else◌}
+use Rattle.std.specs.Prelude.{◌≡◌, ℕ, ◌<◌, ◌≤◌, List, length, slice_index, Option, Some, None, nat_lt, if◌then◌else◌}
 use Rattle.racp_model.specs.Project.{Project}
-use Rattle.racp_model.specs.Schedule.{roof}
 use Rattle.racp_model.specs.Terms.{Terms, cost, IsBefore, IsLexBefore}
 use Rattle.racp_model.specs.Plan.{IsLeast}
 use Rattle.racp_model.specs.Window.{Bounds, Answers, IsYes, IsNo}
@@ -12,16 +11,6 @@ pub record AreBounds (p : Project) (units : List ℕ) (window : Bounds) : Type 0
   pub resources : length units ≡ p.resources
   pub lower : length window.lower ≡ length p.jobs
   pub upper : length window.upper ≡ length p.jobs
-
--- x, or the ceiling of the resource at place k where there is one and it is less
-abbrev pub cut_to : Option (List ℕ) → ℕ → ℕ → ℕ
-cut_to None k x = x
-cut_to (Some ceilings) k x = min x (slice_index ceilings k)
-
--- of each resource, the sum of all requests, or the ceiling where that is less
-pub record AreMostUnits (p : Project) (terms : Terms) (units : List ℕ) : Type 0 where
-  pub places : length units ≡ p.resources
-  pub each : (k : ℕ) → k < p.resources → slice_index units k ≡ cut_to terms.ceilings k (roof p k)
 
 -- capacities of at most these units, under which some starts in the window fit
 pub record IsCandidate (p : Project) (window : Bounds) (most capacities : List ℕ) : Type 0 where

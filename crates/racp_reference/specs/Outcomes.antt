@@ -1,11 +1,10 @@
 -- What planning and deciding by definition answer.
 use Rattle.std.specs.Prelude.{◌≡◌, ℕ, List, Option, Some, None}
 use Rattle.racp_model.specs.Project.{Project, number}
-use Rattle.racp_model.specs.Path.{IsCriticalLength}
-use Rattle.racp_model.specs.Terms.{Terms, release_of, cost, IsLexBefore}
-use Rattle.racp_model.specs.Plan.{IsLeast, IsPlan, IsTooLong, IsTooLateAt, IsOverCeilings}
+use Rattle.racp_model.specs.Terms.{Terms, IsLexBefore}
+use Rattle.racp_model.specs.Plan.{IsLeast, IsTooLong, IsTooLateAt, IsOverCeilings}
 use Rattle.racp_model.specs.Window.{Bounds, Answers, IsNo}
-use Rattle.racp_check.specs.declared.plan.Plan.{Plan}
+use Rattle.racp_check.specs.Plans.{IsPlanOf}
 use Rattle.racp_reference.specs.declared.plan.Outcome.{Outcome}
 use Rattle.racp_reference.specs.declared.plan.Outcome.TheVariants.{Plan as ThePlan, TooLong, TooLate, OverCeilings}
 
@@ -13,13 +12,6 @@ use Rattle.racp_reference.specs.declared.plan.Outcome.TheVariants.{Plan as ThePl
 abbrev pub IsFirstAnswer : Project → List ℕ → Bounds → Option (List ℕ) → Type 0
 IsFirstAnswer p capacities window (Some starts) = IsLeast IsLexBefore (Answers p capacities window) starts
 IsFirstAnswer p capacities window None = IsNo p capacities window
-
--- the plan of an order, with the order's deadline, the critical length of the project, and what it costs
-pub record IsPlanOf (p : Project) (terms : Terms) (plan : Plan) : Type 0 where
-  pub is_plan : IsPlan p terms plan.capacities plan.starts
-  pub deadline : plan.deadline ≡ terms.deadline
-  pub cost : plan.cost ≡ cost terms plan.capacities
-  pub critical : IsCriticalLength p (release_of terms) plan.critical
 
 -- the plan of an order, or why there is none
 abbrev pub IsOutcome : Project → Terms → Outcome → Type 0

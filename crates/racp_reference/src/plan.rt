@@ -3,11 +3,11 @@ ghost use Rattle.racp_model.specs.Terms.{AreTermsOf};
 ghost use Rattle.racp_reference.specs.Outcomes.{IsOutcome};
 
 use crate::choice::cheapest;
-use crate::prices::{due_times, most_units};
+use crate::prices::most_units;
 use racp_check::Plan;
 use racp_cpm::{early, first_late, longest, root};
 use racp_model::Network;
-use racp_prices::Order;
+use racp_prices::{Order, due_times};
 use std::alloc::{AllocError, Global};
 
 /// The plan of an order, or why there is none: the first of the reasons that holds, in this order.

@@ -1,7 +1,7 @@
-ghost use Rattle.std.specs.Prelude.{◌≡◌, ◌<◌, IfOk, length, map, min};
+ghost use Rattle.std.specs.Prelude.{◌≡◌, ◌<◌, IfOk};
 ghost use Rattle.racp_model.specs.Schedule.{roof};
 ghost use Rattle.racp_model.specs.Terms.{AreTermsOf};
-ghost use Rattle.racp_reference.specs.Choices.{AreMostUnits};
+ghost use Rattle.racp_prices.specs.Units.{AreMostUnits};
 
 use racp_model::Network;
 use racp_prices::Order;
@@ -39,15 +39,4 @@ fn all_requests(net: &Network, k: usize) -> u32
         sum += net.request(i, k);
     }
     sum
-}
-
-/// The time by which each job has to end.
-pub(crate) fn due_times(alloc: Global, order: &Order) -> Result<Vec<u32>, AllocError>
-    ensures { IfOk result (λ due. due.items ≡ map (λ time. min time order.now.deadline) order.now.due) }
-{
-    order
-        .due
-        .iter()
-        .map(|due| min(*due, order.deadline))
-        .collect(alloc)
 }

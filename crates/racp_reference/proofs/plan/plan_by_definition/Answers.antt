@@ -3,7 +3,8 @@ use Rattle.racp_model.specs.Path.{IsEarly, IsCriticalLength}
 use Rattle.racp_model.specs.Terms.{Terms}
 use Rattle.racp_cpm.specs.Ends.{IsFirstLateAnswer}
 use Rattle.racp_reference.specs.Choices.{IsCheapest}
-use Rattle.racp_reference.proofs.Planning.{due-is, due-small, root_of, too_late, plan_is, over_ceilings}
+use Rattle.racp_cpm.proofs.lemmas.Openings.{due-is, due-small, root_of, too_late}
+use Rattle.racp_reference.proofs.Planning.{plan_is, over_ceilings}
 use Rattle.racp_reference.proofs.plan.plan_by_definition.Goals as goal
 
 pub returns-in-Some : goal.returns-in-Some

@@ -1,6 +1,6 @@
 use Rattle.std.proofs.Common.{◌≡◌, ℕ, ◌<◌, length, slice_index}
 use Rattle.racp_model.specs.Schedule.{roof}
-use Rattle.racp_reference.specs.Choices.{cut_to}
+use Rattle.racp_prices.specs.Units.{cut_to}
 use Rattle.racp_reference.proofs.prices.most_units.Given as goal
 
 abbrev pub invariant-loop-k : goal.invariant-loop-k

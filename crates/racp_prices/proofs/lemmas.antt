@@ -1,0 +1,2 @@
+-- Lemmas on orders, which the crates above may cite too. What else stands in proofs/ is about the code of this crate and its laws.
+pub mod Ceilings
