@@ -1,3 +1,4 @@
+pub mod lemmas
 mod FirstYes
 mod Values
 pub mod Members
@@ -12,4 +13,3 @@ mod Collecting
 mod Heaps
 mod Above
 mod Boxes
-mod OneBox

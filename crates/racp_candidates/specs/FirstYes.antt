@@ -44,6 +44,12 @@ IsReached p questions (Some capacities) =
     (i : ℕ) × (i < length questions) × ((question_at questions i).capacities ≡ capacities) × AreNoBefore p questions i
 IsReached p questions None = ⊤
 
+-- an asker may give up for this reason: it may stop, or want a thread, or neither; memory may always run out
+abbrev pub MayGiveUp : (may_stop may_want_thread : Type 0) → AskStop → Type 0
+MayGiveUp may_stop may_want_thread (Stopped reached) = may_stop
+MayGiveUp may_stop may_want_thread Memory = ⊤
+MayGiveUp may_stop may_want_thread NoThread = may_want_thread
+
 -- why the first yes is not known, of an asker that may stop, or want a thread, or neither
 abbrev pub IsStop : Project → List Question → (may_stop may_want_thread : Type 0) → AskStop → Type 0
 IsStop p questions may_stop may_want_thread (Stopped reached) = may_stop × IsReached p questions reached

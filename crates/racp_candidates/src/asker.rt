@@ -42,6 +42,7 @@ impl From<AllocError> for AskStop {
 pub trait Asker {
     ghost use Rattle.std.specs.Prelude.{◌≡◌, IfOk, IfErr};
     ghost use Rattle.racp_model.specs.Project.{Project};
+    ghost use Rattle.racp_model.specs.Formed.{AreFormed};
     ghost use Rattle.racp_candidates.specs.FirstYes.{IsFirst, IsStop};
 
     ghost network: { Self → Project };
@@ -51,14 +52,16 @@ pub trait Asker {
     ghost may_want_thread: { Self → Type 0 };
 
     /// The first yes of the series, with starts in that question's window that keep precedence and its capacities. The
-    /// network is the one that the asker is about.
+    /// network is the one that the asker is about, and the questions have its form: a capacity for each resource, and bounds
+    /// for each job.
     ///
     /// # Errors
     ///
     /// The search was stopped, or no thread could be started, each only where the asker's meaning after the call says that
     /// it may; or memory was refused.
     fn first<S: Series + Send>(&mut self, net: &Network, series: S) -> Result<First, AskStop>
-        requires { net.now ≡ network self.old }
+        requires named { net.now ≡ network self.old }
+        requires formed { AreFormed net.now (S.questions series) }
         ensures network { network self.new ≡ network self.old }
         ensures answer { IfOk result (IsFirst net.now (S.questions series)) }
         ensures stop { IfErr result (IsStop net.now (S.questions series) (may_stop self.new) (may_want_thread self.new)) };
