@@ -150,35 +150,66 @@ fn nogood<N: OfNetwork>(
 }
 
 /// Bounds for the parallel jobs with this deadline.
-fn parallel_bounds(deadline: u32) -> ([u32; 5], [u32; 5])
-    requires deadline { 3 ≤ deadline }
+fn parallel_bounds(deadline: u32) -> ([u32; 5], [u32; 5]) {
+    let (late, later) = (deadline.saturating_sub(3), deadline.saturating_sub(2));
+    ([0, 0, 0, 0, 3], [late, late, later, later, deadline])
+}
+
+/// The record of capacity 2 and a deadline of 4.
+fn known_record<N: OfNetwork>(
+    rt: &impl Abort,
+    alloc: Global,
+    net: &Network,
+) -> Result<Nogood<N>, Fail>
+    requires named { net.now ≡ N.network }
 {
-    let late = deadline - 3;
-    (
-        [0, 0, 0, 0, 3],
-        [late, late, deadline - 2, deadline - 2, deadline],
-    )
+    let (lower, upper) = parallel_bounds(4);
+    nogood(rt, alloc, net, &[2], (&lower, &upper), 0)
+}
+
+/// The node of a capacity and a deadline.
+fn node_of<N: OfNetwork>(
+    rt: &impl Abort,
+    alloc: Global,
+    net: &Network,
+    capacity: u32,
+    deadline: u32,
+) -> Result<Node<N>, Fail>
+    requires named { net.now ≡ N.network }
+{
+    let (lower, upper) = parallel_bounds(deadline);
+    node(rt, alloc, net, &[capacity], (&lower, &upper), 0)
+}
+
+/// Whether the record of capacity 2 and a deadline of 4 covers the node of a capacity and a deadline.
+fn is_covered<N: OfNetwork>(
+    rt: &impl Abort,
+    alloc: Global,
+    net: &Network,
+    capacity: u32,
+    deadline: u32,
+) -> Result<bool, Fail>
+    requires named { net.now ≡ N.network }
+{
+    let node: Node<N> = node_of(rt, alloc, net, capacity, deadline)?;
+    let known = known_record(rt, alloc, net)?;
+    Ok(known.covers(&node))
 }
 
 fn check_rows<N: OfNetwork>(rt: &impl Abort, alloc: Global, net: &Network) -> Result<(), Fail>
     requires named { net.now ≡ N.network }
 {
-    let (lower, upper) = parallel_bounds(4);
-    let bounds = (lower.as_slice(), upper.as_slice());
-    let known: Nogood<N> = nogood(rt, alloc, net, &[2], bounds, 0)?;
-    let (lower, upper) = parallel_bounds(3);
-    let sooner = (lower.as_slice(), upper.as_slice());
-    let (lower, upper) = parallel_bounds(5);
-    let later = (lower.as_slice(), upper.as_slice());
-    for (capacity, window, covered) in [
-        (2, bounds, true),
-        (1, bounds, true),
-        (2, sooner, true),
-        (3, bounds, false),
-        (2, later, false),
+    for (capacity, deadline, covered) in [
+        (2, 4, true),
+        (1, 4, true),
+        (2, 3, true),
+        (3, 4, false),
+        (2, 5, false),
     ] {
-        let node: Node<N> = node(rt, alloc, net, &[capacity], window, 0)?;
-        assert_eq!(rt; known.covers(&node), covered);
+        assert_eq!(rt;
+            is_covered::<N>(rt, alloc, net, capacity, deadline)?,
+            covered
+        );
     }
     Ok(())
 }
@@ -189,6 +220,22 @@ fn covers_less_capacity_and_earlier_deadlines(rt: HostRuntime) -> Result<(), Fai
     check_rows::<Brand>(&rt, alloc, &parallel(alloc)?)
 }
 
+/// Whether the record of some lower bounds covers that of others, with a capacity of 2 and a deadline of 4.
+fn covers_record<N: OfNetwork>(
+    rt: &impl Abort,
+    alloc: Global,
+    net: &Network,
+    lower: &[u32],
+    other: &[u32],
+) -> Result<bool, Fail>
+    requires named { net.now ≡ N.network }
+{
+    let (_, upper) = parallel_bounds(4);
+    let known: Nogood<N> = nogood(rt, alloc, net, &[2], (lower, &upper), 0)?;
+    let other = nogood(rt, alloc, net, &[2], (other, &upper), 0)?;
+    Ok(known.covers_record(&other))
+}
+
 fn check_lower_bounds<N: OfNetwork>(
     rt: &impl Abort,
     alloc: Global,
@@ -196,13 +243,10 @@ fn check_lower_bounds<N: OfNetwork>(
 ) -> Result<(), Fail>
     requires named { net.now ≡ N.network }
 {
-    let (lower, upper) = parallel_bounds(4);
-    let root = (lower.as_slice(), upper.as_slice());
-    let raised: (&[u32], &[u32]) = (&[0, 0, 2, 0, 3], &upper);
-    let of_root: Nogood<N> = nogood(rt, alloc, net, &[2], root, 0)?;
-    let of_raised: Nogood<N> = nogood(rt, alloc, net, &[2], raised, 0)?;
-    assert!(rt; !of_raised.covers_record(&of_root));
-    assert!(rt; of_root.covers_record(&of_raised));
+    let root = [0, 0, 0, 0, 3].as_slice();
+    let raised = [0, 0, 2, 0, 3].as_slice();
+    assert!(rt; !covers_record::<N>(rt, alloc, net, raised, root)?);
+    assert!(rt; covers_record::<N>(rt, alloc, net, root, raised)?);
     Ok(())
 }
 
@@ -220,24 +264,67 @@ fn at_time<N: OfNetwork>(net: &Network, node: Node<N>, time: u32) -> Result<Node
     Node::reusing(net, question, early, room, time)
 }
 
+/// The early starts and ends of the second job's node, and the jobs that started before its time.
+fn is_second<N: OfNetwork>(node: &Node<N>) -> bool {
+    node.early().as_slice() == [0, 1, 0, 2, 2, 3].as_slice()
+        && node.ends() == [0, 2, 1, 3, 3, 3].as_slice()
+        && node.started().contains(3)
+        && !node.started().contains(4)
+}
+
+/// The node of which the second job starts late, at time 2, is as told. Answers its record.
+fn second_record<N: OfNetwork>(
+    rt: &impl Abort,
+    alloc: Global,
+    net: &Network,
+) -> Result<Nogood<N>, Fail>
+    requires named { net.now ≡ N.network }
+{
+    let bounds: (&[u32], &[u32]) = (&[0, 1, 0, 1, 1, 2], &[1, 1, 1, 2, 2, 3]);
+    let of_second: Node<N> = node(rt, alloc, net, &[1, 1], bounds, 2)?;
+    assert!(rt; is_second(&of_second));
+    nogood(rt, alloc, net, &[1, 1], bounds, 2)
+}
+
+/// The node at another time, which the record covers there, or not.
+fn moved<N: OfNetwork>(
+    rt: &impl Abort,
+    net: &Network,
+    known: &Nogood<N>,
+    node: Node<N>,
+    time: u32,
+    covered: bool,
+) -> Result<Node<N>, Fail>
+    requires named { net.now ≡ N.network }
+{
+    let other = at_time(net, node, time)?;
+    assert_eq!(rt; other.time(), time);
+    assert_eq!(rt; known.covers(&other), covered);
+    Ok(other)
+}
+
+/// The node of which the third job starts late is covered at time 2, and at no other.
+fn check_times<N: OfNetwork>(
+    rt: &impl Abort,
+    alloc: Global,
+    net: &Network,
+    known: &Nogood<N>,
+) -> Result<(), Fail>
+    requires named { net.now ≡ N.network }
+{
+    let bounds: (&[u32], &[u32]) = (&[0, 0, 1, 1, 1, 2], &[1, 1, 1, 2, 2, 3]);
+    let third = node(rt, alloc, net, &[1, 1], bounds, 0)?;
+    let at_two = moved(rt, net, known, third, 2, true)?;
+    let at_one = moved(rt, net, known, at_two, 1, false)?;
+    moved(rt, net, known, at_one, 3, false)?;
+    Ok(())
+}
+
 fn check_cutsets<N: OfNetwork>(rt: &impl Abort, alloc: Global, net: &Network) -> Result<(), Fail>
     requires named { net.now ≡ N.network }
 {
-    let upper = [1, 1, 1, 2, 2, 3];
-    let second: (&[u32], &[u32]) = (&[0, 1, 0, 1, 1, 2], &upper);
-    let third: (&[u32], &[u32]) = (&[0, 0, 1, 1, 1, 2], &upper);
-    let of_second: Node<N> = node(rt, alloc, net, &[1, 1], second, 2)?;
-    assert_eq!(rt; of_second.early().as_slice(), [0, 1, 0, 2, 2, 3].as_slice());
-    assert_eq!(rt; of_second.ends(), [0, 2, 1, 3, 3, 3].as_slice());
-    assert!(rt; of_second.started().contains(3) && !of_second.started().contains(4));
-    let known: Nogood<N> = nogood(rt, alloc, net, &[1, 1], second, 2)?;
-    let mut other: Node<N> = node(rt, alloc, net, &[1, 1], third, 0)?;
-    for (time, covered) in [(2, true), (1, false), (3, false)] {
-        other = at_time(net, other, time)?;
-        assert_eq!(rt; other.time(), time);
-        assert_eq!(rt; known.covers(&other), covered);
-    }
-    Ok(())
+    let known: Nogood<N> = second_record(rt, alloc, net)?;
+    check_times(rt, alloc, net, &known)
 }
 
 #[test]
@@ -256,29 +343,51 @@ fn is_found<N: OfNetwork>(board: &Board<N>, local: &mut Local<N>, node: &Node<N>
     }
 }
 
-/// The record of capacity 2 and a deadline of 4.
-fn known_record<N: OfNetwork>(
+/// Whether a record that covers the node of a capacity and a deadline of 4 is found.
+fn finds<N: OfNetwork>(
     rt: &impl Abort,
     alloc: Global,
     net: &Network,
-) -> Result<Nogood<N>, Fail>
+    board: &Board<N>,
+    local: &mut Local<N>,
+    capacity: u32,
+) -> Result<bool, Fail>
     requires named { net.now ≡ N.network }
 {
-    let (lower, upper) = parallel_bounds(4);
-    nogood(rt, alloc, net, &[2], (&lower, &upper), 0)
+    let node = node_of(rt, alloc, net, capacity, 4)?;
+    Ok(is_found(board, local, &node))
 }
 
-/// The node of a capacity and a deadline of 4.
-fn node_of<N: OfNetwork>(
-    rt: &impl Abort,
+/// Pushes the record of capacity 2 and a deadline of 4.
+fn push_known<N: OfNetwork, R: Abort + Wait>(
+    rt: &R,
     alloc: Global,
     net: &Network,
-    capacity: u32,
-) -> Result<Node<N>, Fail>
+    board: &Board<N>,
+) -> Result<(), Fail>
     requires named { net.now ≡ N.network }
 {
-    let (lower, upper) = parallel_bounds(4);
-    node(rt, alloc, net, &[capacity], (&lower, &upper), 0)
+    let known = known_record(rt, alloc, net)?;
+    board.push(rt, known);
+    Ok(())
+}
+
+fn check_pushed<N: OfNetwork, R: Abort + Wait>(
+    rt: &R,
+    alloc: Global,
+    net: &Network,
+    board: &Board<N>,
+    local: &mut Local<N>,
+) -> Result<(), Fail>
+    requires named { net.now ≡ N.network }
+{
+    assert!(rt; !finds(rt, alloc, net, board, local, 1)?);
+    push_known(rt, alloc, net, board)?;
+    assert!(rt; finds(rt, alloc, net, board, local, 1)?);
+    assert!(rt; !finds(rt, alloc, net, board, local, 3)?);
+    push_known(rt, alloc, net, board)?;
+    assert!(rt; finds(rt, alloc, net, board, local, 1)?, "pushed twice");
+    Ok(())
 }
 
 fn check_shared<N: OfNetwork, R: Abort + Wait>(
@@ -288,17 +397,9 @@ fn check_shared<N: OfNetwork, R: Abort + Wait>(
 ) -> Result<(), Fail>
     requires named { net.now ≡ N.network }
 {
-    let covered: Node<N> = node_of(rt, alloc, net, 1)?;
-    let other: Node<N> = node_of(rt, alloc, net, 3)?;
     let board: Board<N> = Board::new(alloc, net)?;
     let mut local: Local<N> = Local::new(alloc, net);
-    assert!(rt; !is_found(&board, &mut local, &covered));
-    board.push(rt, known_record(rt, alloc, net)?);
-    assert!(rt; is_found(&board, &mut local, &covered));
-    assert!(rt; !is_found(&board, &mut local, &other));
-    board.push(rt, known_record(rt, alloc, net)?);
-    assert!(rt; is_found(&board, &mut local, &covered), "pushed twice");
-    Ok(())
+    check_pushed(rt, alloc, net, &board, &mut local)
 }
 
 #[test]
@@ -307,18 +408,48 @@ fn finds_shared_records(rt: HostRuntime) -> Result<(), Fail> {
     check_shared::<Brand, HostRuntime>(&rt, alloc, &parallel(alloc)?)
 }
 
+/// Keeps the record of capacity 2 and a deadline of 4.
+fn keep_known<N: OfNetwork>(
+    rt: &impl Abort,
+    alloc: Global,
+    net: &Network,
+    local: &mut Local<N>,
+) -> Result<(), Fail>
+    requires named { net.now ≡ N.network }
+{
+    let known = known_record(rt, alloc, net)?;
+    local.keep(known);
+    Ok(())
+}
+
+/// Whether a kept record was taken.
+fn takes_kept<N: OfNetwork>(local: &mut Local<N>) -> bool {
+    local.take_kept().is_some()
+}
+
+fn check_held<N: OfNetwork>(
+    rt: &impl Abort,
+    alloc: Global,
+    net: &Network,
+    empty: &Board<N>,
+    local: &mut Local<N>,
+) -> Result<(), Fail>
+    requires named { net.now ≡ N.network }
+{
+    keep_known(rt, alloc, net, local)?;
+    assert!(rt; finds(rt, alloc, net, empty, local, 1)?);
+    assert!(rt; takes_kept(local));
+    assert!(rt; !takes_kept(local));
+    assert!(rt; !finds(rt, alloc, net, empty, local, 1)?);
+    Ok(())
+}
+
 fn check_kept<N: OfNetwork>(rt: &impl Abort, alloc: Global, net: &Network) -> Result<(), Fail>
     requires named { net.now ≡ N.network }
 {
-    let covered: Node<N> = node_of(rt, alloc, net, 1)?;
     let empty: Board<N> = Board::new(alloc, net)?;
     let mut local: Local<N> = Local::new(alloc, net);
-    local.keep(known_record(rt, alloc, net)?);
-    assert!(rt; is_found(&empty, &mut local, &covered));
-    assert!(rt; local.take_kept().is_some());
-    assert!(rt; local.take_kept().is_none());
-    assert!(rt; !is_found(&empty, &mut local, &covered));
-    Ok(())
+    check_held(rt, alloc, net, &empty, &mut local)
 }
 
 #[test]
@@ -337,6 +468,105 @@ fn shifted(time: u32) -> ([u32; 5], [u32; 5])
     )
 }
 
+/// The record of capacity 2 and the bounds that are later by a time.
+fn shifted_record<N: OfNetwork>(
+    rt: &impl Abort,
+    alloc: Global,
+    net: &Network,
+    time: u32,
+) -> Result<Nogood<N>, Fail>
+    requires named { net.now ≡ N.network }
+    requires small { time ≤ 10000 }
+{
+    let (lower, upper) = shifted(time);
+    nogood(rt, alloc, net, &[2], (&lower, &upper), 0)
+}
+
+/// The node of a capacity and the bounds that are later by a time.
+fn shifted_node<N: OfNetwork>(
+    rt: &impl Abort,
+    alloc: Global,
+    net: &Network,
+    capacity: u32,
+    time: u32,
+) -> Result<Node<N>, Fail>
+    requires named { net.now ≡ N.network }
+    requires small { time ≤ 10000 }
+{
+    let (lower, upper) = shifted(time);
+    node(rt, alloc, net, &[capacity], (&lower, &upper), 0)
+}
+
+/// Pushes and keeps the record of the bounds that are later by a time.
+fn push_and_keep<N: OfNetwork, R: Abort + Wait>(
+    rt: &R,
+    alloc: Global,
+    net: &Network,
+    board: &Board<N>,
+    keeps: &mut Local<N>,
+    time: u32,
+) -> Result<(), Fail>
+    requires named { net.now ≡ N.network }
+    requires small { time ≤ 10000 }
+{
+    let pushed = shifted_record(rt, alloc, net, time)?;
+    board.push(rt, pushed);
+    let kept = shifted_record(rt, alloc, net, time)?;
+    keeps.keep(kept);
+    Ok(())
+}
+
+/// Whether the board finds a record that covers a node.
+fn has<N: OfNetwork>(board: &Board<N>, local: &mut Local<N>, node: &Node<N>) -> bool {
+    board.find(local, node).is_some()
+}
+
+/// Whether the board finds the last of the records that were pushed or kept.
+fn has_last<N: OfNetwork>(
+    rt: &impl Abort,
+    alloc: Global,
+    net: &Network,
+    board: &Board<N>,
+    local: &mut Local<N>,
+) -> Result<bool, Fail>
+    requires named { net.now ≡ N.network }
+{
+    let last = shifted_node(rt, alloc, net, 2, 1999)?;
+    Ok(has(board, local, &last))
+}
+
+/// Pushes and keeps many records, and looks for the last with an empty local table.
+fn check_pushes<N: OfNetwork, R: Abort + Wait>(
+    rt: &R,
+    alloc: Global,
+    net: &Network,
+    keeps: &mut Local<N>,
+) -> Result<(), Fail>
+    requires named { net.now ≡ N.network }
+{
+    let board: Board<N> = Board::new(alloc, net)?;
+    for time in 0..2000 {
+        push_and_keep(rt, alloc, net, &board, keeps, time)?;
+    }
+    let mut reads: Local<N> = Local::new(alloc, net);
+    assert!(rt; has_last(rt, alloc, net, &board, &mut reads)?);
+    Ok(())
+}
+
+/// Looks for the last record among those that were kept.
+fn check_keeps<N: OfNetwork>(
+    rt: &impl Abort,
+    alloc: Global,
+    net: &Network,
+    keeps: &mut Local<N>,
+) -> Result<(), Fail>
+    requires named { net.now ≡ N.network }
+{
+    let empty: Board<N> = Board::new(alloc, net)?;
+    assert!(rt; has_last(rt, alloc, net, &empty, keeps)?);
+    Ok(())
+}
+
 fn check_many<N: OfNetwork, R: Abort + Wait>(
     rt: &R,
     alloc: Global,
@@ -344,28 +574,9 @@ fn check_many<N: OfNetwork, R: Abort + Wait>(
 ) -> Result<(), Fail>
     requires named { net.now ≡ N.network }
 {
-    let board: Board<N> = Board::new(alloc, net)?;
     let mut keeps: Local<N> = Local::new(alloc, net);
-    for time in 0..2000 {
-        let (lower, upper) = shifted(time);
-        let bounds = (lower.as_slice(), upper.as_slice());
-        board.push(rt, nogood(rt, alloc, net, &[2], bounds, 0)?);
-        keeps.keep(nogood(rt, alloc, net, &[2], bounds, 0)?);
-    }
-    let (lower, upper) = shifted(1999);
-    let last: Node<N> = node(
-        rt,
-        alloc,
-        net,
-        &[2],
-        (lower.as_slice(), upper.as_slice()),
-        0,
-    )?;
-    let mut reads: Local<N> = Local::new(alloc, net);
-    assert!(rt; board.find(&mut reads, &last).is_some());
-    let empty: Board<N> = Board::new(alloc, net)?;
-    assert!(rt; empty.find(&mut keeps, &last).is_some());
-    Ok(())
+    check_pushes(rt, alloc, net, &mut keeps)?;
+    check_keeps(rt, alloc, net, &mut keeps)
 }
 
 #[test]
@@ -386,9 +597,7 @@ fn later_records<N: OfNetwork>(
 {
     let mut records = Vec::new(alloc);
     for time in first..first + 30 {
-        let (lower, upper) = shifted(time);
-        let bounds = (lower.as_slice(), upper.as_slice());
-        records.push(nogood(rt, alloc, net, &[2], bounds, 0)?)?;
+        records.push(shifted_record(rt, alloc, net, time)?)?;
     }
     Ok(records)
 }
@@ -415,6 +624,46 @@ fn push_and_find<N: OfNetwork, R: Wait>(
     are_true
 }
 
+/// Pushes sixty records from two threads, each of which looks for one that covers the node. Whether each that was found covers it.
+fn push_in_threads<N: OfNetwork + Send + Sync, R: Abort + Threads + Wait + Sync>(
+    rt: &R,
+    alloc: Global,
+    net: &Network,
+    board: &Board<N>,
+    last: &Node<N>,
+) -> Result<bool, Fail>
+    requires named { net.now ≡ N.network }
+{
+    let first_records = later_records(rt, alloc, net, 0)?;
+    let more_records = later_records(rt, alloc, net, 30)?;
+    let (one, two) = thread::join(
+        rt,
+        || -> bool
+            requires { net.now ≡ N.network }
+        { push_and_find(rt, alloc, net, board, first_records, last) },
+        || -> bool
+            requires { net.now ≡ N.network }
+        { push_and_find(rt, alloc, net, board, more_records, last) },
+    );
+    Ok(one && two)
+}
+
+/// Pushes the records, and looks for one that covers the node with an empty local table.
+fn check_threads<N: OfNetwork + Send + Sync, R: Abort + Threads + Wait + Sync>(
+    rt: &R,
+    alloc: Global,
+    net: &Network,
+    last: &Node<N>,
+) -> Result<(), Fail>
+    requires named { net.now ≡ N.network }
+{
+    let board: Board<N> = Board::new(alloc, net)?;
+    assert!(rt; push_in_threads(rt, alloc, net, &board, last)?);
+    let mut local: Local<N> = Local::new(alloc, net);
+    assert!(rt; has(&board, &mut local, last));
+    Ok(())
+}
+
 fn check_sharing<N: OfNetwork + Send + Sync, R: Abort + Threads + Wait + Sync>(
     rt: &R,
     alloc: Global,
@@ -422,25 +671,8 @@ fn check_sharing<N: OfNetwork + Send + Sync, R: Abort + Threads + Wait + Sync>(
 ) -> Result<(), Fail>
     requires named { net.now ≡ N.network }
 {
-    let board: Board<N> = Board::new(alloc, net)?;
-    let (lower, upper) = shifted(59);
-    let bounds = (lower.as_slice(), upper.as_slice());
-    let last: Node<N> = node(rt, alloc, net, &[1], bounds, 0)?;
-    let first_records = later_records(rt, alloc, net, 0)?;
-    let more_records = later_records(rt, alloc, net, 30)?;
-    let (one, two) = thread::join(
-        rt,
-        || -> bool
-            requires { net.now ≡ N.network }
-        { push_and_find(rt, alloc, net, &board, first_records, &last) },
-        || -> bool
-            requires { net.now ≡ N.network }
-        { push_and_find(rt, alloc, net, &board, more_records, &last) },
-    );
-    assert!(rt; one && two);
-    let mut local: Local<N> = Local::new(alloc, net);
-    assert!(rt; board.find(&mut local, &last).is_some());
-    Ok(())
+    let last: Node<N> = shifted_node(rt, alloc, net, 1, 59)?;
+    check_threads(rt, alloc, net, &last)
 }
 
 #[test]
