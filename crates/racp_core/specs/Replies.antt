@@ -1,5 +1,5 @@
 -- What the collector answers to each call, and the change that goes with it.
-use Rattle.std.specs.Prelude.{◌≡◌, ℕ, ◌-◌, ◌<◌, ◌≤◌, min, Bool, true, false, List, [], ◌∷◌, length, Option, Some, None, option_map}
+use Rattle.std.specs.Prelude.{◌≡◌, ℕ, ◌-◌, ◌^◌, ◌<◌, ◌≤◌, min, Bool, true, false, List, [], ◌∷◌, length, Option, Some, None, option_map}
 use Rattle.std.specs.List.{slice_get}
 use Rattle.racp_model.specs.Project.{Project}
 use Rattle.racp_model.specs.Window.{Answers}
@@ -27,6 +27,13 @@ IsAsked old (Next index) new = IsNextAsked old new index
 IsAsked old End new = (old.halted ≡ false) × (old.least ≡ None) × (old.to_come ≡ []) × (new ≡ record old { ended = true })
 IsAsked old Enough new = (old.halted ≡ false) × (old.least ≡ None → ⊥) × (new ≡ old)
 IsAsked old AskHalted new = (old.halted ≡ true) × (new ≡ old)
+
+-- the place of a question that was asked is less than the greatest number of 64 bits
+abbrev pub IsSmallPlace : Asked → Type 0
+IsSmallPlace (Next index) = index < 2 ^ 64 - 1
+IsSmallPlace End = Unit {0}
+IsSmallPlace Enough = Unit {0}
+IsSmallPlace AskHalted = Unit {0}
 
 -- taking a piece, where the answer is pending and the collector runs
 abbrev pub IsTaken : Machine → ℕ → Reply → Machine → Type 0

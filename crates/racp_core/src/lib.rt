@@ -5,7 +5,6 @@
 #![tactic(auto)]
 
 mod collector;
-mod copies;
 pub mod laws;
 mod replies;
 mod row;

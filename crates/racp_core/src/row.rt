@@ -6,7 +6,6 @@ ghost use Rattle.racp_core.specs.Machine.{IsDone};
 ghost use Rattle.racp_core.specs.Steps.{IsBack, out_of, shut};
 ghost use Rattle.racp_core.specs.Rows.{IsCut, IsPlace, listed, no_out};
 
-use crate::copies::{copy_of_capacities, copy_of_window};
 use racp_model::{Capacities, OfNetwork, Question, Window};
 use racp_search::{Finding, Piece, Rest};
 use std::alloc::{AllocError, Global};
@@ -44,6 +43,20 @@ fn is_same(a: &Window, b: &Window) -> bool
     ensures { IsTrue result ↔ (a.now ≡ b.now) }
 {
     a.lower() == b.lower() && a.upper() == b.upper()
+}
+
+/// The same window.
+pub(crate) fn copy_of_window(window: &Window) -> Result<Window, AllocError>
+    ensures { IfOk result (λ copy. copy ≡ window.now) }
+{
+    window.clone()
+}
+
+/// The same capacities.
+fn copy_of_capacities(capacities: &Capacities) -> Result<Capacities, AllocError>
+    ensures { IfOk result (λ copy. copy ≡ capacities.now) }
+{
+    capacities.clone()
 }
 
 /// A question that was asked. Each piece of it that is out can come back whole without memory.
@@ -101,7 +114,6 @@ impl Row {
     /// Takes an open window out, as a piece of this number, seat and place. Makes the room that it needs to come back.
     pub(crate) fn take(
         &mut self,
-        alloc: Global,
         number: u64,
         seat: usize,
         index: usize,
@@ -111,7 +123,7 @@ impl Row {
         ensures err { IfErr result (λ _. self.new ≡ self.old) }
     {
         self.out.reserve(1)?;
-        let capacities = copy_of_capacities(alloc, &self.question.capacities)?;
+        let capacities = copy_of_capacities(&self.question.capacities)?;
         let copy = copy_of_window(&self.ready[self.ready.len() - 1])?;
         let window = self.ready.take_last();
         self.out.push_reserved(Out {

@@ -2,13 +2,13 @@
 
 ghost use Rattle.std.specs.Prelude.{◌≡◌, ◌++◌, ◌<◌, [], Some, None, option_to_list, length, IfOk, IfErr, OnOk};
 ghost use Rattle.racp_core.specs.Machine.{all_questions};
+ghost use Rattle.racp_core.specs.Replies.{IsSmallPlace};
 ghost use Rattle.racp_core.specs.Rows.{IsOpenedIf};
 ghost use Rattle.racp_core.specs.Runs.{Step, Ask, OfAsk};
 
 use super::Core;
-use crate::copies::copy_of_window;
 use crate::replies::Asked;
-use crate::row::Row;
+use crate::row::{Row, copy_of_window};
 use crate::undecided::Undecided;
 use racp_candidates::Series;
 use racp_model::{OfNetwork, Question};
@@ -22,6 +22,7 @@ impl<N: OfNetwork, S: Series> Core<N, S> {
     /// Memory was refused. Nothing has changed, and the next call asks the same question.
     pub fn ask(&mut self) -> Result<Asked, AllocError>
         ensures step { IfOk result (λ asked. Step self.old Ask (OfAsk asked) self.new) }
+        ensures small { IfOk result IsSmallPlace }
         ensures questions { all_questions self.new ≡ all_questions self.old }
         ensures err { IfErr result (λ _. self.new ≡ self.old) }
     {

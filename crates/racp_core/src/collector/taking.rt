@@ -36,7 +36,7 @@ impl<N: OfNetwork, S: Series> Core<N, S> {
             return Ok(Reply::Nothing);
         };
         let row = &mut self.rows[index];
-        let piece = row.take(self.alloc, self.taken, seat, index)?;
+        let piece = row.take(self.taken, seat, index)?;
         self.taken += 1;
         Ok(Reply::Piece(piece))
     }
