@@ -3,3 +3,5 @@ mod Sums
 mod Cores
 mod Energy
 mod Used
+mod Raising
+mod Refuting

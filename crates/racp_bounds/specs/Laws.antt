@@ -3,7 +3,9 @@ use Rattle.std.specs.Prelude.{◌≡◌, ℕ, ◌<◌, ◌≤◌, min, List, len
 use Rattle.racp_model.specs.Project.{Project}
 use Rattle.racp_model.specs.Schedule.{IsActive, EndsBy, Admits, sum_below, usage}
 use Rattle.racp_model.specs.Window.{Bounds, LiesIn, IsRootWindow}
+use Rattle.racp_candidates.specs.Box.{IsInBox}
 use Rattle.racp_bounds.specs.Floors.{IsCoreTime, energy, AreFloors, AreRoofs}
+use Rattle.racp_bounds.specs.Sharp.{AreSharpened, AreRefutedPairs, AreSharpenedBefore}
 
 -- over all times before the deadline, starts that end by it use the energy
 abbrev pub EnergyIsUsed : Type 0
@@ -37,3 +39,21 @@ FloorsAreBelowRoofs =
     (p : Project) (release due : ℕ → ℕ) (root : Bounds) (deadline : ℕ) (floors roofs : List ℕ) →
     IsRootWindow p release due root → ((i : ℕ) → i < length p.jobs → due i ≤ deadline) → AreFloors p root deadline floors → AreRoofs p roofs →
     Admits p release due roofs × ((k : ℕ) → k < p.resources → slice_index floors k ≤ slice_index roofs k)
+
+-- each vector that admits and is within the roofs is at or above floors of which some are sharpened
+abbrev pub AdmittingIsAboveSharpened : Type 0
+AdmittingIsAboveSharpened =
+    (p : Project) (release due : ℕ → ℕ) (root : Bounds) (deadline n : ℕ) (floors roofs reached vector : List ℕ) →
+    IsRootWindow p release due root → ((i : ℕ) → i < length p.jobs → due i ≤ deadline) → AreFloors p root deadline floors →
+    length roofs ≡ p.resources → AreSharpenedBefore p root floors roofs n reached →
+    ((k : ℕ) → k < p.resources → slice_index vector k ≤ slice_index roofs k) → Admits p release due vector →
+    (k : ℕ) → k < p.resources → slice_index reached k ≤ slice_index vector k
+
+-- each vector that admits and is within the roofs lies in the box of the sharpened floors and the refuted pairs
+abbrev pub AdmittingIsInBox : Type 0
+AdmittingIsInBox =
+    (p : Project) (release due : ℕ → ℕ) (root : Bounds) (deadline : ℕ) (floors roofs sharp : List ℕ) (pairs : List (ℕ × ℕ)) (vector : List ℕ) →
+    IsRootWindow p release due root → ((i : ℕ) → i < length p.jobs → due i ≤ deadline) → AreFloors p root deadline floors →
+    length roofs ≡ p.resources → AreSharpened p root floors roofs sharp → AreRefutedPairs p root sharp roofs pairs → length vector ≡ p.resources →
+    ((k : ℕ) → k < p.resources → slice_index vector k ≤ slice_index roofs k) → Admits p release due vector →
+    IsInBox sharp roofs pairs vector

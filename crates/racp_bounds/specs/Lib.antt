@@ -1,3 +1,4 @@
 pub mod Floors
 pub mod LowerBounds
 pub mod Laws
+pub mod Sharp

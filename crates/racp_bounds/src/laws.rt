@@ -1,6 +1,6 @@
-//! Laws of floors and roofs. Each function does nothing; its contract is the law.
+//! Laws of floors and roofs, and of sharpened floors. Each function does nothing; its contract is the law.
 
-ghost use Rattle.racp_bounds.specs.Laws.{EnergyIsUsed, CoreIsActive, AdmittingIsAboveFloors, CutToRoofsAdmits, FloorsAreBelowRoofs};
+ghost use Rattle.racp_bounds.specs.Laws.{EnergyIsUsed, CoreIsActive, AdmittingIsAboveFloors, CutToRoofsAdmits, FloorsAreBelowRoofs, AdmittingIsAboveSharpened, AdmittingIsInBox};
 
 /// Over all times before a deadline, starts that end by it use the energy.
 pub fn energy_is_used()
@@ -25,4 +25,14 @@ pub fn cut_to_roofs_admits()
 /// Where there is a root window the roofs admit, and no floor is above its roof.
 pub fn floors_are_below_roofs()
     ensures { FloorsAreBelowRoofs }
+{}
+
+/// Capacities that admit and are within the roofs are at or above floors of which some are sharpened.
+pub fn admitting_is_above_sharpened()
+    ensures { AdmittingIsAboveSharpened }
+{}
+
+/// Capacities that admit and are within the roofs lie in the box of the sharpened floors and the refuted pairs.
+pub fn admitting_is_in_box()
+    ensures { AdmittingIsInBox }
 {}

@@ -1,0 +1,215 @@
+ghost use Rattle.std.specs.Prelude.{◌≡◌, ◌↔◌, ◌+◌, ◌<◌, ◌≤◌, [], ◌∷◌, ◌++◌, OnOk, IfOk, IfErr, IsTrue, length, slice_index, set};
+ghost use Rattle.racp_model.specs.Project.{number};
+ghost use Rattle.racp_model.specs.Formed.{HasBounds};
+ghost use Rattle.racp_model.specs.Window.{IsYes};
+ghost use Rattle.racp_candidates.specs.Box.{AreBounds};
+ghost use Rattle.racp_candidates.specs.FirstYes.{MayGiveUp};
+ghost use Rattle.racp_bounds.specs.Sharp.{IsSharpened, AreSharpened, IsRefutedPair, AreRefutedPairs, IsSharp, IsUnsharpened};
+
+use racp_candidates::{AskStop, Asker, First, One, Singles};
+use racp_model::{Capacities, Network, Window};
+use std::alloc::{AllocError, Global};
+
+/// Sharpened floors, and the pairs of resources that are refuted.
+#[derive(Debug, Drop)]
+pub struct Sharp {
+    /// The sharpened floor of each resource, by place from 0, in units.
+    pub floors: Capacities,
+    /// The pairs of resources, by their numbers from 1, the lesser one first and in lexicographic order, of which both cannot be
+    /// at their sharpened floors.
+    pub pairs: Vec<(u32, u32)>,
+}
+
+/// Sharpens the floors of a project by questions about its root window. The sharpened floor of a resource is the least number of
+/// units, from its floor on, with which some starts fit when the other resources have their roofs. A pair of resources is refuted
+/// where no starts fit when both have their sharpened floors and the others their roofs. Floors and roofs are by resource, from
+/// place 0, with no floor above its roof, and some starts in the root window fit the roofs.
+///
+/// # Errors
+///
+/// The asker gave up, or memory was refused. The floors that were reached come back: those that are sharpened, and the first
+/// ones of the other resources.
+pub fn sharpen<A: Asker>(
+    alloc: Global,
+    net: &Network,
+    root: &Window,
+    floors: Capacities,
+    roofs: &Capacities,
+    asker: &mut A,
+) -> Result<Sharp, (Capacities, AskStop)>
+    requires named { net.now ≡ A.network asker.old }
+    requires root { HasBounds net.now root.now }
+    requires floors { length floors ≡ net.now.resources }
+    requires roofs { length roofs.now ≡ net.now.resources }
+    requires bounds { AreBounds floors roofs.now }
+    requires admits { IsYes net.now roofs.now root.now }
+    ensures network { A.network asker.new ≡ A.network asker.old }
+    ensures sharp { IfOk result (IsSharp net.now root.now floors roofs.now) }
+    ensures refusal { IfErr result (IsUnsharpened net.now root.now floors roofs.now (A.may_stop asker.new) (A.may_want_thread asker.new)) }
+{
+    let floors = raise_all(alloc, net, root, floors, roofs, asker)?;
+    match refuted_pairs(alloc, net, root, &floors, roofs, asker) {
+        Ok(pairs) => Ok(Sharp { floors, pairs }),
+        Err(stop) => Err((floors, stop)),
+    }
+}
+
+/// The sharpened floors; or the floors that were reached, and why the others are not known.
+fn raise_all<A: Asker>(
+    alloc: Global,
+    net: &Network,
+    root: &Window,
+    floors: Capacities,
+    roofs: &Capacities,
+    asker: &mut A,
+) -> Result<Capacities, (Capacities, AskStop)>
+    requires named { net.now ≡ A.network asker.old }
+    requires root { HasBounds net.now root.now }
+    requires floors { length floors ≡ net.now.resources }
+    requires roofs { length roofs.now ≡ net.now.resources }
+    requires bounds { AreBounds floors roofs.now }
+    requires admits { IsYes net.now roofs.now root.now }
+    ensures network { A.network asker.new ≡ A.network asker.old }
+    ensures sharp { IfOk result (AreSharpened net.now root.now floors roofs.now) }
+    ensures refusal { IfErr result (IsUnsharpened net.now root.now floors roofs.now (A.may_stop asker.new) (A.may_want_thread asker.new)) }
+{
+    let mut reached = floors;
+    for k in 0..net.resource_count() {
+        match raised(alloc, net, root, &reached, roofs, k, asker) {
+            Ok(units) => reached = with_units(reached, k, units),
+            Err(stop) => return Err((reached, stop)),
+        }
+    }
+    Ok(reached)
+}
+
+/// The sharpened floor of one resource.
+fn raised<A: Asker>(
+    alloc: Global,
+    net: &Network,
+    root: &Window,
+    floors: &Capacities,
+    roofs: &Capacities,
+    k: usize,
+    asker: &mut A,
+) -> Result<u32, AskStop>
+    requires named { net.now ≡ A.network asker.old }
+    requires root { HasBounds net.now root.now }
+    requires floors { length floors.now ≡ net.now.resources }
+    requires roofs { length roofs.now ≡ net.now.resources }
+    requires resource { k < net.now.resources }
+    requires bounds { slice_index floors.now k ≤ slice_index roofs.now k }
+    requires admits { IsYes net.now roofs.now root.now }
+    ensures network { A.network asker.new ≡ A.network asker.old }
+    ensures sharp { IfOk result (IsSharpened net.now root.now floors.now roofs.now k) }
+    ensures stop { IfErr result (MayGiveUp (A.may_stop asker.new) (A.may_want_thread asker.new)) }
+{
+    let singles = Singles::new(alloc, floors, roofs, k, root)?;
+    match asker.first(net, singles)? {
+        First::Yes { index, .. } => Ok(units_at(floors.as_slice(), roofs.as_slice(), k, index)),
+        First::None => unreachable!(),
+    }
+}
+
+/// The number at an index, from 0, among the units of one resource from its floor to its roof.
+fn units_at(floors: &[u32], roofs: &[u32], k: usize, index: usize) -> u32
+    requires floor { k < length floors.now }
+    requires roof { k < length roofs.now }
+    requires within { slice_index floors.now k + index ≤ slice_index roofs.now k }
+    ensures { result ≡ slice_index floors.now k + index }
+{
+    prove!(index <= roofs[k] as usize);
+    floors[k] + index as u32
+}
+
+/// These capacities with other units of one resource.
+fn with_units(capacities: Capacities, k: usize, units: u32) -> Capacities
+    requires { k < length capacities }
+    ensures { result ≡ set capacities k units }
+{
+    let mut list = capacities.into_vec();
+    list[k] = units;
+    Capacities::new(list)
+}
+
+/// The refuted pairs of resources, by their numbers, in lexicographic order.
+fn refuted_pairs<A: Asker>(
+    alloc: Global,
+    net: &Network,
+    root: &Window,
+    floors: &Capacities,
+    roofs: &Capacities,
+    asker: &mut A,
+) -> Result<Vec<(u32, u32)>, AskStop>
+    requires named { net.now ≡ A.network asker.old }
+    requires root { HasBounds net.now root.now }
+    requires floors { length floors.now ≡ net.now.resources }
+    requires roofs { length roofs.now ≡ net.now.resources }
+    ensures network { A.network asker.new ≡ A.network asker.old }
+    ensures refuted { IfOk result (λ pairs. AreRefutedPairs net.now root.now floors.now roofs.now pairs.items) }
+    ensures stop { IfErr result (MayGiveUp (A.may_stop asker.new) (A.may_want_thread asker.new)) }
+{
+    let mut pairs = Vec::new(alloc);
+    for k in 0..net.resource_count() {
+        for l in k + 1..net.resource_count() {
+            if is_refuted(alloc, net, root, floors, roofs, (k, l), asker)? {
+                add_pair(&mut pairs, k, l)?;
+            }
+        }
+    }
+    Ok(pairs)
+}
+
+/// Adds the pair of the resources at two places, by their numbers.
+fn add_pair(pairs: &mut Vec<(u32, u32)>, k: usize, l: usize) -> Result<(), AllocError>
+    requires first { k < 16 }
+    requires second { l < 16 }
+    ensures { OnOk result (pairs.new.items ≡ pairs.old.items ++ (number k, number l) ∷ []) }
+{
+    pairs.push((k as u32 + 1, l as u32 + 1))?;
+    Ok(())
+}
+
+/// Whether a pair of resources, by their places, is refuted.
+fn is_refuted<A: Asker>(
+    alloc: Global,
+    net: &Network,
+    root: &Window,
+    floors: &Capacities,
+    roofs: &Capacities,
+    pair: (usize, usize),
+    asker: &mut A,
+) -> Result<bool, AskStop>
+    requires named { net.now ≡ A.network asker.old }
+    requires root { HasBounds net.now root.now }
+    requires floors { length floors.now ≡ net.now.resources }
+    requires roofs { length roofs.now ≡ net.now.resources }
+    requires first { pair.0 < net.now.resources }
+    requires second { pair.1 < net.now.resources }
+    ensures network { A.network asker.new ≡ A.network asker.old }
+    ensures refuted { IfOk result (λ refuted. IsTrue refuted ↔ IsRefutedPair net.now root.now floors.now roofs.now pair.0 pair.1) }
+    ensures stop { IfErr result (MayGiveUp (A.may_stop asker.new) (A.may_want_thread asker.new)) }
+{
+    let capacities = pair_capacities(alloc, floors, roofs, pair)?;
+    let question = One::new(alloc, &capacities, root)?;
+    Ok(matches!(asker.first(net, question)?, First::None))
+}
+
+/// The roofs, with the floors of a pair of resources.
+fn pair_capacities(
+    alloc: Global,
+    floors: &Capacities,
+    roofs: &Capacities,
+    pair: (usize, usize),
+) -> Result<Capacities, AllocError>
+    requires first { pair.0 < length roofs.now }
+    requires second { pair.1 < length roofs.now }
+    requires floors { length floors.now ≡ length roofs.now }
+    ensures { IfOk result (λ capacities. capacities ≡ set (set roofs.now pair.0 (slice_index floors.now pair.0)) pair.1 (slice_index floors.now pair.1)) }
+{
+    let (k, l) = pair;
+    let mut units = roofs.as_slice().to_vec(alloc)?;
+    units[k] = floors.as_slice()[k];
+    units[l] = floors.as_slice()[l];
+    Ok(Capacities::new(units))
+}
