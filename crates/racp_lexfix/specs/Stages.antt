@@ -1,0 +1,69 @@
+-- Contracts of private functions: what is known at each stage of planning.
+use Rattle.std.specs.Prelude.{ℕ, List, Option, Some, None, Bool, true, false}
+use Rattle.racp_model.specs.Project.{Project}
+use Rattle.racp_model.specs.Path.{IsCriticalLength}
+use Rattle.racp_model.specs.Terms.{Terms, release_of, due_of}
+use Rattle.racp_model.specs.Plan.{IsPlan, IsEnough}
+use Rattle.racp_model.specs.Window.{Bounds, IsRootWindow, IsYes, IsNo}
+use Rattle.racp_prices.specs.Units.{AreMostUnits}
+use Rattle.racp_candidates.specs.declared.asker.AskStop.{AskStop}
+use Rattle.racp_candidates.specs.declared.asker.AskStop.TheVariants.{Stopped as AskStopped, Memory as AskMemory, NoThread as AskNoThread}
+use Rattle.racp_candidates.specs.Box.{AreBounds}
+use Rattle.racp_bounds.specs.Floors.{AreFloors}
+use Rattle.racp_bounds.specs.Sharp.{IsSharp}
+use Rattle.racp_bounds.specs.declared.sharp.Sharp.{Sharp}
+use Rattle.racp_lexfix.specs.Answers.{IsAnswer}
+use Rattle.racp_lexfix.specs.declared.opening.Opening.{Opening}
+use Rattle.racp_lexfix.specs.declared.opening.Opening.TheVariants.{Root, Closed}
+use Rattle.racp_lexfix.specs.declared.answer.PlanStop.{PlanStop}
+use Rattle.racp_lexfix.specs.declared.answer.PlanStop.TheVariants.{Stopped, Memory, NoThread}
+
+-- the root window, and the critical length; or why there is no plan
+abbrev pub IsOpening : Project → Terms → Opening → Type 0
+IsOpening p terms (Root critical window) = IsCriticalLength p (release_of terms) critical × IsRootWindow p (release_of terms) (due_of terms) window
+IsOpening p terms (Closed answer) = IsAnswer p terms answer
+
+-- no capacities are enough
+abbrev pub HasNoEnough : Project → Terms → Type 0
+HasNoEnough p terms = (capacities : List ℕ) → IsEnough p terms capacities → ⊥
+
+-- the first floors, and roofs within the ceilings that admit
+pub record AreEnds (p : Project) (terms : Terms) (root : Bounds) (floors roofs : List ℕ) : Type 0 where
+  pub lowest : AreFloors p root terms.deadline floors
+  pub most : AreMostUnits p terms roofs
+  pub bounds : AreBounds floors roofs
+  pub yes : IsYes p roofs root
+
+-- these, or none where no capacities are enough
+abbrev pub IsBounded : Project → Terms → Bounds → Option (List ℕ × List ℕ) → Type 0
+IsBounded p terms root (Some ends) = AreEnds p terms root ends.0 ends.1
+IsBounded p terms root None = HasNoEnough p terms
+
+-- floors that are sharpened, and pairs that they refute, from some first floors on
+pub record AreSharpEnds (p : Project) (terms : Terms) (root : Bounds) (sharp : Sharp) (roofs : List ℕ) : Type 0 where
+  pub first : List ℕ
+  pub ends : AreEnds p terms root first roofs
+  pub sharp_are : IsSharp p root first roofs sharp
+
+-- the capacities and the starts of the plan, or none where no capacities are enough
+abbrev pub IsChosen : Project → Terms → Option (List ℕ × List ℕ) → Type 0
+IsChosen p terms (Some chosen) = IsPlan p terms chosen.0 chosen.1
+IsChosen p terms None = HasNoEnough p terms
+
+-- whether some starts in the window answer
+abbrev pub IsDecided : Project → List ℕ → Bounds → Bool → Type 0
+IsDecided p capacities window true = IsYes p capacities window
+IsDecided p capacities window false = IsNo p capacities window
+
+-- why planning ends where an asker gives up, with capacities before which none are enough
+abbrev pub given_up : AskStop → List ℕ → PlanStop
+given_up (AskStopped reached) not_before = Stopped not_before
+given_up AskMemory not_before = Memory
+given_up AskNoThread not_before = NoThread
+
+-- the same, with those that were reached, where there are such
+abbrev pub stopped_at : AskStop → List ℕ → PlanStop
+stopped_at (AskStopped (Some reached)) floors = Stopped reached
+stopped_at (AskStopped None) floors = Stopped floors
+stopped_at AskMemory floors = Memory
+stopped_at AskNoThread floors = NoThread

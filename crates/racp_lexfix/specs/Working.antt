@@ -1,0 +1,40 @@
+-- Contracts of private functions: a collector of one seat, of which each piece is searched to its end before the next is taken.
+use Rattle.std.specs.Prelude.{◌≡◌, ◌+◌, ◌<◌, Bool, true, false, [], ◌∷◌, length, Option, Some, None}
+use Rattle.racp_model.specs.Project.{Project}
+use Rattle.racp_model.specs.Formed.{IsFormed}
+use Rattle.racp_search.specs.declared.piece.Piece.{Piece}
+use Rattle.racp_core.specs.Machine.{Machine, row_at, AreDone, IsSettled}
+use Rattle.racp_core.specs.Steps.{out_of}
+
+-- it runs, no yes is known, each asked question is done, and of each one piece was taken
+pub record IsIdle (m : Machine) : Type 0 where
+  pub running : m.halted ≡ false
+  pub unknown : m.least ≡ None
+  pub done : AreDone m.asked (length m.asked)
+  pub numbered : m.taken ≡ length m.asked
+
+-- the same, but for the last asked question, of which this piece is out and nothing is open
+pub record IsAtWork (m : Machine) (piece : Piece) : Type 0 where
+  pub running : m.halted ≡ false
+  pub unknown : m.least ≡ None
+  pub last : length m.asked ≡ piece.index + 1
+  pub done : AreDone m.asked piece.index
+  pub numbered : m.taken ≡ length m.asked
+  pub ready : (row_at m.asked piece.index).ready ≡ []
+  pub out : (row_at m.asked piece.index).out ≡ out_of piece ∷ []
+  pub capacities : piece.question.capacities ≡ (row_at m.asked piece.index).question.capacities
+
+-- the next question is asked, and the one piece of it taken; or no more question is to come, and the answer is known
+abbrev pub IsNextPiece : Project → Machine → Option Piece → Machine → Type 0
+IsNextPiece p old (Some piece) new = IsAtWork new piece × IsFormed p piece.question × (length new.to_come < length old.to_come)
+IsNextPiece p old None new = IsSettled new
+
+-- the finding of the last asked question is in: the question is done, or the answer is known
+abbrev pub IsHandedIn : Machine → Bool → Machine → Type 0
+IsHandedIn old true new = IsIdle new × (new.to_come ≡ old.to_come)
+IsHandedIn old false new = IsSettled new
+
+-- the next question is done, or the answer is known
+abbrev pub IsGoneOn : Machine → Bool → Machine → Type 0
+IsGoneOn old true new = IsIdle new × (length new.to_come < length old.to_come)
+IsGoneOn old false new = IsSettled new

@@ -1,0 +1,135 @@
+ghost use Rattle.std.specs.Prelude.{◌≡◌, None, [], IfOk, IfErr};
+ghost use Rattle.racp_candidates.specs.declared.asker.AskStop.TheVariants.{Memory};
+ghost use Rattle.racp_search.specs.Truth.{rest_windows};
+ghost use Rattle.racp_core.specs.Machine.{all_questions, IsSettled};
+ghost use Rattle.racp_candidates.specs.FirstYes.{IsFirst};
+ghost use Rattle.racp_lexfix.specs.Working.{IsIdle, IsAtWork, IsNextPiece, IsHandedIn, IsGoneOn};
+
+use racp_candidates::{AskStop, Asker, First, Series};
+use racp_core::{Asked, Core, Merged, Outcome, Reply};
+use racp_cutset::{Board, Local};
+use racp_model::{Network, OfNetwork};
+use racp_search::{Finding, Never, Piece, explore};
+use std::alloc::{AllocError, Global};
+
+/// Answers series of questions about the network that `N` names, on the calling thread. What was refuted is kept, and serves all
+/// series that it is asked. It neither stops nor wants a thread.
+#[derive(Drop)]
+pub struct Alone<N: OfNetwork> {
+    alloc: Global,
+    board: Board<N>,
+    local: Local<N>,
+}
+
+impl<N: OfNetwork> Alone<N> {
+    /// An asker that has kept nothing. The network is the one that `N` names.
+    ///
+    /// # Errors
+    ///
+    /// Memory was refused.
+    pub fn new(alloc: Global, net: &Network) -> Result<Self, AllocError>
+        requires { net.now ≡ N.network }
+    {
+        Ok(Alone {
+            alloc,
+            board: Board::new(alloc, net)?,
+            local: Local::new(alloc, net),
+        })
+    }
+}
+
+impl<N: OfNetwork> Asker for Alone<N> {
+    ghost network = { λ _. N.network };
+
+    ghost may_stop = { λ _. ⊥ };
+
+    ghost may_want_thread = { λ _. ⊥ };
+
+    fn first<S: Series + Send>(&mut self, net: &Network, series: S) -> Result<First, AskStop> {
+        let mut core: Core<N, S> = Core::new(self.alloc, net, series);
+        'questions: loop {
+            if !settle_next(self.alloc, net, &self.board, &mut self.local, &mut core)? {
+                return Ok(first_of(core));
+            }
+        }
+    }
+}
+
+/// Asks the next question, and searches it to its end. False where the answer is known.
+fn settle_next<N: OfNetwork, S: Series>(
+    alloc: Global,
+    net: &Network,
+    board: &Board<N>,
+    local: &mut Local<N>,
+    core: &mut Core<N, S>,
+) -> Result<bool, AskStop>
+    requires named { net.now ≡ N.network }
+    requires idle { IsIdle core.old }
+    ensures questions { IfOk result (λ _. all_questions core.new ≡ all_questions core.old) }
+    ensures gone_on { IfOk result (λ more. IsGoneOn core.old more core.new) }
+    ensures err { IfErr result (λ stop. stop ≡ Memory) }
+{
+    let Some(piece) = next_piece(core)? else {
+        return Ok(false);
+    };
+    let finding = explore(alloc, net, piece, None, board, local, &Never);
+    if finding.short() {
+        let _ = finding.into_found();
+        return Err(AskStop::Memory);
+    }
+    Ok(hand_in(core, finding)?)
+}
+
+/// Asks the next question, and takes its one piece. `None` where no question is to come, so that the answer is known.
+fn next_piece<N: OfNetwork, S: Series>(core: &mut Core<N, S>) -> Result<Option<Piece>, AllocError>
+    requires { IsIdle core.old }
+    ensures questions { IfOk result (λ _. all_questions core.new ≡ all_questions core.old) }
+    ensures next { IfOk result (λ piece. IsNextPiece N.network core.old piece core.new) }
+{
+    match core.ask()? {
+        Asked::Question(_) => {}
+        Asked::End => return Ok(None),
+        Asked::Enough => unreachable!(),
+        Asked::Halted => unreachable!(),
+    }
+    match core.take(0)? {
+        Reply::Piece(piece) => Ok(Some(piece)),
+        Reply::Nothing => unreachable!(),
+        Reply::Done => unreachable!(),
+        Reply::Halted => unreachable!(),
+    }
+}
+
+/// Hands in the finding of the one piece that is out. False where the answer is then known.
+fn hand_in<N: OfNetwork, S: Series>(
+    core: &mut Core<N, S>,
+    finding: Finding<N>,
+) -> Result<bool, AllocError>
+    requires work { IsAtWork core.old finding.piece }
+    requires whole { finding.found ≡ None → rest_windows finding.piece.question.window finding.rest ≡ [] }
+    ensures questions { IfOk result (λ _. all_questions core.new ≡ all_questions core.old) }
+    ensures handed { IfOk result (λ more. IsHandedIn core.old more core.new) }
+{
+    let more = finding.found().is_none();
+    match core.hand(finding) {
+        Ok(Merged::Taken) => Ok(more),
+        Ok(Merged::Stale) => unreachable!(),
+        Err((finding, error)) => {
+            let _ = finding.into_found();
+            Err(error)
+        }
+    }
+}
+
+/// The first yes of the series, of a collector that knows it.
+fn first_of<N: OfNetwork, S: Series>(core: Core<N, S>) -> First
+    requires { IsSettled core }
+    ensures { IsFirst N.network (all_questions core) result }
+{
+    let (outcome, _) = core.into_answer();
+    match outcome {
+        Outcome::First { index, starts } => First::Yes { index, starts },
+        Outcome::NoYes => First::None,
+        Outcome::Open { first_open: _ } => unreachable!(),
+    }
+}

@@ -1,0 +1,83 @@
+ghost use Rattle.std.specs.Prelude.{◌≡◌};
+ghost use Rattle.racp_lexfix.specs.Stages.{given_up, stopped_at};
+
+use racp_candidates::AskStop;
+use racp_check::Plan;
+use racp_model::Capacities;
+use std::alloc::AllocError;
+use thiserror::Error;
+
+/// The plan of an order, or why there is none: the first of the reasons that holds, in this order.
+#[derive(Debug, Drop)]
+pub enum Answer {
+    /// The plan: the cheapest capacities under which the project ends in time, of those that cost the same the lexicographically
+    /// least, and under them the lexicographically least start vector.
+    Plan(Plan),
+    /// The critical length, in time units, exceeds the deadline.
+    Impossible {
+        /// The critical length.
+        longest: u64,
+    },
+    /// The early finish of a job exceeds its due time.
+    Due {
+        /// The number of the first such job, from 1.
+        job: u32,
+    },
+    /// No capacities within the ceilings are enough.
+    Ceiling,
+}
+
+/// Why a plan is not known.
+#[derive(Debug, Drop, Error)]
+pub enum PlanStop {
+    /// The search was stopped. No capacities that are enough stand before these.
+    #[error("the search was stopped")]
+    Stopped {
+        /// How many units there are of each resource, by place from 0.
+        not_before: Capacities,
+    },
+    /// Memory was refused.
+    #[error("out of memory")]
+    Memory,
+    /// No thread could be started.
+    #[error("no thread could be started")]
+    NoThread,
+}
+
+impl From<AllocError> for PlanStop {
+    ghost use Rattle.std.specs.Prelude.{◌≡◌};
+    ghost use Rattle.racp_lexfix.specs.declared.answer.PlanStop.TheVariants.{Memory};
+
+    ghost from_gives = { λ _ stop. stop ≡ Memory };
+
+    fn from(_error: AllocError) -> PlanStop {
+        PlanStop::Memory
+    }
+}
+
+impl PlanStop {
+    /// Why planning ends where an asker gives up, with capacities before which none are enough.
+    pub(crate) fn given_up(stop: AskStop, not_before: Capacities) -> Self
+        ensures { result ≡ given_up stop not_before }
+    {
+        match stop {
+            AskStop::Stopped { .. } => PlanStop::Stopped { not_before },
+            AskStop::Memory => PlanStop::Memory,
+            AskStop::NoThread => PlanStop::NoThread,
+        }
+    }
+
+    /// The same, with the capacities that were reached where there are such, and else these floors.
+    pub(crate) fn stopped_at(stop: AskStop, floors: Capacities) -> Self
+        ensures { result ≡ stopped_at stop floors }
+    {
+        match stop {
+            AskStop::Stopped {
+                reached: Some(not_before),
+            } => PlanStop::Stopped { not_before },
+            AskStop::Stopped { reached: None } => PlanStop::Stopped { not_before: floors },
+            AskStop::Memory => PlanStop::Memory,
+            AskStop::NoThread => PlanStop::NoThread,
+        }
+    }
+}

@@ -1,0 +1,136 @@
+//! Floors and roofs of an order, with its ceilings.
+
+ghost use Rattle.std.specs.Prelude.{◌≡◌, ◌↔◌, ℕ, ◌<◌, IfOk, IfErr, IsTrue, is_some, length, slice_index, min};
+ghost use Rattle.racp_model.specs.Formed.{HasBounds};
+ghost use Rattle.racp_model.specs.Terms.{AreTermsOf, release_of, due_of};
+ghost use Rattle.racp_model.specs.Window.{IsRootWindow};
+ghost use Rattle.racp_prices.specs.Units.{AreMostUnits};
+ghost use Rattle.racp_bounds.specs.Floors.{AreFloors};
+ghost use Rattle.racp_candidates.specs.Box.{AreBounds};
+ghost use Rattle.racp_candidates.specs.FirstYes.{MayGiveUp};
+ghost use Rattle.racp_lexfix.specs.Answers.{IsPlanStop};
+ghost use Rattle.racp_lexfix.specs.Stages.{IsBounded, IsDecided, given_up};
+
+use crate::answer::PlanStop;
+use racp_bounds::{floors, roofs};
+use racp_candidates::{AskStop, Asker, First, One};
+use racp_model::{Capacities, Network, Window};
+use racp_prices::Order;
+use std::alloc::{AllocError, Global};
+use std::cmp::min;
+
+/// The floors, and the roofs cut to the ceilings; or none where no capacities within the ceilings are enough. That is asked where
+/// there are ceilings and no floor is above its roof.
+///
+/// # Errors
+///
+/// The asker gave up, or memory was refused.
+pub(crate) fn floors_and_roofs<A: Asker>(
+    alloc: Global,
+    net: &Network,
+    order: &Order,
+    root: &Window,
+    asker: &mut A,
+) -> Result<Option<(Capacities, Capacities)>, PlanStop>
+    requires named { net.now ≡ A.network asker.old }
+    requires terms { AreTermsOf net.now order.now }
+    requires root { IsRootWindow net.now (release_of order.now) (due_of order.now) root.now }
+    ensures network { A.network asker.new ≡ A.network asker.old }
+    ensures bounded { IfOk result (IsBounded net.now order.now root.now) }
+    ensures stop { IfErr result (IsPlanStop net.now order.now (A.may_stop asker.new) (A.may_want_thread asker.new)) }
+{
+    let floors = lowest_units(alloc, net, order, root)?;
+    let roofs = most_units(alloc, net, order)?;
+    if !is_below(&floors, &roofs) {
+        return Ok(None);
+    }
+    if !has_ceilings(order) {
+        return Ok(Some((floors, roofs)));
+    }
+    match is_yes(alloc, net, &roofs, root, asker) {
+        Ok(true) => Ok(Some((floors, roofs))),
+        Ok(false) => Ok(None),
+        Err(stop) => Err(PlanStop::given_up(stop, floors)),
+    }
+}
+
+/// The floor of each resource.
+fn lowest_units(
+    alloc: Global,
+    net: &Network,
+    order: &Order,
+    root: &Window,
+) -> Result<Capacities, AllocError>
+    requires { IsRootWindow net.now (release_of order.now) (due_of order.now) root.now }
+    ensures { IfOk result (AreFloors net.now root.now order.now.deadline) }
+{
+    floors(alloc, net, root, order.deadline)
+}
+
+/// Whether the order has ceilings.
+fn has_ceilings(order: &Order) -> bool
+    ensures { result ≡ is_some order.now.ceilings }
+{
+    order.ceilings.is_some()
+}
+
+/// The most units of each resource that there can be: the roof, or the ceiling where that is less.
+fn most_units(alloc: Global, net: &Network, order: &Order) -> Result<Capacities, AllocError>
+    requires { AreTermsOf net.now order.now }
+    ensures { IfOk result (AreMostUnits net.now order.now) }
+{
+    let mut units = roofs(alloc, net)?.into_vec();
+    if let Some(ceilings) = &order.ceilings {
+        cut(&mut units, ceilings);
+    }
+    Ok(Capacities::new(units))
+}
+
+/// Cuts each number to the one at its place in another list.
+fn cut(units: &mut [u32], ceilings: &[u32])
+    requires { length units.old ≡ length ceilings.now }
+    ensures places { length units.new ≡ length units.old }
+    ensures each { (k : ℕ) → k < length units.old → slice_index units.new k ≡ min (slice_index units.old k) (slice_index ceilings.now k) }
+{
+    for k in 0..units.len() {
+        units[k] = min(units[k], ceilings[k]);
+    }
+}
+
+/// Whether no floor is above its roof.
+fn is_below(floors: &Capacities, roofs: &Capacities) -> bool
+    requires { length floors.now ≡ length roofs.now }
+    ensures { IsTrue result ↔ AreBounds floors.now roofs.now }
+{
+    are_bounds(floors.as_slice(), roofs.as_slice())
+}
+
+/// Whether no number is above the one at its place in another list.
+fn are_bounds(floors: &[u32], roofs: &[u32]) -> bool
+    requires { length floors.now ≡ length roofs.now }
+    ensures { IsTrue result ↔ AreBounds floors.now roofs.now }
+{
+    floors.iter().zip(roofs).all(|(low, high)| *low <= *high)
+}
+
+/// Whether some starts in the window keep precedence and the capacities.
+fn is_yes<A: Asker>(
+    alloc: Global,
+    net: &Network,
+    capacities: &Capacities,
+    window: &Window,
+    asker: &mut A,
+) -> Result<bool, AskStop>
+    requires named { net.now ≡ A.network asker.old }
+    requires capacities { length capacities.now ≡ net.now.resources }
+    requires window { HasBounds net.now window.now }
+    ensures network { A.network asker.new ≡ A.network asker.old }
+    ensures decided { IfOk result (IsDecided net.now capacities.now window.now) }
+    ensures stop { IfErr result (MayGiveUp (A.may_stop asker.new) (A.may_want_thread asker.new)) }
+{
+    let question = One::new(alloc, capacities, window)?;
+    match asker.first(net, question)? {
+        First::Yes { .. } => Ok(true),
+        First::None => Ok(false),
+    }
+}

@@ -1,0 +1,135 @@
+//! From the root window to the plan.
+
+ghost use Rattle.std.specs.Prelude.{◌≡◌, IfOk, IfErr};
+ghost use Rattle.racp_model.specs.Plan.{IsLeast, IsEnough};
+ghost use Rattle.racp_model.specs.Terms.{AreTermsOf, IsBefore, release_of, due_of};
+ghost use Rattle.racp_model.specs.Window.{IsRootWindow};
+ghost use Rattle.racp_candidates.specs.Box.{AreBoxQuestions};
+ghost use Rattle.racp_lexfix.specs.Answers.{IsAnswer, IsPlanStop};
+ghost use Rattle.racp_lexfix.specs.Stages.{AreSharpEnds, IsChosen};
+
+use crate::answer::{Answer, PlanStop};
+use crate::ends::floors_and_roofs;
+use crate::opening::{Opening, opening_of};
+use crate::starts::least_starts;
+use crate::walking::question_at;
+use racp_bounds::{Sharp, sharpen};
+use racp_candidates::{Asker, First, Vectors};
+use racp_check::Plan;
+use racp_model::{Capacities, Network, Starts, Window};
+use racp_prices::{Order, cost_of};
+use std::alloc::{AllocError, Global};
+
+/// The plan of an order, or why there is none. Questions go to the asker, which is about this network: first whether the ceilings
+/// admit, where there are such, then to sharpen the floors, then for each capacity vector of the box in the order of vectors, up
+/// to the first yes, then for the starts of each job. The order has an entry for each resource and each job of the network.
+///
+/// # Errors
+///
+/// The asker gave up, or memory was refused.
+pub fn plan<A: Asker>(
+    alloc: Global,
+    net: &Network,
+    order: &Order,
+    asker: &mut A,
+) -> Result<Answer, PlanStop>
+    requires named { net.now ≡ A.network asker.old }
+    requires terms { AreTermsOf net.now order.now }
+    ensures network { A.network asker.new ≡ A.network asker.old }
+    ensures answer { IfOk result (IsAnswer net.now order.now) }
+    ensures stop { IfErr result (IsPlanStop net.now order.now (A.may_stop asker.new) (A.may_want_thread asker.new)) }
+{
+    let (critical, root) = match opening_of(alloc, net, order)? {
+        Opening::Root { critical, window } => (critical, window),
+        Opening::Closed(answer) => return Ok(answer),
+    };
+    let Some((capacities, starts)) = chosen(alloc, net, order, &root, asker)? else {
+        return Ok(Answer::Ceiling);
+    };
+    Ok(Answer::Plan(Plan {
+        deadline: order.deadline,
+        critical,
+        cost: cost_of(net, order, capacities.as_slice()),
+        capacities,
+        starts,
+    }))
+}
+
+/// The capacities and the starts of the plan, or none where no capacities are enough.
+fn chosen<A: Asker>(
+    alloc: Global,
+    net: &Network,
+    order: &Order,
+    root: &Window,
+    asker: &mut A,
+) -> Result<Option<(Capacities, Starts)>, PlanStop>
+    requires named { net.now ≡ A.network asker.old }
+    requires terms { AreTermsOf net.now order.now }
+    requires root { IsRootWindow net.now (release_of order.now) (due_of order.now) root.now }
+    ensures network { A.network asker.new ≡ A.network asker.old }
+    ensures chosen { IfOk result (IsChosen net.now order.now) }
+    ensures stop { IfErr result (IsPlanStop net.now order.now (A.may_stop asker.new) (A.may_want_thread asker.new)) }
+{
+    let Some((floors, roofs)) = floors_and_roofs(alloc, net, order, root, asker)? else {
+        return Ok(None);
+    };
+    let sharp = match sharpen(alloc, net, root, floors, &roofs, asker) {
+        Ok(sharp) => sharp,
+        Err((reached, stop)) => return Err(PlanStop::given_up(stop, reached)),
+    };
+    let capacities = cheapest(alloc, net, order, root, sharp, &roofs, asker)?;
+    match least_starts(alloc, net, &capacities, root, asker) {
+        Ok(starts) => Ok(Some((capacities, starts))),
+        Err(stop) => Err(PlanStop::given_up(stop, capacities)),
+    }
+}
+
+/// The first capacities of all that are enough: those of the first question of the box that is a yes.
+fn cheapest<A: Asker>(
+    alloc: Global,
+    net: &Network,
+    order: &Order,
+    root: &Window,
+    sharp: Sharp,
+    roofs: &Capacities,
+    asker: &mut A,
+) -> Result<Capacities, PlanStop>
+    requires named { net.now ≡ A.network asker.old }
+    requires terms { AreTermsOf net.now order.now }
+    requires root { IsRootWindow net.now (release_of order.now) (due_of order.now) root.now }
+    requires sharp { AreSharpEnds net.now order.now root.now sharp roofs.now }
+    ensures network { A.network asker.new ≡ A.network asker.old }
+    ensures least { IfOk result (IsLeast (IsBefore order.now) (IsEnough net.now order.now)) }
+    ensures stop { IfErr result (IsPlanStop net.now order.now (A.may_stop asker.new) (A.may_want_thread asker.new)) }
+{
+    let again = vectors(alloc, net, order, root, &sharp, roofs)?;
+    let series = vectors(alloc, net, order, root, &sharp, roofs)?;
+    let first = match asker.first(net, series) {
+        Ok(first) => first,
+        Err(stop) => return Err(PlanStop::stopped_at(stop, sharp.floors)),
+    };
+    match first {
+        First::Yes { index, .. } => Ok(question_at(again, index)?.capacities),
+        First::None => unreachable!(),
+    }
+}
+
+/// The questions of the box, in the order of vectors.
+fn vectors(
+    alloc: Global,
+    net: &Network,
+    order: &Order,
+    root: &Window,
+    sharp: &Sharp,
+    roofs: &Capacities,
+) -> Result<Vectors, AllocError>
+    requires terms { AreTermsOf net.now order.now }
+    requires sharp { AreSharpEnds net.now order.now root.now sharp.now roofs.now }
+    ensures { IfOk result (AreBoxQuestions order.now sharp.now.floors roofs.now sharp.now.pairs.items root.now) }
+{
+    prove!(order.prices.len() == net.resource_count());
+    let floors = Capacities::new(sharp.floors.as_slice().to_vec(alloc)?);
+    let roofs = Capacities::new(roofs.as_slice().to_vec(alloc)?);
+    let pairs = sharp.pairs.to_vec(alloc)?;
+    Vectors::new(alloc, order, floors, roofs, pairs, root)
+}
