@@ -4,9 +4,9 @@ use Rattle.std.proofs.lemmas.Bool.{eqb-true, ne_eqb}
 use Rattle.std.proofs.lemmas.Option.{same_Some}
 use Rattle.clap.specs.Words.{Row, Text, fault_of, first_of, subcommand_of}
 use Rattle.clap.proofs.OnLiterals.{clap_on_literals}
-use Rattle.racp.specs.CommandLine.{IsCpmLine, IsCpmOf, IsCheckLine, IsCheckOf, IsPlain, IsRequested, path_at, racp}
+use Rattle.racp.specs.CommandLine.{IsCpmLine, IsCpmOf, IsPlanLine, IsPlanOf, IsCheckLine, IsCheckOf, IsPlain, IsRequested, path_at, racp}
 use Rattle.racp.specs.declared.command_line.Request.{Request}
-use Rattle.racp.specs.declared.command_line.Request.TheVariants.{Cpm, Check}
+use Rattle.racp.specs.declared.command_line.Request.TheVariants.{Cpm, Plan, Check}
 
 -- the command that is named, and the word for its network
 with_network : Option (Text × List Row) → Option (Text × Option Text)
@@ -50,6 +50,7 @@ cpm_word name (first ∷ rest) plain = by_first (first == 45) refl
 none_asked : (command : Option (Text × List Row)) (request : Request) → with_network command ≡ None → IsRequested command request → IsCpmOf None request
 unfolding with_network
 none_asked None (Cpm network) e asked = asked
+none_asked None (Plan files) e asked = asked
 none_asked None (Check files) e asked = asked
 none_asked (Some command) request e asked = absurd (search rules)
 
@@ -57,12 +58,37 @@ none_asked (Some command) request e asked = absurd (search rules)
 cpm_asked : (command : Option (Text × List Row)) (word : Option Text) (request : Request) → with_network command ≡ Some (codes "cpm", word) → IsRequested command request → IsCpmOf word request
 unfolding with_network
 cpm_asked None word request e asked = absurd (search rules)
-cpm_asked (Some command) word (Cpm network) e asked = rw (← ap (λ c. c.1) (same_Some _ _ e)) asked.1
+cpm_asked (Some command) word (Cpm network) e asked = rw (← ap (λ c. c.1) (same_Some _ _ e)) asked.2
+cpm_asked (Some command) word (Plan files) e asked =
+    let same : codes "cpm" ≡ codes "plan" = sym (ap (λ c. c.0) (same_Some _ _ e)) ∙ asked.0 in
+    let letter : 99 ≡ 112 = ap (λ t. slice_index t 0) same in absurd (omega (arith, letter))
 cpm_asked (Some command) word (Check files) e asked =
     let same : codes "cpm" ≡ codes "check" = sym (ap (λ c. c.0) (same_Some _ _ e)) ∙ asked.0 in
     let letter : 112 ≡ 104 = ap (λ t. slice_index t 1) same in absurd (omega (arith, letter))
 
--- the command that is named, and the paths of its words
+-- the command that is named, and the paths of its words for a network and an order
+with_two_paths : Option (Text × List Row) → Option (Text × (Text × Text))
+with_two_paths = option_map (λ command. (command.0, (path_at (codes "NET") command.1, path_at (codes "ORDER") command.1)))
+
+plan_paths : (name : Text) (a b : ℕ) (net order : Text) → (a == 45) ≡ false → (b == 45) ≡ false →
+    (fault_of racp (name ∷ codes "plan" ∷ (a ∷ net) ∷ (b ∷ order) ∷ []) ≡ []) ×
+    (with_two_paths (subcommand_of racp (name ∷ codes "plan" ∷ (a ∷ net) ∷ (b ∷ order) ∷ [])) ≡ Some (codes "plan", (a ∷ net, b ∷ order)))
+unfolding racp clap_on_literals with_two_paths
+plan_paths name a b net order p q = (rw (p, p, q, q) refl, rw (p, p, q, q) refl)
+
+-- `plan` asks for the files with these paths
+plan_asked : (command : Option (Text × List Row)) (net order : Text) (request : Request) → with_two_paths command ≡ Some (codes "plan", (net, order)) → IsRequested command request →
+    IsPlanOf net order request
+unfolding with_two_paths
+plan_asked None net order request e asked = absurd (search rules)
+plan_asked (Some command) net order (Cpm network) e asked = absurd (asked.0 (ap (λ c. c.0) (same_Some _ _ e)))
+plan_asked (Some command) net order (Plan files) e asked =
+    let same = same_Some _ _ e in (asked.1 ∙ ap (λ c. c.1.0) same, asked.2 ∙ ap (λ c. c.1.1) same)
+plan_asked (Some command) net order (Check files) e asked =
+    let same : codes "plan" ≡ codes "check" = sym (ap (λ c. c.0) (same_Some _ _ e)) ∙ asked.0 in
+    let letter : 112 ≡ 99 = ap (λ t. slice_index t 0) same in absurd (omega (arith, letter))
+
+-- the command that is named, and the paths of its words for a network, an order and a plan
 with_paths : Option (Text × List Row) → Option (Text × (Text × (Text × Text)))
 with_paths = option_map (λ command. (command.0, (path_at (codes "NET") command.1, (path_at (codes "ORDER") command.1, path_at (codes "PLAN") command.1))))
 
@@ -77,7 +103,10 @@ check_asked : (command : Option (Text × List Row)) (net order plan : Text) (req
     IsCheckOf net order plan request
 unfolding with_paths
 check_asked None net order plan request e asked = absurd (search rules)
-check_asked (Some command) net order plan (Cpm network) e asked = absurd (asked.0 (ap (λ c. c.0) (same_Some _ _ e)))
+check_asked (Some command) net order plan (Cpm network) e asked = absurd (asked.1 (ap (λ c. c.0) (same_Some _ _ e)))
+check_asked (Some command) net order plan (Plan files) e asked =
+    let same : codes "check" ≡ codes "plan" = sym (ap (λ c. c.0) (same_Some _ _ e)) ∙ asked.0 in
+    let letter : 99 ≡ 112 = ap (λ t. slice_index t 0) same in absurd (omega (arith, letter))
 check_asked (Some command) net order plan (Check files) e asked =
     let same = same_Some _ _ e in
     (asked.1 ∙ ap (λ c. c.1.0) same, asked.2 ∙ ap (λ c. c.1.1.0) same, asked.3 ∙ ap (λ c. c.1.1.1) same)
@@ -91,6 +120,17 @@ cpm_line words None (name, inr is) =
     let taken = subst (λ (ws : List Text). IsTaken ws (Some (codes "cpm", None))) (sym is) (cpm_alone name) in (taken.0, λ request. cpm_asked (subcommand_of racp words) None request taken.1)
 cpm_line words (Some word) (name, plain, is) =
     let taken = subst (λ (ws : List Text). IsTaken ws (Some (codes "cpm", Some word))) (sym is) (cpm_word name word plain) in (taken.0, λ request. cpm_asked (subcommand_of racp words) (Some word) request taken.1)
+
+-- the parser takes each line that asks for `plan`, and what is asked for is that
+pub plan_line : (words : List Text) (net order : Text) → IsPlanLine words net order →
+    (fault_of racp words ≡ []) × ((request : Request) → IsRequested (subcommand_of racp words) request → IsPlanOf net order request)
+plan_line words [] order (name, none, second, is) = absurd none
+plan_line words (a ∷ net) [] (name, first, none, is) = absurd none
+plan_line words (a ∷ net) (b ∷ order) (name, first, second, is) =
+    let taken = plan_paths name a b net order (ne_eqb a 45 first) (ne_eqb b 45 second) in (
+      ap (λ (ws : List Text). fault_of racp ws) is ∙ taken.0,
+      λ request. plan_asked (subcommand_of racp words) (a ∷ net) (b ∷ order) request (ap (λ (ws : List Text). with_two_paths (subcommand_of racp ws)) is ∙ taken.1),
+    )
 
 -- the parser takes each line that asks for `check`, and what is asked for is that
 pub check_line : (words : List Text) (net order plan : Text) → IsCheckLine words net order plan →

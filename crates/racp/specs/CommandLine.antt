@@ -2,7 +2,7 @@
 use Rattle.std.specs.Prelude.{◌≡◌, ◌≢◌, ◌⊎◌, List, [], ◌∷◌, Option, Some, None, codes, true, unwrap_or}
 use Rattle.clap.specs.Words.{App, Row, Rule, Text, first_of, new_app, new_rule, subcommand_of, with_rule, with_subcommand}
 use Rattle.racp.specs.declared.command_line.Request.{Request}
-use Rattle.racp.specs.declared.command_line.Request.TheVariants.{Cpm, Check}
+use Rattle.racp.specs.declared.command_line.Request.TheVariants.{Cpm, Plan, Check}
 use Rattle.racp.specs.declared.command_line.Source.{Source}
 use Rattle.racp.specs.declared.command_line.Source.TheVariants.{StandardInput, File}
 
@@ -14,6 +14,10 @@ cpm = with_rule (new_app (codes "cpm")) (new_rule (codes "NET"))
 abbrev pub file_rule : Text → Rule
 file_rule id = record (new_rule id) { required = true }
 
+-- `plan NET ORDER`
+abbrev pub plan : App
+plan = with_rule (with_rule (new_app (codes "plan")) (file_rule (codes "NET"))) (file_rule (codes "ORDER"))
+
 -- `check NET ORDER PLAN`
 abbrev pub check : App
 check = with_rule (with_rule (with_rule (new_app (codes "check")) (file_rule (codes "NET"))) (file_rule (codes "ORDER"))) (file_rule (codes "PLAN"))
@@ -22,9 +26,9 @@ check = with_rule (with_rule (with_rule (new_app (codes "check")) (file_rule (co
 abbrev pub with_version : App → App
 with_version a = record a { top = record a.top { has_version = true } }
 
--- `racp [cpm [NET] | check NET ORDER PLAN]`
+-- `racp [cpm [NET] | plan NET ORDER | check NET ORDER PLAN]`
 unfoldable pub racp : App
-racp = with_subcommand (with_subcommand (with_version (new_app (codes "racp"))) cpm.top) check.top
+racp = with_subcommand (with_subcommand (with_subcommand (with_version (new_app (codes "racp"))) cpm.top) plan.top) check.top
 
 -- standard input where no word names a file, or `-` does; else the file of this path
 abbrev pub IsSource : Option Text → Source → Type 0
@@ -38,8 +42,12 @@ path_at name words = unwrap_or (first_of name words) []
 -- the command that is named, with its words, asks for this; without a command, `cpm` of standard input is asked for
 abbrev pub IsRequested : Option (Text × List Row) → Request → Type 0
 IsRequested None (Cpm network) = IsSource None network
+IsRequested None (Plan files) = ⊥
 IsRequested None (Check files) = ⊥
-IsRequested (Some command) (Cpm network) = (command.0 ≢ codes "check") × IsSource (first_of (codes "NET") command.1) network
+IsRequested (Some command) (Cpm network) =
+    (command.0 ≢ codes "plan") × (command.0 ≢ codes "check") × IsSource (first_of (codes "NET") command.1) network
+IsRequested (Some command) (Plan files) =
+    (command.0 ≡ codes "plan") × (files.net.now ≡ path_at (codes "NET") command.1) × (files.order.now ≡ path_at (codes "ORDER") command.1)
 IsRequested (Some command) (Check files) =
     (command.0 ≡ codes "check") × (files.net.now ≡ path_at (codes "NET") command.1) ×
     (files.order.now ≡ path_at (codes "ORDER") command.1) × (files.plan.now ≡ path_at (codes "PLAN") command.1)
@@ -61,6 +69,7 @@ IsCpmLine words (Some word) = (name : Text) × IsPlain word × (words ≡ name �
 -- `cpm` of the network that the word names
 abbrev pub IsCpmOf : Option Text → Request → Type 0
 IsCpmOf word (Cpm network) = IsSource word network
+IsCpmOf word (Plan files) = ⊥
 IsCpmOf word (Check files) = ⊥
 
 -- a word that is not empty, and no option
@@ -68,12 +77,23 @@ abbrev pub IsPath : Text → Type 0
 IsPath [] = ⊥
 IsPath (first ∷ rest) = first ≢ 45
 
+-- After the program's name come `plan` and these two paths.
+abbrev pub IsPlanLine : List Text → Text → Text → Type 0
+IsPlanLine words net order = (name : Text) × IsPath net × IsPath order × (words ≡ name ∷ codes "plan" ∷ net ∷ order ∷ [])
+
+-- `plan` of the files with these paths
+abbrev pub IsPlanOf : Text → Text → Request → Type 0
+IsPlanOf net order (Cpm network) = ⊥
+IsPlanOf net order (Plan files) = (files.net.now ≡ net) × (files.order.now ≡ order)
+IsPlanOf net order (Check files) = ⊥
+
 -- After the program's name come `check` and these three paths.
 abbrev pub IsCheckLine : List Text → Text → Text → Text → Type 0
-IsCheckLine words net order plan =
-    (name : Text) × IsPath net × IsPath order × IsPath plan × (words ≡ name ∷ codes "check" ∷ net ∷ order ∷ plan ∷ [])
+IsCheckLine words net order plan_path =
+    (name : Text) × IsPath net × IsPath order × IsPath plan_path × (words ≡ name ∷ codes "check" ∷ net ∷ order ∷ plan_path ∷ [])
 
 -- `check` of the files with these paths
 abbrev pub IsCheckOf : Text → Text → Text → Request → Type 0
-IsCheckOf net order plan (Cpm network) = ⊥
-IsCheckOf net order plan (Check files) = (files.net.now ≡ net) × (files.order.now ≡ order) × (files.plan.now ≡ plan)
+IsCheckOf net order plan_path (Cpm network) = ⊥
+IsCheckOf net order plan_path (Plan files) = ⊥
+IsCheckOf net order plan_path (Check files) = (files.net.now ≡ net) × (files.order.now ≡ order) × (files.plan.now ≡ plan_path)

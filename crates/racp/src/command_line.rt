@@ -3,7 +3,7 @@
 ghost use Rattle.std.specs.Prelude.{◌≡◌, ℕ, List, Option, Some, IfOk, MatchResult, map, option_map, string_bytes, codes, false};
 ghost use Rattle.clap.specs.Words.{FailsBy, app_of, fault_of, first_value, found_of, kind_of, rows_of, rule_of, subcommand_rows_of};
 ghost use Rattle.clap.specs.declared.error.kind.ErrorKind.TheVariants.{OutOfMemory};
-ghost use Rattle.racp.specs.CommandLine.{IsAsked, IsCheckLine, IsCheckOf, IsCpmLine, IsCpmOf, IsRequested, IsSource, check, cpm, file_rule, path_at, racp};
+ghost use Rattle.racp.specs.CommandLine.{IsAsked, IsCheckLine, IsCheckOf, IsCpmLine, IsCpmOf, IsPlanLine, IsPlanOf, IsRequested, IsSource, check, cpm, file_rule, path_at, plan, racp};
 ghost use Rattle.racp.specs.Commands.{IsCommandOf};
 
 use clap::{Arg, ArgMatches, Command, Error};
@@ -13,8 +13,19 @@ use std::alloc::{AllocError, Global};
 pub(crate) enum Request<'a> {
     /// The critical length and the early starts of a network.
     Cpm(Source<'a>),
+    /// The plan of a network on the terms of an order.
+    Plan(OrderFiles<'a>),
     /// Whether a plan is one of a network on the terms of an order.
     Check(PlanFiles<'a>),
+}
+
+/// The paths of the files of a network and an order.
+#[derive(Drop)]
+pub(crate) struct OrderFiles<'a> {
+    /// The path of the network.
+    pub(crate) net: &'a str,
+    /// The path of the order.
+    pub(crate) order: &'a str,
 }
 
 /// The paths of the files of a network, an order and a plan.
@@ -45,9 +56,12 @@ pub(crate) fn asked<'a>(alloc: Global, words: &'a [String]) -> Result<Request<'a
     // Without words, with `cpm`, and with `cpm` and a word that is no option, only memory can fail.
     ensures cpm { (network : Option (List ℕ)) → IsCpmLine (map string_bytes words.entry.now) network
         → MatchResult result (IsCpmOf network) (λ error. kind_of error ≡ OutOfMemory) }
+    // With `plan` and two paths, too.
+    ensures plan { (net order : List ℕ) → IsPlanLine (map string_bytes words.entry.now) net order
+        → MatchResult result (IsPlanOf net order) (λ error. kind_of error ≡ OutOfMemory) }
     // With `check` and three paths, too.
-    ensures check { (net order plan : List ℕ) → IsCheckLine (map string_bytes words.entry.now) net order plan
-        → MatchResult result (IsCheckOf net order plan) (λ error. kind_of error ≡ OutOfMemory) }
+    ensures check { (net order plan_path : List ℕ) → IsCheckLine (map string_bytes words.entry.now) net order plan_path
+        → MatchResult result (IsCheckOf net order plan_path) (λ error. kind_of error ≡ OutOfMemory) }
     // Whatever the words are, the parser's account of them says what they ask for, or why they are refused.
     ensures asked { IfOk result (IsAsked (map string_bytes words.entry.now)) }
     ensures faults { FailsBy (fault_of racp (map string_bytes words.entry.now)) result }
@@ -70,7 +84,12 @@ fn request_of<'a>(matches: &ArgMatches<'a>) -> Request<'a>
 fn request_named<'a>(name: &str, words: &ArgMatches<'a>) -> Request<'a>
     ensures { IsRequested (Some (name.now, rows_of (found_of words.now))) result }
 {
-    if name == "check" {
+    if name == "plan" {
+        Request::Plan(OrderFiles {
+            net: path_of(words, "NET"),
+            order: path_of(words, "ORDER"),
+        })
+    } else if name == "check" {
         Request::Check(PlanFiles {
             net: path_of(words, "NET"),
             order: path_of(words, "ORDER"),
@@ -96,6 +115,7 @@ fn command<'a>(alloc: Global) -> Result<Command<'a>, AllocError>
         .about("Plans the capacities of a project. Without words: cpm, from standard input")
         .version("0.1.0")
         .subcommand(cpm_command(alloc)?)?
+        .subcommand(plan_command(alloc)?)?
         .subcommand(check_command(alloc)?)
 }
 
@@ -109,6 +129,16 @@ fn cpm_command<'a>(alloc: Global) -> Result<Command<'a>, AllocError>
     Command::new(alloc, "cpm")
         .about("Prints the critical length and the early starts of a network")
         .arg(network)
+}
+
+/// `plan`, with its words.
+fn plan_command<'a>(alloc: Global) -> Result<Command<'a>, AllocError>
+    ensures { IfOk result (IsCommandOf plan) }
+{
+    Command::new(alloc, "plan")
+        .about("Prints the cheapest capacities that meet an order, with the least starts")
+        .arg(file_word(alloc, "NET", "The network"))?
+        .arg(file_word(alloc, "ORDER", "The order"))
 }
 
 /// `check`, with its words.

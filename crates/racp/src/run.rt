@@ -5,9 +5,9 @@ ghost use Rattle.racp.specs.Statuses.{IsStatus, IsStatusOfAnswer};
 ghost use Rattle.racp.specs.declared.failure.Failure.TheVariants as failures;
 ghost use Rattle.racp_cli.specs.declared.fault.StreamFault.TheVariants as streams;
 
-use crate::command_line::{PlanFiles, Request, Source, asked};
+use crate::command_line::{OrderFiles, PlanFiles, Request, Source, asked};
 use crate::failure::{Failure, report};
-use racp_cli::{StreamFault, check_over, cpm_over};
+use racp_cli::{StreamFault, check_over, cpm_over, run_over};
 use std::fs::File;
 use std::io::ErrorKind;
 use std::rt::{Env, Files};
@@ -30,6 +30,7 @@ fn answer<R: Env + Files + Input + Print + AllocGlobal>(rt: &R) -> Result<u8, Fa
     let words = words(rt)?;
     match asked(rt.alloc(), words.as_slice())? {
         Request::Cpm(network) => Ok(cpm(rt, network)?),
+        Request::Plan(files) => Ok(plan(rt, files)?),
         Request::Check(files) => Ok(check(rt, files)?),
     }
 }
@@ -59,6 +60,15 @@ fn cpm<R: Files + Input + Print + AllocGlobal>(
         Source::StandardInput => cpm_over(rt.alloc(), &mut rt.reader(), &mut out),
         Source::File(path) => { cpm_over(rt.alloc(), &mut open(rt, path)?, &mut out) }
     }
+}
+
+/// Writes the plan for these files, or why there is none.
+fn plan<R: Files + Print + AllocGlobal>(rt: &R, files: OrderFiles<'_>) -> Result<u8, StreamFault>
+    ensures { IfOk result IsStatusOfAnswer }
+{
+    let mut net = open(rt, files.net)?;
+    let mut order = open(rt, files.order)?;
+    run_over(rt.alloc(), &mut net, &mut order, &mut io::writer(rt))
 }
 
 /// Writes whether the plan in these files is right.

@@ -7,8 +7,9 @@ use Rattle.racp_model.proofs.lemmas.Zeros.{zeros}
 use Rattle.racp_sm.specs.Reading.{IsReading, IsReadingOrMemory}
 use Rattle.racp_sm.specs.declared.fault.SmFault.{SmFault}
 use Rattle.racp_sm.specs.declared.fault.SmFaultKind.TheVariants.{Memory}
-use Rattle.racp_cli.specs.Texts.{early_text, refusal_line, memory_line}
+use Rattle.racp_cli.specs.Texts.{early_text, memory_line}
 use Rattle.racp_cli.specs.Answers.{Early, Refused, OutOfMemory, IsEarlyAnswer, IsCpmAnswer}
+use Rattle.racp_cli.specs.Responses.{IsNetworkRefused}
 
 -- a row of zeros releases each job at 0
 pub released_at_zero : (n : ℕ) → slice_index (replicate n 0) ≡ (λ _. 0)
@@ -26,12 +27,15 @@ pub answers_network : (input : List ℕ) (network : Project) (text : List ℕ) �
 answers_network input network text reading early =
     record { answer = Early early.0 early.1; right = (network, reading, early.2, early.3); with_status = refl; with_text = sym early.4 }
 
+-- the fault of a text is right where it is not that memory ran out
+pub right_refusal : (input : List ℕ) (fault : SmFault) → IsReadingOrMemory input (Err fault) → (fault.kind ≡ Memory → ⊥) → IsReading input (Err fault)
+right_refusal input fault (inl memory) other = absurd (other (ap (λ (f : SmFault). f.kind) memory))
+right_refusal input fault (inr right) other = right
+
 -- the answer to a text that is refused
-pub answers_refusal : (input : List ℕ) (fault : SmFault) (text : List ℕ) → IsReadingOrMemory input (Err fault) → (fault.kind ≡ Memory → ⊥) → text ≡ refusal_line fault → IsCpmAnswer input 5 text
-answers_refusal input fault text reading other e = elim reading [
-  | inl memory ↦ absurd (other (ap (λ (f : SmFault). f.kind) memory))
-  | inr right ↦ record { answer = Refused fault; right = right; with_status = refl; with_text = sym e }
-]
+pub answers_refusal : (input : List ℕ) (fault : SmFault) (status : ℕ) (text : List ℕ) → IsReadingOrMemory input (Err fault) → IsNetworkRefused fault status text → IsCpmAnswer input status text
+answers_refusal input fault status text reading (other, with_status, with_text) =
+    record { answer = Refused fault; right = right_refusal input fault reading other; with_status = with_status; with_text = with_text }
 
 -- the answer where memory ran out
 pub answers_memory : (input : List ℕ) → IsCpmAnswer input 6 memory_line

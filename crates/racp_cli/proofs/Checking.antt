@@ -4,7 +4,8 @@ use Rattle.racp_model.specs.Project.{Project}
 use Rattle.racp_model.specs.Terms.{Terms}
 use Rattle.racp_check.specs.PlanReading.{IsPlanReadingOrMemory}
 use Rattle.racp_check.specs.declared.text_fault.TextFault.{TextFault}
-use Rattle.racp_cli.specs.Checks.{AreTerms, IsCheck}
+use Rattle.racp_lexfix.specs.Printing.{AreTerms}
+use Rattle.racp_cli.specs.Checks.{IsCheck}
 use Rattle.racp_cli.specs.Responses.{IsOfPlanText}
 use Rattle.racp_cli.specs.declared.check_fault.CheckFault.{CheckFault}
 

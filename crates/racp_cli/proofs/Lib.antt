@@ -4,4 +4,6 @@ mod TextLines
 mod Answering
 mod Responding
 mod Checking
+mod Planning
+mod Statuses
 mod Telling

@@ -8,14 +8,10 @@ use Rattle.racp_prices.specs.Orders.{IsOrder}
 use Rattle.racp_check.specs.PlanReading.{IsPlanReading}
 use Rattle.racp_check.specs.PlanFaults.{IsChecked}
 use Rattle.racp_check.specs.declared.plan.Plan.{Plan}
+use Rattle.racp_lexfix.specs.Printing.{AreTerms}
 use Rattle.racp_cli.specs.Texts.{refusal_line, order_refusal_line, plan_refusal_line, memory_line, ok_line, head_line, plan_fault_line}
 use Rattle.racp_cli.specs.declared.check_fault.CheckFault.{CheckFault}
 use Rattle.racp_cli.specs.declared.check_fault.CheckFault.TheVariants.{Network, Order, PlanText, OutOfMemory, Head, Wrong}
-
--- the texts are read as a network and an order for it
-pub record AreTerms (net order : List ℕ) (network : Project) (terms : Terms) : Type 0 where
-  pub is_network : IsReading net (Ok network)
-  pub is_order : IsOrder network.resources (length network.jobs) order (Ok terms)
 
 -- the texts are read as a network, an order for it and a plan of it
 pub record AreRead (net order text : List ℕ) (network : Project) (terms : Terms) (plan : Plan) : Type 0 where

@@ -1,5 +1,5 @@
--- Contracts of private functions: faults of texts as those of `check`, and answers that were made or for which memory was
--- refused.
+-- Contracts of private functions: faults of texts as those of `check` or as answers, and answers that were made or for which
+-- memory was refused.
 use Rattle.std.specs.Prelude.{◌≡◌, ◌≢◌, ◌⊎◌, ℕ, List, Result, Ok, Err, Vec}
 use Rattle.std.specs.declared.alloc.AllocError.{AllocError}
 use Rattle.std.specs.declared.alloc.Global.{Global}
@@ -9,7 +9,7 @@ use Rattle.racp_prices.specs.declared.fault.OrderFault.{OrderFault}
 use Rattle.racp_prices.specs.declared.fault.OrderFault.TheVariants as order
 use Rattle.racp_check.specs.declared.text_fault.TextFault.{TextFault}
 use Rattle.racp_check.specs.declared.text_fault.TextFaultKind.TheVariants as plan
-use Rattle.racp_cli.specs.Texts.{memory_line}
+use Rattle.racp_cli.specs.Texts.{refusal_line, order_refusal_line, memory_line}
 use Rattle.racp_cli.specs.declared.check_fault.CheckFault.{CheckFault}
 use Rattle.racp_cli.specs.declared.check_fault.CheckFault.TheVariants.{Network, Order, PlanText, OutOfMemory}
 
@@ -22,6 +22,13 @@ IsOfOrder error fault = ((error ≡ order.Memory) × (fault ≡ OutOfMemory)) �
 
 abbrev pub IsOfPlanText : TextFault → CheckFault → Type 0
 IsOfPlanText error fault = ((error.kind ≡ plan.Memory) × (fault ≡ OutOfMemory)) ⊎ ((error.kind ≢ plan.Memory) × (fault ≡ PlanText error))
+
+-- the status and the line of the fault of a text, where that is not that memory ran out
+abbrev pub IsNetworkRefused : SmFault → ℕ → List ℕ → Type 0
+IsNetworkRefused fault status text = (fault.kind ≢ network.Memory) × (5 ≡ status) × (refusal_line fault ≡ text)
+
+abbrev pub IsOrderRefused : OrderFault → ℕ → List ℕ → Type 0
+IsOrderRefused fault status text = (fault ≢ order.Memory) × (5 ≡ status) × (order_refusal_line fault ≡ text)
 
 -- the status and the text of an answer, or those of lack of memory where it could not be made
 abbrev pub IsMade : Result (ℕ × Vec ℕ Global) AllocError → ℕ → List ℕ → Type 0

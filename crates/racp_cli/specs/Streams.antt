@@ -4,6 +4,7 @@ use Rattle.std.specs.Prelude.{◌≡◌, ◌⊎◌, ℕ, ◌+◌, ◌<◌, ◌�
 use Rattle.std.specs.Io.KnownBytes.{Consumes, Appends, Keeps, IsAtEnd}
 use Rattle.racp_cli.specs.Answers.{IsCpmAnswer}
 use Rattle.racp_cli.specs.Checks.{IsCheckAnswer}
+use Rattle.racp_cli.specs.Plans.{IsPlanAnswer}
 use Rattle.racp_cli.specs.declared.fault.StreamFault.{StreamFault}
 use Rattle.racp_cli.specs.declared.fault.StreamFault.TheVariants.{Read, Write, TooLong, Memory}
 
@@ -84,6 +85,11 @@ ToOne Answer [] status text = ⊥
 ToOne Answer (input ∷ []) status text = Answer input status text
 ToOne Answer (input ∷ (other ∷ inputs)) status text = ⊥
 
+-- the answers to two inputs
+abbrev pub ToTwo : (List ℕ → List ℕ → ℕ → List ℕ → Type 0) → List (List ℕ) → ℕ → List ℕ → Type 0
+ToTwo Answer (first ∷ (second ∷ [])) status text = Answer first second status text
+ToTwo Answer _ status text = ⊥
+
 -- the answers to three inputs
 abbrev pub ToThree : (List ℕ → List ℕ → List ℕ → ℕ → List ℕ → Type 0) → List (List ℕ) → ℕ → List ℕ → Type 0
 ToThree Answer (first ∷ (second ∷ (third ∷ []))) status text = Answer first second third status text
@@ -92,6 +98,10 @@ ToThree Answer _ status text = ⊥
 -- a run of `cpm`
 abbrev pub IsCpmRun : Reader → Option (List ℕ) → Option (List ℕ) → Result ℕ StreamFault → Type 0
 IsCpmRun net = IsRun (ToOne IsCpmAnswer) (net ∷ [])
+
+-- a run of `plan`
+abbrev pub IsPlanRun : Reader → Reader → Option (List ℕ) → Option (List ℕ) → Result ℕ StreamFault → Type 0
+IsPlanRun net order = IsRun (ToTwo IsPlanAnswer) (net ∷ (order ∷ []))
 
 -- a run of `check`
 abbrev pub IsCheckRun : Reader → Reader → Reader → Option (List ℕ) → Option (List ℕ) → Result ℕ StreamFault → Type 0

@@ -5,13 +5,14 @@ ghost use Rattle.racp_cli.specs.Answers.{IsCpmAnswer, IsEarlyAnswer};
 ghost use Rattle.racp_cli.specs.Streams.{IsCpmRun};
 
 use crate::fault::StreamFault;
-use crate::lines::{early_lines, refused_line};
+use crate::lines::early_lines;
+use crate::refusal::network_refused;
 use crate::respond::respond;
-use crate::status::{DONE, REFUSED};
+use crate::status::DONE;
 use crate::streams::read_whole;
 use racp_cpm::{early, longest};
 use racp_model::Network;
-use racp_sm::{SmFaultKind, read_sm};
+use racp_sm::read_sm;
 use std::alloc::{AllocError, Global};
 use std::io::{Read, Write};
 
@@ -40,8 +41,7 @@ fn answer(alloc: Global, input: &[u8]) -> Result<(u8, Vec<u8>), AllocError>
 {
     match read_sm(alloc, input) {
         Ok(network) => Ok((DONE, early_answer(alloc, &network)?)),
-        Err(fault) if fault.kind == SmFaultKind::Memory => Err(AllocError),
-        Err(fault) => Ok((REFUSED, refused_line(alloc, fault)?)),
+        Err(fault) => network_refused(alloc, fault),
     }
 }
 

@@ -7,6 +7,8 @@ mod cpm;
 mod fault;
 pub mod laws;
 mod lines;
+mod plan;
+mod refusal;
 mod respond;
 mod status;
 mod streams;
@@ -14,6 +16,7 @@ mod streams;
 pub use check::check_over;
 pub use cpm::cpm_over;
 pub use fault::StreamFault;
+pub use plan::run_over;
 pub use status::{CHECK_FAILED, DONE, OUT_OF_MEMORY, REFUSED, STREAM_FAILED};
 
 #[cfg(test)]

@@ -3,4 +3,5 @@
 mod check;
 mod cpm;
 mod devices;
+mod plan;
 mod texts;

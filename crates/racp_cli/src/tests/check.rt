@@ -1,26 +1,11 @@
 //! The check of a plan.
 
-use super::devices::{Blanks, Dripping, Narrow};
-use super::texts::{CROSSED, NETWORK};
+use super::devices::{Blanks, Narrow, failing};
+use super::texts::{CROSSED, LATER, NETWORK, ORDER, PLAN, TWO};
 use crate::{CHECK_FAILED, DONE, REFUSED, StreamFault, check_over};
 use std::alloc::Global;
 use std::process::Abort;
 use std::test::Fail;
-
-/// An order for the network of five jobs.
-const ORDER: &str = "deadline = 4\nprices = [10]\n";
-
-/// Its plan.
-const PLAN: &str =
-    "deadline 4\ncritical 3\ncost 30\ncapacity 1 3\nstart 1 0\nstart 2 0\nstart 3 0\nstart 4 2\nstart 5 4\nend\n";
-
-/// The plan of that network with the deadline 5.
-const LATER: &str =
-    "deadline 5\ncritical 3\ncost 20\ncapacity 1 2\nstart 1 0\nstart 2 0\nstart 3 3\nstart 4 3\nstart 5 5\nend\n";
-
-/// The plan of the network with two resources, the deadline 3 and the prices 1 and 1.
-const TWO: &str =
-    "deadline 3\ncritical 2\ncost 3\ncapacity 1 1\ncapacity 2 2\nstart 1 0\nstart 2 0\nstart 3 1\nstart 4 2\nstart 5 2\nstart 6 3\nend\n";
 
 /// Tests what is written for these texts, and with which status.
 fn writes(rt: &impl Abort, alloc: Global, texts: (&[u8], &str, &[u8]), status: u8, line: &str) {
@@ -177,15 +162,6 @@ fn cut_plans_are_refused(rt: HostRuntime) -> Result<(), Fail> {
         }
     }
     Ok(())
-}
-
-/// A reader that fails at a read where it is to, and else never.
-fn failing(text: &[u8], fails: bool, fails_at: usize) -> Dripping<'_> {
-    Dripping {
-        text,
-        reads: 0,
-        fails_at: if fails { fails_at } else { usize::MAX },
-    }
 }
 
 /// All of a reader is read before the next, and nothing is written where one fails.

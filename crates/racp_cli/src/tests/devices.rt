@@ -29,6 +29,15 @@ impl<'a> Read for Dripping<'a> {
     }
 }
 
+/// A reader that fails at a read where it is to, and else never.
+pub(super) fn failing(text: &[u8], fails: bool, fails_at: usize) -> Dripping<'_> {
+    Dripping {
+        text,
+        reads: 0,
+        fails_at: if fails { fails_at } else { usize::MAX },
+    }
+}
+
 /// Gives blanks without end.
 #[derive(Drop)]
 pub(super) struct Blanks;

@@ -1,4 +1,4 @@
-//! Texts of networks.
+//! Texts of networks, orders and plans.
 
 /// A network of five jobs, of which 2, 3 and 4 come after 1 and before 5, up to the row of its last job.
 pub(super) const NETWORK: &[u8] =
@@ -65,3 +65,39 @@ jobnr. mode duration R 1 R 2
 5 1 1 0 1
 6 1 0 0 0
 ";
+
+/// A network of six jobs: after 1 come 2, and a chain of 3, 4 and 5; 6 is the last.
+pub(super) const BESIDE: &[u8] = b"jobs: 6
+- renewable: 1 R
+PRECEDENCE RELATIONS:
+jobnr. #modes #successors successors
+1 1 2 2 3
+2 1 1 6
+3 1 1 4
+4 1 1 5
+5 1 1 6
+6 1 0
+REQUESTS/DURATIONS:
+jobnr. mode duration R 1
+1 1 0 0
+2 1 4 1
+3 1 1 1
+4 1 3 2
+5 1 4 1
+6 1 0 0
+";
+
+/// An order for the network of five jobs.
+pub(super) const ORDER: &str = "deadline = 4\nprices = [10]\n";
+
+/// Its plan.
+pub(super) const PLAN: &str =
+    "deadline 4\ncritical 3\ncost 30\ncapacity 1 3\nstart 1 0\nstart 2 0\nstart 3 0\nstart 4 2\nstart 5 4\nend\n";
+
+/// The plan of that network with the deadline 5.
+pub(super) const LATER: &str =
+    "deadline 5\ncritical 3\ncost 20\ncapacity 1 2\nstart 1 0\nstart 2 0\nstart 3 3\nstart 4 3\nstart 5 5\nend\n";
+
+/// The plan of the network with two resources, the deadline 3 and the prices 1 and 1.
+pub(super) const TWO: &str =
+    "deadline 3\ncritical 2\ncost 3\ncapacity 1 1\ncapacity 2 2\nstart 1 0\nstart 2 0\nstart 3 1\nstart 4 2\nstart 5 2\nstart 6 3\nend\n";

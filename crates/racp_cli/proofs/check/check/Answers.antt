@@ -1,6 +1,7 @@
 use Rattle.std.proofs.Common.{rules}
 use Rattle.std.proofs.lemmas.Result.{err_from_is_err_and}
-use Rattle.racp_cli.specs.Checks.{AreTerms, AreRead, HasRightHead}
+use Rattle.racp_lexfix.specs.Printing.{AreTerms}
+use Rattle.racp_cli.specs.Checks.{AreRead, HasRightHead}
 use Rattle.racp_cli.proofs.Checking.{plan_refused}
 use Rattle.racp_cli.proofs.check.check.Goals as goal
 
