@@ -12,6 +12,3 @@ mod sharp;
 pub use floor::floors;
 pub use roof::roofs;
 pub use sharp::{Sharp, sharpen};
-
-#[cfg(test)]
-mod tests;

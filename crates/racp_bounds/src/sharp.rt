@@ -11,7 +11,7 @@ use racp_model::{Capacities, Network, Window};
 use std::alloc::{AllocError, Global};
 
 /// Sharpened floors, and the pairs of resources that are refuted.
-#[derive(Debug, Drop)]
+#[derive(Drop)]
 pub struct Sharp {
     /// The sharpened floor of each resource, by place from 0, in units.
     pub floors: Capacities,

@@ -4,7 +4,7 @@ use std::alloc::AllocError;
 use thiserror::Error;
 
 /// The first yes of a series.
-#[derive(Debug, Drop)]
+#[derive(Drop)]
 pub enum First {
     /// The question at this index, from 0, is a yes, and each before it is a no; these starts answer it.
     Yes { index: usize, starts: Starts },

@@ -22,6 +22,3 @@ pub use series::Series;
 pub use singles::Singles;
 pub use start_values::Starts1;
 pub use vectors::Vectors;
-
-#[cfg(test)]
-mod tests;

@@ -144,6 +144,3 @@ fn first_early(net: &Network, order: &Order, starts: &[u32]) -> Option<u32>
     }
     None
 }
-
-#[cfg(test)]
-mod tests;

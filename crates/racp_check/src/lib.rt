@@ -21,6 +21,3 @@ pub use plan_fault::PlanFault;
 pub use read::read_plan;
 pub use text_fault::{TextFault, TextFaultKind};
 pub use write::write_plan;
-
-#[cfg(test)]
-mod text_tests;

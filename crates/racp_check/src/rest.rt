@@ -11,7 +11,7 @@ use std::marker::Model;
 pub(crate) const MOST_NUMBER: u64 = 10_000_000;
 
 /// What is left of a text, from a line on. Contracts see the `Rest` of specs/Steps.
-#[derive(Debug, Drop)]
+#[derive(Drop)]
 pub(crate) struct Rest<'a> {
     line: usize,
     bytes: &'a [u8],

@@ -18,6 +18,3 @@ pub use cpm::cpm_over;
 pub use fault::StreamFault;
 pub use plan::run_over;
 pub use status::{CHECK_FAILED, DONE, OUT_OF_MEMORY, REFUSED, STREAM_FAILED};
-
-#[cfg(test)]
-mod tests;

@@ -12,6 +12,3 @@ mod undecided;
 
 pub use collector::Core;
 pub use replies::{Asked, Merged, Outcome, Reply, Verdict};
-
-#[cfg(test)]
-mod tests;

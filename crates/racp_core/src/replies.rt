@@ -2,7 +2,7 @@ use racp_model::Starts;
 use racp_search::Piece;
 
 /// What asking answers.
-#[derive(Debug, Drop)]
+#[derive(Drop)]
 pub enum Asked {
     /// The question at this place of the series was asked.
     Question(usize),
@@ -15,7 +15,6 @@ pub enum Asked {
 }
 
 /// What taking a piece answers.
-#[derive(Debug)]
 pub enum Reply {
     /// A piece to be searched.
     Piece(Piece),
@@ -28,7 +27,7 @@ pub enum Reply {
 }
 
 /// What handing in a finding, or giving back a piece, answers.
-#[derive(Debug, Drop)]
+#[derive(Drop)]
 pub enum Merged {
     /// It was taken in.
     Taken,
@@ -37,7 +36,7 @@ pub enum Merged {
 }
 
 /// What is known of the series.
-#[derive(Debug, Drop)]
+#[derive(Drop)]
 pub enum Verdict<'a> {
     /// The question at this place is a yes, answered by these starts, and each question before it is a no.
     First {
@@ -56,7 +55,7 @@ pub enum Verdict<'a> {
 }
 
 /// What was known of the series at the end.
-#[derive(Debug, Drop)]
+#[derive(Drop)]
 pub enum Outcome {
     /// The question at this place is a yes, answered by these starts, and each question before it is a no.
     First {

@@ -11,6 +11,3 @@ mod root_window;
 pub use earliest::{early, longest, settle_early};
 pub use latest::late;
 pub use root_window::{first_late, root};
-
-#[cfg(test)]
-mod tests;

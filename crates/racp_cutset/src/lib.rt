@@ -14,6 +14,3 @@ pub use board::Board;
 pub use local::Local;
 pub use node::Node;
 pub use nogood::Nogood;
-
-#[cfg(test)]
-mod tests;

@@ -19,7 +19,7 @@ const MOST_PLACES: usize = 64;
 const EMPTY_PLACES: usize = 8;
 
 /// Where a record stands: on the board, or among those that the thread keeps, by place from 0.
-#[derive(Debug, Clone, Copy, PartialEq)]
+#[derive(Clone, Copy, PartialEq)]
 enum Place {
     Board(usize),
     Kept(usize),

@@ -13,7 +13,7 @@ use std::marker::{Model, PhantomData};
 
 /// A node of the search: a question about the network that `N` names, the early starts of its window, and a time.
 /// Contracts see a `SearchNode`.
-#[derive(Debug, Drop)]
+#[derive(Drop)]
 pub struct Node<N: OfNetwork> {
     pub(crate) question: Question,
     pub(crate) early: Starts,

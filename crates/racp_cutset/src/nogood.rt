@@ -14,7 +14,7 @@ use std::marker::{Model, PhantomData};
 /// The record of a refuted node: its question is a no, its early starts keep the capacities before its time, and the jobs that
 /// start before its time keep their upper bounds. It holds one number for each job: the end of a started job, the lower bound
 /// of another. Contracts see the `SearchNode`, with the early starts of its started jobs as their lower bounds.
-#[derive(Debug, Drop)]
+#[derive(Drop)]
 pub struct Nogood<N: OfNetwork> {
     capacities: Capacities,
     upper: Starts,

@@ -10,7 +10,7 @@ use racp_model::{Capacities, Network, Starts};
 
 /// A conflict of starts with capacities: the first time at which the usage of some resource exceeds its capacity, in time
 /// units, and the jobs that are active then.
-#[derive(Debug, Drop)]
+#[derive(Drop)]
 pub struct Clash {
     /// The time.
     pub time: u32,

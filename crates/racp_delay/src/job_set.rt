@@ -10,7 +10,7 @@ ghost use Rattle.racp_delay.specs.Words.{AreWords, AreZero, IsFirstWord, IsLowes
 use std::marker::Model;
 
 /// A set of jobs, by their numbers from 1 to 512. Takes no memory. Contracts see the list of the numbers, rising.
-#[derive(Debug, Drop)]
+#[derive(Drop)]
 pub struct JobSet {
     words: [u64; 8],
 }

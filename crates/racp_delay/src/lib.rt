@@ -10,6 +10,3 @@ mod loads;
 pub use conflicts::{Clash, conflict};
 pub use delaying::{DelayingAlternatives, alternatives, first_end};
 pub use job_set::{JobSet, Jobs};
-
-#[cfg(test)]
-mod tests;

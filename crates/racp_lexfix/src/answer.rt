@@ -8,7 +8,7 @@ use std::alloc::AllocError;
 use thiserror::Error;
 
 /// The plan of an order, or why there is none: the first of the reasons that holds, in this order.
-#[derive(Debug, Drop)]
+#[derive(Drop)]
 pub enum Answer {
     /// The plan: the cheapest capacities under which the project ends in time, of those that cost the same the lexicographically
     /// least, and under them the lexicographically least start vector.

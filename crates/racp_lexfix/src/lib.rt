@@ -19,6 +19,3 @@ pub use alone::Alone;
 pub use answer::{Answer, PlanStop};
 pub use planning::plan;
 pub use printed::{Printed, Refusal, plan_alone};
-
-#[cfg(test)]
-mod tests;

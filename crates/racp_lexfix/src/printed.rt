@@ -23,7 +23,7 @@ const PLANNED: u8 = 0;
 const IMPOSSIBLE: u8 = 3;
 
 /// The text of an answer, and the status that belongs to it.
-#[derive(Debug, Drop)]
+#[derive(Drop)]
 pub struct Printed {
     /// The text of the plan, or the line that says why there is none, in ASCII.
     pub text: Vec<u8>,

@@ -3,7 +3,7 @@ ghost use Rattle.std.specs.Prelude.{◌≡◌};
 use std::marker::Model;
 
 /// A job: how long it runs, and what it requests of each resource while it runs.
-#[derive(Debug, Drop)]
+#[derive(Drop)]
 pub struct Job {
     duration: u32,
     requests: Vec<u32>,

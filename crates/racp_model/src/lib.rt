@@ -25,6 +25,3 @@ pub use network::Network;
 pub use question::Question;
 pub use starts::Starts;
 pub use window::Window;
-
-#[cfg(test)]
-mod tests;

@@ -12,7 +12,7 @@ use std::marker::Model;
 
 /// A project network (activity on node): jobs that run for a time and request renewable resources, and precedence between
 /// them, from finish to start with lag 0. It is within its limits, and no job waits for itself. Contracts see a `Project`.
-#[derive(Debug, Drop)]
+#[derive(Drop)]
 pub struct Network {
     resources: usize,
     jobs: Vec<Job>,

@@ -3,7 +3,7 @@ ghost use Rattle.std.specs.Prelude.{◌≡◌, ℕ, length};
 use std::marker::Model;
 
 /// The start of each job, by place from 0, in time units. Contracts see a list.
-#[derive(Debug, Clone, Drop)]
+#[derive(Clone, Drop)]
 pub struct Starts {
     items: Vec<u32>,
 }

@@ -6,7 +6,7 @@ use std::marker::Model;
 
 /// A time window for each job: a lower and an upper bound on its start, in time units. Lower bounds are at most 20,000,000,
 /// upper bounds at most 10,000,000.
-#[derive(Debug, Clone, Drop)]
+#[derive(Clone, Drop)]
 pub struct Window {
     lower: Starts,
     upper: Starts,

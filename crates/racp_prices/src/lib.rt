@@ -17,6 +17,3 @@ pub use due::due_times;
 pub use fault::OrderFault;
 pub use order::Order;
 pub use read::read_order;
-
-#[cfg(test)]
-mod tests;

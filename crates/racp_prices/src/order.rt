@@ -7,7 +7,7 @@ use std::marker::Model;
 
 /// The terms of an order. Lists have an entry for each resource or each job, by place from 0; times are in time units.
 /// Contracts see the `Terms` of racp_model.
-#[derive(Debug, Drop)]
+#[derive(Drop)]
 pub struct Order {
     /// The time by which the project has to end, up to 10,000,000.
     pub deadline: u32,

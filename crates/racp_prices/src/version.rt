@@ -10,7 +10,7 @@ use crate::numbers::whole;
 use toml::Value;
 
 /// A version of order texts.
-#[derive(Debug, Clone, Copy, PartialEq, Eq, Drop)]
+#[derive(Clone, Copy, PartialEq, Eq, Drop)]
 pub(crate) enum Version {
     /// A deadline and prices alone.
     First,

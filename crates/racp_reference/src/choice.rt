@@ -9,7 +9,7 @@ use racp_prices::{Order, cost_of};
 use std::alloc::{AllocError, Global};
 
 /// Capacities with the least start vector that fits them, and what they cost.
-#[derive(Debug, Drop)]
+#[derive(Drop)]
 pub(crate) struct Choice {
     /// What the units cost that are not owned already.
     pub cost: u64,

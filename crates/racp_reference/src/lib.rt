@@ -10,6 +10,3 @@ mod prices;
 
 pub use answers::decide_by_definition;
 pub use plan::{Outcome, plan_by_definition};
-
-#[cfg(test)]
-mod tests;

@@ -7,7 +7,7 @@ use racp_model::{OfNetwork, Starts, Window};
 use std::marker::{Model, PhantomData};
 
 /// The windows in which a search has still to look.
-#[derive(Debug, Drop)]
+#[derive(Drop)]
 pub enum Rest {
     /// The window of the piece itself.
     Whole,
@@ -18,7 +18,6 @@ pub enum Rest {
 /// What a search of a piece found, of the network that `N` names. It is true: either the found starts answer the piece's
 /// question and nothing is left to be searched, or nothing is found, and whatever answers lies in a window of the rest.
 /// Contracts see a `SearchFinding`.
-#[derive(Debug)]
 pub struct Finding<N: OfNetwork> {
     piece: Piece,
     rest: Rest,

@@ -18,6 +18,3 @@ pub use exploring::{decide, explore};
 pub use finding::{Finding, Rest};
 pub use piece::Piece;
 pub use stop::{Never, Stop};
-
-#[cfg(test)]
-mod tests;

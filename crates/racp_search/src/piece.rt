@@ -5,7 +5,6 @@ use racp_model::Question;
 /// A piece of work: a question to be searched, the number that it was given, from 0, the seat of the worker that took it, from
 /// 0, and the place, from 0, of the question to which it belongs in the series of questions. It cannot be dropped, so that no
 /// part of a question is lost: `explore` and `into_question` spend it.
-#[derive(Debug)]
 pub struct Piece {
     number: u64,
     seat: usize,

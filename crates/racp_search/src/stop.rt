@@ -15,7 +15,7 @@ pub trait Stop {
 }
 
 /// Never stops a search.
-#[derive(Debug, Clone, Copy)]
+#[derive(Clone, Copy)]
 pub struct Never;
 
 impl Stop for Never {

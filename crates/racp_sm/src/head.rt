@@ -16,7 +16,7 @@ use racp_model::limits::{MOST_JOBS, MOST_RESOURCES};
 use std::marker::Model;
 
 /// How many jobs and resources there are.
-#[derive(Debug, Drop)]
+#[derive(Drop)]
 pub(crate) struct Counts {
     pub(crate) jobs: u32,
     pub(crate) resources: u32,
@@ -31,7 +31,7 @@ impl Model for Counts {
 }
 
 /// The values in the head that are read, each of the first line with its key.
-#[derive(Debug, Drop)]
+#[derive(Drop)]
 pub(crate) struct Head<'a> {
     projects: Option<Word<'a>>,
     jobs: Option<Word<'a>>,

@@ -14,6 +14,3 @@ mod word;
 
 pub use fault::{SmFault, SmFaultKind};
 pub use read::read_sm;
-
-#[cfg(test)]
-mod tests;

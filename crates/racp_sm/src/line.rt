@@ -14,7 +14,7 @@ use std::marker::Model;
 const END: u8 = 0x1A;
 
 /// A line of a text, and its number from 1. Contracts see the `Line` of specs/Lines.
-#[derive(Debug, Drop)]
+#[derive(Drop)]
 pub(crate) struct Line<'a> {
     number: usize,
     bytes: &'a [u8],
@@ -89,7 +89,7 @@ impl<'a> Line<'a> {
 }
 
 /// The lines of a text that are still to come. Contracts see a list.
-#[derive(Debug, Drop)]
+#[derive(Drop)]
 pub(crate) struct Lines<'a> {
     number: usize,
     rest: &'a [u8],

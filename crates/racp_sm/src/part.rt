@@ -5,7 +5,7 @@ ghost use Rattle.racp_sm.specs.Steps.{next_title, texts, title_of, words_in_part
 use crate::line::Line;
 
 /// A part of a network text.
-#[derive(Debug, Clone, Copy, Drop)]
+#[derive(Clone, Copy, Drop)]
 pub(crate) enum Part {
     /// The precedence relation.
     Precedence,
@@ -14,7 +14,7 @@ pub(crate) enum Part {
 }
 
 /// A line that begins or ends a part.
-#[derive(Debug, Clone, Copy, Drop)]
+#[derive(Clone, Copy, Drop)]
 pub(crate) enum Mark {
     /// The title of a part.
     Title(Part),

@@ -12,7 +12,7 @@ use racp_model::{Job, NetFault, Network};
 use std::alloc::Global;
 
 /// The parts of a project, as a text says them.
-#[derive(Debug, Drop)]
+#[derive(Drop)]
 struct ProjectParts {
     resources: u32,
     jobs: Vec<Job>,

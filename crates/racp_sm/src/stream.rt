@@ -10,7 +10,7 @@ use std::marker::Model;
 
 /// The words of a part that are still to come, through all its lines. Contracts see them with the number of the part's title
 /// line and the lines after the part.
-#[derive(Debug, Drop)]
+#[derive(Drop)]
 pub(crate) struct Stream<'a> {
     part: Part,
     title: usize,

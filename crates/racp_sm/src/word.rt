@@ -10,7 +10,7 @@ use crate::fault::{SmFault, SmFaultKind};
 use std::marker::Model;
 
 /// A word of a text, and the number of its line, from 1. Contracts see the `Word` of specs/Lines.
-#[derive(Debug, Drop)]
+#[derive(Drop)]
 pub(crate) struct Word<'a> {
     line: usize,
     bytes: &'a [u8],
@@ -73,7 +73,7 @@ impl<'a> Word<'a> {
 }
 
 /// The words of a line that are still to come. Contracts see a list.
-#[derive(Debug, Drop)]
+#[derive(Drop)]
 pub(crate) struct Words<'a> {
     line: usize,
     rest: &'a [u8],

@@ -1,0 +1,2 @@
+//! Tests of networks, early and late starts, conflicts and bounds, over their public functions.
+#![tactic(auto)]

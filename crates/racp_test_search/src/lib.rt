@@ -1,0 +1,2 @@
+//! Tests of series of questions, of records of refuted nodes, and of the search.
+#![tactic(auto)]
