@@ -1,7 +1,6 @@
-//! The program `racp`: reads the words of its command line and runs the command that they name.
+//! The program `racp`: runs the command that the words of its command line name.
 #![tactic(auto)]
 
-mod command_line;
 mod failure;
 mod run;
 

@@ -5,9 +5,9 @@ ghost use Rattle.racp.specs.Statuses.{IsStatus, IsStatusOfAnswer};
 ghost use Rattle.racp.specs.declared.failure.Failure.TheVariants as failures;
 ghost use Rattle.racp_cli.specs.declared.fault.StreamFault.TheVariants as streams;
 
-use crate::command_line::{OrderFiles, PlanFiles, Request, Source, asked};
 use crate::failure::{Failure, report};
 use racp_cli::{StreamFault, check_over, cpm_over, run_over};
+use racp_words::{OrderFiles, PlanFiles, Request, Source, asked};
 use std::fs::File;
 use std::io::ErrorKind;
 use std::rt::{Env, Files};

@@ -3,9 +3,9 @@ use Rattle.std.proofs.lemmas.Result.{err_from_is_err_and}
 use Rattle.clap.specs.Words.{App, HasKind, Kinds, Row, Text, app_of, fault_of, is_simple, is_simple_and_free, kind_of, subcommand_of, subcommand_rows_of}
 use Rattle.clap.specs.declared.error.Error.{Error}
 use Rattle.clap.specs.declared.error.kind.ErrorKind.TheVariants.{OutOfMemory}
-use Rattle.racp.specs.CommandLine.{IsRequested, racp}
-use Rattle.racp.proofs.Words.{cpm_line, plan_line, check_line}
-use Rattle.racp.proofs.command_line.asked.Goals as goal
+use Rattle.racp_words.specs.CommandLine.{IsRequested, racp}
+use Rattle.racp_words.proofs.Words.{cpm_line, plan_line, check_line}
+use Rattle.racp_words.proofs.command_line.asked.Goals as goal
 
 simple : is_simple racp ≡ true
 unfolding racp

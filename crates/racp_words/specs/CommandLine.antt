@@ -1,10 +1,10 @@
 -- The words that the program takes, and what they ask for.
 use Rattle.std.specs.Prelude.{◌≡◌, ◌≢◌, ◌⊎◌, List, [], ◌∷◌, Option, Some, None, codes, true, unwrap_or}
 use Rattle.clap.specs.Words.{App, Row, Rule, Text, first_of, new_app, new_rule, subcommand_of, with_rule, with_subcommand}
-use Rattle.racp.specs.declared.command_line.Request.{Request}
-use Rattle.racp.specs.declared.command_line.Request.TheVariants.{Cpm, Plan, Check}
-use Rattle.racp.specs.declared.command_line.Source.{Source}
-use Rattle.racp.specs.declared.command_line.Source.TheVariants.{StandardInput, File}
+use Rattle.racp_words.specs.declared.request.Request.{Request}
+use Rattle.racp_words.specs.declared.request.Request.TheVariants.{Cpm, Plan, Check}
+use Rattle.racp_words.specs.declared.request.Source.{Source}
+use Rattle.racp_words.specs.declared.request.Source.TheVariants.{StandardInput, File}
 
 -- `cpm [NET]`
 abbrev pub cpm : App

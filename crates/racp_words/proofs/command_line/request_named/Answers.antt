@@ -1,8 +1,8 @@
 use Rattle.std.proofs.Common.{◌≢◌, subst, rules, codes, Option}
 use Rattle.clap.specs.Words.{Text, found_of}
 use Rattle.clap.proofs.WalkLemmas.{first_value-rows}
-use Rattle.racp.specs.CommandLine.{IsSource}
-use Rattle.racp.proofs.command_line.request_named.Goals as goal
+use Rattle.racp_words.specs.CommandLine.{IsSource}
+use Rattle.racp_words.proofs.command_line.request_named.Goals as goal
 
 pub returns-else-eq-2 : goal.returns-else-eq-2
 returns-else-eq-2 c =

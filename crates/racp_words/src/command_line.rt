@@ -3,56 +3,19 @@
 ghost use Rattle.std.specs.Prelude.{◌≡◌, ℕ, List, Option, Some, IfOk, MatchResult, map, option_map, string_bytes, codes, false};
 ghost use Rattle.clap.specs.Words.{FailsBy, app_of, fault_of, first_value, found_of, kind_of, rows_of, rule_of, subcommand_rows_of};
 ghost use Rattle.clap.specs.declared.error.kind.ErrorKind.TheVariants.{OutOfMemory};
-ghost use Rattle.racp.specs.CommandLine.{IsAsked, IsCheckLine, IsCheckOf, IsCpmLine, IsCpmOf, IsPlanLine, IsPlanOf, IsRequested, IsSource, check, cpm, file_rule, path_at, plan, racp};
-ghost use Rattle.racp.specs.Commands.{IsCommandOf};
+ghost use Rattle.racp_words.specs.CommandLine.{IsAsked, IsCheckLine, IsCheckOf, IsCpmLine, IsCpmOf, IsPlanLine, IsPlanOf, IsRequested, IsSource, check, cpm, file_rule, path_at, plan, racp};
+ghost use Rattle.racp_words.specs.Commands.{IsCommandOf};
 
+use crate::request::{OrderFiles, PlanFiles, Request, Source};
 use clap::{Arg, ArgMatches, Command, Error};
 use std::alloc::{AllocError, Global};
-
-/// What the command line asks for.
-pub(crate) enum Request<'a> {
-    /// The critical length and the early starts of a network.
-    Cpm(Source<'a>),
-    /// The plan of a network on the terms of an order.
-    Plan(OrderFiles<'a>),
-    /// Whether a plan is one of a network on the terms of an order.
-    Check(PlanFiles<'a>),
-}
-
-/// The paths of the files of a network and an order.
-#[derive(Drop)]
-pub(crate) struct OrderFiles<'a> {
-    /// The path of the network.
-    pub(crate) net: &'a str,
-    /// The path of the order.
-    pub(crate) order: &'a str,
-}
-
-/// The paths of the files of a network, an order and a plan.
-#[derive(Drop)]
-pub(crate) struct PlanFiles<'a> {
-    /// The path of the network.
-    pub(crate) net: &'a str,
-    /// The path of the order.
-    pub(crate) order: &'a str,
-    /// The path of the plan.
-    pub(crate) plan: &'a str,
-}
-
-/// Where a text is read from.
-pub(crate) enum Source<'a> {
-    /// Standard input.
-    StandardInput,
-    /// The file with this path.
-    File(&'a str),
-}
 
 /// What the words ask for. The first of them is the program's name.
 ///
 /// # Errors
 ///
 /// The words name no command, or ask for help or for the version; or memory ran out.
-pub(crate) fn asked<'a>(alloc: Global, words: &'a [String]) -> Result<Request<'a>, Error>
+pub fn asked<'a>(alloc: Global, words: &'a [String]) -> Result<Request<'a>, Error>
     // Without words, with `cpm`, and with `cpm` and a word that is no option, only memory can fail.
     ensures cpm { (network : Option (List ℕ)) → IsCpmLine (map string_bytes words.entry.now) network
         → MatchResult result (IsCpmOf network) (λ error. kind_of error ≡ OutOfMemory) }

@@ -4,9 +4,9 @@ use Rattle.std.proofs.lemmas.Bool.{eqb-true, ne_eqb}
 use Rattle.std.proofs.lemmas.Option.{same_Some}
 use Rattle.clap.specs.Words.{Row, Text, fault_of, first_of, subcommand_of}
 use Rattle.clap.proofs.OnLiterals.{clap_on_literals}
-use Rattle.racp.specs.CommandLine.{IsCpmLine, IsCpmOf, IsPlanLine, IsPlanOf, IsCheckLine, IsCheckOf, IsPlain, IsRequested, path_at, racp}
-use Rattle.racp.specs.declared.command_line.Request.{Request}
-use Rattle.racp.specs.declared.command_line.Request.TheVariants.{Cpm, Plan, Check}
+use Rattle.racp_words.specs.CommandLine.{IsCpmLine, IsCpmOf, IsPlanLine, IsPlanOf, IsCheckLine, IsCheckOf, IsPlain, IsRequested, path_at, racp}
+use Rattle.racp_words.specs.declared.request.Request.{Request}
+use Rattle.racp_words.specs.declared.request.Request.TheVariants.{Cpm, Plan, Check}
 
 -- the command that is named, and the word for its network
 with_network : Option (Text × List Row) → Option (Text × Option Text)

@@ -2,8 +2,8 @@ use Rattle.std.proofs.Common.{◌≡◌, ◌∙◌, ap, ap₂, codes}
 use Rattle.std.proofs.lemmas.Result.{IfOk-weaker}
 use Rattle.clap.specs.Words.{App, app_of, new_app, with_subcommand}
 use Rattle.clap.specs.Simple.{app_of_fields}
-use Rattle.racp.specs.CommandLine.{cpm, plan, racp, with_version}
-use Rattle.racp.proofs.command_line.command.Goals as goal
+use Rattle.racp_words.specs.CommandLine.{cpm, plan, racp, with_version}
+use Rattle.racp_words.proofs.command_line.command.Goals as goal
 
 pub returns : goal.returns
 unfolding racp
