@@ -1,20 +1,11 @@
 -- Vectors are taken off a list up to the first that no pair excludes.
-use Rattle.std.proofs.Common.{◌≡◌, ◌⊎◌, ℕ, ◌+◌, ◌-◌, ◌<◌, ◌≤◌, Bool, true, false, cond, ◌||◌, ◌&&◌, List, [], ◌∷◌, length, slice_index, map, inl, inr, arith, refl, sym, ◌∙◌, ap, subst, Contains, AllPairs, All}
-use Rattle.std.specs.Prelude.{◌↔◌, nat_lt, Option, Some, Ok, Vec}
+use Rattle.std.proofs.Common.{◌≡◌, ℕ, ◌<◌, Bool, true, false, cond, List, [], ◌∷◌, length, arith, refl, sym, ◌∙◌, ap, subst, Contains}
+use Rattle.std.specs.Prelude.{Option, Some, Ok, Vec}
 use Rattle.std.specs.declared.alloc.Global.{Global}
-use Rattle.std.specs.List.{filter, list_all}
-use Rattle.std.proofs.lemmas.Bool.{lt-ltb, ltb-true}
-use Rattle.std.proofs.lemmas.List.Elements.{All-rest, All-contains, All-map}
-use Rattle.std.proofs.lemmas.List.Kept.{AllPairs-filter}
-use Rattle.racp_model.specs.Project.{number, IsNumber, AreNumbers}
-use Rattle.racp_model.specs.Terms.{Terms, IsBefore}
-use Rattle.racp_model.specs.Window.{Bounds}
-use Rattle.racp_model.specs.declared.question.Question.{Question}
-use Rattle.racp_model.proofs.lemmas.Relations.{member_cases, member_later, member_first, no_member, all_members}
-use Rattle.racp_candidates.specs.Questions.{question_of}
-use Rattle.racp_candidates.specs.Box.{IsBetween, IsAbovePairs, IsInBox, AreBoxQuestions}
-use Rattle.racp_candidates.specs.Vectors.{terms_of, AreVectorsInOrder, is_above, is_above_pairs, vectors_above, box_questions, HavePlaces, IsNextVector}
-use Rattle.racp_candidates.proofs.Members.{map_from, map_to, map_pairs, filter_from, filter_to}
+use Rattle.std.specs.List.{filter}
+use Rattle.std.proofs.lemmas.List.Elements.{All-rest, All-contains}
+use Rattle.racp_model.proofs.lemmas.Relations.{member_first}
+use Rattle.racp_candidates.specs.Vectors.{is_above_pairs, vectors_above, HavePlaces, IsNextVector}
 
 module _ (floors : List ℕ) (pairs : List (ℕ × ℕ)) where
   pub above_skipped : (old new : List (List ℕ)) (v : List ℕ) → old ≡ v ∷ new → is_above_pairs floors pairs v ≡ false → vectors_above floors pairs old ≡ vectors_above floors pairs new

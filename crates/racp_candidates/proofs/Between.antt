@@ -1,6 +1,5 @@
 -- All vectors between floors and roofs are those that are listed.
-use Rattle.std.proofs.Common.{◌≡◌, ◌⊎◌, ℕ, zero, suc, ◌+◌, ◌-◌, ◌<◌, ◌≤◌, List, [], ◌∷◌, ◌++◌, length, slice_index, map, inl, inr, arith, refl, sym, ◌∙◌, ap, subst, Contains}
-use Rattle.std.specs.Prelude.{◌↔◌}
+use Rattle.std.proofs.Common.{◌≡◌, ℕ, zero, suc, ◌+◌, ◌-◌, ◌<◌, ◌≤◌, List, [], ◌∷◌, length, slice_index, map, inl, inr, arith, refl, sym, ap, subst, Contains}
 use Rattle.std.proofs.lemmas.List.Elements.{Contains-append_left, Contains-append_right, Contains-append_cases}
 use Rattle.racp_model.proofs.lemmas.Relations.{member_cases, member_later, member_first, no_member}
 use Rattle.racp_candidates.specs.Questions.{numbers_between}

@@ -1,7 +1,6 @@
 -- The questions of the vectors that no pair excludes are those of the box.
-use Rattle.std.proofs.Common.{◌≡◌, ◌⊎◌, ℕ, ◌+◌, ◌-◌, ◌<◌, ◌≤◌, Bool, true, false, ◌||◌, List, [], ◌∷◌, length, slice_index, map, inl, inr, arith, refl, sym, ◌∙◌, ap, subst, Contains, AllPairs, All}
-use Rattle.std.specs.Prelude.{◌↔◌, nat_lt}
-use Rattle.std.specs.List.{filter, list_all}
+use Rattle.std.proofs.Common.{◌≡◌, ◌⊎◌, ℕ, ◌-◌, ◌<◌, Bool, true, false, ◌||◌, List, [], ◌∷◌, length, slice_index, map, inl, inr, arith, refl, sym, ap, subst, Contains, AllPairs, All}
+use Rattle.std.specs.List.{filter}
 use Rattle.std.proofs.lemmas.Bool.{lt-ltb, ltb-true}
 use Rattle.std.proofs.lemmas.List.Elements.{All-contains}
 use Rattle.std.proofs.lemmas.List.Kept.{AllPairs-filter}
@@ -11,7 +10,7 @@ use Rattle.racp_model.specs.Window.{Bounds}
 use Rattle.racp_model.specs.declared.question.Question.{Question}
 use Rattle.racp_model.proofs.lemmas.Relations.{all_members}
 use Rattle.racp_candidates.specs.Questions.{question_of}
-use Rattle.racp_candidates.specs.Box.{IsBetween, IsAbovePairs, IsInBox, AreBoxQuestions}
+use Rattle.racp_candidates.specs.Box.{IsAbovePairs, IsInBox, AreBoxQuestions}
 use Rattle.racp_candidates.specs.Vectors.{terms_of, AreVectorsInOrder, is_above, is_above_pairs, vectors_above, box_questions, HavePlaces}
 use Rattle.racp_candidates.proofs.Members.{map_from, map_to, map_pairs, filter_from, filter_to, all_from, all_to}
 

@@ -1,5 +1,5 @@
 -- The children of a vector, place by place.
-use Rattle.std.proofs.Common.{◌≡◌, ◌≢◌, ◌⊎◌, ℕ, suc, ◌+◌, ◌<◌, ◌≤◌, List, [], ◌∷◌, length, slice_index, set, inl, inr, arith, refl, sym, ◌∙◌, ap, subst, Contains, AllPairs, All}
+use Rattle.std.proofs.Common.{◌≡◌, ◌≢◌, ◌⊎◌, ℕ, ◌+◌, ◌<◌, ◌≤◌, List, [], ◌∷◌, length, slice_index, set, inl, inr, arith, refl, sym, ◌∙◌, ap, subst, Contains, AllPairs}
 use Rattle.std.specs.Prelude.{◌↔◌}
 use Rattle.std.specs.List.Sorted.{IsPermutation}
 use Rattle.std.proofs.lemmas.Bool.{cases_lt}
@@ -8,7 +8,7 @@ use Rattle.std.proofs.lemmas.List.Sorted.{Contains-permutation, IsPermutation-sy
 use Rattle.racp_model.proofs.lemmas.Lists.{at_set}
 use Rattle.racp_model.proofs.lemmas.Relations.{member_cases, member_later, member_first, no_member, all_members}
 use Rattle.racp_candidates.specs.Box.{IsBetween}
-use Rattle.racp_candidates.specs.Vectors.{IsChildAt, IsChild, AreChildren}
+use Rattle.racp_candidates.specs.Vectors.{IsChildAt, AreChildren}
 use Rattle.std.specs.declared.cmp.Reverse.{Reverse}
 use Rattle.racp_candidates.specs.declared.entry.Entry.{Entry}
 use Rattle.racp_candidates.specs.Frontier.{vectors_in, IsEntered, IsLastRaised}

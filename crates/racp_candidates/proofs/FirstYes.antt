@@ -1,9 +1,9 @@
 -- A list of questions has one first yes, or none.
-use Rattle.std.proofs.Common.{◌≡◌, ◌⊎◌, ℕ, ◌<◌, List, length, inl, inr, arith, refl, sym, subst, ap, Option, Some, None}
+use Rattle.std.proofs.Common.{◌≡◌, ℕ, List, inl, inr, arith, refl, ap, Some, None}
 use Rattle.std.proofs.lemmas.Bool.{cases_lt}
 use Rattle.racp_model.specs.Project.{Project}
 use Rattle.racp_model.specs.declared.question.Question.{Question}
-use Rattle.racp_candidates.specs.FirstYes.{IsFirstYes, IsYesAt, IsNoAt}
+use Rattle.racp_candidates.specs.FirstYes.{IsYesAt, IsNoAt}
 use Rattle.racp_candidates.specs.Laws.{FirstYesIsOne}
 
 -- a question is not both a yes and a no

@@ -1,6 +1,5 @@
 -- The heap of a frontier: its first entry, and the entries after it was taken out and its children were put in.
-use Rattle.std.proofs.Common.{◌≡◌, ◌≢◌, ◌⊎◌, ℕ, Bool, true, false, List, [], ◌∷◌, ◌++◌, length, slice_index, map, inl, inr, arith, refl, sym, ◌∙◌, ap, subst, Contains, AllPairs, All}
-use Rattle.std.specs.List.{AllByRecursion}
+use Rattle.std.proofs.Common.{◌≡◌, ◌⊎◌, ℕ, true, false, List, [], ◌∷◌, ◌++◌, length, inl, inr, arith, refl, sym, ◌∙◌, ap, subst, Contains, All}
 use Rattle.std.specs.List.Sorted.{IsPermutation}
 use Rattle.std.specs.declared.cmp.Reverse.{Reverse}
 use Rattle.std.specs.declared.cmp.Ordering.{Ordering}
@@ -10,7 +9,7 @@ use Rattle.std.specs.BinaryHeap.{IsHeap, IsUpperBound}
 use Rattle.std.proofs.lemmas.List.{map-append}
 use Rattle.std.proofs.lemmas.List.Sorted.{IsPermutation-trans, IsPermutation-sym, Contains-permutation, All-permutation, length_permutation}
 use Rattle.std.proofs.lemmas.List.Elements.{All-append, All-tail, All-contains, All-from_recursion, Contains-append_left, Contains-append_cases}
-use Rattle.racp_model.specs.Terms.{Terms, cost, lex_cmp, vector_cmp, IsBefore}
+use Rattle.racp_model.specs.Terms.{Terms, cost, lex_cmp, vector_cmp}
 use Rattle.racp_model.proofs.lemmas.Orders.{vector_total, vector_same}
 use Rattle.racp_model.proofs.lemmas.Relations.{member_cases, member_first, no_member}
 use Rattle.racp_candidates.specs.declared.entry.Entry.{Entry}

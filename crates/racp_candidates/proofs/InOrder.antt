@@ -9,7 +9,7 @@ use Rattle.std.proofs.lemmas.List.Kept.{AllPairs-cons}
 use Rattle.racp_model.specs.Terms.{Terms, vector_cmp, IsBefore}
 use Rattle.racp_model.proofs.lemmas.Orders.{vector_total, vector_same}
 use Rattle.racp_model.proofs.lemmas.Costs.{before_trans}
-use Rattle.racp_model.proofs.lemmas.Relations.{member_cases, member_later, member_first, no_member, member_after, rising_tail, all_members}
+use Rattle.racp_model.proofs.lemmas.Relations.{member_cases, member_later, member_first, member_after, rising_tail, all_members}
 use Rattle.racp_candidates.specs.Vectors.{put_by, put_in, in_order}
 
 module _ (terms : Terms) where

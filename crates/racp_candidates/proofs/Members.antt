@@ -1,8 +1,6 @@
 -- The members of lists that are made from lists: by a function, by a test, from rising numbers.
-use Rattle.std.proofs.Common.{◌≡◌, ◌⊎◌, ℕ, zero, suc, ◌+◌, ◌-◌, ◌<◌, ◌≤◌, Bool, true, false, cond, ◌||◌, ◌&&◌, List, [], ◌∷◌, map, inl, inr, arith, refl, sym, ◌∙◌, ap, subst, Contains, AllPairs}
-use Rattle.std.specs.Prelude.{◌↔◌}
+use Rattle.std.proofs.Common.{◌≡◌, ℕ, zero, suc, ◌+◌, ◌<◌, ◌≤◌, Bool, true, false, cond, ◌||◌, ◌&&◌, List, [], ◌∷◌, map, inl, inr, arith, refl, sym, ◌∙◌, ap, subst, Contains, AllPairs}
 use Rattle.std.specs.List.{filter, list_any, list_all, range_with_len}
-use Rattle.std.proofs.lemmas.List.Elements.{All-nil}
 use Rattle.std.proofs.lemmas.List.Kept.{AllPairs-cons}
 use Rattle.std.proofs.lemmas.Bool.{cases_lt}
 use Rattle.racp_model.proofs.lemmas.Relations.{member_cases, member_later, member_first, no_member, member_after, rising_tail, all_members}

@@ -1,5 +1,5 @@
 -- The first of a list that is made from rising numbers.
-use Rattle.std.proofs.Common.{◌≡◌, ℕ, suc, ◌+◌, ◌-◌, ◌<◌, List, ◌∷◌, map, arith, ap}
+use Rattle.std.proofs.Common.{◌≡◌, ℕ, suc, ◌+◌, ◌-◌, ◌<◌, ◌∷◌, map, arith, ap}
 use Rattle.std.specs.List.{range_with_len}
 
 -- from below an end, the number itself comes first, and then those from the next number on

@@ -1,9 +1,8 @@
 -- Lists of questions, and the first of them that is a yes.
-use Rattle.std.specs.Prelude.{◌≡◌, ℕ, ◌+◌, ◌-◌, ◌<◌, List, [], ◌∷◌, length, slice_index, slice_index_or, set, map, Option, Some, None, Result, Ok, Err}
+use Rattle.std.specs.Prelude.{◌≡◌, ℕ, ◌+◌, ◌-◌, List, [], ◌∷◌, slice_index, set, map, Option, Some, None, Result, Ok, Err}
 use Rattle.std.specs.List.{range_with_len}
 use Rattle.std.specs.declared.alloc.AllocError.{AllocError}
-use Rattle.racp_model.specs.Project.{Project}
-use Rattle.racp_model.specs.Window.{Bounds, IsYes, IsNo}
+use Rattle.racp_model.specs.Window.{Bounds}
 use Rattle.racp_model.specs.declared.question.Question.{Question}
 
 -- the first question was taken off a list, or the list is empty; where memory was refused, the list is as before

@@ -1,13 +1,13 @@
 -- Contracts of private functions: vectors between floors and roofs in the order of vectors, and their children.
-use Rattle.std.specs.Prelude.{◌≡◌, ◌↔◌, ◌≢◌, ℕ, ◌+◌, ◌-◌, ◌<◌, ◌≤◌, ◌||◌, Bool, true, false, nat_lt, List, [], ◌∷◌, ◌++◌, length, slice_index, set, map, Contains, AllPairs, All, Option, Some, None, Result, Ok, Err}
+use Rattle.std.specs.Prelude.{◌≡◌, ◌↔◌, ◌≢◌, ℕ, ◌+◌, ◌-◌, ◌<◌, ◌≤◌, ◌||◌, Bool, true, nat_lt, List, [], ◌∷◌, ◌++◌, length, slice_index, set, map, Contains, AllPairs, All, Option, Some, None, Result, Ok, Err}
 use Rattle.std.specs.List.{filter, list_any, list_all}
 use Rattle.std.specs.declared.cmp.Ordering.{Ordering}
 use Rattle.std.specs.declared.cmp.Ordering.TheVariants.{Less, Equal, Greater}
-use Rattle.std.specs.Ordering.{nat_cmp, ordering_then, is_le}
+use Rattle.std.specs.Ordering.{is_le}
 use Rattle.std.specs.declared.alloc.Global.{Global}
 use Rattle.std.specs.Prelude.{Vec}
 use Rattle.std.specs.declared.alloc.AllocError.{AllocError}
-use Rattle.racp_model.specs.Terms.{Terms, lex_cmp, vector_cmp, IsBefore}
+use Rattle.racp_model.specs.Terms.{Terms, vector_cmp, IsBefore}
 use Rattle.racp_model.specs.Window.{Bounds}
 use Rattle.racp_model.specs.declared.question.Question.{Question}
 use Rattle.racp_candidates.specs.Questions.{numbers_between, question_of}

@@ -1,15 +1,14 @@
 -- What is true of the collector's states stays true where a yes comes in.
-use Rattle.std.proofs.Common.{◌≡◌, ◌∙◌, ◌⊎◌, inl, inr, ℕ, ◌+◌, ◌<◌, ◌≤◌, Bool, true, false, nat_le, if◌then◌else◌, List, [], ◌∷◌, ◌++◌, length, slice_set, Option, Some, None, Contains, refl, sym, ap, subst, arith}
-use Rattle.std.proofs.lemmas.List.{get_or-set_other, length-set}
+use Rattle.std.proofs.Common.{◌≡◌, ◌∙◌, inl, inr, ℕ, ◌<◌, Bool, true, false, nat_le, if◌then◌else◌, List, [], ◌++◌, length, slice_set, Option, Some, None, refl, ap, arith}
+use Rattle.std.proofs.lemmas.List.{get_or-set_other}
 use Rattle.std.proofs.lemmas.Bool.{cases_lt}
 use borrow.Author.Tests.{leb-true, leb-false}
 use Rattle.racp_model.specs.Project.{Project}
-use Rattle.racp_model.specs.Window.{Bounds, Answers}
-use Rattle.racp_model.specs.declared.question.Question.{Question}
+use Rattle.racp_model.specs.Window.{Answers}
 use Rattle.racp_search.specs.declared.piece.Piece.{Piece}
-use Rattle.racp_core.specs.Machine.{PieceOut, QuestionRow, KnownYes, Machine, all_questions, row_at, no_row, IsBefore}
+use Rattle.racp_core.specs.Machine.{QuestionRow, KnownYes, Machine, all_questions, row_at, no_row, IsBefore}
 use Rattle.racp_core.specs.Truth.{IsKept, HasAnswer, IsSound}
-use Rattle.racp_core.specs.Steps.{IsOut, IsBack, out_of, lesser, shut, AreShutFrom}
+use Rattle.racp_core.specs.Steps.{IsOut, IsBack, out_of, lesser, AreShutFrom}
 use Rattle.racp_core.proofs.Kept.{lies_inside, out_held}
 use Rattle.racp_core.proofs.Questions.{questions_in, AreSameQuestions, set_same, shut_same, same_trans, same_all}
 use Rattle.racp_core.proofs.Sound.{answer_stays, formed_stays}

@@ -1,9 +1,9 @@
 -- A question is asked.
-use Rattle.std.proofs.Common.{◌≡◌, ◌∙◌, ◌⊎◌, inl, inr, ℕ, ◌+◌, ◌-◌, ◌<◌, Bool, true, false, List, [], ◌∷◌, ◌++◌, length, Option, Some, None, Contains, refl, sym, ap, subst, arith, length-append}
+use Rattle.std.proofs.Common.{◌≡◌, ◌∙◌, ℕ, ◌-◌, true, false, List, [], ◌∷◌, ◌++◌, length, Option, Some, None, refl, sym, ap, subst, arith, length-append}
 use Rattle.std.specs.Option.{option_to_list, is_some}
 use Rattle.racp_model.specs.Project.{Project}
 use Rattle.racp_model.specs.declared.question.Question.{Question}
-use Rattle.racp_core.specs.Machine.{QuestionRow, KnownYes, Machine, all_questions, opened}
+use Rattle.racp_core.specs.Machine.{QuestionRow, Machine, all_questions, opened}
 use Rattle.racp_core.specs.Steps.{IsNextAsked}
 use Rattle.racp_core.specs.Rows.{IsState, IsOpening, IsOpenedIf}
 use Rattle.racp_core.proofs.Questions.{questions_in, asked_all}

@@ -1,5 +1,5 @@
 -- The questions of a box have the form of a network whose resources the floors have.
-use Rattle.std.proofs.Common.{◌≡◌, ◌∙◌, ℕ, List, length, All, Contains, refl, sym, ap, subst}
+use Rattle.std.proofs.Common.{◌≡◌, ◌∙◌, ℕ, List, length, Contains, sym, ap, subst}
 use Rattle.std.proofs.lemmas.List.Elements.{All-contains}
 use Rattle.racp_model.specs.Project.{Project}
 use Rattle.racp_model.specs.Terms.{Terms}

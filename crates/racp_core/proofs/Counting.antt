@@ -1,5 +1,5 @@
 -- How many questions are undecided.
-use Rattle.std.proofs.Common.{◌≡◌, ◌∙◌, inl, inr, ℕ, ◌+◌, ◌<◌, ◌≤◌, Bool, true, false, ◌&&◌, nat_lt, List, [], ◌∷◌, length, slice_index_or, Option, Some, None, Contains, AllPairs, refl, sym, ap, subst, arith}
+use Rattle.std.proofs.Common.{◌≡◌, ℕ, ◌+◌, ◌<◌, Bool, true, false, ◌&&◌, nat_lt, List, length, Option, Some, None, AllPairs, refl, ap, arith}
 use Rattle.std.specs.List.{filter, range_with_len}
 use Rattle.std.specs.List.Sorted.{IsStrictlySortedBy}
 use Rattle.std.specs.Ordering.{nat_cmp}
@@ -9,7 +9,7 @@ use Rattle.std.proofs.lemmas.Map.Keys.{below_from_sorted}
 use borrow.Author.Tests.{ltb-true, ltb-false}
 use Rattle.racp_model.proofs.lemmas.Relations.{same_from_members}
 use Rattle.racp_candidates.proofs.Members.{filter_from, filter_to, range_from, range_to}
-use Rattle.racp_core.specs.Machine.{KnownYes, Machine, row_at, is_before, IsBefore, IsUndecided}
+use Rattle.racp_core.specs.Machine.{KnownYes, Machine, row_at, is_before, IsBefore}
 use Rattle.racp_core.specs.Counts.{is_undecided, undecided_count}
 use Rattle.racp_core.specs.Rows.{AreUndecided}
 use Rattle.racp_core.proofs.Sound.{before_true}

@@ -1,10 +1,10 @@
 -- The places of the undecided questions, where the rows change.
-use Rattle.std.proofs.Common.{◌≡◌, ◌∙◌, ◌⊎◌, inl, inr, ℕ, ◌+◌, ◌<◌, ◌≤◌, List, [], ◌∷◌, ◌++◌, length, slice_set, Option, Some, None, Contains, refl, sym, ap, subst, arith, length-append}
+use Rattle.std.proofs.Common.{◌≡◌, ◌∙◌, inl, inr, ℕ, ◌+◌, ◌<◌, List, [], ◌∷◌, ◌++◌, length, slice_set, Option, Some, None, Contains, sym, ap, subst, arith, length-append}
 use Rattle.std.proofs.lemmas.List.{get_or-set_same, get_or-set_other, length-set, get_or_append_left, get_or_push}
 use Rattle.std.proofs.lemmas.Bool.{cases_eq, cases_lt}
 use Rattle.racp_model.specs.declared.question.Question.{Question}
-use Rattle.racp_core.specs.Machine.{PieceOut, QuestionRow, KnownYes, opened, row_at, no_row, IsBefore, IsUndecided}
-use Rattle.racp_core.specs.Steps.{IsSent, IsBack, lesser, AreShutFrom}
+use Rattle.racp_core.specs.Machine.{PieceOut, QuestionRow, KnownYes, opened, row_at, no_row, IsUndecided}
+use Rattle.racp_core.specs.Steps.{IsSent, lesser, AreShutFrom}
 use Rattle.racp_core.specs.Rows.{AreUndecided, IsAdded, IsCutAt, IsSettledAt}
 use Rattle.racp_core.proofs.Answered.{before_lesser, lesser_after}
 

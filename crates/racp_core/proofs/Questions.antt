@@ -1,11 +1,11 @@
 -- The list of all questions stays as it is.
-use Rattle.std.proofs.Common.{◌≡◌, ◌∙◌, ◌⊎◌, inl, inr, ℕ, zero, suc, ◌+◌, ◌<◌, ◌≤◌, List, [], ◌∷◌, ◌++◌, length, map, slice_index_or, slice_set, Contains, refl, sym, ap, subst, arith, append_assoc}
+use Rattle.std.proofs.Common.{◌≡◌, ◌∙◌, inl, inr, ℕ, suc, ◌<◌, List, [], ◌∷◌, ◌++◌, length, map, slice_set, refl, ap, arith, append_assoc}
 use Rattle.std.proofs.lemmas.List.{map-append, get_or-set_same, get_or-set_other, length-set, get_or-map, get_or_append_left, length-map}
 use Rattle.std.proofs.lemmas.Bool.{cases_eq, cases_lt}
 use Rattle.racp_model.specs.declared.question.Question.{Question}
 use Rattle.racp_candidates.specs.FirstYes.{no_question, question_at}
 use Rattle.racp_core.specs.Machine.{QuestionRow, Machine, all_questions, opened, row_at, no_row}
-use Rattle.racp_core.specs.Steps.{AreShutFrom, shut}
+use Rattle.racp_core.specs.Steps.{AreShutFrom}
 
 abbrev pub questions_in : List QuestionRow → List Question
 questions_in asked = map (λ row. row.question) asked

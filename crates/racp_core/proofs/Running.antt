@@ -1,8 +1,7 @@
 -- Whatever calls a collector has had, what is true of its states stays true.
-use Rattle.std.proofs.Common.{◌≡◌, ◌∙◌, ℕ, true, List, [], ◌∷◌, ◌++◌, slice_set, Option, Some, None, refl, sym, ap, subst}
+use Rattle.std.proofs.Common.{◌≡◌, ◌∙◌, ℕ, true, List, [], ◌∷◌, ◌++◌, Option, Some, None, sym, ap, subst}
 use Rattle.racp_model.specs.Project.{Project}
 use Rattle.racp_model.specs.Window.{Bounds}
-use Rattle.racp_model.specs.Formed.{AreFormed}
 use Rattle.racp_model.specs.declared.question.Question.{Question}
 use Rattle.racp_search.specs.declared.piece.Piece.{Piece}
 use Rattle.racp_search.specs.Truth.{SearchFinding, IsRestOf, IsTrueFinding, rest_windows}
@@ -12,9 +11,9 @@ use Rattle.racp_core.specs.declared.replies.Reply.{Reply}
 use Rattle.racp_core.specs.declared.replies.Reply.TheVariants.{Piece as Work, Nothing, Done, Halted as TakeHalted}
 use Rattle.racp_core.specs.declared.replies.Merged.{Merged}
 use Rattle.racp_core.specs.declared.replies.Merged.TheVariants.{Taken, Stale}
-use Rattle.racp_core.specs.Machine.{QuestionRow, KnownYes, Machine, all_questions, fresh, opened, row_at, IsBefore}
+use Rattle.racp_core.specs.Machine.{Machine, all_questions, fresh, row_at, IsBefore}
 use Rattle.racp_core.specs.Truth.{IsSound}
-use Rattle.racp_core.specs.Steps.{IsReturned, IsAnswered, out_of, lesser}
+use Rattle.racp_core.specs.Steps.{IsReturned, out_of}
 use Rattle.racp_core.specs.Replies.{IsAsked, IsTaken, IsMerged, IsHanded, IsGivenBack}
 use Rattle.racp_core.specs.Runs.{Event, Answer, Ask, Take, Hand, GiveBack, Halt, OfAsk, OfTake, OfMerge, OfHalt, Step, Run, IsTrueEvent, AreTrueEvents, RunsAreSound}
 use Rattle.racp_core.proofs.Kept.{whole_rest, out_held}

@@ -1,15 +1,15 @@
 -- What is true of the collector's states stays true: where it is new, where a question is asked, where a piece goes out or comes
 -- back without a yes.
-use Rattle.std.proofs.Common.{◌≡◌, ◌∙◌, ◌⊎◌, inl, inr, ℕ, ◌+◌, ◌<◌, ◌≤◌, Bool, true, false, IsTrue, nat_lt, List, [], ◌∷◌, ◌++◌, length, map, slice_index_or, slice_set, Option, Some, None, Contains, refl, sym, ap, subst, arith, length-append}
+use Rattle.std.proofs.Common.{◌≡◌, ◌∙◌, ◌⊎◌, inl, inr, ℕ, ◌<◌, Bool, true, false, nat_lt, List, [], ◌∷◌, ◌++◌, length, slice_set, Option, Some, None, refl, sym, ap, subst, arith, length-append}
 use Rattle.std.proofs.lemmas.List.{get_or-set_same, get_or-set_other, length-set, get_or_append_left, get_or_push}
 use Rattle.std.proofs.lemmas.Bool.{cases_eq, cases_lt}
 use Rattle.std.proofs.lemmas.List.Elements.{Contains-append_right}
 use borrow.Author.Tests.{ltb-true, ltb-false}
 use Rattle.racp_model.specs.Project.{Project}
 use Rattle.racp_model.specs.Window.{Bounds, Answers}
-use Rattle.racp_model.specs.Formed.{AreFormed, IsFormed, HasBounds}
+use Rattle.racp_model.specs.Formed.{AreFormed, HasBounds}
 use Rattle.racp_model.specs.declared.question.Question.{Question}
-use Rattle.racp_model.proofs.lemmas.Relations.{no_member, member_first}
+use Rattle.racp_model.proofs.lemmas.Relations.{member_first}
 use Rattle.racp_search.specs.Truth.{IsRestOf}
 use Rattle.racp_core.specs.Machine.{PieceOut, QuestionRow, KnownYes, Machine, fresh, all_questions, opened, row_at, no_row, is_before, IsBefore}
 use Rattle.racp_core.specs.Truth.{IsKept, HasAnswer, IsSound}

@@ -1,17 +1,17 @@
 -- All that is kept of a state, with the places of its undecided questions, stays true.
-use Rattle.std.proofs.Common.{◌≡◌, ◌∙◌, ◌⊎◌, ℕ, zero, suc, ◌+◌, ◌<◌, ◌≤◌, Bool, true, if◌then◌else◌, List, [], ◌∷◌, ◌++◌, length, map, slice_index_or, slice_set, Option, Some, None, Contains, refl, sym, ap, subst, arith}
+use Rattle.std.proofs.Common.{◌≡◌, ◌∙◌, ℕ, zero, suc, ◌+◌, ◌<◌, Bool, if◌then◌else◌, List, [], ◌∷◌, ◌++◌, length, slice_index_or, slice_set, Option, Some, None, refl, sym, ap, subst, arith}
 use Rattle.std.proofs.lemmas.List.{get_or_default, get_or_read}
 use Rattle.racp_model.specs.Project.{Project}
 use Rattle.racp_model.specs.Window.{Bounds, Answers}
 use Rattle.racp_model.specs.declared.question.Question.{Question}
 use Rattle.racp_search.specs.declared.piece.Piece.{Piece}
 use Rattle.racp_search.specs.Truth.{IsRestOf, IsTrueFinding}
-use Rattle.racp_core.specs.Machine.{PieceOut, QuestionRow, KnownYes, Machine, fresh, all_questions, opened, row_at, no_row, is_before, IsBefore}
+use Rattle.racp_core.specs.Machine.{PieceOut, QuestionRow, KnownYes, Machine, all_questions, opened, row_at, no_row, is_before, IsBefore}
 use Rattle.racp_core.specs.Steps.{IsOut, IsSent, IsBack, out_of, windows_before, lesser, AreShutFrom, IsReturned, IsAnswered, IsPieceTaken}
-use Rattle.racp_core.specs.Rows.{no_out, IsPlace, IsPlaceIn, IsState, IsAdded, IsRemoved, IsSettledAt, IsCutAt}
+use Rattle.racp_core.specs.Rows.{no_out, IsPlaceIn, IsState, IsAdded, IsRemoved, IsSettledAt, IsCutAt}
 use Rattle.racp_core.proofs.Kept.{whole_rest, out_held}
-use Rattle.racp_core.proofs.Questions.{questions_in, set_same, shut_same, same_trans, same_all}
-use Rattle.racp_core.proofs.Sound.{sound_asked, sound_sent, sound_back, sound_ended}
+use Rattle.racp_core.proofs.Questions.{set_same, shut_same, same_trans, same_all}
+use Rattle.racp_core.proofs.Sound.{sound_asked, sound_sent, sound_back}
 use Rattle.racp_core.proofs.Answered.{sound_answered}
 use Rattle.racp_core.proofs.Open.{open_asked, open_set, open_sent, open_cut}
 

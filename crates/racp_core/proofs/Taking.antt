@@ -1,21 +1,19 @@
 -- A piece goes out.
-use Rattle.std.proofs.Common.{◌≡◌, ◌∙◌, inl, inr, ℕ, ◌+◌, ◌<◌, ◌≤◌, Bool, false, List, [], ◌∷◌, ◌++◌, length, slice_index_or, slice_set, Option, Some, None, Contains, refl, sym, ap, subst, arith}
-use Rattle.std.proofs.lemmas.List.{get_or_read, get_or_append_left, get_or-map, length-map}
+use Rattle.std.proofs.Common.{◌≡◌, ◌∙◌, ℕ, ◌+◌, ◌<◌, List, [], ◌∷◌, length, slice_index_or, slice_set, Option, Some, None, Contains, refl, ap, subst, arith}
+use Rattle.std.proofs.lemmas.List.{get_or_read, get_or-map, length-map}
 use Rattle.std.proofs.lemmas.List.Sorted.{Contains-permutation, IsPermutation-sym}
 use Rattle.std.proofs.lemmas.List.Elements.{Contains-append_left, Contains-get_or}
 use Rattle.racp_model.specs.Project.{Project}
-use Rattle.racp_model.specs.Window.{Bounds}
-use Rattle.racp_model.specs.Formed.{HasBounds, IsFormed}
+use Rattle.racp_model.specs.Formed.{IsFormed}
 use Rattle.racp_model.specs.declared.question.Question.{Question}
 use Rattle.racp_model.proofs.lemmas.Relations.{member_first}
 use Rattle.racp_search.specs.declared.piece.Piece.{Piece}
 use Rattle.racp_candidates.specs.FirstYes.{no_question}
-use Rattle.racp_core.specs.Machine.{PieceOut, QuestionRow, KnownYes, Machine, all_questions, row_at, no_row, IsBefore}
-use Rattle.racp_core.specs.Truth.{held_windows}
+use Rattle.racp_core.specs.Machine.{QuestionRow, KnownYes, Machine, all_questions, row_at, no_row, IsBefore}
 use Rattle.racp_core.specs.Steps.{IsSent, IsLeastOpen, HasNoOpen, IsPieceTaken, out_of}
 use Rattle.racp_core.specs.Rows.{IsState, IsFirstReady, IsCut}
 use Rattle.racp_core.proofs.Places.{empty_from}
-use Rattle.racp_core.proofs.Questions.{questions_in, question_there}
+use Rattle.racp_core.proofs.Questions.{questions_in}
 use Rattle.racp_core.proofs.States.{state_sent}
 
 -- what stands before a place before the least yes does too

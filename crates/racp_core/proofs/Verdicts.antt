@@ -1,7 +1,5 @@
 -- What the places of the undecided questions say of the answer, and what the answer says of the questions.
-use Rattle.std.proofs.Common.{◌≡◌, ◌≢◌, ◌∙◌, ◌⊎◌, inl, inr, ℕ, ◌+◌, ◌-◌, ◌<◌, ◌≤◌, min, Bool, true, false, IsTrue, List, [], ◌∷◌, ◌++◌, length, map, Option, Some, None, Contains, refl, sym, ap, subst, arith, length-append}
-use Rattle.std.specs.List.{slice_get}
-use Rattle.std.specs.Option.{option_map}
+use Rattle.std.proofs.Common.{◌≡◌, ◌∙◌, inl, inr, ℕ, ◌+◌, ◌-◌, ◌<◌, ◌≤◌, min, Bool, true, false, List, [], length, Option, Some, None, Contains, sym, ap, subst, arith, length-append}
 use Rattle.std.proofs.lemmas.List.{length-map}
 use Rattle.std.proofs.lemmas.Option.{slice_get-get_or, slice_get_past}
 use Rattle.std.proofs.lemmas.Bool.{cases_lt}
@@ -10,7 +8,7 @@ use Rattle.racp_model.specs.Window.{Answers}
 use Rattle.racp_model.specs.declared.question.Question.{Question}
 use Rattle.racp_model.proofs.lemmas.Relations.{no_member}
 use Rattle.racp_candidates.specs.FirstYes.{question_at, IsFirstYes, IsNoAt, AreNoBefore, IsReached}
-use Rattle.racp_core.specs.Machine.{QuestionRow, KnownYes, Machine, all_questions, row_at, no_row, IsBefore, IsDone, AreDone, IsDecided, IsSettledBy, IsSettled, IsUndecided}
+use Rattle.racp_core.specs.Machine.{QuestionRow, KnownYes, Machine, all_questions, row_at, no_row, IsBefore, IsDone, AreDone, IsSettledBy, IsSettled, IsUndecided}
 use Rattle.racp_core.specs.Truth.{HasAnswer, IsSound}
 use Rattle.racp_core.specs.Rows.{IsState, IsFirstPlace}
 use Rattle.racp_core.specs.Replies.{IsFirstOpen, IsYesKnown, capacities_at}

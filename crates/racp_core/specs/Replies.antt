@@ -1,5 +1,5 @@
 -- What the collector answers to each call, and the change that goes with it.
-use Rattle.std.specs.Prelude.{◌≡◌, ℕ, ◌-◌, ◌^◌, ◌<◌, ◌≤◌, min, Bool, true, false, List, [], ◌∷◌, length, Option, Some, None, option_map}
+use Rattle.std.specs.Prelude.{◌≡◌, ℕ, ◌-◌, ◌^◌, ◌<◌, ◌≤◌, min, true, false, List, [], ◌∷◌, length, Option, Some, None, option_map}
 use Rattle.std.specs.List.{slice_get}
 use Rattle.racp_model.specs.Project.{Project}
 use Rattle.racp_model.specs.Window.{Answers}
@@ -8,7 +8,7 @@ use Rattle.racp_model.specs.declared.question.Question.{Question}
 use Rattle.racp_candidates.specs.FirstYes.{question_at, IsFirstYes, AreNoBefore}
 use Rattle.racp_search.specs.declared.piece.Piece.{Piece}
 use Rattle.racp_search.specs.Truth.{SearchFinding, rest_windows}
-use Rattle.racp_core.specs.Machine.{QuestionRow, KnownYes, Machine, IsSettled, IsDecided}
+use Rattle.racp_core.specs.Machine.{QuestionRow, Machine, IsSettled, IsDecided}
 use Rattle.racp_core.specs.Steps.{IsNextAsked, IsPieceTaken, HasNoOpen, IsOut, IsReturned, IsAnswered}
 use Rattle.racp_core.specs.declared.replies.Asked.{Asked}
 use Rattle.racp_core.specs.declared.replies.Asked.TheVariants.{Question as Next, End, Enough, Halted as AskHalted}

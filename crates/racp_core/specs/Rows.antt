@@ -1,7 +1,6 @@
 -- Contracts of private functions: rows of questions, and the places of those that are not decided.
-use Rattle.std.specs.Prelude.{◌≡◌, ◌↔◌, ◌⊎◌, ℕ, ◌+◌, ◌<◌, ◌≤◌, Bool, true, false, List, [], ◌∷◌, ◌++◌, length, slice_index_or, slice_set, Option, Some, None, Contains, option_to_list}
+use Rattle.std.specs.Prelude.{◌≡◌, ◌↔◌, ◌⊎◌, ℕ, ◌+◌, ◌<◌, ◌≤◌, Bool, true, false, List, [], ◌∷◌, ◌++◌, length, slice_index_or, Option, Some, None, Contains}
 use Rattle.racp_model.specs.Project.{Project}
-use Rattle.racp_model.specs.Window.{Bounds}
 use Rattle.racp_model.specs.declared.question.Question.{Question}
 use Rattle.racp_search.specs.declared.piece.Piece.{Piece}
 use Rattle.racp_search.specs.declared.finding.Rest.{Rest}

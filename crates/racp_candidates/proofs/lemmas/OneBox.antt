@@ -1,5 +1,5 @@
 -- A box has one list of questions.
-use Rattle.std.proofs.Common.{◌≡◌, ℕ, List, refl, sym, ◌∙◌, ap, subst, Contains, All}
+use Rattle.std.proofs.Common.{◌≡◌, ℕ, List, sym, subst, Contains}
 use Rattle.std.proofs.lemmas.List.Elements.{All-contains}
 use Rattle.racp_model.specs.Terms.{Terms, IsBefore}
 use Rattle.racp_model.specs.Window.{Bounds}

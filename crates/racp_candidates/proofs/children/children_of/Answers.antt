@@ -1,10 +1,8 @@
-use Rattle.std.proofs.Common.{rules, ◌≡◌, ◌≤◌, ◌<◌, ◌+◌, length, slice_index, arith, sym, subst, heap_items, List, set}
-use Rattle.std.specs.declared.cmp.Reverse.{Reverse}
-use Rattle.racp_candidates.specs.declared.entry.Entry.{Entry}
+use Rattle.std.proofs.Common.{arith, heap_items}
 use Rattle.racp_candidates.specs.Vectors.{terms_of}
-use Rattle.racp_candidates.specs.Frontier.{vectors_in, ArePriced, IsEntered}
+use Rattle.racp_candidates.specs.Frontier.{IsEntered}
 use Rattle.racp_candidates.proofs.Entered.{none_priced}
-use Rattle.racp_candidates.proofs.Collecting.{IsCollecting, collect_none, collect_skip, collect_entered, collect_end}
+use Rattle.racp_candidates.proofs.Collecting.{collect_none, collect_skip, collect_entered, collect_end}
 use Rattle.racp_candidates.proofs.children.children_of.Goals as goal
 use Rattle.racp_candidates.proofs.children.children_of.Goals.{then-units-place+in_ok-child+in_ok-enter, else-units-place}
 

@@ -1,4 +1,4 @@
-use Rattle.std.proofs.Common.{rules, ◌≡◌, ℕ, List, length, ◌∙◌, sym, ap, subst, heap_items}
+use Rattle.std.proofs.Common.{◌∙◌, heap_items}
 use Rattle.racp_candidates.specs.Vectors.{terms_of}
 use Rattle.racp_candidates.specs.Frontier.{IsEntered}
 use Rattle.racp_candidates.proofs.Entered.{none_priced}

@@ -1,8 +1,5 @@
-use Rattle.std.proofs.Common.{rules, ◌≡◌, ◌<◌, ℕ, List, [], ◌∷◌, ◌++◌, length, ◌∙◌, sym, ap, subst, heap_items, Contains, arith, All}
-use Rattle.std.specs.declared.cmp.Reverse.{Reverse}
-use Rattle.std.specs.List.Sorted.{IsPermutation}
+use Rattle.std.proofs.Common.{rules, ◌≡◌, ◌<◌, [], length, ◌∙◌, sym, heap_items, Contains}
 use Rattle.std.proofs.lemmas.List.Elements.{All-contains}
-use Rattle.racp_candidates.specs.declared.entry.Entry.{Entry}
 use Rattle.racp_candidates.specs.Box.{IsBetween}
 use Rattle.racp_candidates.specs.Vectors.{terms_of, AreChildren}
 use Rattle.racp_candidates.specs.Frontier.{vectors_in, ArePriced}

@@ -1,6 +1,5 @@
-use Rattle.std.proofs.Common.{◌≡◌, ◌++◌, ◌∙◌, List, ℕ, Option, Some, None, length, ap, sym, subst, arith}
+use Rattle.std.proofs.Common.{◌≡◌, ◌++◌, ◌∙◌, ℕ, Some, None, length, ap, sym, subst, arith}
 use Rattle.std.specs.Option.{option_to_list}
-use Rattle.racp_model.specs.declared.question.Question.{Question}
 use Rattle.racp_candidates.specs.FirstYes.{IsFirstYes, AreNoBefore}
 use Rattle.racp_core.specs.Machine.{KnownYes, Machine, all_questions, IsSettled}
 use Rattle.racp_core.specs.Replies.{IsFirstOpen, IsYesKnown}

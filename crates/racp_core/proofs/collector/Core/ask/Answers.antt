@@ -1,6 +1,6 @@
-use Rattle.std.proofs.Common.{◌≡◌, ◌++◌, ◌-◌, true, false, Bool, None, length, sym, subst, arith}
+use Rattle.std.proofs.Common.{◌≡◌, ◌++◌, ◌-◌, Bool, length, sym, subst, arith}
 use Rattle.std.specs.Option.{option_to_list}
-use Rattle.racp_core.specs.Machine.{Machine, all_questions}
+use Rattle.racp_core.specs.Machine.{Machine}
 use Rattle.racp_core.specs.Steps.{IsNextAsked}
 use Rattle.racp_core.specs.Rows.{IsOpenedIf}
 use Rattle.racp_core.proofs.Asking.{state_held, state_opened, opened_step, state_ended, none_from}

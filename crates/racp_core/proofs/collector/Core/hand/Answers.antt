@@ -1,5 +1,5 @@
-use Rattle.std.proofs.Common.{◌≡◌, ◌∙◌, ap, refl, sym}
-use Rattle.racp_core.specs.Machine.{Machine, all_questions}
+use Rattle.std.proofs.Common.{◌∙◌, ap}
+use Rattle.racp_core.specs.Machine.{all_questions}
 use Rattle.racp_core.proofs.States.{returned_all, answered_all}
 use Rattle.racp_core.proofs.collector.Core.hand.Goals.{in-Some-found, in_default-found}
 use Rattle.racp_core.proofs.collector.Core.hand.Goals as goal

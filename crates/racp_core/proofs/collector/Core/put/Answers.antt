@@ -1,9 +1,9 @@
-use Rattle.std.proofs.Common.{◌≡◌, ◌∙◌, ◌++◌, ◌<◌, List, length, slice_index_or, ap, sym, subst, arith}
+use Rattle.std.proofs.Common.{◌≡◌, ◌∙◌, ◌++◌, ◌<◌, List, length, ap, sym, subst, arith}
 use Rattle.std.specs.Option.{option_to_list}
 use Rattle.racp_search.specs.Truth.{rest_windows}
 use Rattle.racp_search.specs.declared.piece.Piece.{Piece}
 use Rattle.racp_core.specs.Machine.{QuestionRow, Machine}
-use Rattle.racp_core.specs.Rows.{IsPlaceIn, IsSettledAt}
+use Rattle.racp_core.specs.Rows.{IsSettledAt}
 use Rattle.racp_core.proofs.States.{state_put, state_read, rest_left}
 use Rattle.racp_core.proofs.collector.Core.put.Goals as goal
 

@@ -1,4 +1,4 @@
-use Rattle.std.proofs.Common.{◌≡◌, ◌++◌, List, ℕ, Option, ap, sym, subst}
+use Rattle.std.proofs.Common.{◌≡◌, ◌++◌, Option, subst}
 use Rattle.std.specs.Option.{option_to_list}
 use Rattle.racp_core.specs.Machine.{KnownYes, Machine}
 use Rattle.racp_core.specs.Steps.{lesser}

@@ -1,4 +1,4 @@
-use Rattle.std.proofs.Common.{rules, ◌≡◌, ◌<◌, ap, sym, refl, length, arith}
+use Rattle.std.proofs.Common.{rules, ◌≡◌, ◌<◌, ap, refl, length, arith}
 use Rattle.racp_core.specs.Machine.{QuestionRow}
 use Rattle.racp_core.proofs.OutAndBack.{taken_out}
 use Rattle.racp_core.proofs.row.Row.put.Goals.{in-Whole, in-Windows+else-prove}

@@ -1,6 +1,5 @@
-use Rattle.std.proofs.Common.{rules, ◌≡◌, ◌∙◌, ap, sym, refl, length, arith, List, ◌++◌, ◌∷◌, []}
+use Rattle.std.proofs.Common.{◌≡◌, ◌∙◌, ap, sym, refl, length, arith, ◌++◌, ◌∷◌, []}
 use Rattle.racp_model.specs.Window.{Bounds}
-use Rattle.racp_core.specs.Machine.{QuestionRow}
 use Rattle.racp_core.proofs.OutAndBack.{cut, last_of}
 use Rattle.racp_core.proofs.row.Row.take.Goals as goal
 

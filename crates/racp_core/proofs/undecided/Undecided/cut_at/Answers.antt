@@ -1,4 +1,4 @@
-use Rattle.std.proofs.Common.{◌≡◌, List, ℕ, ◌<◌, length, subst}
+use Rattle.std.proofs.Common.{List, ℕ, ◌<◌, length, subst}
 use Rattle.racp_core.specs.Rows.{IsCutAt}
 use Rattle.racp_core.proofs.Places.{cut_popped, cut_done, cut_all, empty_from}
 use Rattle.racp_core.proofs.undecided.Undecided.cut_at.Goals as goal

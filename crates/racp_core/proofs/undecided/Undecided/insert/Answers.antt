@@ -1,4 +1,4 @@
-use Rattle.std.proofs.Common.{◌≡◌, List, ℕ, subst}
+use Rattle.std.proofs.Common.{List, ℕ, subst}
 use Rattle.racp_core.specs.Rows.{IsAdded}
 use Rattle.racp_core.proofs.Places.{added}
 use Rattle.racp_core.proofs.undecided.Undecided.insert.Goals as goal

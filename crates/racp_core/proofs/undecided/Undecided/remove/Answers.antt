@@ -1,4 +1,4 @@
-use Rattle.std.proofs.Common.{◌≡◌, List, ℕ, subst}
+use Rattle.std.proofs.Common.{List, ℕ, subst}
 use Rattle.racp_core.specs.Rows.{IsRemoved}
 use Rattle.racp_core.proofs.Places.{removed}
 use Rattle.racp_core.proofs.undecided.Undecided.remove.Goals as goal
