@@ -11,5 +11,4 @@ pub mod Taking
 pub mod Asking
 pub mod Counting
 pub mod Running
-pub mod Boxed
 pub mod Shutting
