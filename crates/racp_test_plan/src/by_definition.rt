@@ -1,0 +1,50 @@
+//! An asker that decides each question by its definition.
+
+use racp_candidates::{AskStop, Asker, First, Series};
+use racp_model::{Network, OfNetwork};
+use racp_reference::decide_by_definition;
+use std::alloc::Global;
+use std::marker::PhantomData;
+
+/// Answers so many series of questions about the network that `N` names, and then stops.
+#[derive(Drop)]
+pub(crate) struct ByDefinition<N: OfNetwork> {
+    alloc: Global,
+    series_left: u32,
+    of: PhantomData<N>,
+}
+
+impl<N: OfNetwork> ByDefinition<N> {
+    pub(crate) fn new(alloc: Global, series: u32) -> Self {
+        ByDefinition {
+            alloc,
+            series_left: series,
+            of: PhantomData,
+        }
+    }
+}
+
+impl<N: OfNetwork> Asker for ByDefinition<N> {
+    ghost use Rattle.std.specs.Prelude.{⊤};
+
+    ghost network = { λ _. N.network };
+
+    ghost may_stop = { λ _. ⊤ };
+
+    ghost may_want_thread = { λ _. ⊥ };
+
+    fn first<S: Series + Send>(&mut self, net: &Network, mut series: S) -> Result<First, AskStop> {
+        match self.series_left.checked_sub(1) {
+            Some(left) => self.series_left = left,
+            None => return Err(AskStop::Stopped { reached: None }),
+        }
+        let mut index = 0usize;
+        while let Some(question) = series.next()? {
+            if let Some(starts) = decide_by_definition(self.alloc, net, &question)? {
+                return Ok(First::Yes { index, starts });
+            }
+            index = index.checked_add(1).ok_or(AskStop::Memory)?;
+        }
+        Ok(First::None)
+    }
+}

@@ -1,0 +1,100 @@
+//! What is told where an asker gives up.
+
+ghost use Rattle.std.specs.Prelude.{◌≡◌};
+
+use racp_candidates::{AskStop, Asker, First, Series};
+use racp_lexfix::{Alone, PlanStop, plan};
+use racp_model::{Network, OfNetwork};
+use racp_prices::read_order;
+use racp_samples::crossed;
+use std::alloc::Global;
+use std::marker::Brand;
+use std::test::Fail;
+
+/// Answers so many series of questions about the network that `N` names, and then gives up. Where it was told to, it tells the
+/// capacities of the first question that it gave up on.
+#[derive(Drop)]
+struct Tired<N: OfNetwork> {
+    alone: Alone<N>,
+    series_left: u32,
+    tells: bool,
+}
+
+impl<N: OfNetwork> Asker for Tired<N> {
+    ghost use Rattle.std.specs.Prelude.{⊤};
+
+    ghost network = { λ _. N.network };
+
+    ghost may_stop = { λ _. ⊤ };
+
+    ghost may_want_thread = { λ _. ⊥ };
+
+    fn first<S: Series + Send>(&mut self, net: &Network, mut series: S) -> Result<First, AskStop> {
+        if let Some(left) = self.series_left.checked_sub(1) {
+            self.series_left = left;
+            return self.alone.first(net, series);
+        }
+        if !self.tells {
+            return Err(AskStop::Stopped { reached: None });
+        }
+        match series.next()? {
+            Some(question) => Err(AskStop::Stopped {
+                reached: Some(question.capacities),
+            }),
+            None => Err(AskStop::Stopped { reached: None }),
+        }
+    }
+}
+
+/// Whether these capacities are told for the order with deadline 3 and prices 1 and 1 where the asker gives up after so many series.
+fn tells<N: OfNetwork>(
+    alloc: Global,
+    net: &Network,
+    gives_up: (u32, bool),
+    capacities: &[u32],
+) -> Result<bool, Fail>
+    requires { net.now ≡ N.network }
+{
+    let (series_left, tells) = gives_up;
+    let text = b"deadline = 3\nprices = [1, 1]";
+    let order = read_order(alloc, text, net.resource_count(), net.job_count())?;
+    let alone: Alone<N> = Alone::new(alloc, net)?;
+    let mut asker = Tired {
+        alone,
+        series_left,
+        tells,
+    };
+    match plan(alloc, net, &order, &mut asker) {
+        Err(PlanStop::Stopped { not_before }) => Ok(not_before.as_slice() == capacities),
+        _ => Ok(false),
+    }
+}
+
+/// After how many series the asker gives up, whether it tells how far it came, and the capacities that are told.
+type Row = ((u32, bool), [u32; 2]);
+
+/// Tries each row.
+fn tries<N: OfNetwork>(alloc: Global, net: &Network, rows: &[Row]) -> Result<bool, Fail>
+    requires { net.now ≡ N.network }
+{
+    for (asker, capacities) in rows {
+        if !tells::<N>(alloc, net, *asker, capacities.as_slice())? {
+            return Ok(false);
+        }
+    }
+    Ok(true)
+}
+
+#[test]
+fn tells_where_it_stopped(rt: HostRuntime) -> Result<(), Fail> {
+    let alloc = rt.alloc();
+    let net = crossed(alloc)?;
+    let rows: [Row; 4] = [
+        ((0, false), [1, 1]),
+        ((3, false), [1, 1]),
+        ((3, true), [1, 2]),
+        ((4, false), [1, 2]),
+    ];
+    assert!(rt; tries::<Brand>(alloc, &net, &rows)?);
+    Ok(())
+}

@@ -1,0 +1,5 @@
+//! Tests of records of refuted nodes.
+#![tactic(auto)]
+
+#[cfg(test)]
+mod records;

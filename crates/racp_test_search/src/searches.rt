@@ -1,0 +1,357 @@
+//! Searches of small questions, whole and in parts.
+
+ghost use Rattle.std.specs.Prelude.{◌≡◌, length};
+
+use racp_cutset::{Board, Local};
+use racp_model::{NetFault, Network, OfNetwork, Question, Starts, Window};
+use racp_reference::decide_by_definition;
+use racp_samples::{
+    Random, SampleFault, chained, crossed, network, parallel, question, random_network, root_window,
+};
+use racp_search::{Never, Piece, Rest, Stop, decide, explore};
+use std::alloc::{AllocError, Global};
+use std::cell::Cell;
+use std::marker::Brand;
+use std::test::Fail;
+
+/// A network of the table of vectors.
+#[derive(Clone, Copy)]
+enum Small {
+    Parallel,
+    Crossed,
+    Chained,
+}
+
+/// A vector between the floor and the roof of a deadline, and whether it admits an answer: the network, the deadline, the
+/// capacities, and whether they do.
+type Vector = (Small, u32, &'static [u32], bool);
+
+const VECTORS: [Vector; 20] = [
+    (Small::Parallel, 3, &[3], false),
+    (Small::Parallel, 3, &[4], true),
+    (Small::Parallel, 4, &[2], false),
+    (Small::Parallel, 4, &[3], true),
+    (Small::Parallel, 4, &[4], true),
+    (Small::Parallel, 5, &[2], true),
+    (Small::Parallel, 5, &[3], true),
+    (Small::Parallel, 5, &[4], true),
+    (Small::Crossed, 2, &[2, 2], true),
+    (Small::Crossed, 2, &[1, 2], false),
+    (Small::Crossed, 3, &[1, 1], false),
+    (Small::Crossed, 3, &[1, 2], true),
+    (Small::Crossed, 3, &[2, 1], true),
+    (Small::Crossed, 3, &[2, 2], true),
+    (Small::Crossed, 4, &[1, 1], true),
+    (Small::Chained, 8, &[1], false),
+    (Small::Chained, 8, &[2], true),
+    (Small::Chained, 8, &[3], true),
+    (Small::Chained, 8, &[4], true),
+    (Small::Chained, 8, &[5], true),
+];
+
+fn sample(alloc: Global, which: Small) -> Result<Network, NetFault> {
+    match which {
+        Small::Parallel => parallel(alloc),
+        Small::Crossed => crossed(alloc),
+        Small::Chained => chained(alloc),
+    }
+}
+
+/// Whether some starts answer the question of these capacities and bounds, as the search decides it.
+fn admits(
+    alloc: Global,
+    net: &Network,
+    capacities: &[u32],
+    window: &Window,
+) -> Result<bool, SampleFault> {
+    let asked = question(alloc, net, capacities, window.lower(), window.upper())?;
+    Ok(decide(alloc, net, &asked)?.is_some())
+}
+
+/// Whether the capacities admit an answer by a deadline.
+fn admits_by(
+    alloc: Global,
+    which: Small,
+    deadline: u32,
+    capacities: &[u32],
+) -> Result<bool, SampleFault> {
+    let net = sample(alloc, which)?;
+    let window = root_window(alloc, &net, deadline)?;
+    admits(alloc, &net, capacities, &window)
+}
+
+#[test]
+fn decides_the_vectors_between_floors_and_roofs(rt: HostRuntime) -> Result<(), Fail> {
+    for (row, vector) in VECTORS.iter().enumerate() {
+        let (which, deadline, capacities, wanted) = *vector;
+        let found = admits_by(rt.alloc(), which, deadline, capacities)?;
+        assert_eq!(rt; found, wanted, "row {row}");
+    }
+    Ok(())
+}
+
+/// Whether some starts answer a random question: as the search decides it, and by the definition.
+fn decided_twice(alloc: Global, random: &mut Random) -> Result<(bool, bool), SampleFault> {
+    let net = random_network(alloc, random, 2, 5)?;
+    let lower = random.list(alloc, 5, 2)?;
+    let upper = random.list(alloc, 5, 7)?;
+    let capacities = random.list(alloc, 2, 6)?;
+    let asked = question(alloc, &net, &capacities, &lower, &upper)?;
+    let found = decide(alloc, &net, &asked)?.is_some();
+    Ok((found, decide_by_definition(alloc, &net, &asked)?.is_some()))
+}
+
+#[test]
+fn decides_as_by_definition(rt: HostRuntime) -> Result<(), Fail> {
+    let mut random = Random::new(1);
+    let mut answered: u32 = 0;
+    for round in 0..300 {
+        let (found, wanted) = decided_twice(rt.alloc(), &mut random)?;
+        assert_eq!(rt; found, wanted, "round {round}");
+        answered = answered.saturating_add(found as u32);
+    }
+    assert!(rt; 50 <= answered && answered <= 250, "{answered} answered");
+    Ok(())
+}
+
+/// Stops a search at one of its looks.
+#[derive(Drop)]
+struct Countdown {
+    left: Cell<u32>,
+}
+
+impl Stop for Countdown {
+    ghost use Rattle.std.specs.Prelude.{false};
+
+    ghost QUIET = { false };
+
+    const QUIET: bool = false;
+
+    fn asked(&self) -> bool {
+        let left = self.left.get();
+        self.left.set(left.saturating_sub(1));
+        left <= 1
+    }
+}
+
+/// Where a search ends before it is done: after so many nodes, or at the look of this number, from 1.
+#[derive(Clone, Copy)]
+enum End {
+    Nodes(u64),
+    Look(u32),
+}
+
+/// What a search found and left.
+#[derive(Drop)]
+struct Told {
+    nodes: u64,
+    stopped: bool,
+    found: Option<Starts>,
+    left: Vec<Window>,
+}
+
+/// What a search of the question of these capacities and bounds tells.
+fn searched(
+    alloc: Global,
+    net: &Network,
+    capacities: &[u32],
+    window: (&[u32], &[u32]),
+    end: End,
+) -> Result<Told, SampleFault> {
+    let asked = question(alloc, net, capacities, window.0, window.1)?;
+    Ok(searched_named::<Brand>(alloc, net, asked, end)?)
+}
+
+fn searched_named<N: OfNetwork>(
+    alloc: Global,
+    net: &Network,
+    asked: Question,
+    end: End,
+) -> Result<Told, AllocError>
+    requires named { net.now ≡ N.network }
+    requires capacities { length asked.capacities ≡ net.now.resources }
+    requires lower { length asked.window.lower ≡ length net.now.jobs }
+    requires upper { length asked.window.upper ≡ length net.now.jobs }
+{
+    let board: Board<N> = Board::new(alloc, net)?;
+    let mut local: Local<N> = Local::new(alloc, net);
+    let (quantum, look) = match end {
+        End::Nodes(most) => (Some(most), u32::MAX),
+        End::Look(look) => (None, look),
+    };
+    let stop = Countdown {
+        left: Cell::new(look),
+    };
+    let piece = Piece::new(0, 0, 0, asked);
+    let finding = explore(alloc, net, piece, quantum, &board, &mut local, &stop);
+    let (nodes, stopped) = (finding.nodes(), finding.stopped());
+    let (piece, rest, found) = finding.into_parts();
+    let whole = piece.into_question().window;
+    let left = match rest {
+        Rest::Whole => vec![in alloc; whole]?,
+        Rest::Windows(list) => list,
+    };
+    Ok(Told {
+        nodes,
+        stopped,
+        found,
+        left,
+    })
+}
+
+/// The only starts of the six jobs beside a chain that answer in the window of the test below.
+const ANSWER: [u32; 6] = [0, 4, 0, 1, 4, 8];
+
+/// In how many of the windows the answer is found; or `None` where another one is, or a window has no raised lower bound.
+fn count_answers(
+    alloc: Global,
+    net: &Network,
+    lower: &[u32],
+    windows: &[Window],
+) -> Result<Option<u32>, SampleFault> {
+    let mut answers: u32 = 0;
+    for window in windows {
+        let part = (window.lower(), window.upper());
+        let next = searched(alloc, net, &[2], part, End::Nodes(u64::MAX))?;
+        let other = match &next.found {
+            Some(starts) => starts.as_slice() != ANSWER.as_slice(),
+            None => false,
+        };
+        if other || part.0 <= lower {
+            return Ok(None);
+        }
+        answers = answers.saturating_add(next.found.is_some() as u32);
+    }
+    Ok(Some(answers))
+}
+
+#[test]
+fn searches_on_from_the_rest(rt: HostRuntime) -> Result<(), Fail> {
+    let alloc = rt.alloc();
+    let net = chained(alloc)?;
+    let lower: [u32; 6] = [0, 0, 0, 1, 4, 8];
+    let first = searched(alloc, &net, &[2], (&lower, &ANSWER), End::Nodes(1))?;
+    assert!(rt; first.found.is_none() && !first.stopped && first.nodes == 1);
+    let answers = count_answers(alloc, &net, &lower, &first.left)?;
+    assert_eq!(rt; answers, Some(1));
+    Ok(())
+}
+
+/// Six equal jobs, none of which waits for another.
+fn equal(alloc: Global) -> Result<Network, NetFault> {
+    let job: (u32, &[u32]) = (2, &[1]);
+    network(alloc, 1, &[job; 6], &[])
+}
+
+/// What a part of a search of the equal jobs shows.
+#[derive(Clone, Copy)]
+struct Part {
+    /// Whether the part, or what it leaves, holds an answer.
+    holds: bool,
+    /// Whether it leaves windows.
+    leaves: bool,
+    stopped: bool,
+    nodes: u64,
+}
+
+/// A part of a search of the equal jobs with a capacity of 2, each of which starts at this time at the latest.
+fn part_of(alloc: Global, net: &Network, latest: u32, end: End) -> Result<Part, SampleFault> {
+    let told = searched(alloc, net, &[2], (&[0; 6], &[latest; 6]), end)?;
+    let mut holds = told.found.is_some();
+    for window in &told.left {
+        holds |= admits(alloc, net, &[2], window)?;
+    }
+    Ok(Part {
+        holds,
+        leaves: !told.left.is_empty(),
+        stopped: told.stopped,
+        nodes: told.nodes,
+    })
+}
+
+/// How many parts that leave windows there are, with as many nodes as this, and with a stop at the look behind them; or `None`
+/// where a part is not as it has to be.
+fn count_open(alloc: Global, net: &Network, nodes: u32) -> Result<Option<u32>, SampleFault> {
+    let most = nodes as u64;
+    let mut open: u32 = 0;
+    for (latest, holds) in [(3, false), (4, true)] {
+        let limited = part_of(alloc, net, latest, End::Nodes(most))?;
+        let cut = part_of(alloc, net, latest, End::Look(nodes.saturating_add(1)))?;
+        if limited.stopped || cut.stopped != cut.leaves || limited.leaves != cut.leaves {
+            return Ok(None);
+        }
+        for part in [limited, cut] {
+            if part.holds != holds || part.leaves && part.nodes != most {
+                return Ok(None);
+            }
+            open = open.saturating_add(part.leaves as u32);
+        }
+    }
+    Ok(Some(open))
+}
+
+#[test]
+fn answers_the_same_in_parts(rt: HostRuntime) -> Result<(), Fail> {
+    let alloc = rt.alloc();
+    let net = equal(alloc)?;
+    let mut open: u32 = 0;
+    for nodes in 0..21 {
+        let parts = count_open(alloc, &net, nodes)?.ok_or("a part is not as it has to be")?;
+        open = open.saturating_add(parts);
+    }
+    assert!(rt; 20 <= open);
+    Ok(())
+}
+
+/// What two searches of a piece over the same records show: how many nodes each searched, whether the first found starts, and the
+/// piece behind them: its number, seat and place, and its question.
+#[derive(Drop)]
+struct Again {
+    nodes: (u64, u64),
+    found: bool,
+    marks: (u64, usize, u64),
+    question: Question,
+}
+
+fn searched_again<N: OfNetwork>(
+    alloc: Global,
+    net: &Network,
+    asked: Question,
+) -> Result<Again, AllocError>
+    requires named { net.now ≡ N.network }
+    requires capacities { length asked.capacities ≡ net.now.resources }
+    requires lower { length asked.window.lower ≡ length net.now.jobs }
+    requires upper { length asked.window.upper ≡ length net.now.jobs }
+{
+    let board: Board<N> = Board::new(alloc, net)?;
+    let mut local: Local<N> = Local::new(alloc, net);
+    let piece = Piece::new(7, 5, 3, asked);
+    let first = explore(alloc, net, piece, None, &board, &mut local, &Never);
+    let (nodes, found) = (first.nodes(), first.found().is_some());
+    let piece = first.into_piece();
+    let second = explore(alloc, net, piece, None, &board, &mut local, &Never);
+    let nodes = (nodes, second.nodes());
+    let piece = second.into_piece();
+    let marks = (piece.number(), piece.seat(), piece.index());
+    Ok(Again {
+        nodes,
+        found,
+        marks,
+        question: piece.into_question(),
+    })
+}
+
+#[test]
+fn gives_pieces_back_and_finds_the_records_of_a_search(rt: HostRuntime) -> Result<(), Fail> {
+    let alloc = rt.alloc();
+    let net = equal(alloc)?;
+    let asked = question(alloc, &net, &[1], &[0, 1, 0, 1, 0, 1], &[3; 6])?;
+    let again = searched_again::<Brand>(alloc, &net, asked)?;
+    assert_eq!(rt; again.marks, (7, 5, 3));
+    assert!(rt; again.question.capacities.as_slice() == [1].as_slice());
+    assert!(rt; again.question.window.lower() == [0, 1, 0, 1, 0, 1].as_slice());
+    assert!(rt; again.question.window.upper() == [3; 6].as_slice());
+    let (first, second) = again.nodes;
+    assert!(rt; !again.found && second < first, "{first} {second}");
+    Ok(())
+}
