@@ -1,5 +1,7 @@
-//! Tests of series of questions, of records of refuted nodes, and of the search.
+//! Tests of series of questions and of the search.
 #![tactic(auto)]
 
 #[cfg(test)]
 mod searches;
+#[cfg(test)]
+mod series;
