@@ -1,2 +1,13 @@
 //! Tests of networks, early and late starts, conflicts and bounds, over their public functions.
 #![tactic(auto)]
+
+#[cfg(test)]
+mod bounds;
+#[cfg(test)]
+mod conflicts;
+#[cfg(test)]
+mod networks;
+#[cfg(test)]
+mod paths;
+#[cfg(test)]
+mod samples;

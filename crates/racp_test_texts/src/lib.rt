@@ -1,2 +1,5 @@
-//! Tests of the readers of networks, orders and plans, of the check of plans, and of the commands over any reader and writer.
+//! T.
 #![tactic(auto)]
+
+#[cfg(test)]
+mod plans;

@@ -1,0 +1,121 @@
+//! Floors and roofs of small networks, and of the largest.
+
+ghost use Rattle.std.specs.Prelude.{◌≡◌, ◌↔◌, IsTrue, length};
+ghost use Rattle.racp_model.specs.Schedule.{EndsBy};
+
+use crate::samples::{Sample, sampled};
+use racp_bounds::{floors, roofs};
+use racp_model::Network;
+use racp_samples::{SampleFault, network, root_window};
+use std::alloc::{AllocError, Global};
+use std::test::Fail;
+
+/// In words, a network with a deadline, its floors and its roofs.
+const BOUNDS: [(&str, Sample, u32, &[u32], &[u32]); 9] = [
+    ("core usage", Sample::Parallel, 4, &[3], &[4]),
+    (
+        "two resources, no slack",
+        Sample::Crossed,
+        2,
+        &[2, 2],
+        &[2, 2],
+    ),
+    (
+        "two resources, some slack",
+        Sample::Crossed,
+        3,
+        &[1, 1],
+        &[2, 2],
+    ),
+    (
+        "two resources, enough slack",
+        Sample::Crossed,
+        4,
+        &[1, 1],
+        &[2, 2],
+    ),
+    ("a chain", Sample::Chained, 8, &[2], &[5]),
+    (
+        "the largest request",
+        Sample::Free(1, &[(0, &[9]), (2, &[7]), (2, &[1])]),
+        100,
+        &[7],
+        &[17],
+    ),
+    (
+        "the energy",
+        Sample::Free(1, &[(2, &[3]), (2, &[3]), (2, &[3])]),
+        4,
+        &[5],
+        &[9],
+    ),
+    (
+        "the core usage",
+        Sample::Free(1, &[(2, &[1]), (2, &[1]), (2, &[1])]),
+        3,
+        &[3],
+        &[3],
+    ),
+    (
+        "nothing",
+        Sample::Free(1, &[(0, &[0]), (0, &[4])]),
+        0,
+        &[0],
+        &[4],
+    ),
+];
+
+/// Whether each job ends by the deadline.
+fn end_by(net: &Network, starts: &[u32], deadline: u32) -> bool
+    requires { length starts.now ≡ length net.now.jobs }
+    ensures { IsTrue result ↔ EndsBy net.now (λ _. deadline) starts.now }
+{
+    (0..net.job_count()).all(|i| starts[i] as u64 + net.duration(i) as u64 <= deadline as u64)
+}
+
+/// What is found otherwise than these floors and roofs under a deadline.
+fn difference(
+    alloc: Global,
+    net: &Network,
+    deadline: u32,
+    least: &[u32],
+    most: &[u32],
+) -> Result<Option<&'static str>, SampleFault> {
+    let window = root_window(alloc, net, deadline)?;
+    Ok(if !end_by(net, window.lower(), deadline) {
+        Some("the early starts")
+    } else if floors(alloc, net, &window, deadline)?.as_slice() != least {
+        Some("the floors")
+    } else if roofs(alloc, net)?.as_slice() != most {
+        Some("the roofs")
+    } else {
+        None
+    })
+}
+
+#[test]
+fn finds_floors_and_roofs(rt: HostRuntime) -> Result<(), Fail> {
+    for (name, sample, deadline, least, most) in BOUNDS {
+        let net = sampled(rt.alloc(), sample)?;
+        let difference = difference(rt.alloc(), &net, deadline, least, most)?;
+        assert_eq!(rt; difference, None, "{name}");
+    }
+    Ok(())
+}
+
+/// 512 jobs with 16 resources, all numbers as great as they may be.
+fn greatest(alloc: Global) -> Result<Network, SampleFault> {
+    let requests: &[u32] = &[10_000; 16];
+    let jobs = vec![in alloc; (10_000, requests); 512]?;
+    Ok(network(alloc, 16, &jobs, &[])?)
+}
+
+#[test]
+fn reaches_the_limits(rt: HostRuntime) -> Result<(), Fail> {
+    let net = greatest(rt.alloc())?;
+    for (deadline, least) in [(10_000, 5_120_000), (10_000_000, 10_000)] {
+        let difference = difference(rt.alloc(), &net, deadline, &[least; 16], &[5_120_000; 16])?;
+        assert_eq!(rt; difference, None, "{deadline}");
+    }
+    Ok(())
+}

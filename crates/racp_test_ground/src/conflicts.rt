@@ -1,0 +1,274 @@
+//! Conflicts, minimal delaying alternatives and sets of jobs.
+
+ghost use Rattle.std.specs.Prelude.{◌≡◌, All, length};
+ghost use Rattle.racp_model.specs.Project.{IsNumber};
+
+use crate::samples::{Sample, sampled};
+use racp_delay::{Clash, DelayingAlternatives, JobSet, alternatives, conflict, first_end};
+use racp_model::{Capacities, Network, Starts};
+use racp_samples::{SampleFault, network};
+use smallvec::SmallVec;
+use std::alloc::{AllocError, Global};
+use std::test::Fail;
+
+/// Jobs that go, and the time to which their lower bounds are raised in the child window, where there is one.
+type Alternative<'a> = (&'a [u32], Option<u64>);
+
+/// A conflict: its time, the active jobs and the alternatives.
+#[derive(Clone, Copy)]
+struct Expected<'a> {
+    time: u32,
+    active: &'a [u32],
+    alternatives: &'a [Alternative<'a>],
+}
+
+/// In words, a network with capacities and starts, and their first conflict.
+const CONFLICTS: [(&str, Sample, &[u32], &[u32], Option<Expected>); 11] = [
+    (
+        "three jobs beside each other",
+        Sample::Parallel,
+        &[2],
+        &[0, 0, 0, 0, 3],
+        Some(Expected {
+            time: 0,
+            active: &[2, 3, 4],
+            alternatives: &[(&[2], Some(2)), (&[3, 4], Some(3))],
+        }),
+    ),
+    (
+        "enough units",
+        Sample::Parallel,
+        &[4],
+        &[0, 0, 0, 0, 3],
+        None,
+    ),
+    (
+        "jobs put off",
+        Sample::Parallel,
+        &[2],
+        &[0, 0, 3, 3, 5],
+        None,
+    ),
+    (
+        "a job beside a chain",
+        Sample::Chained,
+        &[2],
+        &[0, 0, 0, 1, 4, 8],
+        Some(Expected {
+            time: 1,
+            active: &[2, 4],
+            alternatives: &[(&[2], Some(4)), (&[4], Some(4))],
+        }),
+    ),
+    (
+        "enough units for a chain",
+        Sample::Chained,
+        &[3],
+        &[0, 0, 0, 1, 4, 8],
+        None,
+    ),
+    (
+        "both resources are exceeded at once",
+        Sample::Free(2, &[(2, &[2, 0]), (2, &[0, 2]), (2, &[1, 1]), (2, &[1, 1])]),
+        &[2, 2],
+        &[0; 4],
+        Some(Expected {
+            time: 0,
+            active: &[1, 2, 3, 4],
+            alternatives: &[(&[1, 2], Some(2)), (&[3, 4], Some(2))],
+        }),
+    ),
+    (
+        "only the second resource is exceeded, and not at the first start",
+        Sample::Free(2, &[(1, &[1, 0]), (3, &[0, 2]), (3, &[0, 2])]),
+        &[1, 3],
+        &[7, 2, 4],
+        Some(Expected {
+            time: 4,
+            active: &[2, 3],
+            alternatives: &[(&[2], Some(7)), (&[3], Some(5))],
+        }),
+    ),
+    (
+        "one job alone requests more than there is",
+        Sample::Free(1, &[(2, &[3]), (2, &[1])]),
+        &[2],
+        &[0, 5],
+        Some(Expected {
+            time: 0,
+            active: &[1],
+            alternatives: &[(&[1], None)],
+        }),
+    ),
+    (
+        "a job of duration 0 is never active, and one that requests nothing never has to go",
+        Sample::Free(1, &[(0, &[9]), (2, &[0]), (2, &[2]), (2, &[2])]),
+        &[3],
+        &[0; 4],
+        Some(Expected {
+            time: 0,
+            active: &[2, 3, 4],
+            alternatives: &[(&[3], Some(2)), (&[4], Some(2))],
+        }),
+    ),
+    (
+        "a job that ends when another starts is no longer active",
+        Sample::Free(1, &[(2, &[2]), (2, &[2])]),
+        &[3],
+        &[0, 2],
+        None,
+    ),
+    (
+        "the last time units that a start can be",
+        Sample::Free(1, &[(10_000, &[2]), (1, &[2])]),
+        &[3],
+        &[4_294_967_295; 2],
+        Some(Expected {
+            time: 4_294_967_295,
+            active: &[1, 2],
+            alternatives: &[(&[1], Some(4_294_967_296)), (&[2], Some(4_294_977_295))],
+        }),
+    ),
+];
+
+/// Whether these are the alternatives of a conflict.
+fn are_alternatives(
+    net: &Network,
+    starts: &Starts,
+    clash: &Clash,
+    lists: &[SmallVec<u32, 8>],
+    expected: &[Alternative],
+) -> bool
+    requires starts { length starts.now ≡ length net.now.jobs }
+    requires active { All (IsNumber (length net.now.jobs)) clash.now.active }
+{
+    for (list, (gone, end)) in lists.iter().zip(expected) {
+        if list.as_slice() != *gone || first_end(net, starts, &clash.active, list) != *end {
+            return false;
+        }
+    }
+    lists.len() == expected.len()
+}
+
+/// What is found otherwise than this of a conflict. The alternatives are found thrice, the second and the third time in the
+/// same memory.
+fn clash_difference(
+    alloc: Global,
+    net: &Network,
+    capacities: &Capacities,
+    starts: &Starts,
+    clash: &Clash,
+    expected: Expected,
+) -> Result<Option<&'static str>, AllocError>
+    requires capacities { length capacities.now ≡ net.now.resources }
+    requires starts { length starts.now ≡ length net.now.jobs }
+    requires active { All (IsNumber (length net.now.jobs)) clash.now.active }
+{
+    let active: Vec<u32> = clash.active.iter().collect(alloc)?;
+    let lists = alternatives(alloc, net, capacities, clash)?;
+    let mut found = DelayingAlternatives::new(alloc);
+    found.find(net, capacities, clash)?;
+    found.find(net, capacities, clash)?;
+    Ok(if clash.time != expected.time {
+        Some("the time")
+    } else if active.as_slice() != expected.active {
+        Some("the active jobs")
+    } else if !are_alternatives(net, starts, clash, &lists, expected.alternatives) {
+        Some("the alternatives")
+    } else if !are_alternatives(net, starts, clash, found.lists(), expected.alternatives) {
+        Some("the alternatives found again")
+    } else {
+        None
+    })
+}
+
+/// What is found otherwise than this conflict.
+fn difference(
+    alloc: Global,
+    net: &Network,
+    capacities: &[u32],
+    starts: &[u32],
+    expected: Option<Expected>,
+) -> Result<Option<&'static str>, AllocError> {
+    if capacities.len() != net.resource_count() || starts.len() != net.job_count() {
+        return Ok(Some("the lengths"));
+    }
+    let capacities = Capacities::new(capacities.to_vec(alloc)?);
+    let starts = Starts::new(starts.to_vec(alloc)?);
+    let Some(clash) = conflict(net, &capacities, &starts) else {
+        return Ok(expected.map(|_| "no conflict"));
+    };
+    match expected {
+        Some(expected) => clash_difference(alloc, net, &capacities, &starts, &clash, expected),
+        None => Ok(Some("a conflict")),
+    }
+}
+
+#[test]
+fn finds_conflicts_and_alternatives(rt: HostRuntime) -> Result<(), Fail> {
+    for (name, sample, capacities, starts, expected) in CONFLICTS {
+        let net = sampled(rt.alloc(), sample)?;
+        let difference = difference(rt.alloc(), &net, capacities, starts, expected)?;
+        assert_eq!(rt; difference, None, "{name}");
+    }
+    Ok(())
+}
+
+/// 130 equal jobs beside each other.
+fn wide(alloc: Global) -> Result<Network, SampleFault> {
+    let one: &[u32] = &[1];
+    let jobs = vec![in alloc; (1, one); 130]?;
+    Ok(network(alloc, 1, &jobs, &[])?)
+}
+
+/// The alternatives in which one of these jobs goes, and those that stay end at 1.
+fn each_alone(alloc: Global, jobs: &[u32]) -> Result<Vec<Alternative>, AllocError> {
+    let mut alternatives = Vec::new(alloc);
+    for job in jobs.chunks(1) {
+        alternatives.push((job, Some(1)))?;
+    }
+    Ok(alternatives)
+}
+
+#[test]
+fn finds_the_conflict_of_many_jobs(rt: HostRuntime) -> Result<(), Fail> {
+    let active: Vec<u32> = (1..131).collect(rt.alloc())?;
+    let alternatives = each_alone(rt.alloc(), &active)?;
+    let all = Expected {
+        time: 0,
+        active: &active,
+        alternatives: &alternatives,
+    };
+    let net = wide(rt.alloc())?;
+    for (capacity, last_start, clashes) in [(129, 0, true), (130, 0, false), (129, 1, false)] {
+        let mut starts = [0; 130];
+        starts[129] = last_start;
+        let expected = if clashes { Some(all) } else { None };
+        let difference = difference(rt.alloc(), &net, &[capacity], &starts, expected)?;
+        assert_eq!(rt; difference, None, "{capacity} {last_start}");
+    }
+    Ok(())
+}
+
+/// A set of these jobs, of those that are from 1 to 512.
+fn set_of(jobs: &[u32]) -> JobSet {
+    let mut set = JobSet::new();
+    for job in jobs {
+        if 1 <= *job && *job <= 512 {
+            set.insert(*job);
+        }
+    }
+    set
+}
+
+#[test]
+fn keeps_sets_of_jobs(rt: HostRuntime) -> Result<(), Fail> {
+    let set = set_of(&[512, 64, 1, 65, 64]);
+    let jobs: Vec<u32> = set.iter().collect(rt.alloc())?;
+    assert_eq!(rt; jobs.as_slice(), [1, 64, 65, 512].as_slice());
+    assert!(rt; set.contains(65) && !set.contains(63) && set == set.copy());
+    let part = set_of(&[64, 512]);
+    assert!(rt; part.is_subset(&set) && !set.is_subset(&part) && part != set);
+    assert!(rt; JobSet::new().is_subset(&part) && JobSet::new().is_empty());
+    Ok(())
+}

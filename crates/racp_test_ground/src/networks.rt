@@ -1,0 +1,291 @@
+//! Which networks are made, which are refused and why, and which starts fit.
+
+use crate::samples::{Sample, sampled};
+use racp_model::{Capacities, NetFault, Network, Starts, fits, usage_at};
+use racp_samples::{SampleFault, network};
+use std::alloc::{AllocError, Global};
+use std::test::Fail;
+
+/// In words, the resources, jobs and pairs of a network, and why it is not made.
+type Attempt = (
+    &'static str,
+    usize,
+    &'static [(u32, &'static [u32])],
+    &'static [(u32, u32)],
+    Option<NetFault>,
+);
+
+/// Six equal jobs.
+const SIX: [(u32, &[u32]); 6] = [(1, &[1]); 6];
+
+const ATTEMPTS: [Attempt; 19] = [
+    ("no job", 1, &[], &[], Some(NetFault::Limit)),
+    ("no resource", 0, &[(1, &[])], &[], Some(NetFault::Limit)),
+    ("16 resources", 16, &[(1, &[1; 16])], &[], None),
+    (
+        "17 resources",
+        17,
+        &[(1, &[1; 17])],
+        &[],
+        Some(NetFault::Limit),
+    ),
+    (
+        "a request is missing",
+        2,
+        &[(1, &[1])],
+        &[],
+        Some(NetFault::Limit),
+    ),
+    (
+        "one request too many",
+        1,
+        &[(1, &[1, 1])],
+        &[],
+        Some(NetFault::Limit),
+    ),
+    ("greatest numbers", 1, &[(10_000, &[10_000])], &[], None),
+    ("duration", 1, &[(10_001, &[1])], &[], Some(NetFault::Limit)),
+    ("request", 1, &[(1, &[10_001])], &[], Some(NetFault::Limit)),
+    (
+        "before job 0",
+        1,
+        &SIX,
+        &[(1, 2), (1, 0)],
+        Some(NetFault::BadJob),
+    ),
+    (
+        "after job 0",
+        1,
+        &SIX,
+        &[(1, 2), (0, 1)],
+        Some(NetFault::BadJob),
+    ),
+    (
+        "before job 7",
+        1,
+        &SIX,
+        &[(1, 2), (1, 7)],
+        Some(NetFault::BadJob),
+    ),
+    (
+        "after job 7",
+        1,
+        &SIX,
+        &[(1, 2), (7, 1)],
+        Some(NetFault::BadJob),
+    ),
+    (
+        "a job after itself",
+        1,
+        &SIX,
+        &[(2, 2)],
+        Some(NetFault::Cycle),
+    ),
+    (
+        "a ring of two jobs",
+        1,
+        &SIX,
+        &[(1, 2), (2, 1)],
+        Some(NetFault::Cycle),
+    ),
+    (
+        "a ring of four jobs",
+        1,
+        &SIX,
+        &[(1, 2), (2, 4), (4, 6), (6, 3), (3, 2), (1, 5)],
+        Some(NetFault::Cycle),
+    ),
+    (
+        "the same without the last pairs",
+        1,
+        &SIX,
+        &[(1, 2), (2, 4), (4, 6), (6, 3)],
+        None,
+    ),
+    (
+        "a number before a pair",
+        1,
+        &[(10_001, &[1])],
+        &[(1, 1), (1, 9)],
+        Some(NetFault::Limit),
+    ),
+    (
+        "a pair before a ring",
+        1,
+        &[(1, &[1])],
+        &[(1, 1), (1, 9)],
+        Some(NetFault::BadJob),
+    ),
+];
+
+#[test]
+fn tells_why_no_network_is_made(rt: HostRuntime) {
+    for (name, resources, jobs, arcs, fault) in ATTEMPTS {
+        let made = network(rt.alloc(), resources, jobs, arcs);
+        assert_eq!(rt; made.err(), fault, "{name}");
+    }
+}
+
+/// So many equal jobs, each of which precedes all with higher numbers, or with lower ones.
+fn complete(alloc: Global, count: u32, rising: bool) -> Result<Network, SampleFault> {
+    let one: &[u32] = &[1];
+    let jobs = vec![in alloc; (1, one); count as usize]?;
+    let arcs = complete_arcs(alloc, count, rising)?;
+    Ok(network(alloc, 1, &jobs, &arcs)?)
+}
+
+/// Each pair of so many jobs, the lesser number first, or the greater one.
+fn complete_arcs(alloc: Global, count: u32, rising: bool) -> Result<Vec<(u32, u32)>, AllocError> {
+    let mut arcs = Vec::new(alloc);
+    for j in 0..count {
+        for i in 0..j {
+            let (low, high) = (i.saturating_add(1), j.saturating_add(1));
+            arcs.push(if rising { (low, high) } else { (high, low) })?;
+        }
+    }
+    Ok(arcs)
+}
+
+/// How many pairs there are, in order and in topological order; and of these the first job of the first, and the last.
+fn outline(net: &Network) -> Option<(usize, usize, u32, (u32, u32))> {
+    let arcs = net.topological_arcs();
+    Some((net.arcs().len(), arcs.len(), arcs.first()?.0, *arcs.last()?))
+}
+
+#[test]
+fn makes_the_largest_networks(rt: HostRuntime) -> Result<(), Fail> {
+    for (rising, first, last) in [(true, 0, (510, 511)), (false, 511, (1, 0))] {
+        let net = complete(rt.alloc(), 512, rising)?;
+        assert_eq!(rt; outline(&net), Some((130_816, 130_816, first, last)));
+    }
+    assert!(rt; complete(rt.alloc(), 513, true).is_err());
+    Ok(())
+}
+
+/// What is used of the first resource at the times from 0 to 4, where there is a start for each job.
+fn usages(net: &Network, starts: &[u32]) -> Option<[u64; 5]> {
+    if starts.len() != net.job_count() {
+        return None;
+    }
+    let mut used = [0; 5];
+    for time in 0..5 {
+        used[time] = usage_at(net, starts, 0, time as u32);
+    }
+    Some(used)
+}
+
+#[test]
+fn reads_back_what_was_given(rt: HostRuntime) -> Result<(), Fail> {
+    let jobs: [(u32, &[u32]); 5] = [(0, &[0]), (3, &[2]), (2, &[1]), (2, &[1]), (0, &[0])];
+    let pairs = [
+        (4, 5),
+        (1, 3),
+        (1, 2),
+        (4, 5),
+        (2, 5),
+        (1, 4),
+        (3, 5),
+        (1, 2),
+    ];
+    let net = network(rt.alloc(), 1, &jobs, &pairs)?;
+    let once = [(1, 2), (1, 3), (1, 4), (2, 5), (3, 5), (4, 5)];
+    assert_eq!(rt; net.arcs(), once.as_slice());
+    assert_eq!(rt; net.topological_arcs().len(), 6);
+    assert_eq!(rt; usages(&net, &[0, 0, 0, 2, 4]), Some([3, 3, 3, 1, 0]));
+    Ok(())
+}
+
+/// Two jobs that each request nothing of the first resource, and a unit of the second.
+const SECOND: Sample = Sample::Free(2, &[(1, &[0, 1]), (1, &[0, 1])]);
+
+/// In words, a network with capacities, starts and a deadline, and whether these starts fit.
+const FITS: [(&str, Sample, &[u32], &[u32], u64, bool); 7] = [
+    (
+        "the plan",
+        Sample::Parallel,
+        &[3],
+        &[0, 0, 0, 2, 4],
+        4,
+        true,
+    ),
+    (
+        "the deadline is over",
+        Sample::Parallel,
+        &[3],
+        &[0, 0, 0, 2, 4],
+        3,
+        false,
+    ),
+    (
+        "job 5 starts before job 4 ends",
+        Sample::Parallel,
+        &[3],
+        &[0, 0, 0, 2, 3],
+        4,
+        false,
+    ),
+    (
+        "three units at time 0",
+        Sample::Parallel,
+        &[2],
+        &[0, 0, 0, 2, 4],
+        4,
+        false,
+    ),
+    (
+        "four units at time 1",
+        Sample::Parallel,
+        &[3],
+        &[0, 0, 0, 1, 4],
+        4,
+        false,
+    ),
+    (
+        "two units of the second resource",
+        SECOND,
+        &[0, 1],
+        &[0, 0],
+        1,
+        false,
+    ),
+    ("as many as there are", SECOND, &[0, 2], &[0, 0], 1, true),
+];
+
+/// Whether starts fit a network with these capacities by a deadline, or none where there is not a number for each resource
+/// and each job.
+fn is_fitting(
+    alloc: Global,
+    net: &Network,
+    capacities: &[u32],
+    starts: &[u32],
+    deadline: u64,
+) -> Result<Option<bool>, AllocError> {
+    if capacities.len() != net.resource_count() || starts.len() != net.job_count() {
+        return Ok(None);
+    }
+    let capacities = Capacities::new(capacities.to_vec(alloc)?);
+    let starts = Starts::new(starts.to_vec(alloc)?);
+    Ok(Some(fits(net, &capacities, &starts, deadline)))
+}
+
+#[test]
+fn tells_which_starts_fit(rt: HostRuntime) -> Result<(), Fail> {
+    for (name, sample, capacities, starts, deadline, expected) in FITS {
+        let net = sampled(rt.alloc(), sample)?;
+        let found = is_fitting(rt.alloc(), &net, capacities, starts, deadline)?;
+        assert_eq!(rt; found, Some(expected), "{name}");
+    }
+    Ok(())
+}
+
+#[test]
+fn numbers_its_faults(rt: HostRuntime) {
+    for (number, fault) in [
+        (1, NetFault::Limit),
+        (2, NetFault::BadJob),
+        (3, NetFault::Cycle),
+        (4, NetFault::Memory),
+    ] {
+        assert_eq!(rt; fault as u8, number);
+    }
+}
