@@ -1,5 +1,13 @@
-//! T.
+//! Tests of the readers of networks, orders and plans, of the check of plans, and of the commands over any reader and writer.
 #![tactic(auto)]
 
+#[cfg(test)]
+mod commands;
+#[cfg(test)]
+mod devices;
+#[cfg(test)]
+mod networks;
+#[cfg(test)]
+mod orders;
 #[cfg(test)]
 mod plans;
