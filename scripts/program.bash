@@ -23,10 +23,9 @@ program_crates() {
     ' "$root/crates.txt"
 }
 
-# The files and folders that the program is made from, by their paths from the top.
-program_sources() {
+# The folders that the program is made from, by their paths from the top.
+program_folders() {
     local crate part
-    echo crates.txt
     for crate in $(program_crates); do
         for part in src specs proofs; do
             [ ! -d "$root/crates/$crate/$part" ] || echo "crates/$crate/$part"
@@ -34,10 +33,21 @@ program_sources() {
     done
 }
 
-# One SHA-256 sum of all these files, by their paths and their bytes.
+# The lines of crates.txt that speak of the crates of the program.
+program_lines() {
+    local crate
+    for crate in $(program_crates); do
+        grep "^$crate[ :]" "$root/crates.txt"
+    done
+}
+
+# One SHA-256 sum of these lines and of all files in these folders, by their paths and their bytes.
 sources_sum() (
     cd "$root" || exit
-    program_sources | xargs sh -c 'find "$@" -type f' find | LC_ALL=C sort | xargs sha256sum | sha256sum | cut -d ' ' -f 1
+    {
+        program_lines
+        program_folders | xargs sh -c 'find "$@" -type f' find | LC_ALL=C sort | xargs sha256sum
+    } | sha256sum | cut -d ' ' -f 1
 )
 
 # The SHA-256 sum of a file.
@@ -47,7 +57,8 @@ sum_of() {
 
 # Whether this program is there, and nothing that it is made from is newer.
 is_current() (
-    [ -x "$1" ] && cd "$root" && [ -z "$(program_sources | xargs sh -c 'find "$@" -newer "$0" -print -quit' "$1" 2>&1)" ]
+    [ -x "$1" ] && cd "$root" &&
+        [ -z "$(program_folders | xargs sh -c 'find crates.txt "$@" -newer "$0" -print -quit' "$1" 2>&1)" ]
 )
 
 # Whether the published program is made from these sources, and is as it was published.
