@@ -33,6 +33,34 @@ fn is_yes(
     Ok(decide_by_definition(alloc, net, &question)?.is_some())
 }
 
+/// Sharpens the floors of two resources in a window, by an asker that stops after so many series.
+fn sharpened_in<N: OfNetwork>(
+    rt: &impl Abort,
+    alloc: Global,
+    net: &Network,
+    window: &Window,
+    most: &Capacities,
+    asked: (u32, [u32; 2], u32),
+) -> Result<Result<Sharp, (Capacities, AskStop)>, AllocError>
+    requires named { net.now ≡ N.network }
+    requires lower { length window.now.lower ≡ length net.now.jobs }
+    requires upper { length window.now.upper ≡ length net.now.jobs }
+{
+    let (_, least, series) = asked;
+    assert_eq!(rt; least.len(), net.resource_count());
+    assert_eq!(rt; most.as_slice().len(), net.resource_count());
+    assert!(rt;
+        least
+            .iter()
+            .zip(most.as_slice())
+            .all(|(low, high)| *low <= *high)
+    );
+    assert!(rt; is_yes(alloc, net, most, window)?);
+    let least = Capacities::new(least.to_vec(alloc)?);
+    let mut asker: ByDefinition<N> = ByDefinition::new(alloc, series);
+    Ok(sharpen(alloc, net, window, least, most, &mut asker))
+}
+
 /// Sharpens the floors of two resources under a deadline, by an asker that stops after so many series.
 fn sharpened<N: OfNetwork>(
     rt: &impl Abort,
@@ -42,21 +70,9 @@ fn sharpened<N: OfNetwork>(
 ) -> Result<Result<Sharp, (Capacities, AskStop)>, Fail>
     requires { net.now ≡ N.network }
 {
-    let (deadline, least, series) = asked;
-    let window = root_window(alloc, net, deadline)?;
+    let window = root_window(alloc, net, asked.0)?;
     let most = roofs(alloc, net)?;
-    assert_eq!(rt; least.len(), net.resource_count());
-    assert_eq!(rt; most.as_slice().len(), net.resource_count());
-    assert!(rt;
-        least
-            .iter()
-            .zip(most.as_slice())
-            .all(|(low, high)| *low <= *high)
-    );
-    assert!(rt; is_yes(alloc, net, &most, &window)?);
-    let least = Capacities::new(least.to_vec(alloc)?);
-    let mut asker: ByDefinition<N> = ByDefinition::new(alloc, series);
-    Ok(sharpen(alloc, net, &window, least, &most, &mut asker))
+    Ok(sharpened_in::<N>(rt, alloc, net, &window, &most, asked)?)
 }
 
 /// Whether these floors and pairs come out, or these floors where the asker stops.

@@ -5,7 +5,7 @@ ghost use Rattle.std.specs.Prelude.{◌≡◌};
 use racp_candidates::{AskStop, Asker, First, Series};
 use racp_lexfix::{Alone, PlanStop, plan};
 use racp_model::{Network, OfNetwork};
-use racp_prices::read_order;
+use racp_prices::{Order, OrderFault, read_order};
 use racp_samples::crossed;
 use std::alloc::Global;
 use std::marker::Brand;
@@ -46,7 +46,32 @@ impl<N: OfNetwork> Asker for Tired<N> {
     }
 }
 
-/// Whether these capacities are told for the order with deadline 3 and prices 1 and 1 where the asker gives up after so many series.
+/// Whether planning stops, and tells these capacities.
+fn is_told<N: OfNetwork>(
+    alloc: Global,
+    net: &Network,
+    order: &Order,
+    asker: &mut Tired<N>,
+    capacities: &[u32],
+) -> bool
+    requires { net.now ≡ N.network }
+{
+    if !order.is_for(net) {
+        return false;
+    }
+    match plan(alloc, net, order, asker) {
+        Err(PlanStop::Stopped { not_before }) => not_before.as_slice() == capacities,
+        _ => false,
+    }
+}
+
+/// The order with deadline 3 and prices 1 and 1.
+fn order(alloc: Global, net: &Network) -> Result<Order, OrderFault> {
+    let text = b"deadline = 3\nprices = [1, 1]";
+    read_order(alloc, text, net.resource_count(), net.job_count())
+}
+
+/// Whether these capacities are told for that order where the asker gives up after so many series.
 fn tells<N: OfNetwork>(
     alloc: Global,
     net: &Network,
@@ -55,18 +80,16 @@ fn tells<N: OfNetwork>(
 ) -> Result<bool, Fail>
     requires { net.now ≡ N.network }
 {
-    let (series_left, tells) = gives_up;
-    let text = b"deadline = 3\nprices = [1, 1]";
-    let order = read_order(alloc, text, net.resource_count(), net.job_count())?;
     let alone: Alone<N> = Alone::new(alloc, net)?;
+    let (series_left, tells) = gives_up;
     let mut asker = Tired {
         alone,
         series_left,
         tells,
     };
-    match plan(alloc, net, &order, &mut asker) {
-        Err(PlanStop::Stopped { not_before }) => Ok(not_before.as_slice() == capacities),
-        _ => Ok(false),
+    match order(alloc, net) {
+        Ok(order) => Ok(is_told(alloc, net, &order, &mut asker, capacities)),
+        Err(fault) => Err(fault.into()),
     }
 }
 
