@@ -6,7 +6,7 @@ use Rattle.racp_model.specs.Project.{number, IsNumber}
 use Rattle.racp_model.proofs.lemmas.Relations.{no_member}
 use Rattle.racp_delay.specs.Alternatives.{place}
 use Rattle.racp_delay.specs.JobSets.{AreJobs, IsInserted}
-use Rattle.racp_cutset.specs.Rows.{AreStartedBefore}
+use Rattle.racp_cutset.specs.Covering.{AreStartedBefore}
 
 -- of the jobs before place n those that start before the time
 pub record AreStartedBelow (early : List ℕ) (time n : ℕ) (started : List ℕ) : Type 0 where

@@ -6,8 +6,8 @@ use Rattle.racp_model.specs.Path.{IsEarly}
 use Rattle.racp_model.proofs.lemmas.Relations.{same_from_members}
 use Rattle.racp_cpm.proofs.lemmas.Bounded.{some_starts}
 use Rattle.racp_delay.specs.Alternatives.{place}
-use Rattle.racp_cutset.specs.Covering.{SearchNode, IsNode, IsStarted, HasCutsetOf, HasRoomOf, AreEnds}
-use Rattle.racp_cutset.specs.Rows.{AreStartedBefore, IsAtLeastRow}
+use Rattle.racp_cutset.specs.Covering.{SearchNode, IsNode, IsStarted, HasCutsetOf, HasRoomOf, AreEnds, AreStartedBefore}
+use Rattle.racp_cutset.specs.Rows.{IsAtLeastRow}
 use Rattle.racp_cutset.specs.Told.{started_from_sets}
 
 -- early starts above bounds of at most 20,000,000 are at most 25,120,000

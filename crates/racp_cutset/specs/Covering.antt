@@ -1,10 +1,12 @@
 -- When the refutation of one node of the search refutes another: cutsets (Demeulemeester and Herroelen 1992), changed in that
 -- the capacities and the bounds of the windows are compared too, and only refuted nodes are recorded.
-use Rattle.std.specs.Prelude.{◌≡◌, ◌↔◌, ℕ, ◌+◌, ◌<◌, ◌≤◌, max, List, length, slice_index}
-use Rattle.racp_model.specs.Project.{Project, duration}
+use Rattle.std.specs.Prelude.{◌≡◌, ◌↔◌, ℕ, ◌+◌, ◌<◌, ◌≤◌, max, List, length, slice_index, Contains}
+use Rattle.std.specs.List.Sorted.{IsStrictlyIncreasing}
+use Rattle.racp_model.specs.Project.{Project, IsNumber, duration}
 use Rattle.racp_model.specs.Schedule.{usage}
 use Rattle.racp_model.specs.Path.{IsEarly}
 use Rattle.racp_model.specs.Window.{Bounds, IsNo}
+use Rattle.racp_delay.specs.Alternatives.{place}
 
 -- a node of the search: the capacities and the window of a question, the early starts of the window, and a time
 pub record SearchNode : Type 0 where
@@ -68,3 +70,8 @@ pub record IsRefutedNode (p : Project) (v : SearchNode) : Type 0 where
 pub record AreEnds (p : Project) (early ends : List ℕ) : Type 0 where
   pub places : length ends ≡ length p.jobs
   pub each : (i : ℕ) → i < length p.jobs → slice_index ends i ≡ slice_index early i + duration p i
+
+-- the numbers of the jobs that start before a time, rising
+pub record AreStartedBefore (early : List ℕ) (time : ℕ) (started : List ℕ) : Type 0 where
+  pub rises : IsStrictlyIncreasing started
+  pub members : (job : ℕ) → Contains started job ↔ (IsNumber (length early) job × (slice_index early (place job) < time))

@@ -2,6 +2,10 @@
 use Rattle.std.specs.Prelude.{◌≡◌, ◌⊎◌, List, [], ◌∷◌, ◌++◌, Option, Some, None}
 use Rattle.racp_cutset.specs.Covering.{SearchNode}
 
+-- what was kept stays kept, and new records come behind it
+abbrev pub StayKept : List SearchNode → List SearchNode → Type 0
+StayKept old new = (more : List SearchNode) × (new ≡ old ++ more)
+
 -- a record is kept behind the others, or dropped where there is no room
 abbrev pub IsKeptOrDropped : List SearchNode → SearchNode → List SearchNode → Type 0
 IsKeptOrDropped old last new = (new ≡ old ++ last ∷ []) ⊎ (new ≡ old)

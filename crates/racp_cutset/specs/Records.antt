@@ -2,8 +2,7 @@
 use Rattle.std.specs.Prelude.{◌≡◌, ℕ, ◌+◌, ◌<◌, ◌≤◌, List, length, slice_index, map, nat_lt, if◌then◌else◌}
 use Rattle.std.specs.List.{range_with_len}
 use Rattle.racp_model.specs.Project.{Project, duration}
-use Rattle.racp_cutset.specs.Covering.{SearchNode, IsNode, IsStarted}
-use Rattle.racp_cutset.specs.Rows.{AreStartedBefore}
+use Rattle.racp_cutset.specs.Covering.{SearchNode, IsNode, IsStarted, AreStartedBefore}
 
 -- the early start of a started job, the lower bound of another
 unfoldable pub settled_bound : SearchNode → ℕ → ℕ

@@ -1,8 +1,5 @@
 -- Contracts of private functions: rows of numbers, one for each job or resource, that are compared place by place.
-use Rattle.std.specs.Prelude.{◌≡◌, ◌↔◌, ℕ, ◌<◌, ◌≤◌, max, List, length, slice_index, Contains}
-use Rattle.std.specs.List.Sorted.{IsStrictlyIncreasing}
-use Rattle.racp_model.specs.Project.{IsNumber}
-use Rattle.racp_delay.specs.Alternatives.{place}
+use Rattle.std.specs.Prelude.{◌≡◌, ℕ, ◌<◌, ◌≤◌, max, List, length, slice_index}
 
 -- no number of the second row is above that of the first
 abbrev pub IsAtLeastRow : List ℕ → List ℕ → Type 0
@@ -27,8 +24,3 @@ pub record AreBounds (early : List ℕ) (time : ℕ) (ends lower bounds : List �
   pub places : length bounds ≡ length early
   pub before : (i : ℕ) → i < length early → slice_index early i < time → slice_index bounds i ≡ slice_index ends i
   pub after : (i : ℕ) → i < length early → time ≤ slice_index early i → slice_index bounds i ≡ slice_index lower i
-
--- the numbers of the jobs that start before a time, rising
-pub record AreStartedBefore (early : List ℕ) (time : ℕ) (started : List ℕ) : Type 0 where
-  pub rises : IsStrictlyIncreasing started
-  pub members : (job : ℕ) → Contains started job ↔ (IsNumber (length early) job × (slice_index early (place job) < time))

@@ -8,8 +8,7 @@ use Rattle.std.specs.Coded.{Coded, Coded-set, code_by, coded×, coded_ℕ, coded
 use Rattle.racp_model.specs.Project.{Project, number}
 use Rattle.racp_model.specs.Path.{IsEarly}
 use Rattle.racp_delay.specs.Alternatives.{place}
-use Rattle.racp_cutset.specs.Covering.{SearchNode, IsNode, IsStarted}
-use Rattle.racp_cutset.specs.Rows.{AreStartedBefore}
+use Rattle.racp_cutset.specs.Covering.{SearchNode, IsNode, IsStarted, AreStartedBefore}
 use Rattle.racp_cutset.specs.Records.{IsPacked, Told}
 
 -- a job is in the set of the started jobs where it is started, and only then

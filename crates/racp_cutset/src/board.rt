@@ -1,9 +1,5 @@
-ghost use Rattle.std.specs.Prelude.{◌≡◌, IfSome};
-ghost use Rattle.racp_model.specs.Window.{IsNo};
-ghost use Rattle.racp_cutset.specs.Covering.{Covers};
+ghost use Rattle.std.specs.Prelude.{◌≡◌};
 
-use crate::local::Local;
-use crate::node::Node;
 use crate::nogood::Nogood;
 use racp_model::{Network, OfNetwork};
 use std::alloc::{AllocError, Global};
@@ -33,15 +29,6 @@ impl<N: OfNetwork> Board<N> {
     /// Shares a record; it is dropped where there is no room. May wait for another thread that is making room.
     pub fn push(&self, rt: &impl Wait, nogood: Nogood<N>) {
         let _ = self.records.push(rt, nogood);
-    }
-
-    /// A record that covers the node, whose question is then a no; of the board or of those kept in `local`, which reads the
-    /// board's new records first. `None` says nothing: which records are found is not promised. The same as [`Local::find`].
-    pub fn find<'a>(&'a self, local: &'a mut Local<N>, node: &Node<N>) -> Option<&'a Nogood<N>>
-        ensures covers { IfSome result (λ found. Covers N.network found.now node.now) }
-        ensures refutes { IfSome result (λ _. IsNo N.network node.now.capacities node.now.window) }
-    {
-        local.find(self, node)
     }
 
     /// The record at a place, from 0, if it has been written.

@@ -1,8 +1,7 @@
 ghost use Rattle.std.specs.Prelude.{◌≡◌, IfOk, length, slice_index};
 ghost use Rattle.racp_model.specs.Path.{IsEarly};
 ghost use Rattle.racp_model.specs.Project.{IsSound};
-ghost use Rattle.racp_cutset.specs.Covering.{SearchNode, IsNode, AreEnds};
-ghost use Rattle.racp_cutset.specs.Rows.{AreStartedBefore};
+ghost use Rattle.racp_cutset.specs.Covering.{SearchNode, IsNode, AreEnds, AreStartedBefore};
 
 use crate::rows::{ends_of, hash_of, started_before};
 use racp_cpm::early;
@@ -26,8 +25,7 @@ pub struct Node<N: OfNetwork> {
 
 impl<N: OfNetwork> Model for Node<N> {
     ghost use Rattle.racp_model.specs.Project.{IsSound};
-    ghost use Rattle.racp_cutset.specs.Covering.{SearchNode, IsNode, AreEnds};
-    ghost use Rattle.racp_cutset.specs.Rows.{AreStartedBefore};
+    ghost use Rattle.racp_cutset.specs.Covering.{SearchNode, IsNode, AreEnds, AreStartedBefore};
 
     ghost Value = { SearchNode };
 

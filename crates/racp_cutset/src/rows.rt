@@ -3,8 +3,8 @@
 ghost use Rattle.std.specs.Prelude.{◌≡◌, ◌↔◌, ℕ, ◌<◌, ◌≤◌, IsTrue, IfOk, length, slice_index};
 ghost use Rattle.racp_model.specs.Project.{IsSound};
 ghost use Rattle.racp_model.specs.Path.{IsEarly};
-ghost use Rattle.racp_cutset.specs.Covering.{AreEnds};
-ghost use Rattle.racp_cutset.specs.Rows.{IsAtLeastRow, IsSoonerBefore, IsSoonerFrom, IsSoonerRow, AreBounds, AreStartedBefore};
+ghost use Rattle.racp_cutset.specs.Covering.{AreEnds, AreStartedBefore};
+ghost use Rattle.racp_cutset.specs.Rows.{IsAtLeastRow, IsSoonerBefore, IsSoonerFrom, IsSoonerRow, AreBounds};
 
 use racp_delay::JobSet;
 use racp_model::Network;

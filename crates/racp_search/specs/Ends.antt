@@ -1,5 +1,5 @@
 -- Contracts of private functions: how a search by depth ends.
-use Rattle.std.specs.Prelude.{◌≡◌, ◌↔◌, ℕ, ◌<◌, ◌≤◌, List, [], ◌∷◌, ◌++◌, Bool, IsTrue, IsFalse, Option, Some, None, Contains}
+use Rattle.std.specs.Prelude.{◌≡◌, ◌≢◌, ◌↔◌, ℕ, ◌<◌, ◌≤◌, List, [], ◌∷◌, ◌++◌, Bool, IsTrue, IsFalse, Option, Some, None, Contains}
 use Rattle.racp_model.specs.Project.{Project}
 use Rattle.racp_model.specs.Window.{Bounds, Answers}
 use Rattle.racp_search.specs.Truth.{IsTrueFinding}
@@ -21,11 +21,14 @@ abbrev pub IsEntered : Project → List ℕ → Bounds → List SearchFrame → 
 IsEntered p capacities whole old window new (Some starts) = Answers p capacities whole starts
 IsEntered p capacities whole old window new None = IsClosed p capacities whole old window new
 
--- how a search of a window ended
-pub record IsEnd (p : Project) (capacities : List ℕ) (window : Bounds) (quantum : Option ℕ) (ended : Ended) : Type 0 where
+-- how a search of a window ended, and after how many nodes
+pub record IsEnd (p : Project) (capacities : List ℕ) (window : Bounds) (quantum : Option ℕ) (nodes : ℕ) (ended : Ended) : Type 0 where
   pub is_true : IsTrueFinding p capacities window ended.found ended.rest.items
-  pub higher : IsFalse ended.stopped → ended.found ≡ None → (part : Bounds) → Contains ended.rest.items part → IsHigher p window part
-  pub all : IsFalse ended.stopped → ended.found ≡ None → quantum ≡ None → ended.rest.items ≡ []
+  pub searched : IsFalse ended.stopped → 0 < nodes
+  pub stopped : IsTrue ended.stopped → (ended.found ≡ None) × (ended.rest.items ≢ [])
+  pub spent : IsFalse ended.stopped → ended.rest.items ≢ [] → quantum ≡ Some nodes
+  pub all : IsFalse ended.stopped → quantum ≡ None → ended.rest.items ≡ []
+  pub higher : 0 < nodes → (part : Bounds) → Contains ended.rest.items part → IsHigher p window part
 
 -- whether the quantum allows no node
 abbrev pub AllowsNone : Option ℕ → Bool → Type 0

@@ -1,17 +1,25 @@
 -- What a search of a piece of a question found, and when that is true.
-use Rattle.std.specs.Prelude.{◌≡◌, ◌≢◌, ℕ, ◌<◌, ◌≤◌, Bool, IsFalse, List, [], ◌∷◌, Option, Some, None, IfSome, Contains}
+use Rattle.std.specs.Prelude.{◌≡◌, ◌≢◌, ℕ, ◌<◌, ◌≤◌, Bool, IsTrue, IsFalse, List, [], ◌∷◌, Option, Some, None, IfSome, Contains}
 use Rattle.racp_model.specs.Project.{Project}
 use Rattle.racp_model.specs.Window.{Bounds, Answers, IsNo, WindowsCover, IsInside}
 use Rattle.racp_model.specs.Formed.{HasBounds}
+use Rattle.racp_model.specs.declared.question.Question.{Question}
 use Rattle.racp_delay.specs.Laws.{lower_sum}
-use Rattle.racp_search.specs.declared.piece.Piece.{Piece}
 use Rattle.racp_search.specs.declared.finding.Rest.{Rest}
 use Rattle.racp_search.specs.declared.finding.Rest.TheVariants.{Whole, Windows}
+
+-- a piece of work: its number, the seat of the worker that took it, the place of its question in the series, and the part of that
+-- question that is to be searched
+pub record SearchPiece : Type 0 where
+  pub number : ℕ
+  pub seat : ℕ
+  pub index : ℕ
+  pub question : Question
 
 -- a finding: the piece that was searched, what is left of it, the starts that were found, how many nodes were searched,
 -- whether the search was stopped, and whether memory was refused to it
 pub record SearchFinding : Type 0 where
-  pub piece : Piece
+  pub piece : SearchPiece
   pub rest : Rest
   pub found : Option (List ℕ)
   pub nodes : ℕ
@@ -34,16 +42,28 @@ abbrev pub IsTrueFinding : Project → List ℕ → Bounds → Option (List ℕ)
 IsTrueFinding p capacities window (Some starts) rest = Answers p capacities window starts × (rest ≡ [])
 IsTrueFinding p capacities window None rest = IsRestOf p capacities window rest
 
--- the finding is of the piece, and has at most as many nodes as the quantum allows. Where the quantum allows none, the window
--- of the piece is left. Where the search was not stopped, memory was not refused and nothing was found, each window that is
--- left has a greater sum of lower bounds, if the quantum allows some node, and none is left, if there is no quantum
-pub record IsExplored (p : Project) (piece : Piece) (quantum : Option ℕ) (finding : SearchFinding) : Type 0 where
+-- the windows that a finding leaves
+abbrev pub left_windows : SearchFinding → List Bounds
+left_windows finding = rest_windows finding.piece.question.window finding.rest
+
+-- what a search of a piece tells
+pub record IsExplored (p : Project) (piece : SearchPiece) (quantum : Option ℕ) (finding : SearchFinding) : Type 0 where
+  -- it is of the piece
   pub own : finding.piece ≡ piece
+  -- it searched at most as many nodes as the quantum allows, and at least one, unless none is allowed or it was kept from searching
   pub nodes : IfSome quantum (λ most. finding.nodes ≤ most)
-  pub idle : quantum ≡ Some 0 → rest_windows piece.question.window finding.rest ≡ piece.question.window ∷ []
-  pub higher : IsFalse finding.stopped → IsFalse finding.short → finding.found ≡ None → quantum ≢ Some 0 →
-      (part : Bounds) → Contains (rest_windows piece.question.window finding.rest) part → lower_sum p piece.question.window < lower_sum p part
-  pub all : IsFalse finding.stopped → IsFalse finding.short → finding.found ≡ None → quantum ≡ None → rest_windows piece.question.window finding.rest ≡ []
+  pub searched : quantum ≢ Some 0 → IsFalse finding.stopped → IsFalse finding.short → 0 < finding.nodes
+  -- where no node is allowed, and where memory was refused, the window of the piece is left and nothing is found
+  pub idle : quantum ≡ Some 0 → (finding.rest ≡ Whole) × (finding.found ≡ None)
+  pub short : IsTrue finding.short → (finding.rest ≡ Whole) × (finding.found ≡ None)
+  -- a search that was stopped found nothing and leaves something
+  pub stopped : IsTrue finding.stopped → (finding.found ≡ None) × (left_windows finding ≢ [])
+  -- where neither is the reason, windows are left only where as many nodes were searched as the quantum allows
+  pub spent : IsFalse finding.stopped → IsFalse finding.short → left_windows finding ≢ [] → quantum ≡ Some finding.nodes
+  pub all : IsFalse finding.stopped → IsFalse finding.short → quantum ≡ None → left_windows finding ≡ []
+  -- once a node was searched, each window that is left has a greater sum of lower bounds than the piece's
+  pub higher : IsFalse finding.short → 0 < finding.nodes →
+      (part : Bounds) → Contains (left_windows finding) part → lower_sum p piece.question.window < lower_sum p part
 
 -- what is decided of a question: starts that answer it, or that nothing does
 abbrev pub IsDecision : Project → List ℕ → Bounds → Option (List ℕ) → Type 0

@@ -85,7 +85,8 @@ pub(crate) fn expand<N: OfNetwork>(
     requires below { (i : ℕ) → i < length net.now.jobs → slice_index starts i ≤ slice_index window.upper i }
     requires small { (i : ℕ) → i < length net.now.jobs → slice_index starts i ≤ 10000000 }
     requires clash { IsClash net.now capacities.now starts clash.now.time clash.now.active }
-    ensures { IfOk result (IsExpanded N.network capacities.now window) }
+    ensures expanded { IfOk result (IsExpanded N.network capacities.now window) }
+    ensures kept { local.new ≡ local.old }
 {
     laws::children_cover();
     laws::child_is_inside();
@@ -95,7 +96,7 @@ pub(crate) fn expand<N: OfNetwork>(
         window,
     };
     let node = Node::reusing(net, question, starts, workspace.spare.row(), clash.time)?;
-    if board.find(local, &node).is_some() {
+    if local.find(board, &node).is_some() {
         workspace.spare.give_node(node);
         return Ok(None);
     }

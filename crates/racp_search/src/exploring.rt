@@ -1,4 +1,5 @@
 ghost use Rattle.std.specs.Prelude.{◌≡◌, IsTrue, IsFalse, IfOk, length};
+ghost use Rattle.racp_cutset.specs.Kept.{StayKept};
 ghost use Rattle.racp_search.specs.Truth.{IsExplored, IsDecision};
 ghost use Rattle.racp_search.specs.Ends.{AllowsNone};
 
@@ -15,12 +16,12 @@ use std::marker::Brand;
 /// (Demeulemeester and Herroelen 1992), by depth, until starts are found, nothing is left, as many nodes were searched as the
 /// quantum allows, or the search is stopped. `None` is no bound on the nodes. The stop is asked before each node.
 ///
-/// A node that a record of the board or of `local` covers is skipped. A node is kept in `local` once all of its window has been
-/// refuted. Where memory is refused the finding is short and leaves the whole window of the piece.
+/// A node that a record of the board or of `local` covers is skipped. A node is kept in `local`, behind the records that are there,
+/// once all of its window has been refuted. Where memory is refused the finding is short and leaves the whole window of the piece.
 pub fn explore<N: OfNetwork, S: Stop>(
     alloc: Global,
     net: &Network,
-    piece: Piece,
+    piece: Piece<N>,
     quantum: Option<u64>,
     board: &Board<N>,
     local: &mut Local<N>,
@@ -32,6 +33,7 @@ pub fn explore<N: OfNetwork, S: Stop>(
     requires upper { length piece.question.window.upper ≡ length net.now.jobs }
     ensures explored { IsExplored N.network piece quantum result }
     ensures quiet { IsTrue S.QUIET → IsFalse result.stopped }
+    ensures kept { StayKept local.old local.new }
 {
     if allows_none(quantum) {
         return Finding::whole(piece, 0, false);

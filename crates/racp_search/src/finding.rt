@@ -19,7 +19,7 @@ pub enum Rest {
 /// question and nothing is left to be searched, or nothing is found, and whatever answers lies in a window of the rest.
 /// Contracts see a `SearchFinding`.
 pub struct Finding<N: OfNetwork> {
-    piece: Piece,
+    piece: Piece<N>,
     rest: Rest,
     found: Option<Starts>,
     nodes: u64,
@@ -41,7 +41,7 @@ impl<N: OfNetwork> Model for Finding<N> {
 impl<N: OfNetwork> Finding<N> {
     /// What a search of a piece found and left. Takes no memory.
     pub(crate) fn new(
-        piece: Piece,
+        piece: Piece<N>,
         rest: Vec<Window>,
         found: Option<Starts>,
         nodes: u64,
@@ -62,7 +62,7 @@ impl<N: OfNetwork> Finding<N> {
     }
 
     /// Nothing found, and the whole window of the piece left. Takes no memory.
-    pub(crate) fn whole(piece: Piece, nodes: u64, short: bool) -> Self
+    pub(crate) fn whole(piece: Piece<N>, nodes: u64, short: bool) -> Self
         requires { HasBounds N.network piece.question.window }
         ensures { result ≡ record { piece = piece; rest = Rest.Whole; found = None; nodes = nodes; stopped = false; short = short } }
     {
@@ -78,7 +78,7 @@ impl<N: OfNetwork> Finding<N> {
     }
 
     /// The piece that was searched.
-    pub fn piece(&self) -> &Piece
+    pub fn piece(&self) -> &Piece<N>
         ensures piece { result.now ≡ self.now.piece }
         ensures is_true { IsTrueFinding N.network self.now.piece.question.capacities self.now.piece.question.window self.now.found (rest_windows self.now.piece.question.window self.now.rest) }
     {
@@ -122,7 +122,7 @@ impl<N: OfNetwork> Finding<N> {
     }
 
     /// Gives the piece back. Takes no memory.
-    pub fn into_piece(self) -> Piece
+    pub fn into_piece(self) -> Piece<N>
         ensures { result ≡ self.piece }
     {
         let (piece, _rest, _found) = self.into_parts();
@@ -135,12 +135,12 @@ impl<N: OfNetwork> Finding<N> {
         ensures is_true { IsTrueFinding N.network self.piece.question.capacities self.piece.question.window self.found (rest_windows self.piece.question.window self.rest) }
     {
         let (piece, _rest, found) = self.into_parts();
-        let _ = piece.into_question();
+        let _ = piece.question_of();
         found
     }
 
     /// Gives the piece back, with what was left of it and what was found. Takes no memory.
-    pub fn into_parts(self) -> (Piece, Rest, Option<Starts>)
+    pub fn into_parts(self) -> (Piece<N>, Rest, Option<Starts>)
         ensures piece { result.0 ≡ self.piece }
         ensures rest { result.1 ≡ self.rest }
         ensures found { result.2 ≡ self.found }

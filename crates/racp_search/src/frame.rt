@@ -1,6 +1,7 @@
 ghost use Rattle.std.specs.Prelude.{◌≡◌, ◌↔◌, ℕ, ◌++◌, ◌∷◌, [], IfOk, Contains};
 ghost use Rattle.racp_model.specs.Window.{Bounds};
 ghost use Rattle.racp_cutset.specs.Covering.{FitsBeforeTime};
+ghost use Rattle.racp_cutset.specs.Kept.{StayKept};
 ghost use Rattle.racp_search.specs.Searching.{IsSearching, open_windows};
 ghost use Rattle.racp_search.specs.Steps.{IsNextAnswer};
 
@@ -56,7 +57,8 @@ pub(crate) fn next_window<N: OfNetwork>(
     local: &mut Local<N>,
 ) -> Result<Option<Window>, AllocError>
     requires { IsSearching N.network question.now.capacities question.now.window stack.old.items [] }
-    ensures { IfOk result (IsNextAnswer N.network question.now.capacities question.now.window stack.old.items stack.new.items) }
+    ensures next { IfOk result (IsNextAnswer N.network question.now.capacities question.now.window stack.old.items stack.new.items) }
+    ensures kept { StayKept local.old local.new }
 {
     while let Some(frame) = stack.pop() {
         let Frame { node, mut children } = frame;

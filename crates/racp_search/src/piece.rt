@@ -1,18 +1,33 @@
 ghost use Rattle.std.specs.Prelude.{◌≡◌};
 
-use racp_model::Question;
+use racp_model::{OfNetwork, Question};
+use std::marker::{Model, PhantomData};
 
-/// A piece of work: a question to be searched, the number that it was given, from 0, the seat of the worker that took it, from
-/// 0, and the place, from 0, of the question to which it belongs in the series of questions. It cannot be dropped, so that no
-/// part of a question is lost: `explore` and `into_question` spend it.
-pub struct Piece {
+/// Takes back pieces that were handed out. Whoever takes a piece apart has to be named as one, so that no worker loses a piece
+/// by an oversight.
+pub trait Collector {}
+
+/// A piece of work: a question to be searched about the network that `N` names, the number that it was given, from 0, the seat of
+/// the worker that took it, from 0, and the place, from 0, of the question to which it belongs in the series of questions. It
+/// cannot be dropped, so that no part of a question is lost: `explore` makes it a finding, and a collector takes it back.
+/// Contracts see a `SearchPiece`.
+pub struct Piece<N: OfNetwork> {
     number: u64,
     seat: usize,
     index: u64,
     question: Question,
+    of: PhantomData<N>,
 }
 
-impl Piece {
+impl<N: OfNetwork> Model for Piece<N> {
+    ghost use Rattle.racp_search.specs.Truth.{SearchPiece};
+
+    ghost Value = { SearchPiece };
+
+    ghost view = { λ p. record { number = p.number; seat = p.seat; index = p.index; question = p.question } };
+}
+
+impl<N: OfNetwork> Piece<N> {
     /// The piece of this number, seat, place in the series and question. Takes no memory.
     pub fn new(number: u64, seat: usize, index: u64, question: Question) -> Self
         ensures { result ≡ record { number = number; seat = seat; index = index; question = question } }
@@ -22,6 +37,7 @@ impl Piece {
             seat,
             index,
             question,
+            of: PhantomData,
         }
     }
 
@@ -53,8 +69,15 @@ impl Piece {
         &self.question
     }
 
-    /// Spends the piece, and gives its question back. Takes no memory.
-    pub fn into_question(self) -> Question
+    /// Spends the piece in the hands of a collector, and gives its question back. Takes no memory.
+    pub fn into_question<C: Collector>(self) -> Question
+        ensures { result ≡ self.question }
+    {
+        self.question_of()
+    }
+
+    /// The question alone.
+    pub(crate) fn question_of(self) -> Question
         ensures { result ≡ self.question }
     {
         let Piece {
@@ -62,6 +85,7 @@ impl Piece {
             seat: _,
             index: _,
             question,
+            of: _,
         } = self;
         question
     }

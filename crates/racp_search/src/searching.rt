@@ -1,4 +1,5 @@
 ghost use Rattle.std.specs.Prelude.{◌≡◌, ◌↔◌, ◌≤◌, ◌++◌, ◌∷◌, [], IsTrue, IsFalse, IfOk, OnOk, IfSome, Contains, length};
+ghost use Rattle.racp_cutset.specs.Kept.{StayKept};
 ghost use Rattle.racp_search.specs.Searching.{IsSearching, open_windows};
 ghost use Rattle.racp_search.specs.Ends.{IsEntered, IsEnd, IsSpent};
 
@@ -36,9 +37,10 @@ pub(crate) fn search<N: OfNetwork, S: Stop>(
     requires upper { length question.now.window.upper ≡ length net.now.jobs }
     requires quantum { IfSome quantum (λ most. 1 ≤ most) }
     requires nodes { nodes.old ≡ 0 }
-    ensures end { IfOk result (IsEnd N.network question.now.capacities question.now.window quantum) }
+    ensures end { IfOk result (IsEnd N.network question.now.capacities question.now.window quantum nodes.new) }
     ensures quiet { IfOk result (λ ended. IsTrue S.QUIET → IsFalse ended.stopped) }
     ensures nodes { IfSome quantum (λ most. nodes.new ≤ most) }
+    ensures kept { StayKept local.old local.new }
 {
     let mut workspace = Workspace::new(alloc);
     let mut stack = Vec::new(alloc);
@@ -116,7 +118,8 @@ fn enter<N: OfNetwork>(
     requires lower { length window.lower ≡ length net.now.jobs }
     requires upper { length window.upper ≡ length net.now.jobs }
     requires state { IsSearching N.network question.now.capacities question.now.window stack.old.items (window ∷ []) }
-    ensures { IfOk result (IsEntered N.network question.now.capacities question.now.window stack.old.items window stack.new.items) }
+    ensures entered { IfOk result (IsEntered N.network question.now.capacities question.now.window stack.old.items window stack.new.items) }
+    ensures kept { local.new ≡ local.old }
 {
     match look_at(workspace, net, &question.capacities, &window)? {
         Glance::Refuted => {
