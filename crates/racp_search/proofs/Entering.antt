@@ -1,5 +1,5 @@
 -- A window is entered, and how a search ends.
-use Rattle.std.proofs.Common.{◌≡◌, inl, inr, ◌∙◌, ℕ, ◌<◌, ◌≤◌, List, [], ◌∷◌, ◌++◌, true, Contains, arith, refl, sym, subst, ap, Option, Some, None, IfSome, IsFalse}
+use Rattle.std.proofs.Common.{◌≡◌, ◌≢◌, inl, inr, ◌∙◌, ℕ, ◌<◌, ◌≤◌, List, [], ◌∷◌, ◌++◌, true, Contains, arith, refl, sym, subst, ap, Option, Some, None, IfSome, IsTrue, IsFalse, false}
 use Rattle.std.proofs.lemmas.List.Elements.{Contains-append_left, Contains-append_right, Contains-append_cases}
 use Rattle.racp_model.specs.Project.{Project}
 use Rattle.racp_model.specs.Window.{Bounds, IsNo}
@@ -70,6 +70,18 @@ pub spent_there : (quantum : Option ℕ) (nodes : ℕ) → IsSpent quantum nodes
 spent_there (Some most) nodes h e = absurd (cc e)
 spent_there None nodes h e = absurd (cc h)
 
--- true is not false
+-- and is spent exactly
+pub spent_exactly : (quantum : Option ℕ) (nodes : ℕ) → IsSpent quantum nodes true → IfSome quantum (λ most. nodes ≤ most) → quantum ≡ Some nodes
+spent_exactly (Some most) nodes h within = ap Some (omega (arith, h.0 refl, within))
+spent_exactly None nodes h within = absurd (cc h)
+
+-- something is left where a window is open
+pub some_left : (windows : List Bounds) (window : Bounds) (rest : List Bounds) → rest ≡ window ∷ windows → rest ≢ []
+some_left windows window rest e none = absurd (cc (e, none))
+
+-- false is not true, and true is not false
+pub false_is_not_true : IsTrue false → ⊥
+false_is_not_true h = absurd (cc h)
+
 pub not_false : IsFalse true → ⊥
 not_false h = absurd (cc h)

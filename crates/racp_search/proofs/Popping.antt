@@ -1,15 +1,28 @@
 -- The last frame of a stack is taken out: its last window is searched next, or it has run out.
-use Rattle.std.proofs.Common.{◌≡◌, ◌∙◌, ℕ, ◌≤◌, List, [], ◌∷◌, ◌++◌, length, Contains, arith, refl, sym, subst, ap}
-use Rattle.std.proofs.lemmas.List.{append-nil}
+use Rattle.std.proofs.Common.{◌≡◌, inl, inr, ◌∙◌, ℕ, ◌≤◌, List, [], ◌∷◌, ◌++◌, length, Contains, arith, refl, sym, subst, ap}
+use Rattle.std.proofs.lemmas.List.{append-nil, append_assoc}
 use Rattle.std.proofs.lemmas.List.Elements.{Contains-append_right}
 use Rattle.racp_model.specs.Project.{Project}
 use Rattle.racp_model.specs.Window.{Bounds, IsNo}
 use Rattle.racp_model.proofs.lemmas.Relations.{member_first}
 use Rattle.racp_cutset.specs.Covering.{SearchNode}
+use Rattle.racp_cutset.specs.Kept.{StayKept, IsKeptOrDropped}
 use Rattle.racp_search.specs.Searching.{SearchFrame, open_windows, IsSearching, weights}
 use Rattle.racp_search.specs.Steps.{IsNext}
 use Rattle.racp_search.proofs.Stacks.{open-last, searching-next, searching-popped, split-higher, frame-refuted}
 use Rattle.racp_search.proofs.Weights.{weights-append}
+
+-- one record more, or none, leaves what was kept
+pub one_more : (start old : List SearchNode) (record_node : SearchNode) (new : List SearchNode) → StayKept start old → IsKeptOrDropped old record_node new → StayKept start new
+one_more start old record_node new kept step = elim step [
+  | inl more ↦ (kept.0 ++ record_node ∷ [], more ∙ (ap (λ (xs : List SearchNode). xs ++ record_node ∷ []) kept.1 ∙ append_assoc start kept.0 (record_node ∷ [])))
+  | inr same ↦ (kept.0, same ∙ kept.1)
+]
+
+-- so do more records, again and again
+pub kept_on : (start mid new : List SearchNode) → StayKept start mid → StayKept mid new → StayKept start new
+kept_on start mid new first second =
+    (first.0 ++ second.0, second.1 ∙ (ap (λ (xs : List SearchNode). xs ++ second.0) first.1 ∙ append_assoc start first.0 second.0))
 
 -- a list without elements
 pub empty : {X : Type 0} (xs : List X) → length xs ≡ 0 → xs ≡ []

@@ -1,5 +1,5 @@
 -- Contracts of private functions: the child windows of a window at a conflict. Lists of jobs hold job numbers, from 1.
-use Rattle.std.specs.Prelude.{◌≡◌, ℕ, ◌<◌, ◌⊎◌, max, List, [], ◌∷◌, length, slice_index, Contains}
+use Rattle.std.specs.Prelude.{◌≡◌, ℕ, ◌<◌, ◌⊎◌, max, List, [], ◌∷◌, length, slice_index, Contains, Option, Some, None}
 use Rattle.racp_model.specs.Project.{Project, number}
 use Rattle.racp_model.specs.Window.{Bounds}
 use Rattle.racp_delay.specs.Alternatives.{Splits, AreAlternatives}
@@ -13,6 +13,11 @@ NoneStays active gone = (kept : List ℕ) → Splits active gone kept → kept �
 abbrev pub IsChildFor : Project → List ℕ → List ℕ → Bounds → List ℕ → Bounds → Type 0
 IsChildFor p early active window gone child =
     (length child.lower ≡ length window.lower) × ((kept : List ℕ) → Splits active gone kept → IsChild p early window gone kept child)
+
+-- that child window, or none where no active job stays
+abbrev pub IsChildAnswer : Project → List ℕ → List ℕ → Bounds → List ℕ → Option Bounds → Type 0
+IsChildAnswer p early active window gone (Some child) = IsChildFor p early active window gone child
+IsChildAnswer p early active window gone None = NoneStays active gone
 
 -- one child window for each list of jobs where some stay, in the order of the lists
 abbrev pub AreChildrenOf : Project → List ℕ → List ℕ → Bounds → List (List ℕ) → List Bounds → Type 0

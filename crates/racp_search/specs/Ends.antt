@@ -1,9 +1,10 @@
 -- Contracts of private functions: how a search by depth ends.
-use Rattle.std.specs.Prelude.{◌≡◌, ◌≢◌, ◌↔◌, ℕ, ◌<◌, ◌≤◌, List, [], ◌∷◌, ◌++◌, Bool, IsTrue, IsFalse, Option, Some, None, Contains}
+use Rattle.std.specs.Prelude.{◌≡◌, ◌≢◌, ◌↔◌, ℕ, ◌<◌, ◌≤◌, List, [], ◌∷◌, ◌++◌, Bool, false, IsTrue, IsFalse, Option, Some, None, Contains}
 use Rattle.racp_model.specs.Project.{Project}
 use Rattle.racp_model.specs.Window.{Bounds, Answers}
-use Rattle.racp_search.specs.Truth.{IsTrueFinding}
+use Rattle.racp_search.specs.Truth.{SearchPiece, SearchFinding, IsTrueFinding}
 use Rattle.racp_search.specs.Searching.{SearchFrame, open_windows, IsHigher, IsSearching, weights}
+use Rattle.racp_search.specs.declared.finding.Rest.TheVariants.{Whole, Windows}
 use Rattle.racp_search.specs.declared.searching.Ended.{Ended}
 
 -- whether as many nodes were entered as the quantum allows
@@ -29,6 +30,15 @@ pub record IsEnd (p : Project) (capacities : List ℕ) (window : Bounds) (quantu
   pub spent : IsFalse ended.stopped → ended.rest.items ≢ [] → quantum ≡ Some nodes
   pub all : IsFalse ended.stopped → quantum ≡ None → ended.rest.items ≡ []
   pub higher : 0 < nodes → (part : Bounds) → Contains ended.rest.items part → IsHigher p window part
+
+-- the finding of a search that ended so, after so many nodes
+abbrev pub finding_after : SearchPiece → Ended → ℕ → SearchFinding
+finding_after piece ended nodes =
+    record { piece = piece; rest = Windows ended.rest; found = ended.found; nodes = nodes; stopped = ended.stopped; short = false }
+
+-- a finding that leaves the whole window of the piece
+abbrev pub unsearched : SearchPiece → ℕ → Bool → SearchFinding
+unsearched piece nodes short = record { piece = piece; rest = Whole; found = None; nodes = nodes; stopped = false; short = short }
 
 -- whether the quantum allows no node
 abbrev pub AllowsNone : Option ℕ → Bool → Type 0

@@ -1,7 +1,8 @@
 ghost use Rattle.std.specs.Prelude.{◌≡◌, ◌≢◌, ℕ, ◌<◌, ◌≤◌, [], All, IfOk, length, slice_index};
 ghost use Rattle.racp_model.specs.Project.{IsNumber, IsSound};
+ghost use Rattle.racp_delay.specs.Alternatives.{IsMinimalDelayingAlternative};
 ghost use Rattle.racp_delay.specs.Branching.{IsClash};
-ghost use Rattle.racp_search.specs.Children.{AreChildren, IsPutOff, IsRaised};
+ghost use Rattle.racp_search.specs.Children.{AreChildren, IsChildAnswer, IsPutOff, IsRaised};
 
 use crate::workspace::{Spare, Workspace};
 use racp_delay::{Clash, first_end, laws};
@@ -27,19 +28,45 @@ pub(crate) fn children(
     requires clash { IsClash net.now capacities.now early.now clash.now.time clash.now.active }
     ensures { IfOk result (λ windows. AreChildren net.now capacities.now early.now clash.now.active window.now windows.items) }
 {
-    laws::others_stay();
-    laws::subsets_go();
     workspace.found.find(net, capacities, clash)?;
     let mut windows = workspace.spare.list();
     for list in workspace.found.lists() {
         let gone = list.as_slice();
-        let end = match first_end(net, early, &clash.active, gone) {
-            Some(end) => end,
+        let spare = &mut workspace.spare;
+        let child = match child(spare, net, capacities, window, early, clash, gone)? {
+            Some(child) => child,
             None => continue,
         };
-        windows.push(put_off(&mut workspace.spare, window, gone, end as u32)?)?;
+        windows.push(child)?;
     }
     Ok(windows)
+}
+
+/// The child window in which the jobs of a minimal delaying alternative go; `None` where no active job stays.
+fn child(
+    spare: &mut Spare,
+    net: &Network,
+    capacities: &Capacities,
+    window: &Window,
+    early: &Starts,
+    clash: &Clash,
+    gone: &[u32],
+) -> Result<Option<Window>, AllocError>
+    requires sound { IsSound net.now }
+    requires lower { length window.now.lower ≡ length net.now.jobs }
+    requires early { length early.now ≡ length net.now.jobs }
+    requires small { (i : ℕ) → i < length net.now.jobs → slice_index early.now i ≤ 10000000 }
+    requires clash { IsClash net.now capacities.now early.now clash.now.time clash.now.active }
+    requires minimal { IsMinimalDelayingAlternative net.now capacities.now clash.now.active gone.now }
+    ensures { IfOk result (IsChildAnswer net.now early.now clash.now.active window.now gone.now) }
+{
+    laws::others_stay();
+    laws::subsets_go();
+    let _ = capacities;
+    match first_end(net, early, &clash.active, gone) {
+        Some(end) => Ok(Some(put_off(spare, window, gone, end as u32)?)),
+        None => Ok(None),
+    }
 }
 
 /// The window with the lower bounds of these jobs raised to a time.

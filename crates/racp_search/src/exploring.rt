@@ -5,7 +5,7 @@ ghost use Rattle.racp_search.specs.Ends.{AllowsNone};
 
 use crate::finding::Finding;
 use crate::piece::Piece;
-use crate::searching::search;
+use crate::searching::{Ended, search};
 use crate::stop::{Never, Stop};
 use racp_cutset::{Board, Local};
 use racp_model::{Network, OfNetwork, Question, Starts};
@@ -40,12 +40,10 @@ pub fn explore<N: OfNetwork, S: Stop>(
     }
     let mut nodes = 0;
     let question = piece.question();
-    match search(
+    let end = search(
         alloc, net, question, quantum, &mut nodes, board, local, stop,
-    ) {
-        Ok(ended) => Finding::new(piece, ended.rest, ended.found, nodes, ended.stopped),
-        Err(_) => Finding::whole(piece, nodes, true),
-    }
+    );
+    Finding::after(piece, end, nodes)
 }
 
 /// Whether the quantum allows no node.
@@ -95,5 +93,12 @@ fn decide_named<N: OfNetwork>(
     let ended = search(
         alloc, net, question, None, &mut nodes, &board, &mut local, &Never,
     )?;
-    Ok(ended.found)
+    Ok(found_at(ended))
+}
+
+/// What a search found.
+fn found_at(ended: Ended) -> Option<Starts>
+    ensures { result ≡ ended.found }
+{
+    ended.found
 }

@@ -1,9 +1,12 @@
-ghost use Rattle.std.specs.Prelude.{◌≡◌, option_copied, false};
+ghost use Rattle.std.specs.Prelude.{◌≡◌, IfOk, IfErr, option_copied, true};
 ghost use Rattle.racp_model.specs.Formed.{HasBounds};
 ghost use Rattle.racp_search.specs.Truth.{IsTrueFinding, rest_windows};
+ghost use Rattle.racp_search.specs.Ends.{finding_after, unsearched};
 
 use crate::piece::Piece;
+use crate::searching::Ended;
 use racp_model::{OfNetwork, Starts, Window};
+use std::alloc::AllocError;
 use std::marker::{Model, PhantomData};
 
 /// The windows in which a search has still to look.
@@ -39,32 +42,32 @@ impl<N: OfNetwork> Model for Finding<N> {
 }
 
 impl<N: OfNetwork> Finding<N> {
-    /// What a search of a piece found and left. Takes no memory.
-    pub(crate) fn new(
-        piece: Piece<N>,
-        rest: Vec<Window>,
-        found: Option<Starts>,
-        nodes: u64,
-        stopped: bool,
-    ) -> Self
-        requires { IsTrueFinding N.network piece.question.capacities piece.question.window found rest.items }
-        ensures { result ≡ record { piece = piece; rest = Rest.Windows rest; found = found; nodes = nodes; stopped = stopped; short = false } }
+    /// What a search of a piece found and left, after so many nodes; or the whole window of the piece, where memory was refused.
+    /// Takes no memory.
+    pub(crate) fn after(piece: Piece<N>, end: Result<Ended, AllocError>, nodes: u64) -> Self
+        requires is_true { IfOk end (λ ended. IsTrueFinding N.network piece.question.capacities piece.question.window ended.found ended.rest.items) }
+        requires bounds { HasBounds N.network piece.question.window }
+        ensures ok { IfOk end (λ ended. result ≡ finding_after piece ended nodes) }
+        ensures err { IfErr end (λ _. result ≡ unsearched piece nodes true) }
     {
-        Finding {
-            piece,
-            rest: Rest::Windows(rest),
-            found,
-            nodes,
-            stopped,
-            short: false,
-            of: PhantomData,
+        match end {
+            Ok(ended) => Finding {
+                piece,
+                rest: Rest::Windows(ended.rest),
+                found: ended.found,
+                nodes,
+                stopped: ended.stopped,
+                short: false,
+                of: PhantomData,
+            },
+            Err(_) => Finding::whole(piece, nodes, true),
         }
     }
 
     /// Nothing found, and the whole window of the piece left. Takes no memory.
     pub(crate) fn whole(piece: Piece<N>, nodes: u64, short: bool) -> Self
         requires { HasBounds N.network piece.question.window }
-        ensures { result ≡ record { piece = piece; rest = Rest.Whole; found = None; nodes = nodes; stopped = false; short = short } }
+        ensures { result ≡ unsearched piece nodes short }
     {
         Finding {
             piece,

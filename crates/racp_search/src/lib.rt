@@ -16,5 +16,5 @@ mod workspace;
 
 pub use exploring::{decide, explore};
 pub use finding::{Finding, Rest};
-pub use piece::Piece;
+pub use piece::{Collector, Piece};
 pub use stop::{Never, Stop};

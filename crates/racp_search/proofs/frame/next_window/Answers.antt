@@ -1,9 +1,9 @@
 use Rattle.std.proofs.Common.{arith}
-use Rattle.racp_search.proofs.Popping.{is_next, is_refuted, is_popped, popped-lighter}
+use Rattle.racp_search.proofs.Popping.{is_next, is_refuted, is_popped, popped-lighter, one_more}
 use Rattle.racp_search.proofs.frame.next_window.Goals as goal
 
-pub returns-in-Some-pop : goal.returns-in-Some-pop
-returns-in-Some-pop g c =
+pub returns-in-Some-pop-clause-next : goal.returns-in-Some-pop-clause-next
+returns-in-Some-pop-clause-next g c =
     is_next g.N.OfNetwork.network c.args.question.now.capacities c.args.question.now.window c.args.stack.now.items c.loop-frame.stack.items c.pop.new.self.items c.in-Some.frame c.frame.inside.node c.frame.inside.children.items
     c.pop-in-Some.new.self.items c.in-Some-pop.window c.push.new.self.items c.in-Some.ensures.items c.frame.view_is c.loop-frame.invariant.state c.loop-frame.invariant.lighter c.in-Some-pop.ensures.items c.in_ok-push-in-Some-pop.ensures.items
 
@@ -18,4 +18,5 @@ loop-frame-preserved g c = record {
       c.in-Some.ensures.items c.frame.view_is c.loop-frame.invariant.state (omega (arith, c.frame.inside.children.ok.0, c.in-None.ensures.cases.0));
   lighter = popped-lighter g.N.OfNetwork.network c.args.question.now.capacities c.args.question.now.window c.args.stack.now.items c.loop-frame.stack.items c.pop.new.self.items c.in-Some.frame c.frame.inside.node c.frame.inside.children.items
       c.in-Some.ensures.items c.loop-frame.invariant.lighter;
+  kept = one_more c.args.local.now c.loop-frame.local c.of_reusing-nogood.result.0 c.keep.new.self c.loop-frame.invariant.kept c.keep.ensures;
 }

@@ -1,4 +1,5 @@
 use Rattle.std.proofs.Common.{◌<◌, ◌≤◌, ◌++◌, ◌∷◌, [], IfSome}
+use Rattle.racp_cutset.specs.Kept.{StayKept}
 use Rattle.racp_search.specs.Searching.{IsSearching, IsHigher, open_windows, weights}
 use Rattle.racp_search.proofs.searching.search.Given as goal
 
@@ -7,6 +8,7 @@ invariant-next g l = record {
   state : IsSearching g.N.OfNetwork.network l.question.capacities l.question.window l.stack.items (l.window ∷ []);
   higher : 0 < l.nodes → IsHigher g.N.OfNetwork.network l.question.window l.window;
   bounded : IfSome l.quantum (λ most. l.nodes ≤ most);
+  kept : StayKept l.fn.local l.local;
 }
 
 abbrev pub decreases-next : goal.decreases-next
