@@ -5,16 +5,16 @@ use Rattle.std.proofs.lemmas.Bool.{cases_lt}
 use borrow.Author.Tests.{leb-true, leb-false}
 use Rattle.racp_model.specs.Project.{Project}
 use Rattle.racp_model.specs.Window.{Answers}
-use Rattle.racp_search.specs.declared.piece.Piece.{Piece}
-use Rattle.racp_core.specs.Machine.{QuestionRow, KnownYes, Machine, all_questions, row_at, no_row, IsBefore}
-use Rattle.racp_core.specs.Truth.{IsKept, HasAnswer, IsSound}
+use Rattle.racp_search.specs.Truth.{SearchPiece}
+use Rattle.racp_core.specs.Machine.{QuestionRow, KnownYes, Machine, all_questions, row_at, no_row, StandsBefore}
+use Rattle.racp_core.specs.Truth.{IsKept, HasAnswer, IsSoundState}
 use Rattle.racp_core.specs.Steps.{IsOut, IsBack, out_of, lesser, AreShutFrom}
 use Rattle.racp_core.proofs.Kept.{lies_inside, out_held}
 use Rattle.racp_core.proofs.Questions.{questions_in, AreSameQuestions, set_same, shut_same, same_trans, same_all}
 use Rattle.racp_core.proofs.Sound.{answer_stays, formed_stays}
 
 -- what stands before the lesser of two yeses stands before both
-pub before_lesser : (least : Option KnownYes) (y : KnownYes) (i : ℕ) → IsBefore (Some (lesser least y)) i → IsBefore least i × (i < y.index)
+pub before_lesser : (least : Option KnownYes) (y : KnownYes) (i : ℕ) → StandsBefore (Some (lesser least y)) i → StandsBefore least i × (i < y.index)
 before_lesser None y i b = (tt, b)
 before_lesser (Some x) y i b = go (nat_le x.index y.index) refl b
   where
@@ -23,7 +23,7 @@ before_lesser (Some x) y i b = go (nat_le x.index y.index) refl b
     go false e b = let o = leb-false x.index y.index e in (omega (arith, o, b), b)
 
 -- and the other way round
-pub lesser_after : (least : Option KnownYes) (y : KnownYes) (i : ℕ) → IsBefore least i → i < y.index → IsBefore (Some (lesser least y)) i
+pub lesser_after : (least : Option KnownYes) (y : KnownYes) (i : ℕ) → StandsBefore least i → i < y.index → StandsBefore (Some (lesser least y)) i
 lesser_after None y i b l = l
 lesser_after (Some x) y i b l = go (nat_le x.index y.index) refl
   where
@@ -33,7 +33,7 @@ lesser_after (Some x) y i b l = go (nat_le x.index y.index) refl
 
 -- the lesser of two yeses has an answer
 lesser_answer : (p : Project) (asked next : List QuestionRow) (least : Option KnownYes) (index : ℕ) (starts : List ℕ) → AreSameQuestions asked next → index < length asked →
-    (IsBefore least index → Answers p (row_at asked index).question.capacities (row_at asked index).question.window starts) → HasAnswer p asked least → HasAnswer p next (Some (lesser least (record { index = index; starts = starts })))
+    (StandsBefore least index → Answers p (row_at asked index).question.capacities (row_at asked index).question.window starts) → HasAnswer p asked least → HasAnswer p next (Some (lesser least (record { index = index; starts = starts })))
 lesser_answer p asked next None index starts same there new h = answer_stays p asked next (Some (record { index = index; starts = starts })) same (there, new tt)
 lesser_answer p asked next (Some x) index starts same there new h = go (nat_le x.index index) refl
   where
@@ -42,9 +42,9 @@ lesser_answer p asked next (Some x) index starts same there new h = go (nat_le x
     go false e = let o = leb-false x.index index e in answer_stays p asked next (Some (record { index = index; starts = starts })) same (there, new (omega (arith, o)))
 
 -- a piece comes back with a yes
-pub sound_answered : (p : Project) (m : Machine) (piece : Piece) (starts : List ℕ) (row : QuestionRow) (next : List QuestionRow) → IsOut m piece → IsBack (out_of piece) [] (row_at m.asked piece.index) row →
-    AreShutFrom piece.index (slice_set m.asked piece.index row) next → Answers p piece.question.capacities piece.question.window starts → IsSound p m →
-    IsSound p (record m { asked = next; least = Some (lesser m.least (record { index = piece.index; starts = starts })) })
+pub sound_answered : (p : Project) (m : Machine) (piece : SearchPiece) (starts : List ℕ) (row : QuestionRow) (next : List QuestionRow) → IsOut m piece → IsBack (out_of piece) [] (row_at m.asked piece.index) row →
+    AreShutFrom piece.index (slice_set m.asked piece.index row) next → Answers p piece.question.capacities piece.question.window starts → IsSoundState p m →
+    IsSoundState p (record m { asked = next; least = Some (lesser m.least (record { index = piece.index; starts = starts })) })
 sound_answered p m piece starts row next (there, capacities, out) back shutting answer h = record {
   kept = kept;
   answers = lesser_answer p m.asked next m.least piece.index starts same there new h.answers;
@@ -62,18 +62,18 @@ sound_answered p m piece starts row next (there, capacities, out) back shutting 
     stays : (i : ℕ) → i < piece.index → row_at next i ≡ row_at m.asked i
     stays i l = shutting.before i l ∙ get_or-set_other m.asked piece.index i row no_row (λ e. absurd (omega (arith, e, l)))
 
-    kept : (i : ℕ) → i < length next → IsBefore (Some (lesser m.least (record { index = piece.index; starts = starts }))) i → IsKept p (row_at next i)
+    kept : (i : ℕ) → i < length next → StandsBefore (Some (lesser m.least (record { index = piece.index; starts = starts }))) i → IsKept p (row_at next i)
     kept i l b =
         let both = before_lesser m.least (record { index = piece.index; starts = starts }) i b in
         rw (stays i both.1) (h.kept i (let e = same.places in omega (arith, l, e)) both.0)
 
-    new : IsBefore m.least piece.index → Answers p (row_at m.asked piece.index).question.capacities (row_at m.asked piece.index).question.window starts
+    new : StandsBefore m.least piece.index → Answers p (row_at m.asked piece.index).question.capacities (row_at m.asked piece.index).question.window starts
     new b = record {
       lies = lies_inside p (row_at m.asked piece.index).question.window piece.question.window starts ((h.kept piece.index there b).inside piece.question.window (out_held (out_of piece) (row_at m.asked piece.index) out)) answer.lies;
       fits = rw (← capacities) answer.fits;
     }
 
-    shut_after : (i : ℕ) → i < length next → (IsBefore (Some (lesser m.least (record { index = piece.index; starts = starts }))) i → ⊥) → (row_at next i).ready ≡ []
+    shut_after : (i : ℕ) → i < length next → (StandsBefore (Some (lesser m.least (record { index = piece.index; starts = starts }))) i → ⊥) → (row_at next i).ready ≡ []
     shut_after i l b = elim (cases_lt i piece.index) [
       | inl before ↦ rw (stays i before) (h.shut i (let e = same.places in omega (arith, l, e)) (λ was. b (lesser_after m.least (record { index = piece.index; starts = starts }) i was before)))
       | inr after ↦ ap (λ (r : QuestionRow). r.ready) (shutting.after i (omega (arith, after)) (let e = same.places in let f = set_there.places in omega (arith, l, e, f)))

@@ -5,7 +5,8 @@ use Rattle.racp_model.specs.Project.{Project}
 use Rattle.racp_model.specs.declared.question.Question.{Question}
 use Rattle.racp_core.specs.Machine.{QuestionRow, Machine, all_questions, opened}
 use Rattle.racp_core.specs.Steps.{IsNextAsked}
-use Rattle.racp_core.specs.Rows.{IsState, IsOpening, IsOpenedIf}
+use Rattle.racp_core.specs.Rows.{IsOpening, IsOpenedIf}
+use Rattle.racp_core.specs.Truth.{IsState}
 use Rattle.racp_core.proofs.Questions.{questions_in, asked_all}
 use Rattle.racp_core.proofs.Sound.{sound_ended}
 use Rattle.racp_core.proofs.States.{state_asked}

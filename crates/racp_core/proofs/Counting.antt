@@ -9,13 +9,13 @@ use Rattle.std.proofs.lemmas.Map.Keys.{below_from_sorted}
 use borrow.Author.Tests.{ltb-true, ltb-false}
 use Rattle.racp_model.proofs.lemmas.Relations.{same_from_members}
 use Rattle.racp_candidates.proofs.Members.{filter_from, filter_to, range_from, range_to}
-use Rattle.racp_core.specs.Machine.{KnownYes, Machine, row_at, is_before, IsBefore}
+use Rattle.racp_core.specs.Machine.{KnownYes, Machine, row_at, is_before, StandsBefore}
 use Rattle.racp_core.specs.Counts.{is_undecided, undecided_count}
-use Rattle.racp_core.specs.Rows.{AreUndecided}
+use Rattle.racp_core.specs.Truth.{AreUndecided}
 use Rattle.racp_core.proofs.Sound.{before_true}
 
 -- the test says what is undecided
-before_from : (least : Option KnownYes) (i : ℕ) → is_before least i ≡ true → IsBefore least i
+before_from : (least : Option KnownYes) (i : ℕ) → is_before least i ≡ true → StandsBefore least i
 before_from None i e = tt
 before_from (Some y) i e = ltb-true i y.index e
 

@@ -5,7 +5,8 @@ use Rattle.std.proofs.lemmas.Bool.{cases_eq, cases_lt}
 use Rattle.racp_model.specs.declared.question.Question.{Question}
 use Rattle.racp_core.specs.Machine.{PieceOut, QuestionRow, KnownYes, opened, row_at, no_row, IsUndecided}
 use Rattle.racp_core.specs.Steps.{IsSent, lesser, AreShutFrom}
-use Rattle.racp_core.specs.Rows.{AreUndecided, IsAdded, IsCutAt, IsSettledAt}
+use Rattle.racp_core.specs.Rows.{IsAdded, IsCutAt, IsSettledAt}
+use Rattle.racp_core.specs.Truth.{AreUndecided}
 use Rattle.racp_core.proofs.Answered.{before_lesser, lesser_after}
 
 -- one question more

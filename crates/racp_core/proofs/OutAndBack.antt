@@ -5,7 +5,7 @@ use Rattle.std.proofs.lemmas.List.Sorted.{IsPermutation-swap_remove, IsPermutati
 use Rattle.std.proofs.lemmas.List.{get_or_read, get_or_push}
 use Rattle.racp_model.specs.Window.{Bounds}
 use Rattle.racp_model.specs.declared.question.Question.{Question}
-use Rattle.racp_search.specs.declared.piece.Piece.{Piece}
+use Rattle.racp_search.specs.Truth.{SearchPiece}
 use Rattle.racp_core.specs.Machine.{PieceOut, QuestionRow}
 use Rattle.racp_core.specs.Rows.{no_out, IsCut}
 
@@ -21,7 +21,7 @@ last_of xs ys w d n e m =
     rw e (get_or_push ys w d (n - 1) at)
 
 -- the last open window goes out
-pub cut : (number seat index : ℕ) (old new : QuestionRow) (piece : Piece) (question : Question) → piece ≡ record { number = number; seat = seat; index = index; question = question } → question.capacities ≡ old.question.capacities → new.question ≡ old.question →
+pub cut : (number seat index : ℕ) (old new : QuestionRow) (piece : SearchPiece) (question : Question) → piece ≡ record { number = number; seat = seat; index = index; question = question } → question.capacities ≡ old.question.capacities → new.question ≡ old.question →
     old.ready ≡ new.ready ++ question.window ∷ [] → new.out ≡ old.out ++ record { number = number; seat = seat; window = question.window } ∷ [] → IsCut number seat index old piece new
 cut number seat index old new piece question is same kept ready out = rw is (record {
   numbered = refl;

@@ -4,11 +4,11 @@ use Rattle.std.proofs.lemmas.List.{get_or_default, get_or_read}
 use Rattle.racp_model.specs.Project.{Project}
 use Rattle.racp_model.specs.Window.{Bounds, Answers}
 use Rattle.racp_model.specs.declared.question.Question.{Question}
-use Rattle.racp_search.specs.declared.piece.Piece.{Piece}
-use Rattle.racp_search.specs.Truth.{IsRestOf, IsTrueFinding}
-use Rattle.racp_core.specs.Machine.{PieceOut, QuestionRow, KnownYes, Machine, all_questions, opened, row_at, no_row, is_before, IsBefore}
+use Rattle.racp_search.specs.Truth.{SearchPiece, IsRestOf, IsTrueFinding}
+use Rattle.racp_core.specs.Machine.{PieceOut, QuestionRow, KnownYes, Machine, all_questions, opened, row_at, no_row, is_before, StandsBefore}
 use Rattle.racp_core.specs.Steps.{IsOut, IsSent, IsBack, out_of, windows_before, lesser, AreShutFrom, IsReturned, IsAnswered, IsPieceTaken}
-use Rattle.racp_core.specs.Rows.{no_out, IsPlaceIn, IsState, IsAdded, IsRemoved, IsSettledAt, IsCutAt}
+use Rattle.racp_core.specs.Rows.{no_out, IsPlaceIn, IsAdded, IsRemoved, IsSettledAt, IsCutAt}
+use Rattle.racp_core.specs.Truth.{IsState}
 use Rattle.racp_core.proofs.Kept.{whole_rest, out_held}
 use Rattle.racp_core.proofs.Questions.{set_same, shut_same, same_trans, same_all}
 use Rattle.racp_core.proofs.Sound.{sound_asked, sound_sent, sound_back}
@@ -33,7 +33,7 @@ state_asked p m places more question rest none next added h = record {
 }
 
 -- a piece goes out
-pub state_sent : (p : Project) (m : Machine) (places : List ℕ) (index taken : ℕ) (piece : PieceOut) (row : QuestionRow) → index < length m.asked → IsBefore m.least index → 0 < length (row_at m.asked index).ready →
+pub state_sent : (p : Project) (m : Machine) (places : List ℕ) (index taken : ℕ) (piece : PieceOut) (row : QuestionRow) → index < length m.asked → StandsBefore m.least index → 0 < length (row_at m.asked index).ready →
     IsSent piece (row_at m.asked index) row → IsState p m places → IsState p (record m { asked = slice_set m.asked index row; taken = taken }) places
 state_sent p m places index taken piece row l before some sent h = record {
   sound = sound_sent p m index taken piece row l before sent h.sound;
@@ -41,16 +41,16 @@ state_sent p m places index taken piece row l before some sent h = record {
 }
 
 -- a piece at its place is out
-pub place_out : (m : Machine) (piece : Piece) (at : ℕ) → IsPlaceIn m.asked piece at → IsOut m piece
+pub place_out : (m : Machine) (piece : SearchPiece) (at : ℕ) → IsPlaceIn m.asked piece at → IsOut m piece
 place_out m piece at h = (h.index, h.place.capacities, (at, h.place.within, get_or_default (row_at m.asked piece.index).out at (out_of piece) no_out h.place.within ∙ h.place.is))
 
 -- so something of its question is
-busy_there : (m : Machine) (piece : Piece) → IsOut m piece → 0 < length (row_at m.asked piece.index).ready + length (row_at m.asked piece.index).out
+busy_there : (m : Machine) (piece : SearchPiece) → IsOut m piece → 0 < length (row_at m.asked piece.index).ready + length (row_at m.asked piece.index).out
 busy_there m piece (l, same, (k, within, e)) = omega (arith, within)
 
 -- a piece comes back, with what is left of its window
-pub state_back : (p : Project) (m : Machine) (places more : List ℕ) (piece : Piece) (windows : List Bounds) (row : QuestionRow) → IsOut m piece → IsBack (out_of piece) (windows_before m.least piece.index windows) (row_at m.asked piece.index) row →
-    (IsBefore m.least piece.index → IsRestOf p piece.question.capacities piece.question.window windows) → IsSettledAt (slice_set m.asked piece.index row) places piece.index more → IsState p m places →
+pub state_back : (p : Project) (m : Machine) (places more : List ℕ) (piece : SearchPiece) (windows : List Bounds) (row : QuestionRow) → IsOut m piece → IsBack (out_of piece) (windows_before m.least piece.index windows) (row_at m.asked piece.index) row →
+    (StandsBefore m.least piece.index → IsRestOf p piece.question.capacities piece.question.window windows) → IsSettledAt (slice_set m.asked piece.index row) places piece.index more → IsState p m places →
     IsState p (record m { asked = slice_set m.asked piece.index row }) more
 state_back p m places more piece windows row out back rest settled h = record {
   sound = sound_back p m piece.index (out_of piece) windows row out.0 back (λ b. subst (λ (c : List ℕ). IsRestOf p c piece.question.window windows) out.1 (rest b)) h.sound;
@@ -58,9 +58,9 @@ state_back p m places more piece windows row out back rest settled h = record {
 }
 
 -- so it does where the code looks at its place
-pub state_put : (p : Project) (m now : Machine) (places more : List ℕ) (piece : Piece) (at index : ℕ) (opens : Bool) (windows : List Bounds) (row new : QuestionRow) → m ≡ now → index ≡ piece.index → IsPlaceIn now.asked piece at →
+pub state_put : (p : Project) (m now : Machine) (places more : List ℕ) (piece : SearchPiece) (at index : ℕ) (opens : Bool) (windows : List Bounds) (row new : QuestionRow) → m ≡ now → index ≡ piece.index → IsPlaceIn now.asked piece at →
     opens ≡ is_before now.least index → row ≡ slice_index_or m.asked index row → IsBack (slice_index_or row.out at no_out) (if opens then windows else []) row new →
-    (IsBefore m.least piece.index → IsRestOf p piece.question.capacities piece.question.window windows) → IsSettledAt (slice_set m.asked index new) places index more → IsState p m places → IsState p (record m { asked = slice_set m.asked index new }) more
+    (StandsBefore m.least piece.index → IsRestOf p piece.question.capacities piece.question.window windows) → IsSettledAt (slice_set m.asked index new) places index more → IsState p m places → IsState p (record m { asked = slice_set m.asked index new }) more
 state_put p m now places more piece at index opens windows row new same e place is here back rest settled h =
     subst (λ (k : ℕ). IsState p (record m { asked = slice_set m.asked k new }) more) (sym e)
     (state_back p m places more piece windows new (place_out m piece at there) moved rest (subst (λ (k : ℕ). IsSettledAt (slice_set m.asked k new) places k more) e settled) h)
@@ -81,7 +81,7 @@ state_put p m now places more piece at index opens windows row new same e place 
         (subst (λ (b : Bool). IsBack (slice_index_or row.out at no_out) (if b then windows else []) row new) test back))
 
 -- the window of a piece that is out is what is left of it
-pub whole_left : (p : Project) (m : Machine) (places : List ℕ) (piece : Piece) → IsOut m piece → IsState p m places → IsBefore m.least piece.index → IsRestOf p piece.question.capacities piece.question.window (piece.question.window ∷ [])
+pub whole_left : (p : Project) (m : Machine) (places : List ℕ) (piece : SearchPiece) → IsOut m piece → IsState p m places → StandsBefore m.least piece.index → IsRestOf p piece.question.capacities piece.question.window (piece.question.window ∷ [])
 whole_left p m places piece out h b =
     whole_rest p piece.question.capacities piece.question.window ((h.sound.kept piece.index out.0 b).bounds piece.question.window (out_held (out_of piece) (row_at m.asked piece.index) out.2))
 
@@ -101,7 +101,7 @@ settled_done asked index row old new l here none removed i =
     (λ c. (let was = (removed i).0 c in (was.0, λ same. absurd (was.1 same))), λ held. (removed i).1 (held.0, λ same. (let busy = held.1 same in omega (arith, busy, done))))
 
 -- a piece comes back, with a yes
-pub state_answered : (p : Project) (m : Machine) (places more : List ℕ) (piece : Piece) (starts : List ℕ) (row : QuestionRow) (next : List QuestionRow) → IsOut m piece → IsBack (out_of piece) [] (row_at m.asked piece.index) row →
+pub state_answered : (p : Project) (m : Machine) (places more : List ℕ) (piece : SearchPiece) (starts : List ℕ) (row : QuestionRow) (next : List QuestionRow) → IsOut m piece → IsBack (out_of piece) [] (row_at m.asked piece.index) row →
     AreShutFrom piece.index (slice_set m.asked piece.index row) next → IsCutAt places piece.index more → Answers p piece.question.capacities piece.question.window starts → IsState p m places →
     IsState p (record m { asked = next; least = Some (lesser m.least (record { index = piece.index; starts = starts })) }) more
 state_answered p m places more piece starts row next out back shutting cutting answer h = record {
@@ -110,15 +110,15 @@ state_answered p m places more piece starts row next out back shutting cutting a
 }
 
 -- the questions stay where a piece goes out, or comes back
-pub taken_all : (old : Machine) (seat : ℕ) (piece : Piece) (new : Machine) → IsPieceTaken old seat piece new → all_questions new ≡ all_questions old
+pub taken_all : (old : Machine) (seat : ℕ) (piece : SearchPiece) (new : Machine) → IsPieceTaken old seat piece new → all_questions new ≡ all_questions old
 taken_all old seat piece new h =
     ap all_questions h.row.2 ∙ same_all old.asked (slice_set old.asked piece.index h.row.0) old.to_come (set_same old.asked piece.index h.row.0 h.least.asked h.row.1.0)
 
-pub returned_all : (old : Machine) (piece : Piece) (windows : List Bounds) (new : Machine) → IsReturned old piece windows new → all_questions new ≡ all_questions old
+pub returned_all : (old : Machine) (piece : SearchPiece) (windows : List Bounds) (new : Machine) → IsReturned old piece windows new → all_questions new ≡ all_questions old
 returned_all old piece windows new h =
     ap all_questions h.row.2 ∙ same_all old.asked (slice_set old.asked piece.index h.row.0) old.to_come (set_same old.asked piece.index h.row.0 h.out.0 h.row.1.0)
 
-pub answered_all : (old : Machine) (piece : Piece) (starts : List ℕ) (new : Machine) → IsAnswered old piece starts new → all_questions new ≡ all_questions old
+pub answered_all : (old : Machine) (piece : SearchPiece) (starts : List ℕ) (new : Machine) → IsAnswered old piece starts new → all_questions new ≡ all_questions old
 answered_all old piece starts new h =
     ap all_questions h.rest ∙ same_all old.asked new.asked old.to_come
     (same_trans old.asked (slice_set old.asked piece.index h.row.0) new.asked (set_same old.asked piece.index h.row.0 h.out.0 h.row.1.0) (shut_same piece.index (slice_set old.asked piece.index h.row.0) new.asked h.row.2))
@@ -128,7 +128,7 @@ pub state_read : (p : Project) (m : Machine) (places : List ℕ) (index : ℕ) (
 state_read p m places index row new l here same h = state_same p m places index new (same ∙ get_or_read m.asked index row l here no_row) l h
 
 -- what the code does where a piece comes back with a yes
-module _ (m now : Machine) (places more : List ℕ) (piece : Piece) (at index : ℕ) (starts : List ℕ) (row new : QuestionRow) (next : List QuestionRow) (best : KnownYes) (same : m ≡ now) (e : index ≡ piece.index) (place : IsPlaceIn now.asked piece at)
+module _ (m now : Machine) (places more : List ℕ) (piece : SearchPiece) (at index : ℕ) (starts : List ℕ) (row new : QuestionRow) (next : List QuestionRow) (best : KnownYes) (same : m ≡ now) (e : index ≡ piece.index) (place : IsPlaceIn now.asked piece at)
     (here : row ≡ slice_index_or m.asked index row) (back : IsBack (slice_index_or row.out at no_out) [] row new) (shutting : AreShutFrom index (slice_set m.asked index new) next) (lesser_is : best ≡ lesser m.least (record { index = index; starts = starts })) where
   yes_place : IsPlaceIn m.asked piece at
   yes_place = subst (λ (x : Machine). IsPlaceIn x.asked piece at) (sym same) place

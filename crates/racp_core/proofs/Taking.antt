@@ -7,17 +7,18 @@ use Rattle.racp_model.specs.Project.{Project}
 use Rattle.racp_model.specs.Formed.{IsFormed}
 use Rattle.racp_model.specs.declared.question.Question.{Question}
 use Rattle.racp_model.proofs.lemmas.Relations.{member_first}
-use Rattle.racp_search.specs.declared.piece.Piece.{Piece}
+use Rattle.racp_search.specs.Truth.{SearchPiece}
 use Rattle.racp_candidates.specs.FirstYes.{no_question}
-use Rattle.racp_core.specs.Machine.{QuestionRow, KnownYes, Machine, all_questions, row_at, no_row, IsBefore}
+use Rattle.racp_core.specs.Machine.{QuestionRow, KnownYes, Machine, all_questions, row_at, no_row, StandsBefore}
 use Rattle.racp_core.specs.Steps.{IsSent, IsLeastOpen, HasNoOpen, IsPieceTaken, out_of}
-use Rattle.racp_core.specs.Rows.{IsState, IsFirstReady, IsCut}
+use Rattle.racp_core.specs.Rows.{IsFirstReady, IsCut}
+use Rattle.racp_core.specs.Truth.{IsState}
 use Rattle.racp_core.proofs.Places.{empty_from}
 use Rattle.racp_core.proofs.Questions.{questions_in}
 use Rattle.racp_core.proofs.States.{state_sent}
 
 -- what stands before a place before the least yes does too
-before_down : (least : Option KnownYes) (i j : ℕ) → IsBefore least i → j < i → IsBefore least j
+before_down : (least : Option KnownYes) (i j : ℕ) → StandsBefore least i → j < i → StandsBefore least j
 before_down None i j b l = tt
 before_down (Some y) i j b l = omega (arith, b, l)
 
@@ -40,7 +41,7 @@ module _ (p : Project) (m : Machine) (places : List ℕ) (h : IsState p m places
   }
 
   -- an open window of it goes out
-  module _ (index taken seat : ℕ) (row new : QuestionRow) (piece : Piece) (first : IsFirstReady m.asked places index) (here : row ≡ slice_index_or m.asked index row) (cut : IsCut taken seat index row piece new) where
+  module _ (index taken seat : ℕ) (row new : QuestionRow) (piece : SearchPiece) (first : IsFirstReady m.asked places index) (here : row ≡ slice_index_or m.asked index row) (cut : IsCut taken seat index row piece new) where
     taken_row : row ≡ row_at m.asked index
     taken_row = get_or_read m.asked index row first.asked_there here no_row
 

@@ -8,9 +8,9 @@ use Rattle.racp_model.specs.Window.{Answers}
 use Rattle.racp_model.specs.declared.question.Question.{Question}
 use Rattle.racp_model.proofs.lemmas.Relations.{no_member}
 use Rattle.racp_candidates.specs.FirstYes.{question_at, IsFirstYes, IsNoAt, AreNoBefore, IsReached}
-use Rattle.racp_core.specs.Machine.{QuestionRow, KnownYes, Machine, all_questions, row_at, no_row, IsBefore, IsDone, AreDone, IsSettledBy, IsSettled, IsUndecided}
-use Rattle.racp_core.specs.Truth.{HasAnswer, IsSound}
-use Rattle.racp_core.specs.Rows.{IsState, IsFirstPlace}
+use Rattle.racp_core.specs.Machine.{QuestionRow, KnownYes, Machine, all_questions, row_at, no_row, StandsBefore, IsDone, AreDone, IsSettledBy, IsSettled, IsUndecided}
+use Rattle.racp_core.specs.Truth.{HasAnswer, IsSoundState, IsState}
+use Rattle.racp_core.specs.Rows.{IsFirstPlace}
 use Rattle.racp_core.specs.Replies.{IsFirstOpen, IsYesKnown, capacities_at}
 use Rattle.racp_core.proofs.Kept.{done_no}
 use Rattle.racp_core.proofs.Places.{empty_from}
@@ -35,23 +35,23 @@ unsettled_running None ended asked none e (yes_ended, done) = absurd (let clash 
 unsettled_running (Some y) ended asked none e done = absurd (cc none)
 
 -- where each question before a place that is not before the least yes is done, the answer is known
-settled_past : (least : Option KnownYes) (ended : Bool) (asked : List QuestionRow) (j : ℕ) → (IsBefore least j → ⊥) → ((k : ℕ) → k < j → IsBefore least k → IsDone (row_at asked k)) → IsSettledBy least ended asked
+settled_past : (least : Option KnownYes) (ended : Bool) (asked : List QuestionRow) (j : ℕ) → (StandsBefore least j → ⊥) → ((k : ℕ) → k < j → StandsBefore least k → IsDone (row_at asked k)) → IsSettledBy least ended asked
 settled_past None ended asked j not done = absurd (not tt)
 settled_past (Some y) ended asked j not done = λ k l. done k (elim (cases_lt j y.index) [ inl before ↦ absurd (not before) | inr after ↦ omega (arith, after, l) ]) l
 
 module _ (p : Project) (m : Machine) (places : List ℕ) (h : IsState p m places) where
   -- no place is left
-  pub none_undecided : places ≡ [] → (i : ℕ) → i < length m.asked → IsBefore m.least i → IsDone (row_at m.asked i)
+  pub none_undecided : places ≡ [] → (i : ℕ) → i < length m.asked → StandsBefore m.least i → IsDone (row_at m.asked i)
   none_undecided e i l b = done_from (row_at m.asked i) (λ busy. no_member i (subst (λ (xs : List ℕ). Contains xs i) e ((h.undecided i).1 (l, b, busy))))
 
   pub settled_yes : (y : KnownYes) → places ≡ [] → m.least ≡ Some y → IsSettled m
   settled_yes y e known =
       let there : HasAnswer p m.asked (Some y) = subst (λ (least : Option KnownYes). HasAnswer p m.asked least) known h.sound.answers in
-      subst (λ (least : Option KnownYes). IsSettledBy least m.ended m.asked) (sym known) (λ i l. none_undecided e i (omega (arith, l, there.0)) (subst (λ (least : Option KnownYes). IsBefore least i) (sym known) l))
+      subst (λ (least : Option KnownYes). IsSettledBy least m.ended m.asked) (sym known) (λ i l. none_undecided e i (omega (arith, l, there.0)) (subst (λ (least : Option KnownYes). StandsBefore least i) (sym known) l))
 
   pub settled_none : places ≡ [] → m.least ≡ None → m.ended ≡ true → IsSettled m
   settled_none e known over =
-      subst (λ (least : Option KnownYes). IsSettledBy least m.ended m.asked) (sym known) (over, λ i l. none_undecided e i l (subst (λ (least : Option KnownYes). IsBefore least i) (sym known) tt))
+      subst (λ (least : Option KnownYes). IsSettledBy least m.ended m.asked) (sym known) (over, λ i l. none_undecided e i l (subst (λ (least : Option KnownYes). StandsBefore least i) (sym known) tt))
 
   pub pending_first : (i : ℕ) → IsFirstPlace places i → IsSettled m → ⊥
   pending_first i first = unsettled m.least m.ended m.asked i ((h.undecided i).0 first.is)
@@ -75,9 +75,9 @@ module _ (p : Project) (m : Machine) (places : List ℕ) (h : IsState p m places
     open_there = λ l dec. omega (arith, l);
   }
 
-module _ (p : Project) (m : Machine) (sound : IsSound p m) where
+module _ (p : Project) (m : Machine) (sound : IsSoundState p m) where
   -- a question that is done, before the least yes, is a no
-  pub no_at : (i : ℕ) → i < length m.asked → IsBefore m.least i → IsDone (row_at m.asked i) → IsNoAt p (all_questions m) i
+  pub no_at : (i : ℕ) → i < length m.asked → StandsBefore m.least i → IsDone (row_at m.asked i) → IsNoAt p (all_questions m) i
   no_at i l b done starts answer =
       done_no p (row_at m.asked i) (sound.kept i l b) done starts (subst (λ (q : Question). Answers p q.capacities q.window starts) (question_there m i l) answer)
 
@@ -99,7 +99,7 @@ module _ (p : Project) (m : Machine) (sound : IsSound p m) where
       let same = length-map m.asked (λ (r : QuestionRow). r.question) in
       let answer : Answers p (question_at (all_questions m) y.index).capacities (question_at (all_questions m) y.index).window y.starts =
       subst (λ (q : Question). Answers p q.capacities q.window y.starts) (sym (question_there m y.index there.0)) there.1 in
-      let noes : AreNoBefore p (all_questions m) y.index = λ j l. no_at j (omega (arith, l, there.0)) (subst (λ (least : Option KnownYes). IsBefore least j) (sym known) l) (done j l) in
+      let noes : AreNoBefore p (all_questions m) y.index = λ j l. no_at j (omega (arith, l, there.0)) (subst (λ (least : Option KnownYes). StandsBefore least j) (sym known) l) (done j l) in
       ((omega (arith, there.0, long, same), (y.starts, answer), noes), answer)
 
   -- where there is no yes, each is a no
@@ -110,7 +110,7 @@ module _ (p : Project) (m : Machine) (sound : IsSound p m) where
       let long = length-append (questions_in m.asked) m.to_come in
       let same = length-map m.asked (λ (r : QuestionRow). r.question) in
       let there : j < length m.asked = omega (arith, l, gone, long, same) in
-      no_at j there (subst (λ (least : Option KnownYes). IsBefore least j) (sym known) tt) (over.1 j there)
+      no_at j there (subst (λ (least : Option KnownYes). StandsBefore least j) (sym known) tt) (over.1 j there)
 
   -- the capacities that were reached
   pub known_reached : (i : ℕ) → i ≤ length m.asked → AreNoBefore p (all_questions m) i → IsReached p (all_questions m) (capacities_at m.asked i)

@@ -56,9 +56,9 @@ abbrev pub is_before : Option KnownYes → ℕ → Bool
 is_before None i = true
 is_before (Some y) i = nat_lt i y.index
 
-abbrev pub IsBefore : Option KnownYes → ℕ → Type 0
-IsBefore None i = Unit {0}
-IsBefore (Some y) i = i < y.index
+abbrev pub StandsBefore : Option KnownYes → ℕ → Type 0
+StandsBefore None i = Unit {0}
+StandsBefore (Some y) i = i < y.index
 
 -- nothing of the question is open or out
 abbrev pub IsDone : QuestionRow → Type 0
@@ -70,7 +70,7 @@ AreDone asked n = (i : ℕ) → i < n → IsDone (row_at asked i)
 
 -- the question is decided: it stands at or after the least yes, or nothing of it is open or out
 abbrev pub IsDecided : Machine → ℕ → Type 0
-IsDecided m i = IsBefore m.least i → IsDone (row_at m.asked i)
+IsDecided m i = StandsBefore m.least i → IsDone (row_at m.asked i)
 
 -- the answer is known: of the questions before the least yes each is decided; or the series has ended, and each is
 abbrev pub IsSettledBy : Option KnownYes → Bool → List QuestionRow → Type 0
@@ -82,4 +82,4 @@ IsSettled m = IsSettledBy m.least m.ended m.asked
 
 -- something of the question is open or out, and it stands before the least yes
 abbrev pub IsUndecided : Option KnownYes → List QuestionRow → ℕ → Type 0
-IsUndecided least asked i = (i < length asked) × IsBefore least i × (0 < length (row_at asked i).ready + length (row_at asked i).out)
+IsUndecided least asked i = (i < length asked) × StandsBefore least i × (0 < length (row_at asked i).ready + length (row_at asked i).out)

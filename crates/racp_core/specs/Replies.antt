@@ -6,8 +6,7 @@ use Rattle.racp_model.specs.Window.{Answers}
 use Rattle.racp_model.specs.Formed.{IsFormed}
 use Rattle.racp_model.specs.declared.question.Question.{Question}
 use Rattle.racp_candidates.specs.FirstYes.{question_at, IsFirstYes, AreNoBefore}
-use Rattle.racp_search.specs.declared.piece.Piece.{Piece}
-use Rattle.racp_search.specs.Truth.{SearchFinding, rest_windows}
+use Rattle.racp_search.specs.Truth.{SearchPiece, SearchFinding, rest_windows}
 use Rattle.racp_core.specs.Machine.{QuestionRow, Machine, IsSettled, IsDecided}
 use Rattle.racp_core.specs.Steps.{IsNextAsked, IsPieceTaken, HasNoOpen, IsOut, IsReturned, IsAnswered}
 use Rattle.racp_core.specs.declared.replies.Asked.{Asked}
@@ -36,7 +35,7 @@ IsSmallPlace Enough = Unit {0}
 IsSmallPlace AskHalted = Unit {0}
 
 -- taking a piece, where the answer is pending and the collector runs
-abbrev pub IsTaken : Machine → ℕ → Reply → Machine → Type 0
+abbrev pub IsTaken : Machine → ℕ → Reply SearchPiece → Machine → Type 0
 IsTaken old seat (Work piece) new = (IsSettled old → ⊥) × (old.halted ≡ false) × IsPieceTaken old seat piece new
 IsTaken old seat Nothing new = (IsSettled old → ⊥) × (old.halted ≡ false) × HasNoOpen old × (new ≡ old)
 IsTaken old seat Done new = IsSettled old × (new ≡ old)
@@ -53,7 +52,7 @@ IsHanded old finding Taken new = IsMerged old finding finding.found new
 IsHanded old finding Stale new = (IsOut old finding.piece → ⊥) × (new ≡ old)
 
 -- giving a piece back
-abbrev pub IsGivenBack : Machine → Piece → Merged → Machine → Type 0
+abbrev pub IsGivenBack : Machine → SearchPiece → Merged → Machine → Type 0
 IsGivenBack old piece Taken new = IsReturned old piece (piece.question.window ∷ []) new
 IsGivenBack old piece Stale new = (IsOut old piece → ⊥) × (new ≡ old)
 
@@ -101,7 +100,7 @@ reached_by m (FirstOutcome index starts) = None
 reached_by m NoYesOutcome = None
 
 -- the question of a piece that was taken has the network's form
-abbrev pub IsFormedReply : Project → Reply → Type 0
+abbrev pub IsFormedReply : Project → Reply SearchPiece → Type 0
 IsFormedReply p (Work piece) = IsFormed p piece.question
 IsFormedReply p Nothing = Unit {0}
 IsFormedReply p Done = Unit {0}

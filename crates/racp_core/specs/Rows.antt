@@ -1,12 +1,8 @@
 -- Contracts of private functions: rows of questions, and the places of those that are not decided.
 use Rattle.std.specs.Prelude.{◌≡◌, ◌↔◌, ◌⊎◌, ℕ, ◌+◌, ◌<◌, ◌≤◌, Bool, true, false, List, [], ◌∷◌, ◌++◌, length, slice_index_or, Option, Some, None, Contains}
-use Rattle.racp_model.specs.Project.{Project}
 use Rattle.racp_model.specs.declared.question.Question.{Question}
-use Rattle.racp_search.specs.declared.piece.Piece.{Piece}
-use Rattle.racp_search.specs.declared.finding.Rest.{Rest}
-use Rattle.racp_search.specs.declared.finding.Rest.TheVariants.{Whole, Windows}
-use Rattle.racp_core.specs.Machine.{PieceOut, QuestionRow, KnownYes, Machine, opened, row_at, IsUndecided}
-use Rattle.racp_core.specs.Truth.{IsSound}
+use Rattle.racp_search.specs.Truth.{SearchPiece}
+use Rattle.racp_core.specs.Machine.{PieceOut, QuestionRow, opened, row_at}
 use Rattle.racp_core.specs.Steps.{out_of, IsSent}
 
 -- what is read at a place where no piece is out
@@ -14,7 +10,7 @@ abbrev pub no_out : PieceOut
 no_out = record { number = 0; seat = 0; window = record { lower = []; upper = [] } }
 
 -- a piece of this number, seat and place was cut from a question: any of its open windows, with its capacities
-pub record IsCut (number seat index : ℕ) (old : QuestionRow) (piece : Piece) (new : QuestionRow) : Type 0 where
+pub record IsCut (number seat index : ℕ) (old : QuestionRow) (piece : SearchPiece) (new : QuestionRow) : Type 0 where
   pub numbered : piece.number ≡ number
   pub seated : piece.seat ≡ seat
   pub placed : piece.index ≡ index
@@ -22,29 +18,15 @@ pub record IsCut (number seat index : ℕ) (old : QuestionRow) (piece : Piece) (
   pub sent : IsSent (out_of piece) old new
 
 -- where a piece that is out stands among those of its question
-pub record IsPlace (row : QuestionRow) (piece : Piece) (at : ℕ) : Type 0 where
+pub record IsPlace (row : QuestionRow) (piece : SearchPiece) (at : ℕ) : Type 0 where
   pub capacities : piece.question.capacities ≡ row.question.capacities
   pub within : at < length row.out
   pub is : slice_index_or row.out at no_out ≡ out_of piece
 
 -- where a piece that is out stands among those of the question at its place
-pub record IsPlaceIn (asked : List QuestionRow) (piece : Piece) (at : ℕ) : Type 0 where
+pub record IsPlaceIn (asked : List QuestionRow) (piece : SearchPiece) (at : ℕ) : Type 0 where
   pub index : piece.index < length asked
   pub place : IsPlace (row_at asked piece.index) piece at
-
--- how many windows a rest lists
-abbrev pub listed : Rest → ℕ
-listed Whole = 0
-listed (Windows windows) = length windows.items
-
--- the places of the undecided questions
-abbrev pub AreUndecided : Option KnownYes → List QuestionRow → List ℕ → Type 0
-AreUndecided least asked places = (i : ℕ) → Contains places i ↔ IsUndecided least asked i
-
--- a state with the places of its undecided questions, of which all is true
-pub record IsState (p : Project) (m : Machine) (places : List ℕ) : Type 0 where
-  pub sound : IsSound p m
-  pub undecided : AreUndecided m.least m.asked places
 
 -- a place is added to some, where it is one of them; it is taken from them; the later ones are
 abbrev pub IsAdded : List ℕ → ℕ → List ℕ → Type 0

@@ -3,13 +3,12 @@ use Rattle.std.specs.Prelude.{◌≡◌, ℕ, true, List, [], ◌∷◌}
 use Rattle.racp_model.specs.Project.{Project}
 use Rattle.racp_model.specs.Formed.{AreFormed}
 use Rattle.racp_model.specs.declared.question.Question.{Question}
-use Rattle.racp_search.specs.declared.piece.Piece.{Piece}
-use Rattle.racp_search.specs.Truth.{SearchFinding, IsTrueFinding, rest_windows}
+use Rattle.racp_search.specs.Truth.{SearchPiece, SearchFinding, IsTrueFinding, rest_windows}
 use Rattle.racp_core.specs.declared.replies.Asked.{Asked}
 use Rattle.racp_core.specs.declared.replies.Reply.{Reply}
 use Rattle.racp_core.specs.declared.replies.Merged.{Merged}
 use Rattle.racp_core.specs.Machine.{Machine, all_questions, fresh}
-use Rattle.racp_core.specs.Truth.{IsSound}
+use Rattle.racp_core.specs.Truth.{IsSoundState}
 use Rattle.racp_core.specs.Replies.{IsAsked, IsTaken, IsHanded, IsGivenBack}
 
 -- a call
@@ -17,13 +16,13 @@ pub data Event : Type 0 where
   Ask : Event
   Take : (seat : ℕ) → Event
   Hand : SearchFinding → Event
-  GiveBack : Piece → Event
+  GiveBack : SearchPiece → Event
   Halt : Event
 
 -- an answer: to asking, to taking, to handing in or giving back, to halting
 pub data Answer : Type 0 where
   OfAsk : Asked → Answer
-  OfTake : Reply → Answer
+  OfTake : Reply SearchPiece → Answer
   OfMerge : Merged → Answer
   OfHalt : Answer
 
@@ -73,4 +72,4 @@ AreTrueEvents p (call ∷ calls) = IsTrueEvent p call.0 × AreTrueEvents p calls
 abbrev pub RunsAreSound : Type 0
 RunsAreSound =
     (p : Project) (questions : List Question) (calls : List (Event × Answer)) (m : Machine) → AreFormed p questions → AreTrueEvents p calls →
-    Run (fresh questions) calls m → IsSound p m × (all_questions m ≡ questions)
+    Run (fresh questions) calls m → IsSoundState p m × (all_questions m ≡ questions)

@@ -2,15 +2,17 @@
 use Rattle.std.specs.Prelude.{◌≡◌, ℕ, ◌+◌, ◌<◌, ◌≤◌, false, nat_le, if◌then◌else◌, List, [], ◌∷◌, ◌++◌, length, slice_set, Option, Some, None, Contains, IsPermutation}
 use Rattle.racp_model.specs.Window.{Bounds}
 use Rattle.racp_model.specs.declared.question.Question.{Question}
-use Rattle.racp_search.specs.declared.piece.Piece.{Piece}
-use Rattle.racp_core.specs.Machine.{PieceOut, QuestionRow, KnownYes, Machine, opened, row_at, is_before, IsBefore}
+use Rattle.racp_search.specs.Truth.{SearchPiece}
+use Rattle.racp_search.specs.declared.finding.Rest.{Rest}
+use Rattle.racp_search.specs.declared.finding.Rest.TheVariants.{Whole, Windows}
+use Rattle.racp_core.specs.Machine.{PieceOut, QuestionRow, KnownYes, Machine, opened, row_at, is_before, StandsBefore}
 
 -- a piece as one that is out
-abbrev pub out_of : Piece → PieceOut
+abbrev pub out_of : SearchPiece → PieceOut
 out_of piece = record { number = piece.number; seat = piece.seat; window = piece.question.window }
 
 -- the piece is out: of that number, seat, place and question
-abbrev pub IsOut : Machine → Piece → Type 0
+abbrev pub IsOut : Machine → SearchPiece → Type 0
 IsOut m piece =
     (piece.index < length m.asked) × (piece.question.capacities ≡ (row_at m.asked piece.index).question.capacities) ×
     Contains (row_at m.asked piece.index).out (out_of piece)
@@ -31,16 +33,16 @@ IsSent piece old new =
 -- the least question before the least yes that has an open window
 pub record IsLeastOpen (m : Machine) (index : ℕ) : Type 0 where
   pub asked : index < length m.asked
-  pub before : IsBefore m.least index
+  pub before : StandsBefore m.least index
   pub some : 0 < length (row_at m.asked index).ready
   pub least : (j : ℕ) → j < index → (row_at m.asked j).ready ≡ []
 
 -- no question before the least yes has an open window
 abbrev pub HasNoOpen : Machine → Type 0
-HasNoOpen m = (i : ℕ) → i < length m.asked → IsBefore m.least i → (row_at m.asked i).ready ≡ []
+HasNoOpen m = (i : ℕ) → i < length m.asked → StandsBefore m.least i → (row_at m.asked i).ready ≡ []
 
 -- a piece goes out, with the next number
-pub record IsPieceTaken (old : Machine) (seat : ℕ) (piece : Piece) (new : Machine) : Type 0 where
+pub record IsPieceTaken (old : Machine) (seat : ℕ) (piece : SearchPiece) (new : Machine) : Type 0 where
   pub least : IsLeastOpen old piece.index
   pub number : piece.number ≡ old.taken
   pub seated : piece.seat ≡ seat
@@ -58,7 +60,7 @@ abbrev pub windows_before : Option KnownYes → ℕ → List Bounds → List Bou
 windows_before least i windows = if is_before least i then windows else []
 
 -- a piece is in without a yes, and these windows are open in its place
-pub record IsReturned (old : Machine) (piece : Piece) (windows : List Bounds) (new : Machine) : Type 0 where
+pub record IsReturned (old : Machine) (piece : SearchPiece) (windows : List Bounds) (new : Machine) : Type 0 where
   pub out : IsOut old piece
   pub row : (row : QuestionRow) × IsBack (out_of piece) (windows_before old.least piece.index windows) (row_at old.asked piece.index) row ×
       (new ≡ record old { asked = slice_set old.asked piece.index row })
@@ -79,8 +81,13 @@ pub record AreShutFrom (index : ℕ) (old new : List QuestionRow) : Type 0 where
   pub after : (i : ℕ) → index ≤ i → i < length old → row_at new i ≡ shut (row_at old i)
 
 -- a piece is in with a yes: the open windows of its question and of each later one are gone
-pub record IsAnswered (old : Machine) (piece : Piece) (starts : List ℕ) (new : Machine) : Type 0 where
+pub record IsAnswered (old : Machine) (piece : SearchPiece) (starts : List ℕ) (new : Machine) : Type 0 where
   pub out : IsOut old piece
   pub row : (row : QuestionRow) × IsBack (out_of piece) [] (row_at old.asked piece.index) row ×
       AreShutFrom piece.index (slice_set old.asked piece.index row) new.asked
   pub rest : new ≡ record old { asked = new.asked; least = Some (lesser old.least (record { index = piece.index; starts = starts })) }
+
+-- how many windows a rest lists
+abbrev pub listed : Rest → ℕ
+listed Whole = 0
+listed (Windows windows) = length windows.items

@@ -4,6 +4,7 @@ ghost use Rattle.std.specs.Prelude.{◌≡◌, ◌↔◌, ◌<◌, length, Some,
 ghost use Rattle.racp_model.specs.Formed.{AreFormed};
 ghost use Rattle.racp_candidates.specs.FirstYes.{question_at};
 ghost use Rattle.racp_core.specs.Machine.{fresh, all_questions, row_at, is_before, IsSettled};
+ghost use Rattle.racp_core.specs.Truth.{IsSoundState};
 ghost use Rattle.racp_core.specs.Counts.{undecided_count};
 ghost use Rattle.racp_core.specs.Runs.{Step, Halt, OfHalt};
 
@@ -53,7 +54,7 @@ pub struct Core<N: OfNetwork, S: Series> {
 impl<N: OfNetwork, S: Series> Model for Core<N, S> {
     ghost use Rattle.std.specs.Prelude.{◌++◌, option_to_list};
     ghost use Rattle.racp_core.specs.Machine.{Machine};
-    ghost use Rattle.racp_core.specs.Rows.{IsState};
+    ghost use Rattle.racp_core.specs.Truth.{IsState};
 
     ghost Value = { Machine };
 
@@ -93,9 +94,12 @@ impl<N: OfNetwork, S: Series> Core<N, S> {
         self.halted = true;
     }
 
-    /// How many pieces were taken: the number of the next one. Takes no memory.
+    /// How many pieces were taken: the number of the next one. Who reads it sees what is true of each state of a collector: of each
+    /// question before the least yes, what is open or out covers its window and lies inside it, and the least yes answers. Takes no
+    /// memory.
     pub fn taken(&self) -> u64
-        ensures { result ≡ self.now.taken }
+        ensures taken { result ≡ self.now.taken }
+        ensures sound { IsSoundState N.network self.now }
     {
         self.taken
     }

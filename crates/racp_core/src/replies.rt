@@ -1,5 +1,4 @@
 use racp_model::Starts;
-use racp_search::Piece;
 
 /// What asking answers.
 #[derive(Drop)]
@@ -14,10 +13,10 @@ pub enum Asked {
     Halted,
 }
 
-/// What taking a piece answers.
-pub enum Reply {
+/// What taking a piece answers, where `P` are the pieces.
+pub enum Reply<P> {
     /// A piece to be searched.
-    Piece(Piece),
+    Piece(P),
     /// No window is open now.
     Nothing,
     /// The answer is known.

@@ -3,11 +3,11 @@
 ghost use Rattle.std.specs.Prelude.{◌≡◌, ◌↔◌, ◌+◌, ◌<◌, ◌≤◌, [], ◌∷◌, None, length, vec_capacity, slice_index_or, if◌then◌else◌, IsTrue, IfOk, IfErr, OnOk, OnErr, IfSome, IfNone, Contains};
 ghost use Rattle.racp_search.specs.Truth.{rest_windows};
 ghost use Rattle.racp_core.specs.Machine.{IsDone};
-ghost use Rattle.racp_core.specs.Steps.{IsBack, out_of, shut};
-ghost use Rattle.racp_core.specs.Rows.{IsCut, IsPlace, listed, no_out};
+ghost use Rattle.racp_core.specs.Steps.{IsBack, out_of, shut, listed};
+ghost use Rattle.racp_core.specs.Rows.{IsCut, IsPlace, no_out};
 
 use racp_model::{Capacities, OfNetwork, Question, Window};
-use racp_search::{Finding, Piece, Rest};
+use racp_search::{Collector, Finding, Piece, Rest};
 use std::alloc::{AllocError, Global};
 use std::marker::Model;
 
@@ -29,7 +29,7 @@ impl Model for Out {
 
 impl Out {
     /// Whether it is this piece.
-    fn is(&self, piece: &Piece) -> bool
+    fn is<N: OfNetwork>(&self, piece: &Piece<N>) -> bool
         ensures { IsTrue result ↔ (self.now ≡ out_of piece.now) }
     {
         self.number == piece.number()
@@ -78,6 +78,8 @@ impl Model for Row {
     ghost invariant = { λ r. length r.ready.items + length r.out.items ≤ vec_capacity r.ready };
 }
 
+impl Collector for Row {}
+
 impl Row {
     /// A question of which these windows are open.
     pub(crate) fn new(alloc: Global, question: Question, ready: Vec<Window>) -> Self
@@ -112,12 +114,12 @@ impl Row {
     }
 
     /// Takes an open window out, as a piece of this number, seat and place. Makes the room that it needs to come back.
-    pub(crate) fn take(
+    pub(crate) fn take<N: OfNetwork>(
         &mut self,
         number: u64,
         seat: usize,
         index: usize,
-    ) -> Result<Piece, AllocError>
+    ) -> Result<Piece<N>, AllocError>
         requires { 0 < length self.old.ready }
         ensures ok { IfOk result (λ piece. IsCut number seat index self.old piece self.new) }
         ensures err { IfErr result (λ _. self.new ≡ self.old) }
@@ -139,7 +141,7 @@ impl Row {
     }
 
     /// Where the piece stands among those that are out.
-    pub(crate) fn place_of(&self, piece: &Piece) -> Option<usize>
+    pub(crate) fn place_of<N: OfNetwork>(&self, piece: &Piece<N>) -> Option<usize>
         ensures some { IfSome result (IsPlace self.now piece.now) }
         ensures none { IfNone result (piece.now.question.capacities ≡ self.now.question.capacities → Contains self.now.out (out_of piece.now) → ⊥) }
     {
@@ -179,7 +181,7 @@ impl Row {
             return Err((finding, error));
         }
         let (piece, rest, _found) = finding.into_parts();
-        let question = piece.into_question();
+        let question = piece.into_question::<Row>();
         let _ = self.out.swap_remove(at);
         match rest {
             Rest::Whole => self.ready.push_reserved(question.window),

@@ -5,9 +5,8 @@ use Rattle.std.proofs.lemmas.List.{get_or-append-add, get_or_append_left, get_or
 use Rattle.std.proofs.lemmas.List.Sorted.{length_permutation}
 use Rattle.racp_model.specs.Window.{Bounds}
 use Rattle.racp_model.specs.declared.question.Question.{Question}
-use Rattle.racp_search.specs.declared.piece.Piece.{Piece}
-use Rattle.racp_search.specs.Truth.{SearchFinding, rest_windows}
-use Rattle.racp_core.specs.Machine.{PieceOut, QuestionRow, KnownYes, Machine, opened, row_at, no_row, is_before, IsBefore, IsDone, AreDone, IsSettledBy, IsSettled}
+use Rattle.racp_search.specs.Truth.{SearchPiece, SearchFinding, rest_windows}
+use Rattle.racp_core.specs.Machine.{PieceOut, QuestionRow, KnownYes, Machine, opened, row_at, no_row, is_before, StandsBefore, IsDone, AreDone, IsSettledBy, IsSettled}
 use Rattle.racp_core.specs.Steps.{out_of, IsOut, IsNextAsked, IsSent, HasNoOpen, IsPieceTaken, windows_before, IsReturned, IsAnswered, lesser}
 use Rattle.racp_core.specs.Replies.{IsMerged}
 use Rattle.racp_lexfix.specs.Working.{IsIdle, IsAtWork, IsHandedIn}
@@ -26,7 +25,7 @@ row_behind : (asked : List QuestionRow) (row : QuestionRow) → row_at (asked ++
 row_behind asked row = ap (λ n. row_at (asked ++ row ∷ []) n) (omega arith) ∙ get_or-append-add asked (row ∷ []) 0 no_row
 
 -- what is known of a yes where none is known
-before_unknown : (least : Option KnownYes) (i : ℕ) → least ≡ None → IsBefore least i
+before_unknown : (least : Option KnownYes) (i : ℕ) → least ≡ None → StandsBefore least i
 before_unknown None i e = tt
 before_unknown (Some y) i e = absurd (cc e)
 
@@ -100,7 +99,7 @@ module _ (old mid : Machine) (index : ℕ) (idle : IsIdle old) (asked : IsNextAs
   not_none h = one_is_none (question.window) [] (sym (ap (λ (row : QuestionRow). row.ready) last_row) ∙ h index (let e = count in omega (arith, e)) (before_unknown mid.least index mid_unknown))
 
   -- the piece that is taken is of the asked question
-  module _ (new : Machine) (seat : ℕ) (piece : Piece) (taken : IsPieceTaken mid seat piece new) where
+  module _ (new : Machine) (seat : ℕ) (piece : SearchPiece) (taken : IsPieceTaken mid seat piece new) where
     at_last : piece.index ≡ index
     at_last = elim (cases_lt piece.index index) [
       | inl less ↦ absurd (some_done (row_at mid.asked piece.index) taken.least.some (earlier_done piece.index less))
@@ -148,7 +147,7 @@ module _ (old mid : Machine) (index : ℕ) (idle : IsIdle old) (asked : IsNextAs
 pub ended : (old new : Machine) → IsIdle old → new ≡ record old { ended = true } → IsSettled new
 ended old new idle e = subst IsSettled (sym e) (settled_at_end old.least old.asked idle.unknown idle.done)
 
-module _ (m : Machine) (piece : Piece) (work : IsAtWork m piece) where
+module _ (m : Machine) (piece : SearchPiece) (work : IsAtWork m piece) where
   -- the piece is out
   pub is_out : IsOut m piece
   is_out = (

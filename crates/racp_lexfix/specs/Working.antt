@@ -2,7 +2,7 @@
 use Rattle.std.specs.Prelude.{◌≡◌, ◌+◌, ◌<◌, Bool, true, false, [], ◌∷◌, length, Option, Some, None}
 use Rattle.racp_model.specs.Project.{Project}
 use Rattle.racp_model.specs.Formed.{IsFormed}
-use Rattle.racp_search.specs.declared.piece.Piece.{Piece}
+use Rattle.racp_search.specs.Truth.{SearchPiece}
 use Rattle.racp_core.specs.Machine.{Machine, row_at, AreDone, IsSettled}
 use Rattle.racp_core.specs.Steps.{out_of}
 
@@ -14,7 +14,7 @@ pub record IsIdle (m : Machine) : Type 0 where
   pub numbered : m.taken ≡ length m.asked
 
 -- the same, but for the last asked question, of which this piece is out and nothing is open
-pub record IsAtWork (m : Machine) (piece : Piece) : Type 0 where
+pub record IsAtWork (m : Machine) (piece : SearchPiece) : Type 0 where
   pub running : m.halted ≡ false
   pub unknown : m.least ≡ None
   pub last : length m.asked ≡ piece.index + 1
@@ -25,7 +25,7 @@ pub record IsAtWork (m : Machine) (piece : Piece) : Type 0 where
   pub capacities : piece.question.capacities ≡ (row_at m.asked piece.index).question.capacities
 
 -- the next question is asked, and the one piece of it taken; or no more question is to come, and the answer is known
-abbrev pub IsNextPiece : Project → Machine → Option Piece → Machine → Type 0
+abbrev pub IsNextPiece : Project → Machine → Option SearchPiece → Machine → Type 0
 IsNextPiece p old (Some piece) new = IsAtWork new piece × IsFormed p piece.question × (length new.to_come < length old.to_come)
 IsNextPiece p old None new = IsSettled new
 

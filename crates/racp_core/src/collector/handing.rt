@@ -4,8 +4,8 @@ ghost use Rattle.std.specs.Prelude.{◌≡◌, ◌<◌, ◌∷◌, [], None, Som
 ghost use Rattle.racp_model.specs.Window.{Answers};
 ghost use Rattle.racp_search.specs.Truth.{rest_windows};
 ghost use Rattle.racp_core.specs.Machine.{all_questions, row_at};
-ghost use Rattle.racp_core.specs.Steps.{IsOut, IsReturned, IsAnswered, AreShutFrom, lesser};
-ghost use Rattle.racp_core.specs.Rows.{IsPlaceIn, IsSettledAt, IsCutAt, listed};
+ghost use Rattle.racp_core.specs.Steps.{IsOut, IsReturned, IsAnswered, AreShutFrom, lesser, listed};
+ghost use Rattle.racp_core.specs.Rows.{IsPlaceIn, IsSettledAt, IsCutAt};
 ghost use Rattle.racp_core.specs.Runs.{Step, Hand, GiveBack, OfMerge};
 
 use super::{Best, Core};
@@ -42,13 +42,13 @@ impl<N: OfNetwork, S: Series> Core<N, S> {
         if let Some(starts) = found {
             self.put_yes(at, &piece, starts);
         }
-        let _ = piece.into_question();
+        let _ = piece.into_question::<Row>();
         Ok(Merged::Taken)
     }
 
     /// Takes back a piece that was not searched: its window is open again, where its question stands before each known yes. Takes
     /// no memory.
-    pub fn give_back(&mut self, piece: Piece) -> Merged
+    pub fn give_back(&mut self, piece: Piece<N>) -> Merged
         ensures step { Step self.old (GiveBack piece) (OfMerge result) self.new }
         ensures questions { all_questions self.new ≡ all_questions self.old }
     {
@@ -58,14 +58,14 @@ impl<N: OfNetwork, S: Series> Core<N, S> {
                 Merged::Taken
             }
             None => {
-                let _ = piece.into_question();
+                let _ = piece.into_question::<Row>();
                 Merged::Stale
             }
         }
     }
 
     /// Where the piece stands among those that are out of its question.
-    fn place(&self, piece: &Piece) -> Option<usize>
+    fn place(&self, piece: &Piece<N>) -> Option<usize>
         ensures some { IfSome result (IsPlaceIn self.now.asked piece.now) }
         ensures none { IfNone result (IsOut self.now piece.now → ⊥) }
     {
@@ -93,20 +93,20 @@ impl<N: OfNetwork, S: Series> Core<N, S> {
     }
 
     /// A piece is in, and its window is open in its place.
-    fn put_whole(&mut self, at: usize, piece: Piece)
+    fn put_whole(&mut self, at: usize, piece: Piece<N>)
         requires { IsPlaceIn self.old.asked piece at }
         ensures { IsReturned self.old piece (piece.question.window ∷ []) self.new }
     {
         let index = piece.index() as usize;
         let opens = self.is_before(index);
-        let question = piece.into_question();
+        let question = piece.into_question::<Row>();
         let row = &mut self.rows[index];
         row.put_whole(at, question.window, opens);
         settle(&mut self.undecided, &self.rows, index);
     }
 
     /// A piece is in, with a yes.
-    fn put_yes(&mut self, at: usize, piece: &Piece, starts: Starts)
+    fn put_yes(&mut self, at: usize, piece: &Piece<N>, starts: Starts)
         requires place { IsPlaceIn self.old.asked piece.now at }
         requires yes { Answers N.network piece.now.question.capacities piece.now.question.window starts }
         ensures { IsAnswered self.old piece.now starts self.new }

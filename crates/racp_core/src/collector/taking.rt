@@ -9,6 +9,7 @@ use super::Core;
 use crate::replies::Reply;
 use racp_candidates::Series;
 use racp_model::OfNetwork;
+use racp_search::Piece;
 use std::alloc::AllocError;
 
 impl<N: OfNetwork, S: Series> Core<N, S> {
@@ -19,7 +20,7 @@ impl<N: OfNetwork, S: Series> Core<N, S> {
     /// # Errors
     ///
     /// Memory was refused. Nothing has changed.
-    pub fn take(&mut self, seat: usize) -> Result<Reply, AllocError>
+    pub fn take(&mut self, seat: usize) -> Result<Reply<Piece<N>>, AllocError>
         requires { self.old.taken < 2 ^ 64 - 1 }
         ensures step { IfOk result (λ reply. Step self.old (Take seat) (OfTake reply) self.new) }
         ensures formed { IfOk result (IsFormedReply N.network) }

@@ -14,6 +14,6 @@ returns-clause-next g c =
     let index = c.in-Question.field-0 in
     let piece = c.in-Piece.piece in
     let asked : IsNextAsked old mid index = subst (λ (reply : Asked). IsAsked old reply mid) c.in-Question.is c.in_ok-ask.ensures.step in
-    let taken = subst (λ (reply : Reply). IsTaken mid 0 reply new) c.in-Piece.is c.in_ok-piece.ensures.step in
-    let formed = subst (λ (reply : Reply). IsFormedReply g.N.OfNetwork.network reply) c.in-Piece.is c.in_ok-piece.ensures.formed in
+    let taken = subst (λ (reply : Reply SearchPiece). IsTaken mid 0 reply new) c.in-Piece.is c.in_ok-piece.ensures.step in
+    let formed = subst (λ (reply : Reply SearchPiece). IsFormedReply g.N.OfNetwork.network reply) c.in-Piece.is c.in_ok-piece.ensures.formed in
     (at_work old mid index c.requires asked new 0 piece taken.2, formed, fewer old mid index c.requires asked new 0 piece taken.2)

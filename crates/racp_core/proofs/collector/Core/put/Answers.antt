@@ -1,7 +1,6 @@
 use Rattle.std.proofs.Common.{◌≡◌, ◌∙◌, ◌++◌, ◌<◌, List, length, ap, sym, subst, arith}
 use Rattle.std.specs.Option.{option_to_list}
-use Rattle.racp_search.specs.Truth.{rest_windows}
-use Rattle.racp_search.specs.declared.piece.Piece.{Piece}
+use Rattle.racp_search.specs.Truth.{SearchPiece, rest_windows}
 use Rattle.racp_core.specs.Machine.{QuestionRow, Machine}
 use Rattle.racp_core.specs.Rows.{IsSettledAt}
 use Rattle.racp_core.proofs.States.{state_put, state_read, rest_left}
@@ -12,7 +11,7 @@ invariant_of-self g c =
     let i = c.self.inside in
     let m : Machine = record { asked = i.rows.items; to_come = option_to_list i.next ++ g.S.Series.questions i.series; least = i.best; taken = i.taken; ended = i.ended; halted = i.halted } in
     let there : c.args.finding.piece.index < length i.rows.items = subst (λ (x : Machine). c.args.finding.piece.index < length x.asked) (sym c.self.view_is) c.requires.place.index in
-    let same : c.index-index.result ≡ c.args.finding.piece.index = c.index-index.ensures ∙ ap (λ (q : Piece). q.index) c.piece.ensures.piece in
+    let same : c.index-index.result ≡ c.args.finding.piece.index = c.index-index.ensures ∙ ap (λ (q : SearchPiece). q.index) c.piece.ensures.piece in
     state_read g.N.OfNetwork.network m i.undecided c.index-index.result c.index_mut-row.result.now c.put.new.self (omega (arith, there, same)) c.index_mut-row.ensures.value c.in_err-put.ensures.err.0 c.self.invariant
 
 pub invariant_of-self-2 : goal.invariant_of-self-2
@@ -20,7 +19,7 @@ invariant_of-self-2 g c =
     let i = c.self.inside in
     let m : Machine = record { asked = i.rows.items; to_come = option_to_list i.next ++ g.S.Series.questions i.series; least = i.best; taken = i.taken; ended = i.ended; halted = i.halted } in
     let piece = c.args.finding.piece in
-    let same : c.index-index.result ≡ piece.index = c.index-index.ensures ∙ ap (λ (q : Piece). q.index) c.piece.ensures.piece in
+    let same : c.index-index.result ≡ piece.index = c.index-index.ensures ∙ ap (λ (q : SearchPiece). q.index) c.piece.ensures.piece in
     state_put g.N.OfNetwork.network m c.args.self.now i.undecided c.settle.new.undecided piece c.args.at c.index-index.result c.is_before-opens.result (rest_windows piece.question.window c.args.finding.rest) c.index_mut-row.result.now c.put.new.self c.self.view_is same c.requires.place
     c.is_before-opens.ensures c.index_mut-row.ensures.value c.in_ok-put.ensures.ok
     (λ _. rest_left g.N.OfNetwork.network piece.question.capacities piece.question.window c.args.finding.found (rest_windows piece.question.window c.args.finding.rest) c.piece.ensures.is_true c.requires.none)

@@ -4,7 +4,7 @@ use Rattle.racp_core.proofs.OutAndBack.{cut, last_of}
 use Rattle.racp_core.proofs.row.Row.take.Goals as goal
 
 pub returns-clause-ok : goal.returns-clause-ok
-returns-clause-ok c =
+returns-clause-ok g c =
     let n : c.len.result ≡ length c.self.inside.ready.items = omega (arith, c.self.inside.ready.ok.0) in
     let last : c.index.result.now ≡ c.take_last-window.result =
     c.index.ensures ∙ last_of c.self.inside.ready.items c.take_last-window.new.self.items c.take_last-window.result c.index.result.now c.len.result c.take_last-window.ensures.items n in
