@@ -3,7 +3,7 @@ use Rattle.std.proofs.Common.{◌≡◌, ◌∙◌, ℕ, true, List, [], ◌∷�
 use Rattle.racp_model.specs.Project.{Project}
 use Rattle.racp_model.specs.Window.{Bounds}
 use Rattle.racp_model.specs.declared.question.Question.{Question}
-use Rattle.racp_search.specs.Truth.{SearchPiece, SearchFinding, IsRestOf, IsTrueFinding, rest_windows}
+use Rattle.racp_search.specs.Truth.{SearchPiece, SearchFinding, IsRestOf, IsFoundOrLeft, rest_windows}
 use Rattle.racp_core.specs.declared.replies.Asked.{Asked}
 use Rattle.racp_core.specs.declared.replies.Asked.TheVariants.{Question as Next, End, Enough, Halted as AskHalted}
 use Rattle.racp_core.specs.declared.replies.Reply.{Reply}
@@ -53,7 +53,7 @@ after_taken p old seat Nothing new step h = follows_same p old new step.3 h
 after_taken p old seat Done new step h = follows_same p old new step.1 h
 after_taken p old seat TakeHalted new step h = follows_same p old new step.2 h
 
-after_merged : (p : Project) (old : Machine) (finding : SearchFinding) (found : Option (List ℕ)) (new : Machine) → IsTrueFinding p finding.piece.question.capacities finding.piece.question.window found (rest_windows finding.piece.question.window finding.rest) →
+after_merged : (p : Project) (old : Machine) (finding : SearchFinding) (found : Option (List ℕ)) (new : Machine) → IsFoundOrLeft p finding.piece.question.capacities finding.piece.question.window found (rest_windows finding.piece.question.window finding.rest) →
     IsMerged old finding found new → IsSoundState p old → Follows p old new
 after_merged p old finding (Some starts) new is_true step h =
     (subst (λ (m : Machine). IsSoundState p m) (sym step.rest) (sound_answered p old finding.piece starts step.row.0 new.asked step.out step.row.1 step.row.2 is_true.0 h), answered_all old finding.piece starts new step)

@@ -4,7 +4,7 @@ use Rattle.std.proofs.lemmas.List.{get_or_default, get_or_read}
 use Rattle.racp_model.specs.Project.{Project}
 use Rattle.racp_model.specs.Window.{Bounds, Answers}
 use Rattle.racp_model.specs.declared.question.Question.{Question}
-use Rattle.racp_search.specs.Truth.{SearchPiece, IsRestOf, IsTrueFinding}
+use Rattle.racp_search.specs.Truth.{SearchPiece, IsRestOf, IsFoundOrLeft}
 use Rattle.racp_core.specs.Machine.{PieceOut, QuestionRow, KnownYes, Machine, all_questions, opened, row_at, no_row, is_before, StandsBefore}
 use Rattle.racp_core.specs.Steps.{IsOut, IsSent, IsBack, out_of, windows_before, lesser, AreShutFrom, IsReturned, IsAnswered, IsPieceTaken}
 use Rattle.racp_core.specs.Rows.{no_out, IsPlaceIn, IsAdded, IsRemoved, IsSettledAt, IsCutAt}
@@ -86,12 +86,12 @@ whole_left p m places piece out h b =
     whole_rest p piece.question.capacities piece.question.window ((h.sound.kept piece.index out.0 b).bounds piece.question.window (out_held (out_of piece) (row_at m.asked piece.index) out.2))
 
 -- what a finding without a yes leaves
-pub rest_left : (p : Project) (capacities : List ℕ) (window : Bounds) (found : Option (List ℕ)) (rest : List Bounds) → IsTrueFinding p capacities window found rest → found ≡ None → IsRestOf p capacities window rest
-rest_left p capacities window found rest h e = subst (λ (f : Option (List ℕ)). IsTrueFinding p capacities window f rest) e h
+pub rest_left : (p : Project) (capacities : List ℕ) (window : Bounds) (found : Option (List ℕ)) (rest : List Bounds) → IsFoundOrLeft p capacities window found rest → found ≡ None → IsRestOf p capacities window rest
+rest_left p capacities window found rest h e = subst (λ (f : Option (List ℕ)). IsFoundOrLeft p capacities window f rest) e h
 
 -- what a finding with a yes found
-pub found_answers : (p : Project) (capacities : List ℕ) (window : Bounds) (found : Option (List ℕ)) (starts : List ℕ) (rest : List Bounds) → IsTrueFinding p capacities window found rest → found ≡ Some starts → Answers p capacities window starts
-found_answers p capacities window found starts rest h e = (subst (λ (f : Option (List ℕ)). IsTrueFinding p capacities window f rest) e h).0
+pub found_answers : (p : Project) (capacities : List ℕ) (window : Bounds) (found : Option (List ℕ)) (starts : List ℕ) (rest : List Bounds) → IsFoundOrLeft p capacities window found rest → found ≡ Some starts → Answers p capacities window starts
+found_answers p capacities window found starts rest h e = (subst (λ (f : Option (List ℕ)). IsFoundOrLeft p capacities window f rest) e h).0
 
 -- a place of which nothing is open or out is removed
 pub settled_done : (asked : List QuestionRow) (index : ℕ) (row : QuestionRow) (old new : List ℕ) → index < length asked → row ≡ slice_index_or asked index row → length row.ready + length row.out ≡ 0 → IsRemoved old index new → IsSettledAt asked old index new

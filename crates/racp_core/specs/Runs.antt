@@ -3,7 +3,7 @@ use Rattle.std.specs.Prelude.{◌≡◌, ℕ, true, List, [], ◌∷◌}
 use Rattle.racp_model.specs.Project.{Project}
 use Rattle.racp_model.specs.Formed.{AreFormed}
 use Rattle.racp_model.specs.declared.question.Question.{Question}
-use Rattle.racp_search.specs.Truth.{SearchPiece, SearchFinding, IsTrueFinding, rest_windows}
+use Rattle.racp_search.specs.Truth.{SearchPiece, SearchFinding, IsTrueFinding}
 use Rattle.racp_core.specs.declared.replies.Asked.{Asked}
 use Rattle.racp_core.specs.declared.replies.Reply.{Reply}
 use Rattle.racp_core.specs.declared.replies.Merged.{Merged}
@@ -56,8 +56,7 @@ Run start (call ∷ calls) end = (next : Machine) × Step start call.0 call.1 ne
 
 -- a finding that is handed in is true
 abbrev pub IsTrueEvent : Project → Event → Type 0
-IsTrueEvent p (Hand finding) =
-    IsTrueFinding p finding.piece.question.capacities finding.piece.question.window finding.found (rest_windows finding.piece.question.window finding.rest)
+IsTrueEvent p (Hand finding) = IsTrueFinding p finding
 IsTrueEvent p Ask = Unit {0}
 IsTrueEvent p (Take seat) = Unit {0}
 IsTrueEvent p (GiveBack piece) = Unit {0}

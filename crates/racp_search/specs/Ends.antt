@@ -2,7 +2,7 @@
 use Rattle.std.specs.Prelude.{◌≡◌, ◌≢◌, ◌↔◌, ℕ, ◌<◌, ◌≤◌, List, [], ◌∷◌, ◌++◌, Bool, false, IsTrue, IsFalse, Option, Some, None, Contains}
 use Rattle.racp_model.specs.Project.{Project}
 use Rattle.racp_model.specs.Window.{Bounds, Answers}
-use Rattle.racp_search.specs.Truth.{SearchPiece, SearchFinding, IsTrueFinding}
+use Rattle.racp_search.specs.Truth.{SearchPiece, SearchFinding, IsFoundOrLeft}
 use Rattle.racp_search.specs.Searching.{SearchFrame, open_windows, IsHigher, IsSearching, weights}
 use Rattle.racp_search.specs.declared.finding.Rest.TheVariants.{Whole, Windows}
 use Rattle.racp_search.specs.declared.searching.Ended.{Ended}
@@ -24,7 +24,7 @@ IsEntered p capacities whole old window new None = IsClosed p capacities whole o
 
 -- how a search of a window ended, and after how many nodes
 pub record IsEnd (p : Project) (capacities : List ℕ) (window : Bounds) (quantum : Option ℕ) (nodes : ℕ) (ended : Ended) : Type 0 where
-  pub is_true : IsTrueFinding p capacities window ended.found ended.rest.items
+  pub is_true : IsFoundOrLeft p capacities window ended.found ended.rest.items
   pub searched : IsFalse ended.stopped → 0 < nodes
   pub stopped : IsTrue ended.stopped → (ended.found ≡ None) × (ended.rest.items ≢ [])
   pub spent : IsFalse ended.stopped → ended.rest.items ≢ [] → quantum ≡ Some nodes

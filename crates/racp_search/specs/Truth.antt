@@ -37,14 +37,18 @@ pub record IsRestOf (p : Project) (capacities : List ℕ) (window : Bounds) (res
   pub inside : (part : Bounds) → Contains rest part → IsInside p window part
   pub bounds : (part : Bounds) → Contains rest part → HasBounds p part
 
--- a true finding: the found starts answer the question, and nothing is left; or none are found, and what is left covers
-abbrev pub IsTrueFinding : Project → List ℕ → Bounds → Option (List ℕ) → List Bounds → Type 0
-IsTrueFinding p capacities window (Some starts) rest = Answers p capacities window starts × (rest ≡ [])
-IsTrueFinding p capacities window None rest = IsRestOf p capacities window rest
+-- starts are found that answer the question, and nothing is left; or none are found, and what is left covers
+abbrev pub IsFoundOrLeft : Project → List ℕ → Bounds → Option (List ℕ) → List Bounds → Type 0
+IsFoundOrLeft p capacities window (Some starts) rest = Answers p capacities window starts × (rest ≡ [])
+IsFoundOrLeft p capacities window None rest = IsRestOf p capacities window rest
 
 -- the windows that a finding leaves
 abbrev pub left_windows : SearchFinding → List Bounds
 left_windows finding = rest_windows finding.piece.question.window finding.rest
+
+-- a true finding
+abbrev pub IsTrueFinding : Project → SearchFinding → Type 0
+IsTrueFinding p finding = IsFoundOrLeft p finding.piece.question.capacities finding.piece.question.window finding.found (left_windows finding)
 
 -- what a search of a piece tells
 pub record IsExplored (p : Project) (piece : SearchPiece) (quantum : Option ℕ) (finding : SearchFinding) : Type 0 where

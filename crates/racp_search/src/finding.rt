@@ -1,6 +1,6 @@
 ghost use Rattle.std.specs.Prelude.{◌≡◌, IfOk, IfErr, option_copied, true};
 ghost use Rattle.racp_model.specs.Formed.{HasBounds};
-ghost use Rattle.racp_search.specs.Truth.{IsTrueFinding, rest_windows};
+ghost use Rattle.racp_search.specs.Truth.{IsFoundOrLeft, IsTrueFinding};
 ghost use Rattle.racp_search.specs.Ends.{finding_after, unsearched};
 
 use crate::piece::Piece;
@@ -32,20 +32,20 @@ pub struct Finding<N: OfNetwork> {
 }
 
 impl<N: OfNetwork> Model for Finding<N> {
-    ghost use Rattle.racp_search.specs.Truth.{SearchFinding, IsTrueFinding, rest_windows};
+    ghost use Rattle.racp_search.specs.Truth.{SearchFinding, IsFoundOrLeft, rest_windows};
 
     ghost Value = { SearchFinding };
 
     ghost view = { λ f. record { piece = f.piece; rest = f.rest; found = f.found; nodes = f.nodes; stopped = f.stopped; short = f.short } };
 
-    ghost invariant = { λ f. IsTrueFinding N.network f.piece.question.capacities f.piece.question.window f.found (rest_windows f.piece.question.window f.rest) };
+    ghost invariant = { λ f. IsFoundOrLeft N.network f.piece.question.capacities f.piece.question.window f.found (rest_windows f.piece.question.window f.rest) };
 }
 
 impl<N: OfNetwork> Finding<N> {
     /// What a search of a piece found and left, after so many nodes; or the whole window of the piece, where memory was refused.
     /// Takes no memory.
     pub(crate) fn after(piece: Piece<N>, end: Result<Ended, AllocError>, nodes: u64) -> Self
-        requires is_true { IfOk end (λ ended. IsTrueFinding N.network piece.question.capacities piece.question.window ended.found ended.rest.items) }
+        requires is_true { IfOk end (λ ended. IsFoundOrLeft N.network piece.question.capacities piece.question.window ended.found ended.rest.items) }
         requires bounds { HasBounds N.network piece.question.window }
         ensures ok { IfOk end (λ ended. result ≡ finding_after piece ended nodes) }
         ensures err { IfErr end (λ _. result ≡ unsearched piece nodes true) }
@@ -83,7 +83,7 @@ impl<N: OfNetwork> Finding<N> {
     /// The piece that was searched.
     pub fn piece(&self) -> &Piece<N>
         ensures piece { result.now ≡ self.now.piece }
-        ensures is_true { IsTrueFinding N.network self.now.piece.question.capacities self.now.piece.question.window self.now.found (rest_windows self.now.piece.question.window self.now.rest) }
+        ensures is_true { IsTrueFinding N.network self.now }
     {
         &self.piece
     }
@@ -91,7 +91,7 @@ impl<N: OfNetwork> Finding<N> {
     /// The windows in which is still to be looked.
     pub fn rest(&self) -> &Rest
         ensures rest { result.now ≡ self.now.rest }
-        ensures is_true { IsTrueFinding N.network self.now.piece.question.capacities self.now.piece.question.window self.now.found (rest_windows self.now.piece.question.window self.now.rest) }
+        ensures is_true { IsTrueFinding N.network self.now }
     {
         &self.rest
     }
@@ -135,7 +135,7 @@ impl<N: OfNetwork> Finding<N> {
     /// Spends the piece, and answers what was found. Takes no memory.
     pub fn into_found(self) -> Option<Starts>
         ensures found { result ≡ self.found }
-        ensures is_true { IsTrueFinding N.network self.piece.question.capacities self.piece.question.window self.found (rest_windows self.piece.question.window self.rest) }
+        ensures is_true { IsTrueFinding N.network self }
     {
         let (piece, _rest, found) = self.into_parts();
         let _ = piece.question_of();
@@ -147,7 +147,7 @@ impl<N: OfNetwork> Finding<N> {
         ensures piece { result.0 ≡ self.piece }
         ensures rest { result.1 ≡ self.rest }
         ensures found { result.2 ≡ self.found }
-        ensures is_true { IsTrueFinding N.network self.piece.question.capacities self.piece.question.window self.found (rest_windows self.piece.question.window self.rest) }
+        ensures is_true { IsTrueFinding N.network self }
     {
         let Finding {
             piece,

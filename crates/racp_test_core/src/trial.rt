@@ -8,7 +8,7 @@ use racp_core::{Asked, Core, Merged, Outcome, Reply, Verdict};
 use racp_cutset::{Board, Local};
 use racp_model::{Network, OfNetwork, Question};
 use racp_samples::{SampleFault, question};
-use racp_search::{Finding, Never, Piece, Rest, explore};
+use racp_search::{Collector, Finding, Never, Piece, Rest, explore};
 use std::alloc::{AllocError, Global};
 use std::test::Fail;
 
@@ -71,6 +71,8 @@ pub(crate) struct Held {
     index: u64,
     pub(crate) question: Question,
 }
+
+impl Collector for Held {}
 
 /// A collector, the pieces that were taken of it, and what was found of the last one that came in.
 #[derive(Drop)]
@@ -137,7 +139,7 @@ fn take<N: OfNetwork>(trial: &mut Trial<N>, seat: usize) -> Result<Heard, AllocE
     match trial.core.take(seat)? {
         Reply::Piece(piece) => {
             let (number, seat, index) = (piece.number(), piece.seat(), piece.index());
-            let question = piece.into_question();
+            let question = piece.into_question::<Held>();
             trial.pieces.push(Held {
                 number,
                 seat,
@@ -153,7 +155,12 @@ fn take<N: OfNetwork>(trial: &mut Trial<N>, seat: usize) -> Result<Heard, AllocE
 }
 
 /// The piece, with a change.
-fn piece(alloc: Global, net: &Network, held: &Held, change: Change) -> Result<Piece, SampleFault>
+fn piece<N: OfNetwork>(
+    alloc: Global,
+    net: &Network,
+    held: &Held,
+    change: Change,
+) -> Result<Piece<N>, SampleFault>
     ensures capacities { IfOk result (λ piece. length piece.question.capacities ≡ net.now.resources) }
     ensures lower { IfOk result (λ piece. length piece.question.window.lower ≡ length net.now.jobs) }
     ensures upper { IfOk result (λ piece. length piece.question.window.upper ≡ length net.now.jobs) }

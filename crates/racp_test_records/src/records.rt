@@ -251,7 +251,7 @@ fn finds<N: OfNetwork>(
     requires named { net.now ≡ N.network }
 {
     let node: Node<N> = node(alloc, net, place)?;
-    Ok(board.find(local, &node).is_some())
+    Ok(local.find(board, &node).is_some())
 }
 
 /// A record that is kept is found, until it is taken out.
@@ -392,7 +392,7 @@ fn push_and_find<N: OfNetwork, R: Wait>(
     let mut found = true;
     for known in records {
         board.push(rt, known);
-        found = found && board.find(&mut local, node).is_some();
+        found = found && local.find(board, node).is_some();
     }
     found
 }

@@ -8,7 +8,7 @@ use racp_reference::decide_by_definition;
 use racp_samples::{
     Random, SampleFault, chained, crossed, network, parallel, question, random_network, root_window,
 };
-use racp_search::{Never, Piece, Rest, Stop, decide, explore};
+use racp_search::{Collector, Never, Piece, Rest, Stop, decide, explore};
 use std::alloc::{AllocError, Global};
 use std::cell::Cell;
 use std::marker::Brand;
@@ -150,6 +150,8 @@ struct Told {
     left: Vec<Window>,
 }
 
+impl Collector for Told {}
+
 /// What a search of the question of these capacities and bounds tells.
 fn searched(
     alloc: Global,
@@ -182,11 +184,11 @@ fn searched_named<N: OfNetwork>(
     let stop = Countdown {
         left: Cell::new(look),
     };
-    let piece = Piece::new(0, 0, 0, asked);
+    let piece: Piece<N> = Piece::new(0, 0, 0, asked);
     let finding = explore(alloc, net, piece, quantum, &board, &mut local, &stop);
     let (nodes, stopped) = (finding.nodes(), finding.stopped());
     let (piece, rest, found) = finding.into_parts();
-    let whole = piece.into_question().window;
+    let whole = piece.into_question::<Told>().window;
     let left = match rest {
         Rest::Whole => vec![in alloc; whole]?,
         Rest::Windows(list) => list,
@@ -313,6 +315,8 @@ struct Again {
     question: Question,
 }
 
+impl Collector for Again {}
+
 fn searched_again<N: OfNetwork>(
     alloc: Global,
     net: &Network,
@@ -325,7 +329,7 @@ fn searched_again<N: OfNetwork>(
 {
     let board: Board<N> = Board::new(alloc, net)?;
     let mut local: Local<N> = Local::new(alloc, net);
-    let piece = Piece::new(7, 5, 3, asked);
+    let piece: Piece<N> = Piece::new(7, 5, 3, asked);
     let first = explore(alloc, net, piece, None, &board, &mut local, &Never);
     let (nodes, found) = (first.nodes(), first.found().is_some());
     let piece = first.into_piece();
@@ -337,7 +341,7 @@ fn searched_again<N: OfNetwork>(
         nodes,
         found,
         marks,
-        question: piece.into_question(),
+        question: piece.into_question::<Again>(),
     })
 }
 

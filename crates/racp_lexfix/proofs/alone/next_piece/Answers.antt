@@ -1,5 +1,6 @@
 use Rattle.std.proofs.Common.{subst}
 use Rattle.racp_core.specs.declared.replies.Asked.{Asked}
+use Rattle.racp_search.specs.Truth.{SearchPiece}
 use Rattle.racp_core.specs.declared.replies.Reply.{Reply}
 use Rattle.racp_core.specs.Steps.{IsNextAsked}
 use Rattle.racp_core.specs.Replies.{IsAsked, IsTaken, IsFormedReply}
