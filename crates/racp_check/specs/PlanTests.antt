@@ -1,15 +1,9 @@
 -- Contracts of private functions: the tests that the check of a plan makes.
 use Rattle.std.specs.Prelude.{◌≡◌, ℕ, List, Option, Some, None, length, slice_index, ◌<◌, ◌≤◌}
 use Rattle.racp_model.specs.Project.{Project, number}
-use Rattle.racp_model.specs.Schedule.{KeepsPrecedence, EndsBy, IsWithinCapacities, usage}
-use Rattle.racp_model.specs.Path.{IsFirstLate}
+use Rattle.racp_model.specs.Schedule.{KeepsPrecedence, IsWithinCapacities, usage}
 use Rattle.racp_model.specs.Terms.{Terms, IsWithinCeilings}
 use Rattle.racp_check.specs.PlanFaults.{IsFirstBroken, IsFirstOver, IsFirstAboveCeiling, IsFirstEarly}
-
--- the number of the first job that ends after its due time, or none where each ends by it
-abbrev pub IsLateAnswer : Project → (ℕ → ℕ) → List ℕ → Option ℕ → Type 0
-IsLateAnswer p due starts (Some job) = (i : ℕ) × (number i ≡ job) × IsFirstLate p due starts i
-IsLateAnswer p due starts None = EndsBy p due starts
 
 -- the numbers of the first two jobs that are out of order, or none where precedence is kept
 abbrev pub IsBrokenAnswer : Project → List ℕ → Option (ℕ × ℕ) → Type 0
@@ -35,6 +29,6 @@ IsAboveAnswer p terms capacities (Some resource) = (k : ℕ) × (number k ≡ re
 IsAboveAnswer p terms capacities None = IsWithinCeilings terms capacities
 
 -- the number of the first job that starts before its release time, or none where none does
-abbrev pub IsEarlyAnswer : Project → (ℕ → ℕ) → List ℕ → Option ℕ → Type 0
-IsEarlyAnswer p release starts (Some job) = (i : ℕ) × (number i ≡ job) × IsFirstEarly p release starts i
-IsEarlyAnswer p release starts None = (i : ℕ) → i < length p.jobs → release i ≤ slice_index starts i
+abbrev pub IsFirstEarlyAnswer : Project → (ℕ → ℕ) → List ℕ → Option ℕ → Type 0
+IsFirstEarlyAnswer p release starts (Some job) = (i : ℕ) × (number i ≡ job) × IsFirstEarly p release starts i
+IsFirstEarlyAnswer p release starts None = (i : ℕ) → i < length p.jobs → release i ≤ slice_index starts i

@@ -1,7 +1,8 @@
 ghost use Rattle.std.specs.Prelude.{◌≡◌, ◌<◌, ◌≤◌, ◌↔◌, length, IsTrue, MatchOption};
 ghost use Rattle.racp_model.specs.Terms.{AreTermsOf, release_of, due_of};
+ghost use Rattle.racp_cpm.specs.Ends.{IsFirstLateAnswer};
 ghost use Rattle.racp_check.specs.PlanFaults.{IsChecked};
-ghost use Rattle.racp_check.specs.PlanTests.{IsLateAnswer, IsBrokenAnswer, IsOverAtAnswer, IsOverAnswer, IsAboveAnswer, IsEarlyAnswer};
+ghost use Rattle.racp_check.specs.PlanTests.{IsBrokenAnswer, IsOverAtAnswer, IsOverAnswer, IsAboveAnswer, IsFirstEarlyAnswer};
 
 use crate::plan::Plan;
 use crate::plan_fault::PlanFault;
@@ -49,7 +50,7 @@ pub fn check_plan(net: &Network, order: &Order, plan: &Plan) -> Result<(), PlanF
 fn first_late(net: &Network, order: &Order, starts: &[u32]) -> Option<u32>
     requires terms { AreTermsOf net.now order.now }
     requires starts { length starts.now ≡ length net.now.jobs }
-    ensures { IsLateAnswer net.now (due_of order.now) starts.now result }
+    ensures { IsFirstLateAnswer net.now (due_of order.now) starts.now result }
 {
     for i in 0..net.job_count() {
         let due = min(order.due[i], order.deadline);
@@ -135,7 +136,7 @@ fn first_above_ceiling(net: &Network, order: &Order, capacities: &[u32]) -> Opti
 fn first_early(net: &Network, order: &Order, starts: &[u32]) -> Option<u32>
     requires terms { AreTermsOf net.now order.now }
     requires starts { length starts.now ≡ length net.now.jobs }
-    ensures { IsEarlyAnswer net.now (release_of order.now) starts.now result }
+    ensures { IsFirstEarlyAnswer net.now (release_of order.now) starts.now result }
 {
     for i in 0..net.job_count() {
         if starts[i] < order.release[i] {

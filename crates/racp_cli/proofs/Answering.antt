@@ -8,7 +8,7 @@ use Rattle.racp_sm.specs.Reading.{IsReading, IsReadingOrMemory}
 use Rattle.racp_sm.specs.declared.fault.SmFault.{SmFault}
 use Rattle.racp_sm.specs.declared.fault.SmFaultKind.TheVariants.{Memory}
 use Rattle.racp_cli.specs.Texts.{early_text, memory_line}
-use Rattle.racp_cli.specs.Answers.{Early, Refused, OutOfMemory, IsEarlyAnswer, IsCpmAnswer}
+use Rattle.racp_cli.specs.Answers.{Early, Refused, OutOfMemory, IsEarlyText, IsCpmAnswer}
 use Rattle.racp_cli.specs.Responses.{IsNetworkRefused}
 
 -- a row of zeros releases each job at 0
@@ -17,13 +17,13 @@ released_at_zero n = fun_ext (zeros n)
 
 -- what is right for a row of zeros is the answer
 pub answers_early : (network : Project) (n critical : ℕ) (starts text : List ℕ) → IsCriticalLength network (slice_index (replicate n 0)) critical → IsEarly network (slice_index (replicate n 0)) starts
-    → text ≡ early_text critical starts → IsEarlyAnswer network text
+    → text ≡ early_text critical starts → IsEarlyText network text
 answers_early network n critical starts text length early e =
     let same = released_at_zero n in
     (critical, starts, subst (λ (release : ℕ → ℕ). IsCriticalLength network release critical) same length, subst (λ (release : ℕ → ℕ). IsEarly network release starts) same early, e)
 
 -- the answer to a text that is read as a network
-pub answers_network : (input : List ℕ) (network : Project) (text : List ℕ) → IsReading input (Ok network) → IsEarlyAnswer network text → IsCpmAnswer input 0 text
+pub answers_network : (input : List ℕ) (network : Project) (text : List ℕ) → IsReading input (Ok network) → IsEarlyText network text → IsCpmAnswer input 0 text
 answers_network input network text reading early =
     record { answer = Early early.0 early.1; right = (network, reading, early.2, early.3); with_status = refl; with_text = sym early.4 }
 

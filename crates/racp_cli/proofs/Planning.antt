@@ -5,34 +5,24 @@ use Rattle.racp_sm.specs.Reading.{IsReading, IsReadingOrMemory}
 use Rattle.racp_sm.specs.declared.fault.SmFault.{SmFault}
 use Rattle.racp_prices.specs.Orders.{IsOrderOrMemory}
 use Rattle.racp_prices.specs.declared.fault.OrderFault.{OrderFault}
-use Rattle.racp_lexfix.specs.Printing.{IsPrinted}
 use Rattle.racp_cli.specs.Texts.{memory_line}
 use Rattle.racp_cli.specs.Responses.{IsNetworkRefused, IsOrderRefused}
-use Rattle.racp_cli.specs.Plans.{Planned, NetworkRefused, OrderRefused, OutOfMemory, IsPlanAnswer}
+use Rattle.racp_cli.specs.Plans.{IsPlanAnswer}
 use Rattle.racp_cli.proofs.Answering.{right_refusal}
-
--- what is printed is the answer
-pub plan_printed : (net order text : List ℕ) (status : ℕ) → IsPrinted net order text status → IsPlanAnswer net order status text
-plan_printed net order text status p = record {
-  outcome = Planned p.terms.deadline p.answer;
-  right = (p.network, p.terms, p.are_terms, refl, p.right);
-  with_status = sym p.with_status;
-  with_text = sym p.with_text;
-}
 
 -- the answer to a network text that is refused
 pub plan_network_refused : (net order : List ℕ) (fault : SmFault) (status : ℕ) (text : List ℕ) → IsReadingOrMemory net (Err fault) → IsNetworkRefused fault status text →
     IsPlanAnswer net order status text
 plan_network_refused net order fault status text reading (other, with_status, with_text) =
-    record { outcome = NetworkRefused fault; right = right_refusal net fault reading other; with_status = with_status; with_text = with_text }
+    inr (inl (fault, right_refusal net fault reading other, sym with_status, sym with_text))
 
 -- the answer to an order text that is refused
 pub plan_order_refused : (net order : List ℕ) (network : Project) (fault : OrderFault) (status : ℕ) (text : List ℕ) → IsReading net (Ok network) →
     IsOrderOrMemory network.resources (length network.jobs) order (Err fault) → IsOrderRefused fault status text → IsPlanAnswer net order status text
 plan_order_refused net order network fault status text reading (inl memory) (other, with_status, with_text) = absurd (other memory)
 plan_order_refused net order network fault status text reading (inr right) (other, with_status, with_text) =
-    record { outcome = OrderRefused fault; right = (network, reading, right); with_status = with_status; with_text = with_text }
+    inr (inr (inl (network, fault, reading, right, sym with_status, sym with_text)))
 
 -- the answer where memory ran out
 pub plan_memory : (net order : List ℕ) → IsPlanAnswer net order 6 memory_line
-plan_memory net order = record { outcome = OutOfMemory; right = tt; with_status = refl; with_text = refl }
+plan_memory net order = inr (inr (inr (refl, refl)))

@@ -6,13 +6,13 @@ use Rattle.std.specs.declared.alloc.Global.{Global}
 use Rattle.std.specs.Io.KnownBytes.{Keeps}
 use Rattle.racp_cli.specs.Texts.{memory_line}
 use Rattle.racp_cli.specs.Responses.{IsMade}
-use Rattle.racp_cli.specs.Streams.{Reader, AreInputs, IsReadUntil, IsStopped, IsAnswered, IsRun}
+use Rattle.racp_cli.specs.Streams.{Reader, AreInputs, IsReadUntil, IsStopped, IsAnswerWritten, IsRun}
 use Rattle.racp_cli.specs.declared.fault.StreamFault.{StreamFault}
 use Rattle.racp_cli.specs.declared.fault.StreamFault.TheVariants.{Read, Write, TooLong, Memory}
 
 -- what was written of an answer is what was written of each answer that it stands for
 pub answered_as : (A B : ℕ → List ℕ → Type 0) (old new : Option (List ℕ)) (result : Result ℕ StreamFault) → ((status : ℕ) (text : List ℕ) → A status text → B status text) →
-    IsAnswered A old new result → IsAnswered B old new result
+    IsAnswerWritten A old new result → IsAnswerWritten B old new result
 answered_as A B old new (Ok status) f (text, a, appended) = (text, f status text a, appended)
 answered_as A B old new (Err fault) f (is, status, text, a, beginning) = (is, status, text, f status text a, beginning)
 
@@ -31,7 +31,7 @@ IsOfWriter Memory = ⊥
 
 -- all readers were read, and an answer to them is written
 pub run_answered : (Answer : List (List ℕ) → ℕ → List ℕ → Type 0) (readers : List Reader) (inputs : List (List ℕ)) (old new : Option (List ℕ)) (result : Result ℕ StreamFault) →
-    AreInputs readers inputs → IsAnswered (Answer inputs) old new result → IsRun Answer readers old new result
+    AreInputs readers inputs → IsAnswerWritten (Answer inputs) old new result → IsRun Answer readers old new result
 run_answered Answer readers inputs old new (Ok status) are answered = (inputs, are, answered)
 run_answered Answer readers inputs old new (Err Read) are answered = absurd (subst IsOfWriter (sym answered.0) tt)
 run_answered Answer readers inputs old new (Err Write) are answered = (inputs, are, answered)

@@ -1,26 +1,52 @@
 -- The text that `plan` writes tells its status, by its first letter.
-use Rattle.std.proofs.Common.{◌≡◌, ◌==◌, ℕ, List, get_or, if◌then◌else◌, refl, sym, ap, ◌∙◌}
+use Rattle.std.proofs.Common.{◌≡◌, ◌==◌, inl, inr, ℕ, List, get_or, if◌then◌else◌, refl, sym, ap, ◌∙◌}
 use Rattle.racp_check.specs.Texts.{line, deadline_line, plan_text}
-use Rattle.racp_lexfix.specs.Texts.{impossible_line, due_line, ceiling_line}
+use Rattle.racp_lexfix.specs.Texts.{impossible_line, due_line, ceiling_line, answer_text, answer_status}
+use Rattle.racp_lexfix.specs.declared.answer.Answer.{Answer}
 use Rattle.racp_lexfix.specs.declared.answer.Answer.TheVariants.{Plan as ThePlan, Impossible, Due, Ceiling}
+use Rattle.racp_sm.specs.declared.fault.SmFault.{SmFault}
+use Rattle.racp_prices.specs.declared.fault.OrderFault.{OrderFault}
 use Rattle.racp_cli.specs.Texts.{refusal_line, order_refusal_line, memory_line}
-use Rattle.racp_cli.specs.Plans.{Outcome, Planned, NetworkRefused, OrderRefused, OutOfMemory, outcome_text, outcome_status}
+use Rattle.racp_cli.specs.Plans.{IsPlanAnswer}
 
--- the status of a text that begins with this letter
-status_by : ℕ → ℕ
-status_by letter = if letter == 100 then 0 else if letter == 105 then 3 else if letter == 114 then 5 else 6
+-- the status of a text, by its first letter
+status_by : List ℕ → ℕ
+status_by text =
+    let letter = get_or text 0 0 in
+    if letter == 100 then 0 else if letter == 105 then 3 else if letter == 114 then 5 else 6
 
--- the status of a text is that of its first letter
-first_tells : (outcome : Outcome) → status_by (get_or (outcome_text outcome) 0 0) ≡ outcome_status outcome
-unfolding status_by plan_text deadline_line line impossible_line due_line ceiling_line refusal_line order_refusal_line memory_line
-first_tells (Planned deadline (ThePlan plan)) = refl
-first_tells (Planned deadline (Impossible longest)) = refl
-first_tells (Planned deadline (Due job)) = refl
-first_tells (Planned deadline Ceiling) = refl
-first_tells (NetworkRefused fault) = refl
-first_tells (OrderRefused fault) = refl
-first_tells OutOfMemory = refl
+-- the first letter tells the status of an answer, and of each other line
+answer_tells : (deadline : ℕ) (answer : Answer) → status_by (answer_text deadline answer) ≡ answer_status answer
+unfolding status_by plan_text deadline_line line impossible_line due_line ceiling_line
+answer_tells deadline (ThePlan plan) = refl
+answer_tells deadline (Impossible longest) = refl
+answer_tells deadline (Due job) = refl
+answer_tells deadline Ceiling = refl
 
--- equal texts have one status
-pub same_status : (a b : Outcome) → outcome_text a ≡ outcome_text b → outcome_status a ≡ outcome_status b
-same_status a b e = sym (first_tells a) ∙ ap (λ (text : List ℕ). status_by (get_or text 0 0)) e ∙ first_tells b
+network_tells : (fault : SmFault) → status_by (refusal_line fault) ≡ 5
+unfolding status_by line refusal_line
+network_tells fault = refl
+
+order_tells : (fault : OrderFault) → status_by (order_refusal_line fault) ≡ 5
+unfolding status_by line order_refusal_line
+order_tells fault = refl
+
+memory_tells : status_by memory_line ≡ 6
+unfolding status_by line memory_line
+memory_tells = refl
+
+told : (net order text : List ℕ) (status : ℕ) → IsPlanAnswer net order status text → status_by text ≡ status
+told net order text status h = elim h [
+  | inl p ↦ ap status_by p.with_text ∙ answer_tells p.terms.deadline p.answer ∙ sym p.with_status
+  | inr refused ↦ elim refused [
+    | inl p ↦ ap status_by p.3 ∙ network_tells p.0 ∙ sym p.2
+    | inr later ↦ elim later [
+      | inl p ↦ ap status_by p.5 ∙ order_tells p.1 ∙ sym p.4
+      | inr p ↦ ap status_by p.1 ∙ memory_tells ∙ sym p.0
+    ]
+  ]
+]
+
+-- one text has one status
+pub same_status : (net order other_net other_order text : List ℕ) (a b : ℕ) → IsPlanAnswer net order a text → IsPlanAnswer other_net other_order b text → a ≡ b
+same_status net order other_net other_order text a b first second = sym (told net order text a first) ∙ told other_net other_order text b second

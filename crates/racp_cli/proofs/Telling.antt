@@ -11,7 +11,7 @@ use Rattle.racp_check.specs.Texts.{line, critical_line, start_lines}
 use Rattle.racp_check.proofs.lemmas.Numbers.{same_number}
 use Rattle.racp_check.proofs.lemmas.StartLines.{same_starts}
 use Rattle.racp_cli.specs.Texts.{early_text, refusal_line, memory_line}
-use Rattle.racp_cli.specs.Answers.{Answer, Early, Refused, OutOfMemory, text_of}
+use Rattle.racp_cli.specs.Answers.{CpmOutcome, Early, Refused, OutOfMemory, cpm_text}
 use Rattle.racp_cli.specs.Laws.{IsWithin64Bits}
 
 -- a line feed is no digit
@@ -114,7 +114,7 @@ unfolding line memory_line
 memory_first = refl
 
 -- the text of an answer tells which answer it is
-pub same_answer : (a b : Answer) → IsWithin64Bits a → IsWithin64Bits b → text_of a ≡ text_of b → a ≡ b
+pub same_answer : (a b : CpmOutcome) → IsWithin64Bits a → IsWithin64Bits b → cpm_text a ≡ cpm_text b → a ≡ b
 same_answer (Early c xs) (Early d ys) p q e = same_early c d xs ys p q e
 same_answer (Early c xs) (Refused g) p q e = absurd (apart _ _ 99 114 (early_first c xs) (refusal_first g) (omega arith) e)
 same_answer (Early c xs) OutOfMemory p q e = absurd (apart _ _ 99 109 (early_first c xs) memory_first (omega arith) e)

@@ -24,14 +24,14 @@ abbrev pub IsBeginning : Option (List ℕ) → Option (List ℕ) → ℕ → Typ
 IsBeginning unread left most = (front : List ℕ) × Consumes unread left front × (length front ≤ most)
 
 -- one byte more was read than there may be
-abbrev pub IsTooLong : Option (List ℕ) → Option (List ℕ) → Type 0
-IsTooLong unread left = (front : List ℕ) × Consumes unread left front × (length front ≡ input_limit + 1)
+abbrev pub IsInputTooLong : Option (List ℕ) → Option (List ℕ) → Type 0
+IsInputTooLong unread left = (front : List ℕ) × Consumes unread left front × (length front ≡ input_limit + 1)
 
 -- what was read before a fault
 abbrev pub IsReadUntil : Option (List ℕ) → Option (List ℕ) → StreamFault → Type 0
 IsReadUntil unread left Read = IsBeginning unread left input_limit
 IsReadUntil unread left Write = ⊥
-IsReadUntil unread left TooLong = IsTooLong unread left
+IsReadUntil unread left TooLong = IsInputTooLong unread left
 IsReadUntil unread left Memory = IsBeginning unread left (input_limit + 1)
 
 -- a beginning of the text was written
@@ -44,9 +44,9 @@ IsWritten old new text (Ok done) = Appends old new text
 IsWritten old new text (Err fault) = (fault ≡ Write) × WritesBeginning old new text
 
 -- what was written as an answer: its whole text, with its status, or a beginning of it where the writer failed
-abbrev pub IsAnswered : (ℕ → List ℕ → Type 0) → Option (List ℕ) → Option (List ℕ) → Result ℕ StreamFault → Type 0
-IsAnswered Answer old new (Ok status) = (text : List ℕ) × Answer status text × Appends old new text
-IsAnswered Answer old new (Err fault) = (fault ≡ Write) × (status : ℕ) × (text : List ℕ) × Answer status text × WritesBeginning old new text
+abbrev pub IsAnswerWritten : (ℕ → List ℕ → Type 0) → Option (List ℕ) → Option (List ℕ) → Result ℕ StreamFault → Type 0
+IsAnswerWritten Answer old new (Ok status) = (text : List ℕ) × Answer status text × Appends old new text
+IsAnswerWritten Answer old new (Err fault) = (fault ≡ Write) × (status : ℕ) × (text : List ℕ) × Answer status text × WritesBeginning old new text
 
 -- what a reader has before and after a run
 pub record Reader : Type 0 where
@@ -75,8 +75,8 @@ IsStopped (reader ∷ readers) fault =
 -- a run, from the bytes of the readers to those of the writer: all of each reader is read, one after another, and an answer to
 -- these inputs is written, or the writer fails; or reading fails, and nothing is written
 abbrev pub IsRun : (List (List ℕ) → ℕ → List ℕ → Type 0) → List Reader → Option (List ℕ) → Option (List ℕ) → Result ℕ StreamFault → Type 0
-IsRun Answer readers old new (Ok status) = (inputs : List (List ℕ)) × AreInputs readers inputs × IsAnswered (Answer inputs) old new (Ok status)
-IsRun Answer readers old new (Err Write) = (inputs : List (List ℕ)) × AreInputs readers inputs × IsAnswered (Answer inputs) old new (Err Write)
+IsRun Answer readers old new (Ok status) = (inputs : List (List ℕ)) × AreInputs readers inputs × IsAnswerWritten (Answer inputs) old new (Ok status)
+IsRun Answer readers old new (Err Write) = (inputs : List (List ℕ)) × AreInputs readers inputs × IsAnswerWritten (Answer inputs) old new (Err Write)
 IsRun Answer readers old new (Err fault) = IsStopped readers fault × Keeps old new
 
 -- the answers to one input

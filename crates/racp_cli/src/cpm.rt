@@ -1,7 +1,7 @@
 //! `cpm`: the critical length and the early starts of a network.
 
 ghost use Rattle.std.specs.Prelude.{◌≡◌, ℕ, ◌++◌, IfOk};
-ghost use Rattle.racp_cli.specs.Answers.{IsCpmAnswer, IsEarlyAnswer};
+ghost use Rattle.racp_cli.specs.Answers.{IsCpmAnswer, IsEarlyText};
 ghost use Rattle.racp_cli.specs.Streams.{IsCpmRun};
 
 use crate::fault::StreamFault;
@@ -47,7 +47,7 @@ fn answer(alloc: Global, input: &[u8]) -> Result<(u8, Vec<u8>), AllocError>
 
 /// The critical length and the early starts of a network, all jobs released at 0.
 fn early_answer(alloc: Global, network: &Network) -> Result<Vec<u8>, AllocError>
-    ensures { IfOk result (λ text. IsEarlyAnswer network.now text.items) }
+    ensures { IfOk result (λ text. IsEarlyText network.now text.items) }
 {
     let release = vec![in alloc; 0; network.job_count()]?;
     let critical = longest(alloc, network, &release)?;

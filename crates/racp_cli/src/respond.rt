@@ -1,7 +1,7 @@
 //! Writing an answer.
 
 ghost use Rattle.racp_cli.specs.Responses.{IsMade};
-ghost use Rattle.racp_cli.specs.Streams.{IsAnswered};
+ghost use Rattle.racp_cli.specs.Streams.{IsAnswerWritten};
 
 use crate::fault::StreamFault;
 use crate::status::OUT_OF_MEMORY;
@@ -14,7 +14,7 @@ pub(crate) fn respond<W: Write>(
     answer: Result<(u8, Vec<u8>), AllocError>,
     out: &mut W,
 ) -> Result<u8, StreamFault>
-    ensures { IsAnswered (IsMade answer) (W.contents out.old) (W.contents out.new) result }
+    ensures { IsAnswerWritten (IsMade answer) (W.contents out.old) (W.contents out.new) result }
 {
     match answer {
         Ok((status, text)) => {

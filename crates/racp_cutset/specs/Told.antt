@@ -1,4 +1,5 @@
--- Why the rows of a record tell one node at most.
+-- Why the rows of a record tell one node at most. These are proofs, which the ghost field of a record needs; nothing here has to be
+-- believed.
 use Rattle.std.proofs.Common.{◌≡◌, ◌↔◌, ◌∙◌, ℕ, ◌<◌, inl, inr, List, length, slice_index, Contains, arith, refl, sym, subst}
 use Rattle.std.proofs.lemmas.Bool.{cases_lt}
 use Rattle.std.proofs.lemmas.List.{ext_get_or}

@@ -1,12 +1,12 @@
-use Rattle.std.proofs.Common.{Err, rules}
+use Rattle.std.proofs.Common.{Err, inl, rules}
 use Rattle.std.proofs.lemmas.Result.{IfOk-weaker}
 use Rattle.racp_lexfix.specs.Printing.{IsPrinting}
 use Rattle.racp_lexfix.specs.declared.printed.Refusal.TheVariants.{Sm, Order}
-use Rattle.racp_cli.proofs.Planning.{plan_printed, plan_network_refused, plan_order_refused}
+use Rattle.racp_cli.proofs.Planning.{plan_network_refused, plan_order_refused}
 use Rattle.racp_cli.proofs.plan.answer.Goals as goal
 
 pub returns-in-Ok : goal.returns-in-Ok
-returns-in-Ok c = plan_printed _ _ _ _ c.in-Ok.ensures
+returns-in-Ok c = inl c.in-Ok.ensures
 
 pub returns-in-Err-Sm : goal.returns-in-Err-Sm
 returns-in-Err-Sm c =
