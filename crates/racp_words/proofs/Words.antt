@@ -4,7 +4,7 @@ use Rattle.std.proofs.lemmas.Bool.{eqb-true, ne_eqb}
 use Rattle.std.proofs.lemmas.Option.{same_Some}
 use Rattle.clap.specs.Words.{Row, Text, fault_of, first_of, subcommand_of}
 use Rattle.clap.proofs.OnLiterals.{clap_on_literals}
-use Rattle.racp_words.specs.CommandLine.{IsCpmLine, IsCpmOf, IsPlanLine, IsPlanOf, IsCheckLine, IsCheckOf, IsPlain, IsRequested, path_at, racp}
+use Rattle.racp_words.specs.CommandLine.{IsCpmLine, AsksForCpm, IsPlanLine, AsksForPlan, IsCheckLine, AsksForCheck, IsPlain, IsRequested, path_at, racp}
 use Rattle.racp_words.specs.declared.request.Request.{Request}
 use Rattle.racp_words.specs.declared.request.Request.TheVariants.{Cpm, Plan, Check}
 
@@ -47,7 +47,7 @@ cpm_word name (first ∷ rest) plain = by_first (first == 45) refl
         subst (λ (word : Text). IsTaken (name ∷ codes "cpm" ∷ word ∷ []) (Some (codes "cpm", Some word))) (ap (λ f. f ∷ []) (sym is) ∙ ap (λ r. first ∷ r) (sym (plain is))) (cpm_hyphen name)
 
 -- no command asks for the network that no word names
-none_asked : (command : Option (Text × List Row)) (request : Request) → with_network command ≡ None → IsRequested command request → IsCpmOf None request
+none_asked : (command : Option (Text × List Row)) (request : Request) → with_network command ≡ None → IsRequested command request → AsksForCpm None request
 unfolding with_network
 none_asked None (Cpm network) e asked = asked
 none_asked None (Plan files) e asked = asked
@@ -55,7 +55,7 @@ none_asked None (Check files) e asked = asked
 none_asked (Some command) request e asked = absurd (search rules)
 
 -- `cpm` asks for the network that its word names
-cpm_asked : (command : Option (Text × List Row)) (word : Option Text) (request : Request) → with_network command ≡ Some (codes "cpm", word) → IsRequested command request → IsCpmOf word request
+cpm_asked : (command : Option (Text × List Row)) (word : Option Text) (request : Request) → with_network command ≡ Some (codes "cpm", word) → IsRequested command request → AsksForCpm word request
 unfolding with_network
 cpm_asked None word request e asked = absurd (search rules)
 cpm_asked (Some command) word (Cpm network) e asked = rw (← ap (λ c. c.1) (same_Some _ _ e)) asked.2
@@ -78,7 +78,7 @@ plan_paths name a b net order p q = (rw (p, p, q, q) refl, rw (p, p, q, q) refl)
 
 -- `plan` asks for the files with these paths
 plan_asked : (command : Option (Text × List Row)) (net order : Text) (request : Request) → with_two_paths command ≡ Some (codes "plan", (net, order)) → IsRequested command request →
-    IsPlanOf net order request
+    AsksForPlan net order request
 unfolding with_two_paths
 plan_asked None net order request e asked = absurd (search rules)
 plan_asked (Some command) net order (Cpm network) e asked = absurd (asked.0 (ap (λ c. c.0) (same_Some _ _ e)))
@@ -100,7 +100,7 @@ check_paths name a b d net order plan p q r = (rw (p, p, q, q, r, r) refl, rw (p
 
 -- `check` asks for the files with these paths
 check_asked : (command : Option (Text × List Row)) (net order plan : Text) (request : Request) → with_paths command ≡ Some (codes "check", (net, (order, plan))) → IsRequested command request →
-    IsCheckOf net order plan request
+    AsksForCheck net order plan request
 unfolding with_paths
 check_asked None net order plan request e asked = absurd (search rules)
 check_asked (Some command) net order plan (Cpm network) e asked = absurd (asked.1 (ap (λ c. c.0) (same_Some _ _ e)))
@@ -112,7 +112,7 @@ check_asked (Some command) net order plan (Check files) e asked =
     (asked.1 ∙ ap (λ c. c.1.0) same, asked.2 ∙ ap (λ c. c.1.1.0) same, asked.3 ∙ ap (λ c. c.1.1.1) same)
 
 -- the parser takes each line that asks for `cpm`, and what is asked for is that
-pub cpm_line : (words : List Text) (network : Option Text) → IsCpmLine words network → (fault_of racp words ≡ []) × ((request : Request) → IsRequested (subcommand_of racp words) request → IsCpmOf network request)
+pub cpm_line : (words : List Text) (network : Option Text) → IsCpmLine words network → (fault_of racp words ≡ []) × ((request : Request) → IsRequested (subcommand_of racp words) request → AsksForCpm network request)
 unfolding IsTaken
 cpm_line words None (name, inl alone) =
     let taken = subst (λ (ws : List Text). IsTaken ws None) (sym alone) (no_words name) in (taken.0, λ request. none_asked (subcommand_of racp words) request taken.1)
@@ -123,7 +123,7 @@ cpm_line words (Some word) (name, plain, is) =
 
 -- the parser takes each line that asks for `plan`, and what is asked for is that
 pub plan_line : (words : List Text) (net order : Text) → IsPlanLine words net order →
-    (fault_of racp words ≡ []) × ((request : Request) → IsRequested (subcommand_of racp words) request → IsPlanOf net order request)
+    (fault_of racp words ≡ []) × ((request : Request) → IsRequested (subcommand_of racp words) request → AsksForPlan net order request)
 plan_line words [] order (name, none, second, is) = absurd none
 plan_line words (a ∷ net) [] (name, first, none, is) = absurd none
 plan_line words (a ∷ net) (b ∷ order) (name, first, second, is) =
@@ -134,7 +134,7 @@ plan_line words (a ∷ net) (b ∷ order) (name, first, second, is) =
 
 -- the parser takes each line that asks for `check`, and what is asked for is that
 pub check_line : (words : List Text) (net order plan : Text) → IsCheckLine words net order plan →
-    (fault_of racp words ≡ []) × ((request : Request) → IsRequested (subcommand_of racp words) request → IsCheckOf net order plan request)
+    (fault_of racp words ≡ []) × ((request : Request) → IsRequested (subcommand_of racp words) request → AsksForCheck net order plan request)
 check_line words [] order plan (name, none, second, third, is) = absurd none
 check_line words (a ∷ net) [] plan (name, first, none, third, is) = absurd none
 check_line words (a ∷ net) (b ∷ order) [] (name, first, second, none, is) = absurd none

@@ -53,8 +53,8 @@ IsRequested (Some command) (Check files) =
     (files.order.now ≡ path_at (codes "ORDER") command.1) × (files.plan.now ≡ path_at (codes "PLAN") command.1)
 
 -- the words ask for this
-abbrev pub IsAsked : List Text → Request → Type 0
-IsAsked words = IsRequested (subcommand_of racp words)
+abbrev pub AskFor : List Text → Request → Type 0
+AskFor words = IsRequested (subcommand_of racp words)
 
 -- a word that is no option: one that does not begin with a hyphen, or a hyphen alone
 abbrev pub IsPlain : Text → Type 0
@@ -67,10 +67,10 @@ IsCpmLine words None = (name : Text) × ((words ≡ name ∷ []) ⊎ (words ≡ 
 IsCpmLine words (Some word) = (name : Text) × IsPlain word × (words ≡ name ∷ codes "cpm" ∷ word ∷ [])
 
 -- `cpm` of the network that the word names
-abbrev pub IsCpmOf : Option Text → Request → Type 0
-IsCpmOf word (Cpm network) = IsSource word network
-IsCpmOf word (Plan files) = ⊥
-IsCpmOf word (Check files) = ⊥
+abbrev pub AsksForCpm : Option Text → Request → Type 0
+AsksForCpm word (Cpm network) = IsSource word network
+AsksForCpm word (Plan files) = ⊥
+AsksForCpm word (Check files) = ⊥
 
 -- a word that is not empty, and no option
 abbrev pub IsPath : Text → Type 0
@@ -82,10 +82,10 @@ abbrev pub IsPlanLine : List Text → Text → Text → Type 0
 IsPlanLine words net order = (name : Text) × IsPath net × IsPath order × (words ≡ name ∷ codes "plan" ∷ net ∷ order ∷ [])
 
 -- `plan` of the files with these paths
-abbrev pub IsPlanOf : Text → Text → Request → Type 0
-IsPlanOf net order (Cpm network) = ⊥
-IsPlanOf net order (Plan files) = (files.net.now ≡ net) × (files.order.now ≡ order)
-IsPlanOf net order (Check files) = ⊥
+abbrev pub AsksForPlan : Text → Text → Request → Type 0
+AsksForPlan net order (Cpm network) = ⊥
+AsksForPlan net order (Plan files) = (files.net.now ≡ net) × (files.order.now ≡ order)
+AsksForPlan net order (Check files) = ⊥
 
 -- After the program's name come `check` and these three paths.
 abbrev pub IsCheckLine : List Text → Text → Text → Text → Type 0
@@ -93,7 +93,7 @@ IsCheckLine words net order plan_path =
     (name : Text) × IsPath net × IsPath order × IsPath plan_path × (words ≡ name ∷ codes "check" ∷ net ∷ order ∷ plan_path ∷ [])
 
 -- `check` of the files with these paths
-abbrev pub IsCheckOf : Text → Text → Text → Request → Type 0
-IsCheckOf net order plan_path (Cpm network) = ⊥
-IsCheckOf net order plan_path (Plan files) = ⊥
-IsCheckOf net order plan_path (Check files) = (files.net.now ≡ net) × (files.order.now ≡ order) × (files.plan.now ≡ plan_path)
+abbrev pub AsksForCheck : Text → Text → Text → Request → Type 0
+AsksForCheck net order plan_path (Cpm network) = ⊥
+AsksForCheck net order plan_path (Plan files) = ⊥
+AsksForCheck net order plan_path (Check files) = (files.net.now ≡ net) × (files.order.now ≡ order) × (files.plan.now ≡ plan_path)

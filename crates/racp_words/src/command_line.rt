@@ -3,7 +3,7 @@
 ghost use Rattle.std.specs.Prelude.{◌≡◌, ℕ, List, Option, Some, IfOk, MatchResult, map, option_map, string_bytes, codes, false};
 ghost use Rattle.clap.specs.Words.{FailsBy, app_of, fault_of, first_value, found_of, kind_of, rows_of, rule_of, subcommand_rows_of};
 ghost use Rattle.clap.specs.declared.error.kind.ErrorKind.TheVariants.{OutOfMemory};
-ghost use Rattle.racp_words.specs.CommandLine.{IsAsked, IsCheckLine, IsCheckOf, IsCpmLine, IsCpmOf, IsPlanLine, IsPlanOf, IsRequested, IsSource, check, cpm, file_rule, path_at, plan, racp};
+ghost use Rattle.racp_words.specs.CommandLine.{AskFor, IsCheckLine, AsksForCheck, IsCpmLine, AsksForCpm, IsPlanLine, AsksForPlan, IsRequested, IsSource, check, cpm, file_rule, path_at, plan, racp};
 ghost use Rattle.racp_words.specs.Commands.{IsCommandOf};
 
 use crate::request::{OrderFiles, PlanFiles, Request, Source};
@@ -18,15 +18,15 @@ use std::alloc::{AllocError, Global};
 pub fn asked<'a>(alloc: Global, words: &'a [String]) -> Result<Request<'a>, Error>
     // Without words, with `cpm`, and with `cpm` and a word that is no option, only memory can fail.
     ensures cpm { (network : Option (List ℕ)) → IsCpmLine (map string_bytes words.entry.now) network
-        → MatchResult result (IsCpmOf network) (λ error. kind_of error ≡ OutOfMemory) }
+        → MatchResult result (AsksForCpm network) (λ error. kind_of error ≡ OutOfMemory) }
     // With `plan` and two paths, too.
     ensures plan { (net order : List ℕ) → IsPlanLine (map string_bytes words.entry.now) net order
-        → MatchResult result (IsPlanOf net order) (λ error. kind_of error ≡ OutOfMemory) }
+        → MatchResult result (AsksForPlan net order) (λ error. kind_of error ≡ OutOfMemory) }
     // With `check` and three paths, too.
     ensures check { (net order plan_path : List ℕ) → IsCheckLine (map string_bytes words.entry.now) net order plan_path
-        → MatchResult result (IsCheckOf net order plan_path) (λ error. kind_of error ≡ OutOfMemory) }
+        → MatchResult result (AsksForCheck net order plan_path) (λ error. kind_of error ≡ OutOfMemory) }
     // Whatever the words are, the parser's account of them says what they ask for, or why they are refused.
-    ensures asked { IfOk result (IsAsked (map string_bytes words.entry.now)) }
+    ensures asked { IfOk result (AskFor (map string_bytes words.entry.now)) }
     ensures faults { FailsBy (fault_of racp (map string_bytes words.entry.now)) result }
 {
     let matches = command(alloc)?.try_get_matches_from(words)?;
