@@ -6,3 +6,9 @@ mod Staging
 mod Passing
 mod OneAnswer
 mod Deciding
+mod Decided
+mod Leasts
+mod Fitting
+mod Existing
+mod ByLength
+mod SomeAnswer
