@@ -1,18 +1,18 @@
 -- Where there is no plan; on plain terms by the critical length.
-use Rattle.std.proofs.Common.{◌≡◌, ℕ, ◌+◌, ◌<◌, ◌≤◌, inl, inr, List, length, slice_index, Option, None, IfSome, sym, subst, arith}
-use Rattle.std.proofs.lemmas.Bool.{cases_lt}
-use Rattle.racp_model.specs.Project.{Project, IsSound, duration}
+use Rattle.std.proofs.Common.{ℕ, ◌<◌, ◌≤◌, inl, inr, List, length, slice_index, Option, IfSome, sym, subst, arith}
+use Rattle.racp_model.specs.Project.{Project, IsSound}
 use Rattle.racp_model.specs.Schedule.{EndsBy, FitsInTime, roof}
 use Rattle.racp_model.specs.Path.{IsEarly, IsCriticalLength}
 use Rattle.racp_model.specs.Terms.{Terms, AreTermsOf, release_of, due_of}
 use Rattle.racp_model.specs.Plan.{IsEnough, IsPlan, IsTooLateAt, IsOverCeilings}
+use Rattle.racp_model.proofs.lemmas.Lists.{row, row_places, row-at}
 use Rattle.racp_model.proofs.lemmas.Usage.{usage-roof}
 use Rattle.racp_cpm.specs.Laws.{CriticalIsGreatestFinish}
-use Rattle.racp_check.specs.declared.plan.Plan.{Plan}
+use Rattle.racp_cpm.proofs.lemmas.SomeEarly.{some_early}
 use Rattle.racp_lexfix.specs.declared.answer.Answer.TheVariants.{Plan as ThePlan, Impossible, Due, Ceiling}
 use Rattle.racp_lexfix.specs.Laws.{IsPlain, ImpossibleIsNoPlan, ImpossibleIsByLength, PlanIsByLength}
 use Rattle.racp_lexfix.proofs.OneAnswer.{span_within, not_long, not_late, one_length}
-use Rattle.racp_lexfix.proofs.Existing.{row, row_places, row-at, some_early, plan_or_none}
+use Rattle.racp_lexfix.proofs.Existing.{plan_or_none}
 
 -- an answer is no plan exactly where there is none
 pub no_plan : ImpossibleIsNoPlan

@@ -6,9 +6,6 @@ mod Staging
 mod Passing
 mod OneAnswer
 mod Deciding
-mod Decided
-mod Leasts
-mod Fitting
 mod Existing
 mod ByLength
 mod SomeAnswer

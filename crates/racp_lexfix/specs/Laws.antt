@@ -16,14 +16,14 @@ AnswerIsOne = (p : Project) (terms : Terms) (a b : Answer) → IsSound p → IsA
 abbrev pub AnswerExists : Type 0
 AnswerExists = (p : Project) (terms : Terms) → IsSound p → AreTermsOf p terms → (answer : Answer) × IsAnswer p terms answer
 
--- an answer that is a reason and no plan
+-- the answer is one of the reasons and no plan
 abbrev pub IsNoPlan : Answer → Type 0
 IsNoPlan (ThePlan plan) = ⊥
 IsNoPlan (Impossible longest) = ⊤
 IsNoPlan (Due job) = ⊤
 IsNoPlan Ceiling = ⊤
 
--- nothing but the deadline says when jobs have to end, and any number of units may be bought
+-- plain terms: there are no ceilings, and no due time is before the deadline
 pub record IsPlain (p : Project) (terms : Terms) : Type 0 where
   pub ceilings : terms.ceilings ≡ None
   pub due : (i : ℕ) → i < length p.jobs → terms.deadline ≤ slice_index terms.due i

@@ -6,7 +6,7 @@ use Rattle.racp_model.specs.Terms.{Terms, AreTermsOf, release_of, due_of, IsBefo
 use Rattle.racp_model.specs.Plan.{IsLeast, IsEnough}
 use Rattle.racp_model.specs.Laws.{IsCutToRoofs}
 use Rattle.racp_model.proofs.lemmas.Orders.{vectors_ordered}
-use Rattle.racp_model.proofs.lemmas.Cuts.{cut, cut-at, cut_places, cut_admitting, cut-no_later}
+use Rattle.racp_model.proofs.lemmas.Cuts.{cut, cut-at, cut_admitting, cut-no_later, cut-enough}
 use Rattle.racp_prices.specs.Units.{cut_to}
 use Rattle.racp_prices.proofs.lemmas.Ceilings.{cut-below}
 use Rattle.racp_bounds.specs.Laws.{CutLiesInBox, EnoughCutLiesInBox, PlanIsInBox}
@@ -18,12 +18,6 @@ pub same-cut : (ceilings : Option (List ℕ)) (units n k top : ℕ) (whole : Lis
     units ≡ cut_to ceilings k top → min (slice_index whole k) units ≡ min (slice_index whole k) top
 same-cut None units n k top whole h l e = omega (arith, e)
 same-cut (Some most) units n k top whole h l e = omega (arith, e, h k l)
-
--- fewer units are within the ceilings too
-pub fewer-within : (ceilings : Option (List ℕ)) (m n : ℕ) (low high : List ℕ) → m ≤ n → ((k : ℕ) → k < m → slice_index low k ≤ slice_index high k) →
-    IfSome ceilings (λ most. (k : ℕ) → k < n → slice_index high k ≤ slice_index most k) → IfSome ceilings (λ most. (k : ℕ) → k < m → slice_index low k ≤ slice_index most k)
-fewer-within None m n low high small less h = tt
-fewer-within (Some most) m n low high small less h = λ k l. omega (arith, less k l, h k (omega (arith, l, small)))
 
 -- cut to the roofs, a vector that admits lies in the box
 pub roofs_cut_in_box : CutLiesInBox
@@ -38,27 +32,17 @@ enough_cut_in_box p terms root floors units sharp pairs whole other h lowest mos
     admitting_in_box p (release_of terms) (due_of terms) root terms.deadline floors units sharp pairs other h (λ i l. omega arith) lowest most.places are refuted places
     (λ k l. omega (arith, is_cut k l)) (cut_admitting p (release_of terms) (due_of terms) whole other same e.admits)
 
-module _ (p : Project) (terms : Terms) where
-  -- cut to the sums of requests, capacities that are enough are enough
-  pub cut_enough : (whole : List ℕ) → IsEnough p terms whole → IsEnough p terms (cut p whole)
-  cut_enough whole e = record {
-    places = cut_places p whole;
-    ceilings = fewer-within terms.ceilings (length (cut p whole)) (length whole) (cut p whole) whole (omega (arith, cut_places p whole, e.places))
-        (λ k l. omega (arith, cut-at p whole k (omega (arith, l, cut_places p whole)))) e.ceilings;
-    admits = cut_admitting p (release_of terms) (due_of terms) whole (cut p whole) (cut-at p whole) e.admits;
-  }
-
-  -- so the first of all that are enough stays as it is
-  pub least_is_cut : (vector : List ℕ) → AreTermsOf p terms → IsLeast (IsBefore terms) (IsEnough p terms) vector → cut p vector ≡ vector
-  least_is_cut vector t least = elim (vectors_ordered terms (cut p vector) vector) [
-    | inl before ↦ absurd (least.least (cut p vector) (cut_enough vector least.is) before)
-    | inr rest ↦ elim rest [
-      | inl same ↦ same
-      | inr after ↦ absurd (cut-no_later p terms vector t least.is.places after)
-    ]
+-- the first of all that are enough is the same cut to the sums of requests
+pub least_is_cut : (p : Project) (terms : Terms) (vector : List ℕ) → AreTermsOf p terms → IsLeast (IsBefore terms) (IsEnough p terms) vector → cut p vector ≡ vector
+least_is_cut p terms vector t least = elim (vectors_ordered terms (cut p vector) vector) [
+  | inl before ↦ absurd (least.least (cut p vector) (cut-enough p terms vector least.is) before)
+  | inr rest ↦ elim rest [
+    | inl same ↦ same
+    | inr after ↦ absurd (cut-no_later p terms vector t least.is.places after)
   ]
+]
 
--- and lies in the box
+-- so it lies in the box
 pub plan_in_box : PlanIsInBox
 plan_in_box p terms root floors units sharp pairs vector t h lowest most are refuted least =
     let e : IsEnough p terms vector = least.is in

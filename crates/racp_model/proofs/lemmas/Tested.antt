@@ -4,15 +4,15 @@ use Rattle.std.specs.declared.cmp.Ordering.{Ordering}
 use Rattle.std.specs.declared.cmp.Ordering.TheVariants.{Less, Equal, Greater}
 use Rattle.racp_model.specs.Project.{Project, IsSound, duration}
 use Rattle.racp_model.specs.Ranks.{from_at, to_at}
-use Rattle.racp_model.specs.Schedule.{KeepsPrecedence, EndsBy, IsInTime, IsWithinCapacities, Fits, FitsInTime, usage}
+use Rattle.racp_model.specs.Schedule.{KeepsPrecedence, EndsBy, IsWithinCapacities, FitsInTime, usage}
 use Rattle.racp_model.specs.Path.{IsAtLeast}
-use Rattle.racp_model.specs.Terms.{Terms, release_of, due_of, lex_cmp, IsLexBefore, vector_cmp, IsBefore, IsWithinCeilings}
+use Rattle.racp_model.specs.Terms.{Terms, release_of, due_of, lex_cmp, IsLexBefore, vector_cmp, IsBefore}
 use Rattle.racp_model.specs.Plan.{IsLeast, FitsTerms, IsEnough}
 use Rattle.racp_model.proofs.lemmas.Arcs.{some_at, at_precedes}
 use Rattle.racp_model.proofs.lemmas.Latest.{usage-within}
 use Rattle.racp_model.proofs.lemmas.Costs.{lex_trans, lex_apart}
-use Rattle.racp_lexfix.proofs.Decided.{Decided, both_decided, decided_by, same_decided, le_decided, each_decided}
-use Rattle.racp_lexfix.proofs.Leasts.{IsUpTo, least_up_to}
+use Rattle.racp_model.proofs.lemmas.Decided.{Decided, both_decided, decided_by, same_decided, le_decided, each_decided}
+use Rattle.racp_model.proofs.lemmas.Leasts.{IsUpTo, least_up_to}
 
 -- whether a comparison says less
 pub less_decided : (o : Ordering) → Decided (o ≡ Less)

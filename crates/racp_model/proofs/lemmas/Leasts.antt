@@ -5,7 +5,7 @@ use Rattle.std.proofs.lemmas.List.{length-map, get_or-map}
 use Rattle.std.proofs.lemmas.List.Elements.{Contains-append_left, Contains-append_right}
 use Rattle.racp_model.specs.Plan.{IsLeast}
 use Rattle.racp_model.proofs.lemmas.Relations.{member_cases, member_first, member_later, no_member}
-use Rattle.racp_lexfix.proofs.Decided.{Decided, both_decided, decided_by, same_decided, le_decided, each_decided}
+use Rattle.racp_model.proofs.lemmas.Decided.{Decided, both_decided, decided_by, same_decided, le_decided, each_decided}
 
 module _ {X : Type 0} (Before : X → X → Type 0) (P : X → Type 0) where
   -- x is in the list and has the property, and nothing in the list that has it stands before x
