@@ -2,3 +2,4 @@
 -- crate and its laws.
 pub mod Above
 pub mod Sharpened
+pub mod Cutting

@@ -2,7 +2,10 @@
 use Rattle.std.specs.Prelude.{◌≡◌, ℕ, ◌<◌, ◌≤◌, min, List, length, slice_index}
 use Rattle.racp_model.specs.Project.{Project}
 use Rattle.racp_model.specs.Schedule.{IsActive, EndsBy, Admits, sum_below, usage}
+use Rattle.racp_model.specs.Terms.{Terms, AreTermsOf, release_of, due_of, IsBefore}
+use Rattle.racp_model.specs.Plan.{IsLeast, IsEnough}
 use Rattle.racp_model.specs.Window.{Bounds, LiesIn, IsRootWindow}
+use Rattle.racp_prices.specs.Units.{AreMostUnits}
 use Rattle.racp_candidates.specs.Box.{IsInBox}
 use Rattle.racp_bounds.specs.Floors.{IsCoreTime, energy, AreFloors, AreRoofs}
 use Rattle.racp_bounds.specs.Sharp.{AreSharpened, AreRefutedPairs, AreSharpenedBefore}
@@ -57,3 +60,30 @@ AdmittingIsInBox =
     length roofs ≡ p.resources → AreSharpened p root floors roofs sharp → AreRefutedPairs p root sharp roofs pairs → length vector ≡ p.resources →
     ((k : ℕ) → k < p.resources → slice_index vector k ≤ slice_index roofs k) → Admits p release due vector →
     IsInBox sharp roofs pairs vector
+
+-- cut to the roofs, each vector that admits lies in that box
+abbrev pub CutLiesInBox : Type 0
+CutLiesInBox =
+    (p : Project) (release due : ℕ → ℕ) (root : Bounds) (deadline : ℕ) (floors roofs sharp : List ℕ) (pairs : List (ℕ × ℕ)) (whole cut : List ℕ) →
+    IsRootWindow p release due root → ((i : ℕ) → i < length p.jobs → due i ≤ deadline) → AreFloors p root deadline floors → AreRoofs p roofs →
+    AreSharpened p root floors roofs sharp → AreRefutedPairs p root sharp roofs pairs → length cut ≡ p.resources →
+    ((k : ℕ) → k < p.resources → slice_index cut k ≡ min (slice_index whole k) (slice_index roofs k)) →
+    Admits p release due whole → IsInBox sharp roofs pairs cut
+
+-- cut to the most units of an order, capacities that are enough for it lie in the box of these units
+abbrev pub EnoughCutLiesInBox : Type 0
+EnoughCutLiesInBox =
+    (p : Project) (terms : Terms) (root : Bounds) (floors most sharp : List ℕ) (pairs : List (ℕ × ℕ)) (whole cut : List ℕ) →
+    IsRootWindow p (release_of terms) (due_of terms) root → AreFloors p root terms.deadline floors → AreMostUnits p terms most →
+    AreSharpened p root floors most sharp → AreRefutedPairs p root sharp most pairs → length cut ≡ p.resources →
+    ((k : ℕ) → k < p.resources → slice_index cut k ≡ min (slice_index whole k) (slice_index most k)) →
+    IsEnough p terms whole → IsInBox sharp most pairs cut
+
+-- the first of all capacities that are enough for an order lies in that box uncut, whatever its prices and owned units, which no
+-- other premise speaks of
+abbrev pub PlanIsInBox : Type 0
+PlanIsInBox =
+    (p : Project) (terms : Terms) (root : Bounds) (floors most sharp : List ℕ) (pairs : List (ℕ × ℕ)) (vector : List ℕ) → AreTermsOf p terms →
+    IsRootWindow p (release_of terms) (due_of terms) root → AreFloors p root terms.deadline floors → AreMostUnits p terms most →
+    AreSharpened p root floors most sharp → AreRefutedPairs p root sharp most pairs →
+    IsLeast (IsBefore terms) (IsEnough p terms) vector → IsInBox sharp most pairs vector

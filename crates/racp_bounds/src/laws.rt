@@ -1,6 +1,6 @@
 //! Laws of floors and roofs, and of sharpened floors. Each function does nothing; its contract is the law.
 
-ghost use Rattle.racp_bounds.specs.Laws.{EnergyIsUsed, CoreIsActive, AdmittingIsAboveFloors, CutToRoofsAdmits, FloorsAreBelowRoofs, AdmittingIsAboveSharpened, AdmittingIsInBox};
+ghost use Rattle.racp_bounds.specs.Laws.{EnergyIsUsed, CoreIsActive, AdmittingIsAboveFloors, CutToRoofsAdmits, FloorsAreBelowRoofs, AdmittingIsAboveSharpened, AdmittingIsInBox, CutLiesInBox, EnoughCutLiesInBox, PlanIsInBox};
 
 /// Over all times before a deadline, starts that end by it use the energy.
 pub fn energy_is_used()
@@ -35,4 +35,19 @@ pub fn admitting_is_above_sharpened()
 /// Capacities that admit and are within the roofs lie in the box of the sharpened floors and the refuted pairs.
 pub fn admitting_is_in_box()
     ensures { AdmittingIsInBox }
+{}
+
+/// Cut to the roofs, capacities that admit lie in that box.
+pub fn cut_lies_in_box()
+    ensures { CutLiesInBox }
+{}
+
+/// Cut to the most units of an order, capacities that are enough for it lie in the box of these units.
+pub fn enough_cut_lies_in_box()
+    ensures { EnoughCutLiesInBox }
+{}
+
+/// The first of all capacities that are enough for an order lies in that box, whatever the prices.
+pub fn plan_is_in_box()
+    ensures { PlanIsInBox }
 {}

@@ -4,3 +4,5 @@ pub mod Roots
 pub mod Bounded
 pub mod Rooted
 pub mod Openings
+pub mod LastEnds
+pub mod SomeEarly

@@ -11,9 +11,9 @@ use Rattle.racp_model.specs.Plan.{IsLeast, IsEnough}
 use Rattle.racp_model.specs.Window.{Bounds, IsYes, IsRootWindow}
 use Rattle.racp_model.specs.declared.question.Question.{Question}
 use Rattle.racp_model.proofs.lemmas.Sums.{sum_below-mono}
-use Rattle.racp_model.proofs.lemmas.Orders.{HasFirstPlace, first_from_lex, vectors_ordered}
+use Rattle.racp_model.proofs.lemmas.Orders.{HasFirstPlace, first_from_lex}
 use Rattle.racp_model.proofs.lemmas.Costs.{before_cases, before_trans, before_apart}
-use Rattle.racp_model.proofs.lemmas.Cuts.{cut, cut-at, cut_places, cut_admitting, cut-no_later}
+use Rattle.racp_model.proofs.lemmas.Cuts.{cut, cut-at, cut_places, cut_admitting, cut_before}
 use Rattle.racp_cpm.proofs.lemmas.Rooted.{answers-fit}
 use Rattle.racp_prices.specs.Units.{AreMostUnits, cut_to}
 use Rattle.racp_prices.proofs.lemmas.Ceilings.{cut-below, most-within}
@@ -147,20 +147,10 @@ module _ (p : Project) (terms : Terms) (root : Bounds) (floors roofs : List ℕ)
       place_yes : IsYesAt p questions place
       place_yes = subst (λ (q : Question). IsYes p q.capacities q.window) question_there (admitting_yes p (release_of terms) (due_of terms) root (cut p vector) h (cut_admits vector e))
 
-      -- where they stand before a vector, so do they cut
-      cut_before : (other : List ℕ) → IsBefore terms vector other → IsBefore terms (cut p vector) other
-      cut_before other before = elim (vectors_ordered terms (cut p vector) vector) [
-        | inl less ↦ before_trans terms (cut p vector) vector other less before
-        | inr rest ↦ elim rest [
-          | inl same ↦ subst (λ (v : List ℕ). IsBefore terms v other) (sym same) before
-          | inr more ↦ absurd (cut-no_later p terms vector t e.places more)
-        ]
-      ]
-
-      -- so where they stand before the vector of a question, their question does
+      -- where they stand before the vector of a question, so do they cut, and their question does
       place_before : (i : ℕ) → i < length questions → IsBefore terms vector (question_at questions i).capacities → place < i
       place_before i l before =
-          let cuts : IsBefore terms (question_at questions place).capacities (question_at questions i).capacities = subst (λ (q : Question). IsBefore terms q.capacities (question_at questions i).capacities) question_there (cut_before (question_at questions i).capacities before) in
+          let cuts : IsBefore terms (question_at questions place).capacities (question_at questions i).capacities = subst (λ (q : Question). IsBefore terms q.capacities (question_at questions i).capacities) question_there (cut_before p terms vector (question_at questions i).capacities t e.places before) in
           elim (cases_lt place i) [
             | inl less ↦ less
             | inr more ↦ elim (cases_lt i place) [

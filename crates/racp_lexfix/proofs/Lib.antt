@@ -6,3 +6,6 @@ mod Staging
 mod Passing
 mod OneAnswer
 mod Deciding
+mod Existing
+mod ByLength
+mod SomeAnswer

@@ -22,18 +22,18 @@ module _ (p : Project) (terms : Terms) (sound : IsSound p) where
   chain_within starts keeps ends i [] h = omega (arith, sum_by-cons (duration p) i [], ends i h)
   chain_within starts keeps ends i (j ∷ rest) h = omega (arith, sum_by-cons (duration p) i (j ∷ rest), chain_within starts keeps ends j rest h.1, keeps i j h.0)
 
-  span_within : (starts : List ℕ) → KeepsPrecedence p starts → IsInTime p (release_of terms) (due_of terms) starts → (chain : List ℕ) → IsChain p chain → span p (release_of terms) chain ≤ terms.deadline
+  pub span_within : (starts : List ℕ) → KeepsPrecedence p starts → IsInTime p (release_of terms) (due_of terms) starts → (chain : List ℕ) → IsChain p chain → span p (release_of terms) chain ≤ terms.deadline
   span_within starts keeps in_time [] h = absurd h
   span_within starts keeps in_time (i ∷ []) h = omega (arith, chain_within starts keeps in_time.ends i [] h, in_time.released i h)
   span_within starts keeps in_time (i ∷ (j ∷ rest)) h = omega (arith, chain_within starts keeps in_time.ends i (j ∷ rest) h, in_time.released i (precedes_in p i j sound h.0).0)
 
   -- so the critical length does not exceed it
-  not_long : (starts : List ℕ) → KeepsPrecedence p starts → IsInTime p (release_of terms) (due_of terms) starts → (critical : ℕ) → IsTooLong p terms critical → ⊥
+  pub not_long : (starts : List ℕ) → KeepsPrecedence p starts → IsInTime p (release_of terms) (due_of terms) starts → (critical : ℕ) → IsTooLong p terms critical → ⊥
   not_long starts keeps in_time critical long =
       omega (arith, long.exceeds, long.length.some.2, span_within starts keeps in_time long.length.some.0 long.length.some.1)
 
   -- and no early start is late
-  not_late : (starts : List ℕ) → KeepsPrecedence p starts → IsInTime p (release_of terms) (due_of terms) starts → (i : ℕ) → IsTooLateAt p terms i → ⊥
+  pub not_late : (starts : List ℕ) → KeepsPrecedence p starts → IsInTime p (release_of terms) (due_of terms) starts → (i : ℕ) → IsTooLateAt p terms i → ⊥
   not_late starts keeps in_time i late =
       omega (arith, late.late.2.late, late.late.1.least starts in_time.released keeps i late.late.2.job, in_time.ends i late.late.2.job)
 
@@ -63,7 +63,7 @@ module _ (p : Project) (terms : Terms) (sound : IsSound p) where
   over_late i over late = not_late over.in_time.0 over.in_time.1.precedence (early_in_time over) i late
 
   -- there is one critical length
-  one_length : (a b : ℕ) → IsCriticalLength p (release_of terms) a → IsCriticalLength p (release_of terms) b → a ≡ b
+  pub one_length : (a b : ℕ) → IsCriticalLength p (release_of terms) a → IsCriticalLength p (release_of terms) b → a ≡ b
   one_length a b h k = omega (arith, k.most h.some.0 h.some.1, h.some.2, h.most k.some.0 k.some.1, k.some.2)
 
   -- one job is the first late one

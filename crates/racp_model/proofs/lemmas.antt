@@ -14,3 +14,6 @@ pub mod Cuts
 pub mod Relations
 pub mod Inserting
 pub mod Results
+pub mod Decided
+pub mod Leasts
+pub mod Tested

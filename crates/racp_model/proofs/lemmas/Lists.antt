@@ -1,6 +1,8 @@
--- Places of a list after a write, and facts for each place below a bound.
-use Rattle.std.proofs.Common.{◌≡◌, ◌≢◌, ℕ, suc, ◌<◌, ◌⊎◌, inl, inr, List, length, slice_index, set, arith, ap, ◌∙◌, subst, get_or-set_same, get_or-set_other}
+-- Places of a list after a write, rows of the values of a function, and facts for each place below a bound.
+use Rattle.std.proofs.Common.{◌≡◌, ◌≢◌, ℕ, suc, ◌<◌, ◌⊎◌, inl, inr, List, length, slice_index, set, map, arith, ap, ◌∙◌, subst, get_or-set_same, get_or-set_other}
+use Rattle.std.specs.List.{range_with_len}
 use Rattle.std.proofs.lemmas.Bool.{cases_lt}
+use Rattle.std.proofs.lemmas.List.FromFn.{length-map-range_with_len, get_or-map-range_with_len}
 
 -- a place after a write: the new value, or the old one
 pub at_set : (xs : List ℕ) (j v i : ℕ) → j < length xs → ((i ≡ j) × (slice_index (set xs j v) i ≡ v)) ⊎ ((i ≢ j) × (slice_index (set xs j v) i ≡ slice_index xs i))
@@ -20,3 +22,15 @@ below_suc P n below here i l = elim (cases_lt i n) [
   | inl less ↦ below i less
   | inr most ↦ let e : n ≡ i = omega arith in subst P e here
 ]
+
+-- the row of the first n values of a function
+pub row : ℕ → (ℕ → ℕ) → List ℕ
+row n f = map f (range_with_len 0 n)
+
+pub row_places : (n : ℕ) (f : ℕ → ℕ) → length (row n f) ≡ n
+unfolding row
+row_places n f = length-map-range_with_len f 0 n
+
+pub row-at : (n : ℕ) (f : ℕ → ℕ) (i : ℕ) → i < n → slice_index (row n f) i ≡ f i
+unfolding row
+row-at n f i l = get_or-map-range_with_len f 0 n i i 0 l (omega arith)

@@ -1,5 +1,5 @@
 -- Capacity vectors and start vectors stand in one order each, so what is least is one thing.
-use Rattle.std.proofs.Common.{◌≡◌, ◌⊎◌, ℕ, zero, suc, ◌<◌, List, [], ◌∷◌, length, slice_index, inl, inr, arith, refl, sym, ◌∙◌, ap, subst}
+use Rattle.std.proofs.Common.{◌≡◌, ◌⊎◌, ℕ, zero, suc, ◌<◌, ◌≤◌, List, [], ◌∷◌, length, slice_index, inl, inr, arith, refl, sym, ◌∙◌, ap, subst}
 use Rattle.std.specs.declared.cmp.Ordering.{Ordering}
 use Rattle.std.specs.declared.cmp.Ordering.TheVariants.{Less, Equal, Greater}
 use Rattle.std.specs.Ordering.{nat_cmp, ordering_reverse, ordering_then, MatchOrdering}
@@ -102,3 +102,19 @@ lex_from_first (x ∷ xs) (y ∷ ys) (suc k) l same less =
 -- the lexicographic order goes by the first place that differs
 pub lex_first : LexIsByFirstPlace
 lex_first a b l = (first_from_lex a b l, λ h. lex_from_first a b h.0 h.1 h.2 h.3)
+
+-- a vector that is at most another in each place is not greater
+pub lower-not_after : (low high : List ℕ) → length low ≡ length high → ((i : ℕ) → i < length high → slice_index low i ≤ slice_index high i) → IsLexBefore high low → ⊥
+lower-not_after low high same less after =
+    let k : HasFirstPlace high low = first_from_lex high low (sym same) after in
+    omega (arith, k.3, less k.0 k.1)
+
+-- so where it is not less, it is the same
+pub lower-same : (low high : List ℕ) → length low ≡ length high → ((i : ℕ) → i < length high → slice_index low i ≤ slice_index high i) → (IsLexBefore low high → ⊥) → low ≡ high
+lower-same low high same less not = elim (lex_ordered low high) [
+  | inl before ↦ absurd (not before)
+  | inr rest ↦ elim rest [
+    | inl equal ↦ equal
+    | inr after ↦ absurd (lower-not_after low high same less after)
+  ]
+]
