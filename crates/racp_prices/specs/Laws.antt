@@ -6,7 +6,7 @@ use Rattle.racp_model.specs.Terms.{Terms, AreTermsOf}
 use Rattle.racp_prices.specs.Orders.{order_of, IsOrder}
 use Rattle.racp_prices.specs.declared.fault.OrderFault.{OrderFault}
 
--- a text is read as one thing
+-- a text is read as at most one thing
 abbrev pub OneReading : Type 0
 OneReading =
     (resources jobs : ℕ) (text : List ℕ) (a b : Result Terms OrderFault) →

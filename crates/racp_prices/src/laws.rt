@@ -2,7 +2,7 @@
 
 ghost use Rattle.racp_prices.specs.Laws.{OneReading, PlainOrder, ReadWithinLimits};
 
-/// A text is read as one thing: the terms of an order, or one fault.
+/// A text is read as at most one thing: the terms of an order, or one fault.
 pub fn one_reading()
     ensures { OneReading }
 {}
