@@ -12,6 +12,10 @@ OneReading =
     (resources jobs : ℕ) (text : List ℕ) (a b : Result Terms OrderFault) →
     IsOrder resources jobs text a → IsOrder resources jobs text b → a ≡ b
 
+-- each text is read as something
+abbrev pub TextIsRead : Type 0
+TextIsRead = (resources jobs : ℕ) (text : List ℕ) → (answer : Result Terms OrderFault) × IsOrder resources jobs text answer
+
 -- the terms that a text is read as are terms of each project with so many resources and jobs, and no due time is above the
 -- deadline
 abbrev pub ReadWithinLimits : Type 0
