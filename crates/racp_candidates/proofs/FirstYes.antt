@@ -1,4 +1,4 @@
--- A list of questions has one first yes, or none.
+-- A list of questions has at most one first yes.
 use Rattle.std.proofs.Common.{◌≡◌, ℕ, List, inl, inr, arith, refl, ap, Some, None}
 use Rattle.std.proofs.lemmas.Bool.{cases_lt}
 use Rattle.racp_model.specs.Project.{Project}
@@ -10,7 +10,7 @@ use Rattle.racp_candidates.specs.Laws.{FirstYesIsOne}
 pub not_both : (p : Project) (questions : List Question) (i : ℕ) → IsYesAt p questions i → IsNoAt p questions i → ⊥
 not_both p questions i h g = g h.0 h.1
 
--- a list of questions has one first yes, or none
+-- a list of questions has at most one first yes
 pub one_first_yes : FirstYesIsOne
 one_first_yes p questions (Some a) (Some b) h g = elim (cases_lt a b) [
   | inl less ↦ absurd (not_both p questions a h.1 (g.2 a less))

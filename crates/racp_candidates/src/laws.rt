@@ -2,12 +2,12 @@
 
 ghost use Rattle.racp_candidates.specs.Laws.{FirstYesIsOne, BoxQuestionsAreOne};
 
-/// A list of questions has one first yes, or none.
+/// A list of questions has at most one first yes.
 pub fn first_yes_is_one()
     ensures { FirstYesIsOne }
 {}
 
-/// A box has one list of questions.
+/// A box has at most one list of questions.
 pub fn box_questions_are_one()
     ensures { BoxQuestionsAreOne }
 {}

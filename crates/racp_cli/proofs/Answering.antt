@@ -29,8 +29,8 @@ answers_network input network text reading early =
 
 -- the fault of a text is right where it is not that memory ran out
 pub right_refusal : (input : List ℕ) (fault : SmFault) → IsReadingOrMemory input (Err fault) → (fault.kind ≡ Memory → ⊥) → IsReading input (Err fault)
-right_refusal input fault (inl memory) other = absurd (other (ap (λ (f : SmFault). f.kind) memory))
-right_refusal input fault (inr right) other = right
+right_refusal input fault (inl right) other = right
+right_refusal input fault (inr (project, says, memory)) other = absurd (other (ap (λ (f : SmFault). f.kind) memory))
 
 -- the answer to a text that is refused
 pub answers_refusal : (input : List ℕ) (fault : SmFault) (status : ℕ) (text : List ℕ) → IsReadingOrMemory input (Err fault) → IsNetworkRefused fault status text → IsCpmAnswer input status text

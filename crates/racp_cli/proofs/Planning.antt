@@ -19,9 +19,9 @@ plan_network_refused net order fault status text reading (other, with_status, wi
 -- the answer to an order text that is refused
 pub plan_order_refused : (net order : List ℕ) (network : Project) (fault : OrderFault) (status : ℕ) (text : List ℕ) → IsReading net (Ok network) →
     IsOrderOrMemory network.resources (length network.jobs) order (Err fault) → IsOrderRefused fault status text → IsPlanAnswer net order status text
-plan_order_refused net order network fault status text reading (inl memory) (other, with_status, with_text) = absurd (other memory)
-plan_order_refused net order network fault status text reading (inr right) (other, with_status, with_text) =
+plan_order_refused net order network fault status text reading (inl right) (other, with_status, with_text) =
     inr (inr (inl (network, fault, reading, right, sym with_status, sym with_text)))
+plan_order_refused net order network fault status text reading (inr (utf8, memory)) (other, with_status, with_text) = absurd (other memory)
 
 -- the answer where memory ran out
 pub plan_memory : (net order : List ℕ) → IsPlanAnswer net order 6 memory_line

@@ -103,11 +103,11 @@ subsets jobs gone up = (
   λ h. can_go jobs gone (ascends jobs up) (ascends gone h.0) h.1,
 )
 
--- there is one list of alternatives
+-- there is at most one list of alternatives
 pub one_list : AlternativesAreOneList
 one_list p capacities active a b ha hb = same_from_members IsLexBefore lex_one_way a b ha.in_order hb.in_order (λ x c. hb.all x (ha.only x c)) (λ x c. ha.all x (hb.only x c))
 
--- starts have one first conflict
+-- starts have at most one first conflict
 pub one_conflict : ConflictIsOne
 one_conflict p capacities starts t u a b ha hb = (same, same_from_members (λ x y. x < y) (λ x y l r. absurd (omega arith)) a b (AllPairs-from_increasing a ha.set.rises) (AllPairs-from_increasing b hb.set.rises) into back)
   where

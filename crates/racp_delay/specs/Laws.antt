@@ -77,12 +77,12 @@ SubsetsGo =
     (jobs gone : List ℕ) → IsStrictlyIncreasing jobs →
     ((kept : List ℕ) × Splits jobs gone kept) ↔ (IsStrictlyIncreasing gone × ((job : ℕ) → Contains gone job → Contains jobs job))
 
--- starts have one first conflict
+-- starts have at most one first conflict
 abbrev pub ConflictIsOne : Type 0
 ConflictIsOne =
     (p : Project) (capacities starts : List ℕ) (t u : ℕ) (a b : List ℕ) → IsClash p capacities starts t a → IsClash p capacities starts u b → (t ≡ u) × (a ≡ b)
 
--- there is one list of alternatives
+-- there is at most one list of alternatives
 abbrev pub AlternativesAreOneList : Type 0
 AlternativesAreOneList =
     (p : Project) (capacities active : List ℕ) (a b : List (List ℕ)) → AreAlternatives p capacities active a → AreAlternatives p capacities active b → a ≡ b

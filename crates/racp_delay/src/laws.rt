@@ -44,12 +44,12 @@ pub fn subsets_go()
     ensures { SubsetsGo }
 {}
 
-/// Starts have one first conflict.
+/// Starts have at most one first conflict.
 pub fn conflict_is_one()
     ensures { ConflictIsOne }
 {}
 
-/// There is one list of alternatives.
+/// There is at most one list of alternatives.
 pub fn alternatives_are_one_list()
     ensures { AlternativesAreOneList }
 {}

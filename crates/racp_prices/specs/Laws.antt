@@ -6,11 +6,15 @@ use Rattle.racp_model.specs.Terms.{Terms, AreTermsOf}
 use Rattle.racp_prices.specs.Orders.{order_of, IsOrder}
 use Rattle.racp_prices.specs.declared.fault.OrderFault.{OrderFault}
 
--- a text is read as one thing
+-- a text is read as at most one thing
 abbrev pub OneReading : Type 0
 OneReading =
     (resources jobs : ℕ) (text : List ℕ) (a b : Result Terms OrderFault) →
     IsOrder resources jobs text a → IsOrder resources jobs text b → a ≡ b
+
+-- each text is read as something
+abbrev pub TextIsRead : Type 0
+TextIsRead = (resources jobs : ℕ) (text : List ℕ) → (answer : Result Terms OrderFault) × IsOrder resources jobs text answer
 
 -- the terms that a text is read as are terms of each project with so many resources and jobs, and no due time is above the
 -- deadline

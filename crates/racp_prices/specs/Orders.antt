@@ -145,10 +145,10 @@ order_in resources jobs (Some table) = order_of resources jobs table
 abbrev pub IsOrder : ℕ → ℕ → List ℕ → Result Terms OrderFault → Type 0
 IsOrder resources jobs text answer = (table : Option Members) × IsToml text table × (answer ≡ order_in resources jobs table)
 
--- the same, unless memory ran out
+-- the same, unless the text is UTF-8 and memory ran out
 abbrev pub IsOrderOrMemory : ℕ → ℕ → List ℕ → Result Terms OrderFault → Type 0
 IsOrderOrMemory resources jobs text (Ok terms) = IsOrder resources jobs text (Ok terms)
-IsOrderOrMemory resources jobs text (Err fault) = (fault ≡ Memory) ⊎ IsOrder resources jobs text (Err fault)
+IsOrderOrMemory resources jobs text (Err fault) = IsOrder resources jobs text (Err fault) ⊎ (IsUtf8 text × (fault ≡ Memory))
 
 -- the terms are those of each project with so many resources and jobs
 abbrev pub AreTermsFor : ℕ → ℕ → Terms → Type 0

@@ -1,5 +1,5 @@
 -- Contracts of private functions: what a step of reading gives.
-use Rattle.std.specs.Prelude.{◌≡◌, ◌⊎◌, ℕ, List, Some, None, Result, Ok, Err, String}
+use Rattle.std.specs.Prelude.{◌≡◌, ◌⊎◌, ℕ, List, Some, None, Result, Ok, Err, IsUtf8, String}
 use Rattle.std.specs.BTreeMap.{BTreeMap}
 use Rattle.std.specs.declared.alloc.Global.{Global}
 use Rattle.toml.specs.View.{table_view}
@@ -13,7 +13,7 @@ abbrev pub Gives : {X Y : Type 0} → (X → Y) → Result X OrderFault → Resu
 Gives view (Ok x) read = read ≡ Ok (view x)
 Gives view (Err fault) read = (fault ≡ Memory) ⊎ (read ≡ Err fault)
 
--- the table of the text, or that it has none, unless memory ran out
+-- the table of the text, or that it has none, unless the text is UTF-8 and memory ran out
 abbrev pub IsTableRead : List ℕ → Result (BTreeMap (String Global) Value) OrderFault → Type 0
 IsTableRead text (Ok table) = IsToml text (Some (table_view table))
-IsTableRead text (Err fault) = (fault ≡ Memory) ⊎ ((fault ≡ NotToml) × IsToml text None)
+IsTableRead text (Err fault) = ((fault ≡ NotToml) × IsToml text None) ⊎ (IsUtf8 text × (fault ≡ Memory))

@@ -24,7 +24,7 @@ use toml::{Table, Value};
 ///
 /// The first rule that the text breaks: `NotToml`; for the version `NotWhole` or `Version`; `Missing`; `Unknown`; and then
 /// for the deadline, the prices, the owned units, the ceilings, the release and the due times, in this order, `NotWhole`,
-/// `Count` and `Range`. `Memory` where memory was refused.
+/// `Count` and `Range`. `Memory` where the text is UTF-8 and memory was refused.
 pub fn read_order(
     alloc: Global,
     text: &[u8],

@@ -1,4 +1,4 @@
--- A text is read as one thing: a network, or a fault.
+-- A text is read as at most one thing, a network or a fault, and as something.
 use Rattle.std.proofs.Common.{◌≡◌, ℕ, List, inl, inr, refl, sym, ◌∙◌, ap, subst, Ok, Err}
 use Rattle.std.specs.Prelude.{Result}
 use Rattle.racp_model.specs.Project.{Project, number, IsSound}

@@ -11,6 +11,7 @@ use Rattle.racp_model.specs.declared.fault.NetFault.TheVariants as NetFaults
 use Rattle.racp_sm.specs.Lines.{Line, Word, is_number, value, has_words, lines_of}
 use Rattle.racp_sm.specs.Head.{Entries, Counts, number_within, required, optional, counts_of, entries_of}
 use Rattle.racp_sm.specs.Parts.{next_number, next_numbers, nothing_left, successor_row, successor_rows, request_row, request_rows, arcs_of, jobs_of}
+use Rattle.racp_sm.specs.Steps.{GivesAll, Keeps}
 use Rattle.racp_sm.specs.Reading.{precedence_part, requests_part, reading, from_first, precedence_title, requests_title}
 use Rattle.racp_model.proofs.lemmas.Results.{IsFault, bind_ok, same_ok}
 use Rattle.racp_sm.specs.declared.fault.SmFault.{SmFault}
@@ -181,6 +182,10 @@ reading_ok text project e =
       },
       subst (λ n. AreNumbers n arcs.0.0) (sym rows.0) named,
     )
+
+-- what is kept of a project is what the text says
+pub kept_read : {X : Type 0} (view : X → Project) (text : List ℕ) (kept : Option X) (parts : X) → kept ≡ Some parts → GivesAll (Keeps view) (Ok kept) (reading text) → reading text ≡ Ok (view parts)
+kept_read view text kept parts is (project, read, same) = read ∙ ap Ok (sym (subst (λ o. Keeps view o project) is same))
 
 -- so that making a network of it does not fail for that
 pub made_limit : (text : List ℕ) (given : Project) (made : Result Project NetFault) (fault : NetFault) → reading text ≡ Ok given → IsMade given made → made ≡ Err fault → fault ≡ NetFaults.Limit → ⊥

@@ -1,12 +1,11 @@
 -- Reading rows one after another: what was read, and what is left to read.
-use Rattle.std.proofs.Common.{◌≡◌, refl, sym, ◌∙◌, ap, ℕ, suc, ◌+◌, ◌-◌, ◌<◌, ◌≤◌, ◌⊎◌, inl, inr, List, [], ◌∷◌, ◌++◌, arith, Ok, Err, append_assoc, append-nil}
-use Rattle.std.specs.Prelude.{Result}
+use Rattle.std.proofs.Common.{◌≡◌, refl, sym, ◌∙◌, ap, ℕ, suc, ◌+◌, ◌-◌, ◌<◌, ◌≤◌, List, [], ◌∷◌, ◌++◌, arith, Ok, Err, append_assoc, append-nil, subst}
+use Rattle.std.specs.Prelude.{Option, Result}
 use Rattle.racp_model.specs.Project.{Activity}
 use Rattle.racp_sm.specs.Lines.{Word}
 use Rattle.racp_sm.specs.Parts.{next_number, next_numbers, successor_row, successor_rows, request_row, request_rows}
-use Rattle.racp_sm.specs.Steps.{Words, IsSameStream, with_each}
+use Rattle.racp_sm.specs.Steps.{Words, IsSameStream, Keeps, KeepsMore, with_each}
 use Rattle.racp_model.specs.Steps.{◌>>=◌}
-use Rattle.racp_sm.specs.Faults.{out_of_memory}
 use Rattle.racp_sm.specs.declared.fault.SmFault.{SmFault}
 use Rattle.racp_sm.specs.declared.fault.SmFaultKind.{SmFaultKind}
 use Rattle.racp_sm.specs.declared.fault.SmFaultKind.TheVariants.{BadSuccessor}
@@ -28,37 +27,46 @@ pub front-twice : {X : Type 0} (xs ys : List X) (r : Read X) → with_front xs (
 front-twice xs ys (Ok read) = ap (λ zs. Ok (zs, read.1)) (sym (append_assoc xs ys read.0))
 front-twice xs ys (Err fault) = refl
 
--- k things or rows were read from a stream, and reading goes on: whole is what reading all gives, left k what is still to be
--- read
-pub record IsReadingOn {X : Type 0} (whole : Read X) (left : ℕ → List Word → Read X) (start now : Words) (k : ℕ) (xs : List X) : Type 0 where
-  pub read : whole ≡ with_front xs (left k now.words)
+-- k things or rows were read from a stream, are kept like this, and reading goes on: whole is what reading all gives, left k
+-- what is still to be read
+pub record IsReadingOn {K X : Type 0} (keeps : K → List X → Type 0) (whole : Read X) (left : ℕ → List Word → Read X) (start now : Words) (k : ℕ) (kept : K) : Type 0 where
+  pub things : List X
+  pub are_kept : keeps kept things
+  pub read : whole ≡ with_front things (left k now.words)
   pub same : IsSameStream start now
 
-pub reading_start : {X : Type 0} (whole : Read X) (left : ℕ → List Word → Read X) (start : Words) → whole ≡ left 0 start.words → IsReadingOn whole left start start 0 []
-reading_start whole left start e = record { read = e ∙ sym (front-none (left 0 start.words)); same = (refl, refl) }
+pub reading_start : {K X : Type 0} (keeps : K → List X → Type 0) (whole : Read X) (left : ℕ → List Word → Read X) (start : Words) (kept : K) → keeps kept [] → whole ≡ left 0 start.words →
+    IsReadingOn keeps whole left start start 0 kept
+reading_start keeps whole left start kept none e = record { things = []; are_kept = none; read = e ∙ sym (front-none (left 0 start.words)); same = (refl, refl) }
 
 -- one step
-pub reading_step : {X : Type 0} (whole : Read X) (left : ℕ → List Word → Read X) (start now new : Words) (k : ℕ) (xs ys : List X) → IsReadingOn whole left start now k xs → IsSameStream now new →
-    left k now.words ≡ with_front ys (left (k + 1) new.words) → IsReadingOn whole left start new (k + 1) (xs ++ ys)
-reading_step whole left start now new k xs ys h same e = record {
-  read = h.read ∙ (ap (with_front xs) e ∙ front-twice xs ys (left (k + 1) new.words));
+pub reading_step : {K X : Type 0} (keeps : K → List X → Type 0) (whole : Read X) (left : ℕ → List Word → Read X) (start now new : Words) (k : ℕ) (kept grown : K) (more : List X) →
+    IsReadingOn keeps whole left start now k kept → IsSameStream now new → left k now.words ≡ with_front more (left (k + 1) new.words) →
+    ((things : List X) → keeps kept things → keeps grown (things ++ more)) → IsReadingOn keeps whole left start new (k + 1) grown
+reading_step keeps whole left start now new k kept grown more h same e grows = record {
+  things = h.things ++ more;
+  are_kept = grows h.things h.are_kept;
+  read = h.read ∙ (ap (with_front h.things) e ∙ front-twice h.things more (left (k + 1) new.words));
   same = (same.0 ∙ h.same.0, same.1 ∙ h.same.1);
 }
 
 -- a fault on the way
-pub reading_fault : {X : Type 0} (whole : Read X) (left : ℕ → List Word → Read X) (start now : Words) (k : ℕ) (xs : List X) (fault : SmFault) → IsReadingOn whole left start now k xs →
-    left k now.words ≡ Err fault → whole ≡ Err fault
-reading_fault whole left start now k xs fault h e = h.read ∙ ap (with_front xs) e
+pub reading_fault : {K X : Type 0} (keeps : K → List X → Type 0) (whole : Read X) (left : ℕ → List Word → Read X) (start now : Words) (k : ℕ) (kept : K) (fault : SmFault) →
+    IsReadingOn keeps whole left start now k kept → left k now.words ≡ Err fault → whole ≡ Err fault
+reading_fault keeps whole left start now k kept fault h e = h.read ∙ ap (with_front h.things) e
 
 -- nothing is left
-pub reading_end : {X : Type 0} (whole : Read X) (left : ℕ → List Word → Read X) (start now : Words) (k : ℕ) (xs : List X) → IsReadingOn whole left start now k xs →
-    left k now.words ≡ Ok ([], now.words) → whole ≡ Ok (xs, now.words)
-reading_end whole left start now k xs h e = h.read ∙ (ap (with_front xs) e ∙ ap (λ zs. Ok (zs, now.words)) (append-nil xs))
+pub reading_end : {K X : Type 0} (keeps : K → List X → Type 0) (whole : Read X) (left : ℕ → List Word → Read X) (start now : Words) (k : ℕ) (kept : K) →
+    IsReadingOn keeps whole left start now k kept → left k now.words ≡ Ok ([], now.words) → (things : List X) × (whole ≡ Ok (things, now.words)) × keeps kept things
+reading_end keeps whole left start now k kept h e =
+    (h.things, h.read ∙ (ap (with_front h.things) e ∙ ap (λ zs. Ok (zs, now.words)) (append-nil h.things)), h.are_kept)
 
--- a fault that is want of memory, or one of reading, goes on to what is read from it
-pub carry : {A B : Type 0} (fault : SmFault) → (A → B) → (fault ≡ out_of_memory) ⊎ A → (fault ≡ out_of_memory) ⊎ B
-carry fault f (inl e) = inl e
-carry fault f (inr a) = inr (f a)
+-- a list that nothing was added to, and one that was added to twice
+pub more_none : {X Y : Type 0} (view : X → List Y) (list : Option X) → KeepsMore view list list []
+more_none view list ys h = subst (Keeps view list) (sym (append-nil ys)) h
+
+pub more_twice : {X Y : Type 0} (view : X → List Y) (old kept new : Option X) (more rest : List Y) → KeepsMore view old kept more → KeepsMore view kept new rest → KeepsMore view old new (more ++ rest)
+more_twice view old kept new more rest h g ys is = subst (Keeps view new) (append_assoc ys more rest) (g (ys ++ more) (h ys is))
 
 -- what is read at the title that a stream has now is read at the one that it had
 pub at_title : {A : Type 0} (F : ℕ → A) {r : A} {title now : ℕ} → now ≡ title → F now ≡ r → F title ≡ r

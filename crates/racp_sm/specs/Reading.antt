@@ -76,7 +76,8 @@ IsReading text (Ok network) = (project : Project) × (reading text ≡ Ok projec
 IsReading text (Err fault) =
     (reading text ≡ Err fault) ⊎ ((project : Project) × (reading text ≡ Ok project) × HasRing project × (fault ≡ fault_at Cycle 0))
 
--- the same, unless memory ran out
+-- the same, unless the text says a project and memory ran out
 abbrev pub IsReadingOrMemory : List ℕ → Result Project SmFault → Type 0
 IsReadingOrMemory text (Ok network) = IsReading text (Ok network)
-IsReadingOrMemory text (Err fault) = (fault ≡ out_of_memory) ⊎ IsReading text (Err fault)
+IsReadingOrMemory text (Err fault) =
+    IsReading text (Err fault) ⊎ ((project : Project) × (reading text ≡ Ok project) × (fault ≡ out_of_memory))

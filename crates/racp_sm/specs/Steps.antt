@@ -1,11 +1,11 @@
 -- What the steps of reading answer: private words, over lists.
-use Rattle.std.specs.Prelude.{◌≡◌, ◌⊎◌, ℕ, ◌<◌, ◌++◌, Bool, true, false, List, [], ◌∷◌, length, min, map, drop, flat_map, Option, Some, None, Result, Ok, Err, if◌then◌else◌}
+use Rattle.std.specs.Prelude.{◌≡◌, ℕ, ◌<◌, ◌++◌, Bool, true, false, List, [], ◌∷◌, length, min, map, drop, flat_map, Option, Some, None, Result, Ok, Err, if◌then◌else◌}
 use Rattle.std.specs.List.{before_first, after_first, position_or_len, slice_split}
 use denote.Ref.{Bor}
 use Rattle.racp_sm.specs.Lines.{Line, Word, is_line_feed, line_pieces, words_in, words_of, has_words, is_number, value}
 use Rattle.racp_sm.specs.Head.{Entries, begins_with, has_key, value_word, projects_key, jobs_key, renewable_key, nonrenewable_key, doubly_constrained_key}
 use Rattle.racp_sm.specs.Reading.{precedence_title, requests_title, availabilities_title, from_first, ends_part, words_between_rules}
-use Rattle.racp_sm.specs.Faults.{out_of_memory, fault_at}
+use Rattle.racp_sm.specs.Faults.{fault_at}
 use Rattle.racp_sm.specs.declared.fault.SmFault.{SmFault}
 use Rattle.racp_sm.specs.declared.fault.SmFaultKind.{SmFaultKind}
 use Rattle.racp_sm.specs.declared.part.Part.{Part}
@@ -95,20 +95,24 @@ abbrev pub with_rest : {X Y : Type 0} → (X → Y) → Result X SmFault → Lis
 with_rest view (Ok x) rest = Ok (view x, rest)
 with_rest view (Err fault) rest = Err fault
 
--- reading answers this, unless memory ran out
-abbrev pub Gives : {X Y : Type 0} → (X → Y) → Result X SmFault → List Word → Result (Y × List Word) SmFault → Type 0
-Gives view (Ok x) rest read = read ≡ Ok (view x, rest)
-Gives view (Err fault) rest read = (fault ≡ out_of_memory) ⊎ (read ≡ Err fault)
+-- where a thing is kept, it is this one; it is kept unless memory ran out
+abbrev pub Keeps : {X Y : Type 0} → (X → Y) → Option X → Y → Type 0
+Keeps view (Some x) y = view x ≡ y
+Keeps view None y = Unit {0}
 
--- reading adds what it reads to a list, unless memory ran out
-abbrev pub Adds : {X : Type 0} → List X → List X → Result (Unit {0}) SmFault → List Word → Result (List X × List Word) SmFault → Type 0
-Adds {X} old new (Ok done) rest read = (xs : List X) × (new ≡ old ++ xs) × (read ≡ Ok (xs, rest))
-Adds old new (Err fault) rest read = (fault ≡ out_of_memory) ⊎ (read ≡ Err fault)
+-- where the new list is kept, it is the old one and more things after it
+abbrev pub KeepsMore : {X Y : Type 0} → (X → List Y) → Option X → Option X → List Y → Type 0
+KeepsMore {X} {Y} view old new more = (ys : List Y) → Keeps view old ys → Keeps view new (ys ++ more)
 
--- a whole stream is read to this, unless memory ran out
-abbrev pub GivesAll : {X Y : Type 0} → (X → Y) → Result X SmFault → Result Y SmFault → Type 0
-GivesAll view (Ok x) read = read ≡ Ok (view x)
-GivesAll view (Err fault) read = (fault ≡ out_of_memory) ⊎ (read ≡ Err fault)
+-- reading answers a thing, which is kept like this, and the words that are left
+abbrev pub Gives : {X Y : Type 0} → (X → Y → Type 0) → Result X SmFault → List Word → Result (Y × List Word) SmFault → Type 0
+Gives {X} {Y} keeps (Ok x) rest read = (y : Y) × (read ≡ Ok (y, rest)) × keeps x y
+Gives keeps (Err fault) rest read = read ≡ Err fault
+
+-- the same for a whole stream
+abbrev pub GivesAll : {X Y : Type 0} → (X → Y → Type 0) → Result X SmFault → Result Y SmFault → Type 0
+GivesAll {X} {Y} keeps (Ok x) read = (y : Y) × (read ≡ Ok y) × keeps x y
+GivesAll keeps (Err fault) read = read ≡ Err fault
 
 -- the value of this line, where it has the key and none was kept before
 abbrev pub kept_entry : Option Word → Bool → Word → Option Word

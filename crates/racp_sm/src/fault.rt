@@ -1,7 +1,6 @@
 ghost use Rattle.std.specs.Prelude.{◌≡◌};
 ghost use Rattle.racp_sm.specs.Faults.{fault_at, fault_name, fault_number};
 
-use std::alloc::{AllocError, AllocFailed};
 use thiserror::Error;
 
 /// Why a text is no network: the first rule that it breaks, in the order in which the text is read.
@@ -102,27 +101,5 @@ impl SmFaultKind {
             SmFaultKind::Cycle => "Cycle",
             SmFaultKind::Memory => "Memory",
         }
-    }
-}
-
-impl From<AllocError> for SmFault {
-    ghost use Rattle.std.specs.Prelude.{◌≡◌};
-    ghost use Rattle.racp_sm.specs.Faults.{out_of_memory};
-
-    ghost from_gives = { λ _ fault. fault ≡ out_of_memory };
-
-    fn from(_error: AllocError) -> SmFault {
-        SmFault::at(SmFaultKind::Memory, 0)
-    }
-}
-
-impl<T: Drop> From<AllocFailed<T>> for SmFault {
-    ghost use Rattle.std.specs.Prelude.{◌≡◌};
-    ghost use Rattle.racp_sm.specs.Faults.{out_of_memory};
-
-    ghost from_gives = { λ _ fault. fault ≡ out_of_memory };
-
-    fn from(_error: AllocFailed<T>) -> SmFault {
-        SmFault::at(SmFaultKind::Memory, 0)
     }
 }

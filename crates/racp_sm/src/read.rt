@@ -1,6 +1,6 @@
 ghost use Rattle.racp_sm.specs.Reading.{IsReadingOrMemory, precedence_part, reading, requests_part};
 ghost use Rattle.std.specs.Prelude.{◌≡◌, ◌≤◌};
-ghost use Rattle.racp_sm.specs.Steps.{GivesAll, part_stream};
+ghost use Rattle.racp_sm.specs.Steps.{GivesAll, Keeps, part_stream};
 
 use crate::fault::{SmFault, SmFaultKind};
 use crate::head::{Counts, Head};
@@ -25,11 +25,13 @@ struct ProjectParts {
 ///
 /// The first rule that the text breaks, with the number of its line, from 1, or 0 where it is no one line: the head is read
 /// first, then the precedence part and the requests part, word by word, and a ring of the precedence relation is found last.
-/// `Memory`, at line 0, where memory was refused.
+/// `Memory`, at line 0, where no rule of these parts is broken and memory was refused.
 pub fn read_sm(alloc: Global, bytes: &[u8]) -> Result<Network, SmFault>
     ensures { IsReadingOrMemory bytes.now result }
 {
-    let parts = read_project(alloc, bytes)?;
+    let Some(parts) = read_project(alloc, bytes)? else {
+        return Err(SmFault::at(SmFaultKind::Memory, 0));
+    };
     match Network::new(alloc, parts.resources as usize, parts.jobs, parts.arcs) {
         Ok(network) => Ok(network),
         Err(NetFault::Cycle) => Err(SmFault::at(SmFaultKind::Cycle, 0)),
@@ -39,10 +41,10 @@ pub fn read_sm(alloc: Global, bytes: &[u8]) -> Result<Network, SmFault>
     }
 }
 
-/// What the text says, before its precedence relation is tested for rings.
+/// What the text says, before its precedence relation is tested for rings, or `None` where memory was refused for it.
 #[tactic(auto, unfolding(crate::specs::Reading::reading))]
-fn read_project(alloc: Global, bytes: &[u8]) -> Result<ProjectParts, SmFault>
-    ensures { GivesAll (λ parts. record { resources = parts.resources; jobs = parts.jobs.items; arcs = parts.arcs.items }) result (reading bytes.now) }
+fn read_project(alloc: Global, bytes: &[u8]) -> Result<Option<ProjectParts>, SmFault>
+    ensures { GivesAll (Keeps (λ parts. record { resources = parts.resources; jobs = parts.jobs.items; arcs = parts.arcs.items })) result (reading bytes.now) }
 {
     let mut lines = Lines::new(bytes);
     let Counts {
@@ -53,21 +55,25 @@ fn read_project(alloc: Global, bytes: &[u8]) -> Result<ProjectParts, SmFault>
     let mut lines = after;
     lines.skip_to(Mark::Title(Part::Requests));
     let jobs = read_requests(alloc, lines, resources, count)?;
-    Ok(ProjectParts {
-        resources,
-        jobs,
-        arcs,
-    })
+    match (jobs, arcs) {
+        (Some(jobs), Some(arcs)) => Ok(Some(ProjectParts {
+            resources,
+            jobs,
+            arcs,
+        })),
+        _ => Ok(None),
+    }
 }
 
-/// The pairs of the precedence part of so many jobs, and the lines after it. Its title is the first of these lines.
+/// The pairs of the precedence part of so many jobs, or `None` where memory was refused for them, and the lines after the part.
+/// Its title is the first of these lines.
 fn read_precedence<'a>(
     alloc: Global,
     lines: Lines<'a>,
     count: u32,
-) -> Result<(Vec<(u32, u32)>, Lines<'a>), SmFault>
+) -> Result<(Option<Vec<(u32, u32)>>, Lines<'a>), SmFault>
     requires { count ≤ 512 }
-    ensures { GivesAll (λ part. (part.0.items, part.1)) result (precedence_part count lines.entry) }
+    ensures { GivesAll (λ part read. Keeps (λ arcs. arcs.items) part.0 read.0 × (part.1 ≡ read.1)) result (precedence_part count lines.entry) }
 {
     let mut words = part_words(Part::Precedence, SmFaultKind::NoPrecedence, lines)?;
     let arcs = read_arcs(alloc, &mut words, count)?;
@@ -75,15 +81,15 @@ fn read_precedence<'a>(
     Ok((arcs, after))
 }
 
-/// The jobs of the requests part. Its title is the first of these lines.
+/// The jobs of the requests part, or `None` where memory was refused for them. Its title is the first of these lines.
 fn read_requests(
     alloc: Global,
     lines: Lines,
     resources: u32,
     count: u32,
-) -> Result<Vec<Job>, SmFault>
+) -> Result<Option<Vec<Job>>, SmFault>
     requires { count ≤ 512 }
-    ensures { GivesAll (λ jobs. jobs.items) result (requests_part resources count lines.entry) }
+    ensures { GivesAll (Keeps (λ jobs. jobs.items)) result (requests_part resources count lines.entry) }
 {
     let mut words = part_words(Part::Requests, SmFaultKind::NoRequests, lines)?;
     let jobs = read_jobs(alloc, &mut words, resources, count)?;

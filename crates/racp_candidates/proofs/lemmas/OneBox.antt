@@ -1,4 +1,4 @@
--- A box has one list of questions.
+-- A box has at most one list of questions.
 use Rattle.std.proofs.Common.{◌≡◌, ℕ, List, sym, subst, Contains}
 use Rattle.std.proofs.lemmas.List.Elements.{All-contains}
 use Rattle.racp_model.specs.Terms.{Terms, IsBefore}

@@ -1,6 +1,7 @@
 use Rattle.racp_sm.specs.Parts.{successor_rows}
+use Rattle.racp_sm.specs.Steps.{Keeps}
 use Rattle.racp_sm.proofs.Repeats.{IsReadingOn, arcs_left}
 use Rattle.racp_sm.proofs.rows.read_arcs.Given as goal
 
 abbrev pub invariant-loop-i : goal.invariant-loop-i
-invariant-loop-i l = IsReadingOn (successor_rows l.fn.words.title l.jobs 1 l.jobs l.fn.words.words) (arcs_left l.fn.words.title l.jobs) l.fn.words l.words l.i l.arcs.items
+invariant-loop-i l = IsReadingOn (Keeps (λ arcs. arcs.items)) (successor_rows l.fn.words.title l.jobs 1 l.jobs l.fn.words.words) (arcs_left l.fn.words.title l.jobs) l.fn.words l.words l.i l.arcs

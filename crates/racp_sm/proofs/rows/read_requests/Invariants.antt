@@ -1,7 +1,8 @@
 use Rattle.racp_sm.specs.Parts.{next_numbers}
+use Rattle.racp_sm.specs.Steps.{Keeps}
 use Rattle.racp_sm.specs.declared.fault.SmFaultKind.TheVariants.{Limit}
 use Rattle.racp_sm.proofs.Repeats.{IsReadingOn, numbers_left}
 use Rattle.racp_sm.proofs.rows.read_requests.Given as goal
 
 abbrev pub invariant-loop : goal.invariant-loop
-invariant-loop l = IsReadingOn (next_numbers l.fn.words.title Limit 0 10000 l.resources l.fn.words.words) (numbers_left l.fn.words.title Limit 0 10000 l.resources) l.fn.words l.words l.counter l.requests.items
+invariant-loop l = IsReadingOn (Keeps (λ requests. requests.items)) (next_numbers l.fn.words.title Limit 0 10000 l.resources l.fn.words.words) (numbers_left l.fn.words.title Limit 0 10000 l.resources) l.fn.words l.words l.counter l.requests
