@@ -5,3 +5,4 @@ mod Energy
 mod Used
 mod Raising
 mod Refuting
+mod Counting

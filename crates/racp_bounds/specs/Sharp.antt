@@ -1,7 +1,8 @@
 -- Sharpened floors, and refuted pairs of resources: bounds on the units of each resource that are found by asking questions about
 -- the root window.
-use Rattle.std.specs.Prelude.{◌≡◌, ◌↔◌, ℕ, ◌<◌, ◌≤◌, List, length, slice_index, set, Contains, AllPairs}
+use Rattle.std.specs.Prelude.{◌≡◌, ◌↔◌, ℕ, ◌+◌, ◌-◌, ◌<◌, ◌≤◌, List, length, slice_index, set, Contains, AllPairs}
 use Rattle.racp_model.specs.Project.{Project, number, AreNumbers, IsArcBefore}
+use Rattle.racp_model.specs.Schedule.{sum_below}
 use Rattle.racp_model.specs.Plan.{IsLeast}
 use Rattle.racp_model.specs.Window.{Bounds, IsYes, IsNo}
 use Rattle.racp_candidates.specs.FirstYes.{MayGiveUp}
@@ -44,7 +45,12 @@ pub record AreSharpenedBefore (p : Project) (root : Bounds) (floors roofs : List
   pub sharpened : (k : ℕ) → k < n → k < p.resources → IsSharpened p root floors roofs k (slice_index reached k)
   pub first : (k : ℕ) → n ≤ k → k < p.resources → slice_index reached k ≡ slice_index floors k
 
--- why sharpening ended early: the floors that were reached, and that the asker may give up
-pub record IsUnsharpened (p : Project) (root : Bounds) (floors roofs : List ℕ) (may_stop may_want_thread : Type 0) (refusal : List ℕ × AskStop) : Type 0 where
-  pub reached : (n : ℕ) × AreSharpenedBefore p root floors roofs n refusal.0
-  pub given_up : MayGiveUp may_stop may_want_thread refusal.1
+-- how many pairs of so many resources there are: for each resource, one with each that comes after it
+abbrev pub pair_count : ℕ → ℕ
+pair_count resources = sum_below resources (λ k. resources - (k + 1))
+
+-- why sharpening ended early, after so many series were answered: the floors that were reached, where each series sharpened one more,
+-- as long as there were any left; and that the asker may give up, or may stop before it answered a series for each resource and each pair
+pub record IsUnsharpened (p : Project) (root : Bounds) (floors roofs : List ℕ) (answered : ℕ) (may_stop may_want_thread : Type 0) (refusal : List ℕ × AskStop) : Type 0 where
+  pub reached : AreSharpenedBefore p root floors roofs answered refusal.0
+  pub given_up : MayGiveUp (may_stop × (answered < p.resources + pair_count p.resources)) may_want_thread refusal.1

@@ -1,10 +1,10 @@
-ghost use Rattle.std.specs.Prelude.{◌≡◌, ◌↔◌, ◌+◌, ◌<◌, ◌≤◌, [], ◌∷◌, ◌++◌, OnOk, IfOk, IfErr, IsTrue, length, slice_index, set};
+ghost use Rattle.std.specs.Prelude.{◌≡◌, ◌↔◌, ◌+◌, ◌-◌, ◌<◌, ◌≤◌, [], ◌∷◌, ◌++◌, OnOk, OnErr, IfOk, IfErr, IsTrue, length, slice_index, set};
 ghost use Rattle.racp_model.specs.Project.{number};
 ghost use Rattle.racp_model.specs.Formed.{HasBounds};
 ghost use Rattle.racp_model.specs.Window.{IsYes};
 ghost use Rattle.racp_candidates.specs.Box.{AreBounds};
 ghost use Rattle.racp_candidates.specs.FirstYes.{MayGiveUp};
-ghost use Rattle.racp_bounds.specs.Sharp.{IsSharpened, AreSharpened, IsRefutedPair, AreRefutedPairs, IsSharp, IsUnsharpened};
+ghost use Rattle.racp_bounds.specs.Sharp.{IsSharpened, AreSharpened, IsRefutedPair, AreRefutedPairs, IsSharp, pair_count, IsUnsharpened};
 
 use racp_candidates::{AskStop, Asker, First, One, Singles};
 use racp_model::{Capacities, Network, Window};
@@ -27,8 +27,8 @@ pub struct Sharp {
 ///
 /// # Errors
 ///
-/// The asker gave up, or memory was refused. The floors that were reached come back: those that are sharpened, and the first
-/// ones of the other resources.
+/// The asker gave up, or memory was refused. The floors that were reached come back: with each series that was answered one more
+/// is sharpened, from the first resource on, and the others are the first ones.
 pub fn sharpen<A: Asker>(
     alloc: Global,
     net: &Network,
@@ -45,7 +45,9 @@ pub fn sharpen<A: Asker>(
     requires admits { IsYes net.now roofs.now root.now }
     ensures network { A.network asker.new ≡ A.network asker.old }
     ensures sharp { IfOk result (IsSharp net.now root.now floors roofs.now) }
-    ensures refusal { IfErr result (IsUnsharpened net.now root.now floors roofs.now (A.may_stop asker.new) (A.may_want_thread asker.new)) }
+    ensures answered { OnOk result (A.answered asker.new ≡ A.answered asker.old + net.now.resources + pair_count net.now.resources) }
+    ensures no_fewer { A.answered asker.old ≤ A.answered asker.new }
+    ensures refusal { IfErr result (IsUnsharpened net.now root.now floors roofs.now (A.answered asker.new - A.answered asker.old) (A.may_stop asker.new) (A.may_want_thread asker.new)) }
 {
     let floors = raise_all(alloc, net, root, floors, roofs, asker)?;
     match refuted_pairs(alloc, net, root, &floors, roofs, asker) {
@@ -71,7 +73,9 @@ fn raise_all<A: Asker>(
     requires admits { IsYes net.now roofs.now root.now }
     ensures network { A.network asker.new ≡ A.network asker.old }
     ensures sharp { IfOk result (AreSharpened net.now root.now floors roofs.now) }
-    ensures refusal { IfErr result (IsUnsharpened net.now root.now floors roofs.now (A.may_stop asker.new) (A.may_want_thread asker.new)) }
+    ensures answered { OnOk result (A.answered asker.new ≡ A.answered asker.old + net.now.resources) }
+    ensures no_fewer { A.answered asker.old ≤ A.answered asker.new }
+    ensures refusal { IfErr result (IsUnsharpened net.now root.now floors roofs.now (A.answered asker.new - A.answered asker.old) (A.may_stop asker.new) (A.may_want_thread asker.new)) }
 {
     let mut reached = floors;
     for k in 0..net.resource_count() {
@@ -102,6 +106,8 @@ fn raised<A: Asker>(
     requires admits { IsYes net.now roofs.now root.now }
     ensures network { A.network asker.new ≡ A.network asker.old }
     ensures sharp { IfOk result (IsSharpened net.now root.now floors.now roofs.now k) }
+    ensures answered { OnOk result (A.answered asker.new ≡ A.answered asker.old + 1) }
+    ensures unanswered { OnErr result (A.answered asker.new ≡ A.answered asker.old) }
     ensures stop { IfErr result (MayGiveUp (A.may_stop asker.new) (A.may_want_thread asker.new)) }
 {
     let singles = Singles::new(alloc, floors, roofs, k, root)?;
@@ -147,7 +153,9 @@ fn refuted_pairs<A: Asker>(
     requires roofs { length roofs.now ≡ net.now.resources }
     ensures network { A.network asker.new ≡ A.network asker.old }
     ensures refuted { IfOk result (λ pairs. AreRefutedPairs net.now root.now floors.now roofs.now pairs.items) }
-    ensures stop { IfErr result (MayGiveUp (A.may_stop asker.new) (A.may_want_thread asker.new)) }
+    ensures answered { OnOk result (A.answered asker.new ≡ A.answered asker.old + pair_count net.now.resources) }
+    ensures no_fewer { A.answered asker.old ≤ A.answered asker.new }
+    ensures stop { IfErr result (MayGiveUp (A.may_stop asker.new × (A.answered asker.new - A.answered asker.old < pair_count net.now.resources)) (A.may_want_thread asker.new)) }
 {
     let mut pairs = Vec::new(alloc);
     for k in 0..net.resource_count() {
@@ -188,6 +196,8 @@ fn is_refuted<A: Asker>(
     requires second { pair.1 < net.now.resources }
     ensures network { A.network asker.new ≡ A.network asker.old }
     ensures refuted { IfOk result (λ refuted. IsTrue refuted ↔ IsRefutedPair net.now root.now floors.now roofs.now pair.0 pair.1) }
+    ensures answered { OnOk result (A.answered asker.new ≡ A.answered asker.old + 1) }
+    ensures unanswered { OnErr result (A.answered asker.new ≡ A.answered asker.old) }
     ensures stop { IfErr result (MayGiveUp (A.may_stop asker.new) (A.may_want_thread asker.new)) }
 {
     let capacities = pair_capacities(alloc, floors, roofs, pair)?;

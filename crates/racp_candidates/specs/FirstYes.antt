@@ -50,8 +50,8 @@ MayGiveUp may_stop may_want_thread (Stopped reached) = may_stop
 MayGiveUp may_stop may_want_thread Memory = ⊤
 MayGiveUp may_stop may_want_thread NoThread = may_want_thread
 
--- why the first yes is not known, of an asker that may stop, or want a thread, or neither
-abbrev pub IsStop : Project → List Question → (may_stop may_want_thread : Type 0) → AskStop → Type 0
-IsStop p questions may_stop may_want_thread (Stopped reached) = may_stop × IsReached p questions reached
-IsStop p questions may_stop may_want_thread Memory = ⊤
-IsStop p questions may_stop may_want_thread NoThread = may_want_thread
+-- why the first yes is not known, of an asker that may stop, or want a thread, or neither; where it stops, it tells what it reached
+abbrev pub IsStop : Project → List Question → (told : Option (List ℕ)) → (may_stop may_want_thread : Type 0) → AskStop → Type 0
+IsStop p questions told may_stop may_want_thread (Stopped reached) = may_stop × (told ≡ reached) × IsReached p questions reached
+IsStop p questions told may_stop may_want_thread Memory = ⊤
+IsStop p questions told may_stop may_want_thread NoThread = may_want_thread

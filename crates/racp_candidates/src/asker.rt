@@ -38,14 +38,19 @@ impl From<AllocError> for AskStop {
     }
 }
 
-/// Finds the first yes of a series of questions about one network.
+/// Finds the first yes of a series of questions about one network. Contracts see which network that is, how many series the
+/// asker has answered, what it told when it last stopped, and for which reasons it may give up.
 pub trait Asker {
-    ghost use Rattle.std.specs.Prelude.{◌≡◌, IfOk, IfErr};
+    ghost use Rattle.std.specs.Prelude.{◌≡◌, ℕ, ◌+◌, List, Option, OnOk, OnErr, IfOk, IfErr};
     ghost use Rattle.racp_model.specs.Project.{Project};
     ghost use Rattle.racp_model.specs.Formed.{AreFormed};
     ghost use Rattle.racp_candidates.specs.FirstYes.{IsFirst, IsStop};
 
     ghost network: { Self → Project };
+
+    ghost answered: { Self → ℕ };
+
+    ghost told: { Self → Option (List ℕ) };
 
     ghost may_stop: { Self → Type 0 };
 
@@ -58,11 +63,13 @@ pub trait Asker {
     /// # Errors
     ///
     /// The search was stopped, or no thread could be started, each only where the asker's meaning after the call says that
-    /// it may; or memory was refused.
+    /// it may; or memory was refused. Such a series does not count as answered.
     fn first<S: Series + Send>(&mut self, net: &Network, series: S) -> Result<First, AskStop>
         requires named { net.now ≡ network self.old }
         requires formed { AreFormed net.now (S.questions series) }
         ensures network { network self.new ≡ network self.old }
         ensures answer { IfOk result (IsFirst net.now (S.questions series)) }
-        ensures stop { IfErr result (IsStop net.now (S.questions series) (may_stop self.new) (may_want_thread self.new)) };
+        ensures answered { OnOk result (answered self.new ≡ answered self.old + 1) }
+        ensures unanswered { OnErr result (answered self.new ≡ answered self.old) }
+        ensures stop { IfErr result (IsStop net.now (S.questions series) (told self.new) (may_stop self.new) (may_want_thread self.new)) };
 }

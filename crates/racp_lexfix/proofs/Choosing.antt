@@ -75,6 +75,10 @@ module _ (p : Project) (terms : Terms) (root : Bounds) (floors roofs : List ℕ)
     admits = (some.0, answers-fit p (release_of terms) (due_of terms) root vector some.0 h some.1);
   }
 
+  -- what is enough is at or above the floors
+  pub enough_above : (vector : List ℕ) → IsEnough p terms vector → (k : ℕ) → k < p.resources → slice_index floors k ≤ slice_index vector k
+  enough_above vector e k l = admitting_above p (release_of terms) (due_of terms) root terms.deadline floors vector h due_by lowest e.admits k l
+
   -- where some are enough, no floor is above its roof
   pub enough_bounds : (vector : List ℕ) → IsEnough p terms vector → AreBounds floors roofs
   enough_bounds vector e k l =
@@ -184,3 +188,8 @@ module _ (p : Project) (terms : Terms) (root : Bounds) (floors roofs : List ℕ)
     -- and those that were reached stand after none
     pub reached_box : (capacities : List ℕ) → IsReached p questions (Some capacities) → IsNotAfterEnough p terms capacities
     reached_box capacities reached = subst (λ (c : List ℕ). IsNotAfterEnough p terms c) reached.2 (none_before reached.0 reached.1 reached.3)
+
+    -- they are at or above the sharpened floors
+    pub reached_boxed : (capacities : List ℕ) → IsReached p questions (Some capacities) → (k : ℕ) → k < p.resources → slice_index sharp k ≤ slice_index capacities k
+    reached_boxed capacities reached k l =
+        subst (λ (c : List ℕ). slice_index sharp k ≤ slice_index c k) reached.2 ((boxed reached.0 reached.1).between.above k (omega (arith, l, are.places)))

@@ -1,8 +1,9 @@
 -- What planning answers, and why it ends early.
-use Rattle.std.specs.Prelude.{◌≡◌, ℕ, List, length, ⊤}
-use Rattle.racp_model.specs.Project.{Project, number}
+use Rattle.std.specs.Prelude.{◌≡◌, ℕ, ◌+◌, ◌<◌, ◌≤◌, if◌then◌else◌, List, length, slice_index, Option, is_some, IfSome, ⊤}
+use Rattle.racp_model.specs.Project.{Project, number, duration, request}
 use Rattle.racp_model.specs.Terms.{Terms, IsBefore}
-use Rattle.racp_model.specs.Plan.{IsEnough, IsTooLong, IsTooLateAt, IsOverCeilings}
+use Rattle.racp_model.specs.Plan.{IsLeast, IsEnough, IsTooLong, IsTooLateAt, IsOverCeilings}
+use Rattle.racp_bounds.specs.Sharp.{pair_count}
 use Rattle.racp_check.specs.Plans.{IsPlanOf}
 use Rattle.racp_lexfix.specs.declared.answer.Answer.{Answer}
 use Rattle.racp_lexfix.specs.declared.answer.Answer.TheVariants.{Plan as ThePlan, Impossible, Due, Ceiling}
@@ -21,8 +22,23 @@ pub record IsNotAfterEnough (p : Project) (terms : Terms) (capacities : List ℕ
   pub places : length capacities ≡ p.resources
   pub none : (enough : List ℕ) → IsEnough p terms enough → IsBefore terms enough capacities → ⊥
 
--- why a plan is not known, where the asker may stop, or want a thread, or neither
-abbrev pub IsPlanStop : Project → Terms → (may_stop may_want_thread : Type 0) → PlanStop → Type 0
-IsPlanStop p terms may_stop may_want_thread (Stopped not_before) = may_stop × IsNotAfterEnough p terms not_before
-IsPlanStop p terms may_stop may_want_thread Memory = ⊤
-IsPlanStop p terms may_stop may_want_thread NoThread = may_want_thread
+-- how many series planning asks before it sharpens the floors: one for the ceilings, where there are such
+abbrev pub ceiling_series : Terms → ℕ
+ceiling_series terms = if is_some terms.ceilings then 1 else 0
+
+-- capacities that are told where planning stops, by how many series were answered, and by what the asker told. None that are enough
+-- stand before them; no job that runs requests more; of each resource that was sharpened there are as many units as in some capacities
+-- that are enough. Where the vectors of the box were asked they are what the asker told, if it told any; behind that they are the plan's
+pub record IsStoppedAt (p : Project) (terms : Terms) (answered : ℕ) (told : Option (List ℕ)) (capacities : List ℕ) : Type 0 where
+  pub none : IsNotAfterEnough p terms capacities
+  pub requests : (i k : ℕ) → i < length p.jobs → k < p.resources → 0 < duration p i → request p i k ≤ slice_index capacities k
+  pub sharpened : (k : ℕ) → k < p.resources → ceiling_series terms + k < answered →
+      (enough : List ℕ) × IsEnough p terms enough × (slice_index enough k ≤ slice_index capacities k)
+  pub in_box : answered ≡ ceiling_series terms + p.resources + pair_count p.resources → IfSome told (λ reached. capacities ≡ reached)
+  pub after_box : ceiling_series terms + p.resources + pair_count p.resources < answered → IsLeast (IsBefore terms) (IsEnough p terms) capacities
+
+-- why a plan is not known, of an asker that may stop, or want a thread, or neither: where it stops, such capacities are told
+abbrev pub IsPlanStop : (List ℕ → Type 0) → (may_stop may_want_thread : Type 0) → PlanStop → Type 0
+IsPlanStop IsTold may_stop may_want_thread (Stopped not_before) = may_stop × IsTold not_before
+IsPlanStop IsTold may_stop may_want_thread Memory = ⊤
+IsPlanStop IsTold may_stop may_want_thread NoThread = may_want_thread

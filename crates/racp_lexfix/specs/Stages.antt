@@ -1,5 +1,5 @@
 -- Contracts of private functions: what is known at each stage of planning.
-use Rattle.std.specs.Prelude.{ℕ, List, Option, Some, None, Bool, true, false}
+use Rattle.std.specs.Prelude.{◌≡◌, ℕ, ◌<◌, ◌≤◌, List, slice_index, Option, Some, None, IfSome, Bool, true, false}
 use Rattle.racp_model.specs.Project.{Project}
 use Rattle.racp_model.specs.Path.{IsCriticalLength}
 use Rattle.racp_model.specs.Terms.{Terms, release_of, due_of}
@@ -12,7 +12,7 @@ use Rattle.racp_candidates.specs.Box.{AreBounds}
 use Rattle.racp_bounds.specs.Floors.{AreFloors}
 use Rattle.racp_bounds.specs.Sharp.{IsSharp}
 use Rattle.racp_bounds.specs.declared.sharp.Sharp.{Sharp}
-use Rattle.racp_lexfix.specs.Answers.{IsAnswer}
+use Rattle.racp_lexfix.specs.Answers.{IsAnswer, ceiling_series, IsNotAfterEnough}
 use Rattle.racp_lexfix.specs.declared.opening.Opening.{Opening}
 use Rattle.racp_lexfix.specs.declared.opening.Opening.TheVariants.{Root, Closed}
 use Rattle.racp_lexfix.specs.declared.answer.PlanStop.{PlanStop}
@@ -34,16 +34,23 @@ pub record AreEnds (p : Project) (terms : Terms) (root : Bounds) (floors roofs :
   pub bounds : AreBounds floors roofs
   pub yes : IsYes p roofs root
 
--- these, or none where no capacities are enough
-abbrev pub IsBounded : Project → Terms → Bounds → Option (List ℕ × List ℕ) → Type 0
-IsBounded p terms root (Some ends) = AreEnds p terms root ends.0 ends.1
-IsBounded p terms root None = HasNoEnough p terms
+-- these, after a series for the ceilings, where there are such; or none where no capacities are enough
+abbrev pub IsBounded : Project → Terms → Bounds → (answered : ℕ) → Option (List ℕ × List ℕ) → Type 0
+IsBounded p terms root answered (Some ends) = AreEnds p terms root ends.0 ends.1 × (answered ≡ ceiling_series terms)
+IsBounded p terms root answered None = HasNoEnough p terms
 
 -- floors that are sharpened, and pairs that they refute, from some first floors on
 pub record AreSharpEnds (p : Project) (terms : Terms) (root : Bounds) (sharp : Sharp) (roofs : List ℕ) : Type 0 where
   pub first : List ℕ
   pub ends : AreEnds p terms root first roofs
   pub sharp_are : IsSharp p root first roofs sharp
+
+-- capacities that are told where the vectors of the box are asked: none that are enough stand before them, they are at or above these
+-- floors, and they are what the asker told, if it told any
+pub record IsStoppedInBox (p : Project) (terms : Terms) (floors : List ℕ) (told : Option (List ℕ)) (capacities : List ℕ) : Type 0 where
+  pub none : IsNotAfterEnough p terms capacities
+  pub above : (k : ℕ) → k < p.resources → slice_index floors k ≤ slice_index capacities k
+  pub as_told : IfSome told (λ reached. capacities ≡ reached)
 
 -- the capacities and the starts of the plan, or none where no capacities are enough
 abbrev pub IsChosen : Project → Terms → Option (List ℕ × List ℕ) → Type 0

@@ -13,12 +13,14 @@ use racp_search::{Finding, Never, Piece, explore};
 use std::alloc::{AllocError, Global};
 
 /// Answers series of questions about the network that `N` names, on the calling thread. What was refuted is kept, and serves all
-/// series that it is asked. It neither stops nor wants a thread.
+/// series that it is asked. It neither stops nor wants a thread. It counts the series that it has answered, and answers no more
+/// than 2^64 - 1 of them: a further one ends as where memory is refused.
 #[derive(Drop)]
 pub struct Alone<N: OfNetwork> {
     alloc: Global,
     board: Board<N>,
     local: Local<N>,
+    answered: u64,
 }
 
 impl<N: OfNetwork> Alone<N> {
@@ -34,21 +36,30 @@ impl<N: OfNetwork> Alone<N> {
             alloc,
             board: Board::new(alloc, net)?,
             local: Local::new(alloc, net),
+            answered: 0,
         })
     }
 }
 
 impl<N: OfNetwork> Asker for Alone<N> {
+    ghost use Rattle.std.specs.Prelude.{None};
+
     ghost network = { λ _. N.network };
+
+    ghost answered = { λ alone. alone.answered };
+
+    ghost told = { λ _. None };
 
     ghost may_stop = { λ _. ⊥ };
 
     ghost may_want_thread = { λ _. ⊥ };
 
     fn first<S: Series + Send>(&mut self, net: &Network, series: S) -> Result<First, AskStop> {
+        let answered = self.answered.checked_add(1).ok_or(AskStop::Memory)?;
         let mut core: Core<N, S> = Core::new(self.alloc, net, series);
         'questions: loop {
             if !settle_next(self.alloc, net, &self.board, &mut self.local, &mut core)? {
+                self.answered = answered;
                 return Ok(first_of(core));
             }
         }

@@ -1,6 +1,6 @@
 //! Floors and roofs of an order, with its ceilings.
 
-ghost use Rattle.std.specs.Prelude.{◌≡◌, ◌↔◌, ℕ, ◌<◌, IfOk, IfErr, IsTrue, is_some, length, slice_index, min};
+ghost use Rattle.std.specs.Prelude.{◌≡◌, ◌↔◌, ℕ, ◌+◌, ◌-◌, ◌<◌, ◌≤◌, OnOk, OnErr, IfOk, IfErr, IsTrue, is_some, length, slice_index, min};
 ghost use Rattle.racp_model.specs.Formed.{HasBounds};
 ghost use Rattle.racp_model.specs.Terms.{AreTermsOf, release_of, due_of};
 ghost use Rattle.racp_model.specs.Window.{IsRootWindow};
@@ -8,7 +8,7 @@ ghost use Rattle.racp_prices.specs.Units.{AreMostUnits};
 ghost use Rattle.racp_bounds.specs.Floors.{AreFloors};
 ghost use Rattle.racp_candidates.specs.Box.{AreBounds};
 ghost use Rattle.racp_candidates.specs.FirstYes.{MayGiveUp};
-ghost use Rattle.racp_lexfix.specs.Answers.{IsPlanStop};
+ghost use Rattle.racp_lexfix.specs.Answers.{IsStoppedAt, IsPlanStop};
 ghost use Rattle.racp_lexfix.specs.Stages.{IsBounded, IsDecided, given_up};
 
 use crate::answer::PlanStop;
@@ -36,8 +36,9 @@ pub(crate) fn floors_and_roofs<A: Asker>(
     requires terms { AreTermsOf net.now order.now }
     requires root { IsRootWindow net.now (release_of order.now) (due_of order.now) root.now }
     ensures network { A.network asker.new ≡ A.network asker.old }
-    ensures bounded { IfOk result (IsBounded net.now order.now root.now) }
-    ensures stop { IfErr result (IsPlanStop net.now order.now (A.may_stop asker.new) (A.may_want_thread asker.new)) }
+    ensures bounded { IfOk result (IsBounded net.now order.now root.now (A.answered asker.new - A.answered asker.old)) }
+    ensures no_fewer { A.answered asker.old ≤ A.answered asker.new }
+    ensures stop { IfErr result (IsPlanStop (IsStoppedAt net.now order.now (A.answered asker.new - A.answered asker.old) (A.told asker.new)) (A.may_stop asker.new) (A.may_want_thread asker.new)) }
 {
     let floors = lowest_units(alloc, net, order, root)?;
     let roofs = most_units(alloc, net, order)?;
@@ -126,6 +127,8 @@ fn is_yes<A: Asker>(
     requires window { HasBounds net.now window.now }
     ensures network { A.network asker.new ≡ A.network asker.old }
     ensures decided { IfOk result (IsDecided net.now capacities.now window.now) }
+    ensures answered { OnOk result (A.answered asker.new ≡ A.answered asker.old + 1) }
+    ensures unanswered { OnErr result (A.answered asker.new ≡ A.answered asker.old) }
     ensures stop { IfErr result (MayGiveUp (A.may_stop asker.new) (A.may_want_thread asker.new)) }
 {
     let question = One::new(alloc, capacities, window)?;

@@ -1,12 +1,12 @@
 //! From the root window to the plan.
 
-ghost use Rattle.std.specs.Prelude.{◌≡◌, IfOk, IfErr};
+ghost use Rattle.std.specs.Prelude.{◌≡◌, ◌+◌, ◌-◌, OnOk, IfOk, IfErr};
 ghost use Rattle.racp_model.specs.Plan.{IsLeast, IsEnough};
 ghost use Rattle.racp_model.specs.Terms.{AreTermsOf, IsBefore, release_of, due_of};
 ghost use Rattle.racp_model.specs.Window.{IsRootWindow};
 ghost use Rattle.racp_candidates.specs.Box.{AreBoxQuestions};
-ghost use Rattle.racp_lexfix.specs.Answers.{IsAnswer, IsPlanStop};
-ghost use Rattle.racp_lexfix.specs.Stages.{AreSharpEnds, IsChosen};
+ghost use Rattle.racp_lexfix.specs.Answers.{IsAnswer, IsStoppedAt, IsPlanStop};
+ghost use Rattle.racp_lexfix.specs.Stages.{AreSharpEnds, IsStoppedInBox, IsChosen};
 
 use crate::answer::{Answer, PlanStop};
 use crate::ends::floors_and_roofs;
@@ -37,7 +37,7 @@ pub fn plan<A: Asker>(
     requires terms { AreTermsOf net.now order.now }
     ensures network { A.network asker.new ≡ A.network asker.old }
     ensures answer { IfOk result (IsAnswer net.now order.now) }
-    ensures stop { IfErr result (IsPlanStop net.now order.now (A.may_stop asker.new) (A.may_want_thread asker.new)) }
+    ensures stop { IfErr result (IsPlanStop (IsStoppedAt net.now order.now (A.answered asker.new - A.answered asker.old) (A.told asker.new)) (A.may_stop asker.new) (A.may_want_thread asker.new)) }
 {
     let (critical, root) = match opening_of(alloc, net, order)? {
         Opening::Root { critical, window } => (critical, window),
@@ -68,7 +68,7 @@ fn chosen<A: Asker>(
     requires root { IsRootWindow net.now (release_of order.now) (due_of order.now) root.now }
     ensures network { A.network asker.new ≡ A.network asker.old }
     ensures chosen { IfOk result (IsChosen net.now order.now) }
-    ensures stop { IfErr result (IsPlanStop net.now order.now (A.may_stop asker.new) (A.may_want_thread asker.new)) }
+    ensures stop { IfErr result (IsPlanStop (IsStoppedAt net.now order.now (A.answered asker.new - A.answered asker.old) (A.told asker.new)) (A.may_stop asker.new) (A.may_want_thread asker.new)) }
 {
     let Some((floors, roofs)) = floors_and_roofs(alloc, net, order, root, asker)? else {
         return Ok(None);
@@ -100,7 +100,8 @@ fn cheapest<A: Asker>(
     requires sharp { AreSharpEnds net.now order.now root.now sharp roofs.now }
     ensures network { A.network asker.new ≡ A.network asker.old }
     ensures least { IfOk result (IsLeast (IsBefore order.now) (IsEnough net.now order.now)) }
-    ensures stop { IfErr result (IsPlanStop net.now order.now (A.may_stop asker.new) (A.may_want_thread asker.new)) }
+    ensures answered { OnOk result (A.answered asker.new ≡ A.answered asker.old + 1) }
+    ensures stop { IfErr result (IsPlanStop (IsStoppedInBox net.now order.now sharp.floors (A.told asker.new)) (A.may_stop asker.new × (A.answered asker.new ≡ A.answered asker.old)) (A.may_want_thread asker.new)) }
 {
     let again = vectors(alloc, net, order, root, &sharp, roofs)?;
     let series = vectors(alloc, net, order, root, &sharp, roofs)?;

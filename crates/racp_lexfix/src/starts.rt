@@ -33,6 +33,7 @@ pub(crate) fn least_starts<A: Asker>(
     requires yes { IsYes net.now capacities.now root.now }
     ensures network { A.network asker.new ≡ A.network asker.old }
     ensures least { IfOk result (IsLeast IsLexBefore (Answers net.now capacities.now root.now)) }
+    ensures no_fewer { A.answered asker.old ≤ A.answered asker.new }
     ensures stop { IfErr result (MayGiveUp (A.may_stop asker.new) (A.may_want_thread asker.new)) }
 {
     let mut window = copy_of(root)?;
@@ -90,6 +91,7 @@ fn least_start<A: Asker>(
     requires yes { IsYes net.now capacities.now window.now }
     ensures network { A.network asker.new ≡ A.network asker.old }
     ensures least { IfOk result (IsLeastStart net.now capacities.now window.now j) }
+    ensures no_fewer { A.answered asker.old ≤ A.answered asker.new }
     ensures stop { IfErr result (MayGiveUp (A.may_stop asker.new) (A.may_want_thread asker.new)) }
 {
     let values = Starts1::new(alloc, capacities, window, j)?;

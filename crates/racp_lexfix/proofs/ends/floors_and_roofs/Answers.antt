@@ -1,10 +1,10 @@
-use Rattle.std.proofs.Common.{◌∙◌, Bool, sym, subst}
+use Rattle.std.proofs.Common.{◌≡◌, ◌∙◌, ◌-◌, Bool, is_some, false, arith, sym, subst}
 use Rattle.std.proofs.lemmas.Bool.{false≢true}
 use Rattle.racp_lexfix.specs.Stages.{IsDecided}
-use Rattle.racp_lexfix.specs.Answers.{IsPlanStop}
+use Rattle.racp_lexfix.specs.Answers.{IsStoppedAt, IsPlanStop}
 use Rattle.racp_lexfix.specs.declared.answer.PlanStop.{PlanStop}
-use Rattle.racp_lexfix.proofs.Choosing.{enough_bounds, enough_roofs, plain_yes, reached_first, first_reached}
-use Rattle.racp_lexfix.proofs.Staging.{none_there, ends_with}
+use Rattle.racp_lexfix.proofs.Choosing.{enough_bounds, enough_roofs, plain_yes}
+use Rattle.racp_lexfix.proofs.Staging.{none_there, no_ceilings, some_ceilings, ends_with, stopped_first}
 use Rattle.racp_lexfix.proofs.ends.floors_and_roofs.Goals as goal
 
 pub returns-then-not-is_below-clause-bounded : goal.returns-then-not-is_below-clause-bounded
@@ -13,13 +13,28 @@ returns-then-not-is_below-clause-bounded g c = λ vector e.
     false≢true (sym c.if-not-is_below.true ∙ c.is_below.ensures.1 bounds)
 
 pub returns-then-not-has_ceilings-clause-bounded : goal.returns-then-not-has_ceilings-clause-bounded
-returns-then-not-has_ceilings-clause-bounded g c = record {
-  lowest = c.in_ok-floors.ensures;
-  most = c.in_ok-roofs.ensures;
-  bounds = c.is_below.ensures.0 c.if-not-is_below.false;
-  yes = plain_yes c.args.net.now c.args.order.now c.args.root.now c.in_ok-floors.floors c.in_ok-roofs.roofs c.requires.terms c.requires.root c.in_ok-floors.ensures c.in_ok-roofs.ensures
-      (none_there c.args.order.now.ceilings (sym c.has_ceilings.ensures ∙ c.if-not-has_ceilings.true));
-}
+returns-then-not-has_ceilings-clause-bounded g c =
+    let none : is_some c.args.order.now.ceilings ≡ false = sym c.has_ceilings.ensures ∙ c.if-not-has_ceilings.true in (
+      record {
+        lowest = c.in_ok-floors.ensures;
+        most = c.in_ok-roofs.ensures;
+        bounds = c.is_below.ensures.0 c.if-not-is_below.false;
+        yes = plain_yes c.args.net.now c.args.order.now c.args.root.now c.in_ok-floors.floors c.in_ok-roofs.roofs c.requires.terms c.requires.root c.in_ok-floors.ensures c.in_ok-roofs.ensures
+            (none_there c.args.order.now.ceilings none);
+      },
+      omega (arith, no_ceilings c.args.order.now none),
+    )
+
+pub returns-in-Ok-true-clause-bounded : goal.returns-in-Ok-true-clause-bounded
+returns-in-Ok-true-clause-bounded g c = (
+  record {
+    lowest = c.in_ok-floors.ensures;
+    most = c.in_ok-roofs.ensures;
+    bounds = c.is_below.ensures.0 c.if-not-is_below.false;
+    yes = subst (λ (b : Bool). IsDecided c.args.net.now c.in_ok-roofs.roofs c.args.root.now b) c.in-Ok-true.field-0-test c.in-Ok-true.ensures.decided;
+  },
+  omega (arith, c.in-Ok-true.ensures.answered, some_ceilings c.args.order.now (sym c.has_ceilings.ensures ∙ c.if-not-has_ceilings.false)),
+)
 
 pub returns-in-Ok-false-clause-bounded : goal.returns-in-Ok-false-clause-bounded
 returns-in-Ok-false-clause-bounded g c = λ vector e.
@@ -29,7 +44,13 @@ returns-in-Ok-false-clause-bounded g c = λ vector e.
 
 pub returns-in-Err-clause-stop : goal.returns-in-Err-clause-stop
 returns-in-Err-clause-stop g c =
-    let first = reached_first c.args.net.now c.args.order.now c.args.root.now c.in_ok-floors.floors c.in_ok-roofs.roofs c.requires.terms c.requires.root c.in_ok-floors.ensures c.in_ok-roofs.ensures 0 c.in_ok-floors.floors
-    (first_reached c.args.net.now c.args.order.now c.args.root.now c.in_ok-floors.floors c.in_ok-roofs.roofs c.requires.terms c.requires.root c.in_ok-floors.ensures c.in_ok-roofs.ensures) in
-    subst (λ (stop : PlanStop). IsPlanStop c.args.net.now c.args.order.now (g.A.Asker.may_stop c.is_yes.new.asker) (g.A.Asker.may_want_thread c.is_yes.new.asker) stop) (sym c.given_up.ensures)
-    (ends_with c.args.net.now c.args.order.now (g.A.Asker.may_stop c.is_yes.new.asker) (g.A.Asker.may_want_thread c.is_yes.new.asker) c.in-Err.stop c.in_ok-floors.floors c.in-Err.ensures.stop first)
+    let answered = g.A.Asker.answered c.is_yes.new.asker - g.A.Asker.answered c.args.asker.now in
+    let told = g.A.Asker.told c.is_yes.new.asker in
+    let may_stop = g.A.Asker.may_stop c.is_yes.new.asker in
+    let may_want_thread = g.A.Asker.may_want_thread c.is_yes.new.asker in
+    let IsTold = IsStoppedAt c.args.net.now c.args.order.now answered told in
+    let none : answered ≡ 0 = omega (arith, c.in-Err.ensures.unanswered) in
+    let first = stopped_first c.args.net.now c.args.order.now c.args.root.now c.requires.terms c.requires.root c.in_ok-floors.floors c.in_ok-roofs.roofs answered told
+    c.in_ok-floors.ensures c.in_ok-roofs.ensures none (some_ceilings c.args.order.now (sym c.has_ceilings.ensures ∙ c.if-not-has_ceilings.false)) in
+    subst (λ (stop : PlanStop). IsPlanStop IsTold may_stop may_want_thread stop) (sym c.given_up.ensures)
+    (ends_with IsTold may_stop may_want_thread c.in-Err.stop c.in_ok-floors.floors c.in-Err.ensures.stop first)

@@ -1,4 +1,4 @@
-use Rattle.std.proofs.Common.{Some, refl, sym, subst}
+use Rattle.std.proofs.Common.{◌≡◌, Some, refl, sym, subst}
 use Rattle.racp_model.specs.Terms.{IsBefore}
 use Rattle.racp_model.specs.Plan.{IsLeast, IsEnough}
 use Rattle.racp_model.specs.declared.question.Question.{Question}
@@ -6,6 +6,7 @@ use Rattle.racp_candidates.specs.FirstYes.{IsFirstYes}
 use Rattle.racp_candidates.proofs.lemmas.Forms.{box_formed}
 use Rattle.racp_candidates.proofs.lemmas.Answered.{yes_of, no_of}
 use Rattle.racp_lexfix.specs.Answers.{IsPlanStop}
+use Rattle.racp_lexfix.specs.Stages.{IsStoppedInBox}
 use Rattle.racp_lexfix.specs.declared.answer.PlanStop.{PlanStop}
 use Rattle.racp_lexfix.proofs.Staging.{box_yes, box_least, box_stopped, box_index}
 use Rattle.racp_lexfix.proofs.planning.cheapest.Goals as goal
@@ -33,6 +34,10 @@ returns-clause-least g c =
 
 pub returns-in-Err-clause-stop : goal.returns-in-Err-clause-stop
 returns-in-Err-clause-stop g c =
-    subst (λ (stop : PlanStop). IsPlanStop c.args.net.now c.args.order.now (g.A.Asker.may_stop c.first.new.self) (g.A.Asker.may_want_thread c.first.new.self) stop) (sym c.stopped_at.ensures)
+    let told = g.A.Asker.told c.first.new.self in
+    let may_stop = g.A.Asker.may_stop c.first.new.self in
+    let may_want_thread = g.A.Asker.may_want_thread c.first.new.self in
+    let left = g.A.Asker.answered c.first.new.self ≡ g.A.Asker.answered c.args.asker.now in
+    subst (λ (stop : PlanStop). IsPlanStop (IsStoppedInBox c.args.net.now c.args.order.now c.args.sharp.floors told) (may_stop × left) may_want_thread stop) (sym c.stopped_at.ensures)
     (box_stopped c.args.net.now c.args.order.now c.args.root.now c.requires.terms c.requires.root c.args.sharp c.args.roofs.now c.requires.sharp c.in_ok-series.series c.in_ok-series.ensures
-    (g.A.Asker.may_stop c.first.new.self) (g.A.Asker.may_want_thread c.first.new.self) c.in-Err.stop c.in-Err.ensures.stop)
+    told may_stop may_want_thread left c.in-Err.stop c.in-Err.ensures.stop c.in-Err.ensures.unanswered)

@@ -1,18 +1,63 @@
-use Rattle.std.proofs.Common.{List, ℕ, Option, sym, subst}
-use Rattle.racp_lexfix.specs.Answers.{IsPlanStop}
-use Rattle.racp_lexfix.specs.Stages.{IsBounded}
+use Rattle.std.proofs.Common.{◌≡◌, ◌+◌, ◌-◌, ◌<◌, List, ℕ, Option, arith, sym, subst}
+use Rattle.std.proofs.lemmas.Result.{err_from_is_err_and}
+use Rattle.racp_bounds.specs.Sharp.{pair_count}
+use Rattle.racp_lexfix.specs.Answers.{ceiling_series, IsStoppedAt, IsPlanStop}
+use Rattle.racp_lexfix.specs.Stages.{IsBounded, IsStoppedInBox}
 use Rattle.racp_lexfix.specs.declared.answer.PlanStop.{PlanStop}
-use Rattle.racp_lexfix.proofs.Staging.{unsharpened, planned}
+use Rattle.racp_lexfix.proofs.Staging.{ends_with, told_too, stopped_in_box, stopped_behind, unsharpened, planned}
 use Rattle.racp_lexfix.proofs.planning.chosen.Goals as goal
 
 pub returns-in-Err-clause-stop : goal.returns-in-Err-clause-stop
 returns-in-Err-clause-stop g c =
-    let ends = subst (λ (o : Option (List ℕ × List ℕ)). IsBounded c.args.net.now c.args.order.now c.args.root.now o) c.in-Some.is c.in_ok-floors.ensures.bounded in
+    let begun = g.A.Asker.answered c.args.asker.now in
+    let middle = g.A.Asker.answered c.floors_and_roofs.new.asker in
+    let answered = g.A.Asker.answered c.sharpen.new.asker - begun in
+    let told = g.A.Asker.told c.sharpen.new.asker in
     let may_stop = g.A.Asker.may_stop c.sharpen.new.asker in
     let may_want_thread = g.A.Asker.may_want_thread c.sharpen.new.asker in
-    subst (λ (stop : PlanStop). IsPlanStop c.args.net.now c.args.order.now may_stop may_want_thread stop) (sym c.given_up.ensures)
-    (unsharpened c.args.net.now c.args.order.now c.args.root.now c.requires.terms c.requires.root c.in-Some.floors c.in-Some.roofs may_stop may_want_thread (c.in-Err.reached, c.in-Err.stop) ends c.in-Err.ensures.refusal)
+    let bounded = subst (λ (o : Option (List ℕ × List ℕ)). IsBounded c.args.net.now c.args.order.now c.args.root.now (middle - begun) o) c.in-Some.is c.in_ok-floors.ensures.bounded in
+    let counted : answered ≡ ceiling_series c.args.order.now + (g.A.Asker.answered c.sharpen.new.asker - middle) =
+    omega (arith, bounded.1, c.floors_and_roofs.ensures.no_fewer, c.sharpen.ensures.no_fewer) in
+    subst (λ (stop : PlanStop). IsPlanStop (IsStoppedAt c.args.net.now c.args.order.now answered told) may_stop may_want_thread stop) (sym c.given_up.ensures)
+    (unsharpened c.args.net.now c.args.order.now c.args.root.now c.requires.terms c.requires.root c.in-Some.floors c.in-Some.roofs bounded.0 (g.A.Asker.answered c.sharpen.new.asker - middle) answered told
+    may_stop may_want_thread (c.in-Err.reached, c.in-Err.stop) counted c.in-Err.ensures.refusal)
 
 pub returns-in-Ok-least_starts-clause-chosen : goal.returns-in-Ok-least_starts-clause-chosen
 returns-in-Ok-least_starts-clause-chosen g c =
     planned c.args.net.now c.args.order.now c.args.root.now c.requires.terms c.requires.root c.in_ok-capacities.capacities c.in-Ok-least_starts.starts c.in_ok-capacities.ensures.least c.in-Ok-least_starts.ensures.least
+
+pub returns-in_err-capacities-clause-stop : goal.returns-in_err-capacities-clause-stop
+returns-in_err-capacities-clause-stop g c =
+    let begun = g.A.Asker.answered c.args.asker.now in
+    let middle = g.A.Asker.answered c.floors_and_roofs.new.asker in
+    let later = g.A.Asker.answered c.sharpen.new.asker in
+    let ended = g.A.Asker.answered c.cheapest.new.asker in
+    let told = g.A.Asker.told c.cheapest.new.asker in
+    let bounded = subst (λ (o : Option (List ℕ × List ℕ)). IsBounded c.args.net.now c.args.order.now c.args.root.now (middle - begun) o) c.in-Some.is c.in_ok-floors.ensures.bounded in
+    let p = err_from_is_err_and c.from_residual-in_err-capacities.result c.from_residual-in_err-capacities.ensures.1 in
+    rw (p.1, p.2)
+    (told_too (IsStoppedInBox c.args.net.now c.args.order.now c.in-Ok.sharp.floors told) (IsStoppedAt c.args.net.now c.args.order.now (ended - begun) told)
+    (g.A.Asker.may_stop c.cheapest.new.asker) (g.A.Asker.may_want_thread c.cheapest.new.asker) (ended ≡ later) c.in_err-capacities.field-0.0
+    (λ same capacities is.
+    let counted : ended - begun ≡ ceiling_series c.args.order.now + c.args.net.now.resources + pair_count c.args.net.now.resources =
+    omega (arith, same, bounded.1, c.floors_and_roofs.ensures.no_fewer, c.in-Ok.ensures.answered) in
+    stopped_in_box c.args.net.now c.args.order.now c.args.root.now c.requires.terms c.requires.root c.in-Some.floors c.in-Some.roofs bounded.0 (ended - begun) told capacities c.in-Ok.sharp.floors counted
+    c.in-Ok.ensures.sharp.sharpened is)
+    c.in_err-capacities.ensures.stop)
+
+pub returns-clause-stop : goal.returns-clause-stop
+returns-clause-stop g c =
+    let begun = g.A.Asker.answered c.args.asker.now in
+    let middle = g.A.Asker.answered c.floors_and_roofs.new.asker in
+    let ended = g.A.Asker.answered c.least_starts.new.asker in
+    let told = g.A.Asker.told c.least_starts.new.asker in
+    let may_stop = g.A.Asker.may_stop c.least_starts.new.asker in
+    let may_want_thread = g.A.Asker.may_want_thread c.least_starts.new.asker in
+    let bounded = subst (λ (o : Option (List ℕ × List ℕ)). IsBounded c.args.net.now c.args.order.now c.args.root.now (middle - begun) o) c.in-Some.is c.in_ok-floors.ensures.bounded in
+    let counted : ceiling_series c.args.order.now + c.args.net.now.resources + pair_count c.args.net.now.resources < ended - begun =
+    omega (arith, bounded.1, c.floors_and_roofs.ensures.no_fewer, c.in-Ok.ensures.answered, c.in_ok-capacities.ensures.answered, c.least_starts.ensures.no_fewer) in
+    let IsTold = IsStoppedAt c.args.net.now c.args.order.now (ended - begun) told in
+    subst (λ (stop : PlanStop). IsPlanStop IsTold may_stop may_want_thread stop) (sym c.given_up-in-Err-least_starts.ensures)
+    (ends_with IsTold may_stop may_want_thread c.in-Err-least_starts.stop c.in_ok-capacities.capacities c.in-Err-least_starts.ensures.stop
+    (stopped_behind c.args.net.now c.args.order.now c.args.root.now c.requires.terms c.requires.root c.in-Some.floors c.in-Some.roofs bounded.0 (ended - begun) told c.in_ok-capacities.capacities counted
+    c.in_ok-capacities.ensures.least))

@@ -6,6 +6,7 @@ use Rattle.racp_lexfix.proofs.alone.AloneAsker.first.Given as goal
 abbrev pub invariant-questions : goal.invariant-questions
 invariant-questions g l = record {
   idle : IsIdle l.core;
+  answered : l.self.answered ≡ l.fn.self.answered;
   same : all_questions l.core ≡ g.S.Series.questions l.fn.series;
 }
 
