@@ -6,7 +6,7 @@ use Rattle.racp_model.specs.Window.{Bounds}
 use Rattle.racp_model.specs.declared.question.Question.{Question}
 use Rattle.racp_candidates.specs.Questions.{question_of}
 
--- prices and owned units by resource, in the ranges of an order
+-- prices and owned units by resource: of at most 16, with prices in the range of an order
 pub record ArePrices (prices owned : List ℕ) : Type 0 where
   pub resources : length prices ≤ 16
   pub price_range : All (λ x. x ≤ 1000000) prices

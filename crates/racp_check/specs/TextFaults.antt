@@ -4,17 +4,17 @@ use Rattle.racp_check.specs.declared.text_fault.TextFault.{TextFault}
 use Rattle.racp_check.specs.declared.text_fault.TextFaultKind.{TextFaultKind}
 use Rattle.racp_check.specs.declared.text_fault.TextFaultKind.TheVariants.{Syntax, Range, Memory}
 
--- the number of a fault
-abbrev pub fault_number : TextFaultKind → ℕ
-fault_number Syntax = 1
-fault_number Range = 2
-fault_number Memory = 3
+-- the number and the name of each
+abbrev pub fault_entry : TextFaultKind → ℕ × List ℕ
+fault_entry Syntax = (1, codes "Syntax")
+fault_entry Range = (2, codes "Range")
+fault_entry Memory = (3, codes "Memory")
 
--- its name
+abbrev pub fault_number : TextFaultKind → ℕ
+fault_number kind = (fault_entry kind).0
+
 abbrev pub fault_name : TextFaultKind → List ℕ
-fault_name Syntax = codes "Syntax"
-fault_name Range = codes "Range"
-fault_name Memory = codes "Memory"
+fault_name kind = (fault_entry kind).1
 
 -- the fault of this kind at this line
 abbrev pub fault_at : TextFaultKind → ℕ → TextFault

@@ -4,13 +4,13 @@ use Rattle.racp_model.specs.Project.{Project}
 use Rattle.racp_model.specs.Terms.{Terms}
 use Rattle.racp_check.specs.PlanReading.{IsPlanReadingOrMemory}
 use Rattle.racp_check.specs.declared.text_fault.TextFault.{TextFault}
-use Rattle.racp_lexfix.specs.Printing.{AreTerms}
+use Rattle.racp_lexfix.specs.Printing.{AreTextsOf}
 use Rattle.racp_cli.specs.Checks.{IsCheck}
 use Rattle.racp_cli.specs.Responses.{IsOfPlanText}
 use Rattle.racp_cli.specs.declared.check_fault.CheckFault.{CheckFault}
 
 -- the plan text is refused, or memory ran out
-pub plan_refused : (net order text : List ℕ) (network : Project) (terms : Terms) (error : TextFault) (fault : CheckFault) → AreTerms net order network terms →
+pub plan_refused : (net order text : List ℕ) (network : Project) (terms : Terms) (error : TextFault) (fault : CheckFault) → AreTextsOf net order network terms →
     IsPlanReadingOrMemory network text (Err error) → IsOfPlanText error fault → IsCheck net order text (Err fault)
 plan_refused net order text network terms error fault are read (inl (kind, is)) = subst (λ f. IsCheck net order text (Err f)) (sym is) tt
 plan_refused net order text network terms error fault are (inr (plan, planned, memory)) (inr (other, is)) = absurd (other (ap (λ (f : TextFault). f.kind) memory))

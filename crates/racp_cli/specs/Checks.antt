@@ -8,14 +8,14 @@ use Rattle.racp_prices.specs.Orders.{IsOrder}
 use Rattle.racp_check.specs.PlanReading.{IsPlanReading}
 use Rattle.racp_check.specs.PlanFaults.{IsChecked}
 use Rattle.racp_check.specs.declared.plan.Plan.{Plan}
-use Rattle.racp_lexfix.specs.Printing.{AreTerms}
+use Rattle.racp_lexfix.specs.Printing.{AreTextsOf}
 use Rattle.racp_cli.specs.Texts.{refusal_line, order_refusal_line, plan_refusal_line, memory_line, ok_line, head_line, plan_fault_line}
 use Rattle.racp_cli.specs.declared.check_fault.CheckFault.{CheckFault}
 use Rattle.racp_cli.specs.declared.check_fault.CheckFault.TheVariants.{Network, Order, PlanText, OutOfMemory, Head, Wrong}
 
 -- the texts are read as a network, an order for it and a plan of it
 pub record AreRead (net order text : List ℕ) (network : Project) (terms : Terms) (plan : Plan) : Type 0 where
-  pub are_terms : AreTerms net order network terms
+  pub are_terms : AreTextsOf net order network terms
   pub is_plan : IsPlanReading network text (Ok plan)
 
 -- the plan names the order's deadline and the project's critical length
@@ -33,7 +33,7 @@ IsCheck net order text (Err (Network fault)) = IsReading net (Err fault)
 IsCheck net order text (Err (Order fault)) =
     (network : Project) × IsReading net (Ok network) × IsOrder network.resources (length network.jobs) order (Err fault)
 IsCheck net order text (Err (PlanText fault)) =
-    (network : Project) × (terms : Terms) × AreTerms net order network terms × IsPlanReading network text (Err fault)
+    (network : Project) × (terms : Terms) × AreTextsOf net order network terms × IsPlanReading network text (Err fault)
 IsCheck net order text (Err OutOfMemory) = Unit {0}
 IsCheck net order text (Err Head) =
     (network : Project) × (terms : Terms) × (plan : Plan) × AreRead net order text network terms plan × (HasRightHead network terms plan → ⊥)

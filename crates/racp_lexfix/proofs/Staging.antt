@@ -21,7 +21,7 @@ use Rattle.racp_bounds.specs.declared.sharp.Sharp.{Sharp}
 use Rattle.racp_lexfix.specs.Answers.{IsNotAfterEnough, ceiling_series, IsStoppedAt, IsPlanStop}
 use Rattle.racp_lexfix.specs.declared.answer.PlanStop.{PlanStop}
 use Rattle.racp_lexfix.specs.declared.answer.PlanStop.TheVariants.{Stopped, Memory, NoThread}
-use Rattle.racp_lexfix.specs.Stages.{AreEnds, AreSharpEnds, IsStoppedInBox, HasNoEnough, given_up, stopped_at}
+use Rattle.racp_lexfix.specs.Stages.{AreFloorsAndRoofs, AreSharpFloorsAndRoofs, IsStoppedInBox, HasNoEnough, given_up, stopped_at}
 use Rattle.racp_lexfix.proofs.Choosing.{first_reached, reached_first, yes_enough, enough_above, some_yes, first_least, reached_box, reached_boxed}
 use Rattle.racp_bounds.proofs.lemmas.Sharpened.{all_sharpened}
 
@@ -96,7 +96,7 @@ module _ (p : Project) (terms : Terms) (root : Bounds) (t : AreTermsOf p terms) 
   }
 
   -- where planning stops behind it, by the first floors and the roofs
-  module _ (floors roofs : List ℕ) (ends : AreEnds p terms root floors roofs) where
+  module _ (floors roofs : List ℕ) (ends : AreFloorsAndRoofs p terms root floors roofs) where
     -- of each sharpened floor some capacities that are enough have just as many units
     sharpened_enough : (k units : ℕ) → k < p.resources → IsSharpened p root floors roofs k units → (enough : List ℕ) × IsEnough p terms enough × (slice_index enough k ≤ units)
     sharpened_enough k units l is =
@@ -151,7 +151,7 @@ module _ (p : Project) (terms : Terms) (root : Bounds) (t : AreTermsOf p terms) 
       }
 
   -- sharpening ends early
-  pub unsharpened : (floors roofs : List ℕ) (ends : AreEnds p terms root floors roofs) (before answered : ℕ) (told : Option (List ℕ)) (may_stop may_want_thread : Type 0) (refusal : List ℕ × AskStop) →
+  pub unsharpened : (floors roofs : List ℕ) (ends : AreFloorsAndRoofs p terms root floors roofs) (before answered : ℕ) (told : Option (List ℕ)) (may_stop may_want_thread : Type 0) (refusal : List ℕ × AskStop) →
       answered ≡ ceiling_series terms + before → IsUnsharpened p root floors roofs before may_stop may_want_thread refusal →
       IsPlanStop (IsStoppedAt p terms answered told) may_stop may_want_thread (given_up refusal.1 refusal.0)
   unsharpened floors roofs ends before answered told may_stop may_want_thread refusal e are =
@@ -170,7 +170,7 @@ module _ (p : Project) (terms : Terms) (root : Bounds) (t : AreTermsOf p terms) 
   pub over : HasNoEnough p terms → IsOverCeilings p terms
   over none = record { in_time = (root.lower, h.early, h.ends); none = none }
 
-  module _ (sharp : Sharp) (roofs : List ℕ) (ends : AreSharpEnds p terms root sharp roofs) (questions : List Question) (box : AreBoxQuestions terms sharp.floors roofs sharp.pairs.items root questions) where
+  module _ (sharp : Sharp) (roofs : List ℕ) (ends : AreSharpFloorsAndRoofs p terms root sharp roofs) (questions : List Question) (box : AreBoxQuestions terms sharp.floors roofs sharp.pairs.items root questions) where
     -- some question of the box is a yes
     pub box_yes : AreNoBefore p questions (length questions) → ⊥
     box_yes none =

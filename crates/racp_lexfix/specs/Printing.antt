@@ -13,7 +13,7 @@ use Rattle.racp_lexfix.specs.declared.printed.Refusal.{Refusal}
 use Rattle.racp_lexfix.specs.declared.printed.Refusal.TheVariants.{Sm, Order, Stop}
 
 -- the texts are read as a network and an order for it
-pub record AreTerms (net order : List ℕ) (network : Project) (terms : Terms) : Type 0 where
+pub record AreTextsOf (net order : List ℕ) (network : Project) (terms : Terms) : Type 0 where
   pub is_network : IsReading net (Ok network)
   pub is_order : IsOrder network.resources (length network.jobs) order (Ok terms)
 
@@ -22,7 +22,7 @@ pub record IsPrinted (net order text : List ℕ) (status : ℕ) : Type 0 where
   pub network : Project
   pub terms : Terms
   pub answer : Answer
-  pub are_terms : AreTerms net order network terms
+  pub are_terms : AreTextsOf net order network terms
   pub right : IsAnswer network terms answer
   pub with_text : text ≡ answer_text terms.deadline answer
   pub with_status : status ≡ answer_status answer

@@ -28,7 +28,7 @@ abbrev pub HasNoEnough : Project → Terms → Type 0
 HasNoEnough p terms = (capacities : List ℕ) → IsEnough p terms capacities → ⊥
 
 -- the first floors, and roofs within the ceilings that admit
-pub record AreEnds (p : Project) (terms : Terms) (root : Bounds) (floors roofs : List ℕ) : Type 0 where
+pub record AreFloorsAndRoofs (p : Project) (terms : Terms) (root : Bounds) (floors roofs : List ℕ) : Type 0 where
   pub lowest : AreFloors p root terms.deadline floors
   pub most : AreMostUnits p terms roofs
   pub bounds : AreBounds floors roofs
@@ -36,13 +36,13 @@ pub record AreEnds (p : Project) (terms : Terms) (root : Bounds) (floors roofs :
 
 -- these, after a series for the ceilings, where there are such; or none where no capacities are enough
 abbrev pub IsBounded : Project → Terms → Bounds → (answered : ℕ) → Option (List ℕ × List ℕ) → Type 0
-IsBounded p terms root answered (Some ends) = AreEnds p terms root ends.0 ends.1 × (answered ≡ ceiling_series terms)
+IsBounded p terms root answered (Some ends) = AreFloorsAndRoofs p terms root ends.0 ends.1 × (answered ≡ ceiling_series terms)
 IsBounded p terms root answered None = HasNoEnough p terms
 
 -- floors that are sharpened, and pairs that they refute, from some first floors on
-pub record AreSharpEnds (p : Project) (terms : Terms) (root : Bounds) (sharp : Sharp) (roofs : List ℕ) : Type 0 where
+pub record AreSharpFloorsAndRoofs (p : Project) (terms : Terms) (root : Bounds) (sharp : Sharp) (roofs : List ℕ) : Type 0 where
   pub first : List ℕ
-  pub ends : AreEnds p terms root first roofs
+  pub ends : AreFloorsAndRoofs p terms root first roofs
   pub sharp_are : IsSharp p root first roofs sharp
 
 -- capacities that are told where the vectors of the box are asked: none that are enough stand before them, they are at or above these
@@ -58,9 +58,9 @@ IsChosen p terms (Some chosen) = IsPlan p terms chosen.0 chosen.1
 IsChosen p terms None = HasNoEnough p terms
 
 -- whether some starts in the window answer
-abbrev pub IsDecided : Project → List ℕ → Bounds → Bool → Type 0
-IsDecided p capacities window true = IsYes p capacities window
-IsDecided p capacities window false = IsNo p capacities window
+abbrev pub IsYesOrNo : Project → List ℕ → Bounds → Bool → Type 0
+IsYesOrNo p capacities window true = IsYes p capacities window
+IsYesOrNo p capacities window false = IsNo p capacities window
 
 -- why planning ends where an asker gives up, with capacities before which none are enough
 abbrev pub given_up : AskStop → List ℕ → PlanStop

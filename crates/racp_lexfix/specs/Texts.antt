@@ -27,6 +27,4 @@ answer_text deadline Ceiling = ceiling_line
 -- the status of an answer: 0 for a plan, 3 where there is none
 abbrev pub answer_status : Answer → ℕ
 answer_status (ThePlan plan) = 0
-answer_status (Impossible longest) = 3
-answer_status (Due job) = 3
-answer_status Ceiling = 3
+answer_status _ = 3

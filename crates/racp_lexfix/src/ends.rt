@@ -9,7 +9,7 @@ ghost use Rattle.racp_bounds.specs.Floors.{AreFloors};
 ghost use Rattle.racp_candidates.specs.Box.{AreBounds};
 ghost use Rattle.racp_candidates.specs.FirstYes.{MayGiveUp};
 ghost use Rattle.racp_lexfix.specs.Answers.{IsStoppedAt, IsPlanStop};
-ghost use Rattle.racp_lexfix.specs.Stages.{IsBounded, IsDecided, given_up};
+ghost use Rattle.racp_lexfix.specs.Stages.{IsBounded, IsYesOrNo, given_up};
 
 use crate::answer::PlanStop;
 use racp_bounds::{floors, roofs};
@@ -126,7 +126,7 @@ fn is_yes<A: Asker>(
     requires capacities { length capacities.now ≡ net.now.resources }
     requires window { HasBounds net.now window.now }
     ensures network { A.network asker.new ≡ A.network asker.old }
-    ensures decided { IfOk result (IsDecided net.now capacities.now window.now) }
+    ensures decided { IfOk result (IsYesOrNo net.now capacities.now window.now) }
     ensures answered { OnOk result (A.answered asker.new ≡ A.answered asker.old + 1) }
     ensures unanswered { OnErr result (A.answered asker.new ≡ A.answered asker.old) }
     ensures stop { IfErr result (MayGiveUp (A.may_stop asker.new) (A.may_want_thread asker.new)) }

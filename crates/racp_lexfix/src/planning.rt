@@ -6,7 +6,7 @@ ghost use Rattle.racp_model.specs.Terms.{AreTermsOf, IsBefore, release_of, due_o
 ghost use Rattle.racp_model.specs.Window.{IsRootWindow};
 ghost use Rattle.racp_candidates.specs.Box.{AreBoxQuestions};
 ghost use Rattle.racp_lexfix.specs.Answers.{IsAnswer, IsStoppedAt, IsPlanStop};
-ghost use Rattle.racp_lexfix.specs.Stages.{AreSharpEnds, IsStoppedInBox, IsChosen};
+ghost use Rattle.racp_lexfix.specs.Stages.{AreSharpFloorsAndRoofs, IsStoppedInBox, IsChosen};
 
 use crate::answer::{Answer, PlanStop};
 use crate::ends::floors_and_roofs;
@@ -97,7 +97,7 @@ fn cheapest<A: Asker>(
     requires named { net.now ≡ A.network asker.old }
     requires terms { AreTermsOf net.now order.now }
     requires root { IsRootWindow net.now (release_of order.now) (due_of order.now) root.now }
-    requires sharp { AreSharpEnds net.now order.now root.now sharp roofs.now }
+    requires sharp { AreSharpFloorsAndRoofs net.now order.now root.now sharp roofs.now }
     ensures network { A.network asker.new ≡ A.network asker.old }
     ensures least { IfOk result (IsLeast (IsBefore order.now) (IsEnough net.now order.now)) }
     ensures answered { OnOk result (A.answered asker.new ≡ A.answered asker.old + 1) }
@@ -125,7 +125,7 @@ fn vectors(
     roofs: &Capacities,
 ) -> Result<Vectors, AllocError>
     requires terms { AreTermsOf net.now order.now }
-    requires sharp { AreSharpEnds net.now order.now root.now sharp.now roofs.now }
+    requires sharp { AreSharpFloorsAndRoofs net.now order.now root.now sharp.now roofs.now }
     ensures { IfOk result (AreBoxQuestions order.now sharp.now.floors roofs.now sharp.now.pairs.items root.now) }
 {
     prove!(order.prices.len() == net.resource_count());

@@ -14,7 +14,7 @@ use Rattle.racp_model.specs.Project.{Project}
 use Rattle.racp_model.specs.Terms.{Terms, AreTermsOf}
 use Rattle.racp_model.proofs.lemmas.Orders.{lex_same}
 use Rattle.racp_model.proofs.lemmas.Results.{IsFault, bind_ok, same_ok, chosen}
-use Rattle.racp_prices.specs.Orders.{whole, within, array_of, count_of, whole_items, counted_items, all_within, number_of, numbers_of, optional_numbers, version_of, plain_keys, keys_of, has_only, required, known_keys, order_of, IsOrder, IsOrderOrMemory, AreTermsFor}
+use Rattle.racp_prices.specs.Orders.{whole, within, array_of, count_of, whole_items, counted_items, all_within, number_of, numbers_of, optional_numbers, version_of, plain_keys, keys_of, has_only, required, known_keys, order_of, IsOrder, IsOrderOrMemory, FitEachProject}
 use Rattle.racp_prices.specs.declared.fault.OrderFault.{OrderFault}
 use Rattle.racp_prices.specs.declared.fault.OrderFault.TheVariants.{Count, Range, Unknown}
 use Rattle.racp_prices.specs.declared.version.Version.{Version}
@@ -159,7 +159,7 @@ pub read_within_limits : (p : Project) (text : List ℕ) (terms : Terms) → IsO
 read_within_limits p text terms (None, toml, e) = absurd (subst IsFault (sym e) tt)
 read_within_limits p text terms (Some table, toml, e) = within_terms p table terms (parts_of p.resources (length p.jobs) table terms (sym e))
 
-pub terms_from_reading : (resources jobs : ℕ) (text : List ℕ) (answer : Result Terms OrderFault) → IsOrderOrMemory resources jobs text answer → IfOk answer (AreTermsFor resources jobs)
+pub terms_from_reading : (resources jobs : ℕ) (text : List ℕ) (answer : Result Terms OrderFault) → IsOrderOrMemory resources jobs text answer → IfOk answer (FitEachProject resources jobs)
 terms_from_reading resources jobs text (Ok terms) read = λ p same_resources same_jobs.
     (read_within_limits p text terms (subst₂ (λ r j. IsOrder r j text (Ok terms)) (sym same_resources) (sym same_jobs) read)).0
 terms_from_reading resources jobs text (Err fault) read = tt

@@ -3,22 +3,19 @@ use Rattle.std.specs.Prelude.{ℕ, List, codes}
 use Rattle.racp_prices.specs.declared.fault.OrderFault.{OrderFault}
 use Rattle.racp_prices.specs.declared.fault.OrderFault.TheVariants.{NotToml, Missing, Unknown, NotWhole, Range, Count, Memory, Version}
 
+-- the number and the name of each
+abbrev pub fault_entry : OrderFault → ℕ × List ℕ
+fault_entry NotToml = (1, codes "NotToml")
+fault_entry Missing = (2, codes "Missing")
+fault_entry Unknown = (3, codes "Unknown")
+fault_entry NotWhole = (4, codes "NotWhole")
+fault_entry Range = (5, codes "Range")
+fault_entry Count = (6, codes "Count")
+fault_entry Memory = (7, codes "Memory")
+fault_entry Version = (8, codes "Version")
+
 abbrev pub fault_number : OrderFault → ℕ
-fault_number NotToml = 1
-fault_number Missing = 2
-fault_number Unknown = 3
-fault_number NotWhole = 4
-fault_number Range = 5
-fault_number Count = 6
-fault_number Memory = 7
-fault_number Version = 8
+fault_number kind = (fault_entry kind).0
 
 abbrev pub fault_name : OrderFault → List ℕ
-fault_name NotToml = codes "NotToml"
-fault_name Missing = codes "Missing"
-fault_name Unknown = codes "Unknown"
-fault_name NotWhole = codes "NotWhole"
-fault_name Range = codes "Range"
-fault_name Count = codes "Count"
-fault_name Memory = codes "Memory"
-fault_name Version = codes "Version"
+fault_name kind = (fault_entry kind).1

@@ -151,5 +151,5 @@ IsOrderOrMemory resources jobs text (Ok terms) = IsOrder resources jobs text (Ok
 IsOrderOrMemory resources jobs text (Err fault) = IsOrder resources jobs text (Err fault) ⊎ (IsUtf8 text × (fault ≡ Memory))
 
 -- the terms are those of each project with so many resources and jobs
-abbrev pub AreTermsFor : ℕ → ℕ → Terms → Type 0
-AreTermsFor resources jobs terms = (p : Project) → p.resources ≡ resources → length p.jobs ≡ jobs → AreTermsOf p terms
+abbrev pub FitEachProject : ℕ → ℕ → Terms → Type 0
+FitEachProject resources jobs terms = (p : Project) → p.resources ≡ resources → length p.jobs ≡ jobs → AreTermsOf p terms

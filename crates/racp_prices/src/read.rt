@@ -3,7 +3,7 @@ ghost use Rattle.std.specs.BTreeMap.{keys};
 ghost use Rattle.std.specs.List.{list_any};
 ghost use Rattle.toml.specs.Data.{get_member};
 ghost use Rattle.toml.specs.View.{table_view, view};
-ghost use Rattle.racp_prices.specs.Orders.{AreTermsFor, IsOrderOrMemory, keys_of, known_keys, order_of, required};
+ghost use Rattle.racp_prices.specs.Orders.{FitEachProject, IsOrderOrMemory, keys_of, known_keys, order_of, required};
 ghost use Rattle.racp_prices.specs.Steps.{Gives, IsTableRead};
 
 use crate::fault::OrderFault;
@@ -32,7 +32,7 @@ pub fn read_order(
     jobs: usize,
 ) -> Result<Order, OrderFault>
     ensures read { IsOrderOrMemory resources jobs text.now result }
-    ensures terms { IfOk result (AreTermsFor resources jobs) }
+    ensures terms { IfOk result (FitEachProject resources jobs) }
 {
     let table = read_table(alloc, text)?;
     read_terms(alloc, &table, resources, jobs)

@@ -4,39 +4,29 @@ use Rattle.racp_sm.specs.declared.fault.SmFault.{SmFault}
 use Rattle.racp_sm.specs.declared.fault.SmFaultKind.{SmFaultKind}
 use Rattle.racp_sm.specs.declared.fault.SmFaultKind.TheVariants.{NoJobs, NoRenewable, ManyProjects, OtherResources, NoPrecedence, NoRequests, BadNumber, Limit, BadRow, NotSingleMode, BadSuccessor, TooFew, TooMany, Cycle, Memory}
 
+-- the number and the name of each
+abbrev pub fault_entry : SmFaultKind → ℕ × List ℕ
+fault_entry NoJobs = (1, codes "NoJobs")
+fault_entry NoRenewable = (2, codes "NoRenewable")
+fault_entry ManyProjects = (3, codes "ManyProjects")
+fault_entry OtherResources = (4, codes "OtherResources")
+fault_entry NoPrecedence = (5, codes "NoPrecedence")
+fault_entry NoRequests = (6, codes "NoRequests")
+fault_entry BadNumber = (7, codes "BadNumber")
+fault_entry Limit = (8, codes "Limit")
+fault_entry BadRow = (9, codes "BadRow")
+fault_entry NotSingleMode = (10, codes "NotSingleMode")
+fault_entry BadSuccessor = (11, codes "BadSuccessor")
+fault_entry TooFew = (12, codes "TooFew")
+fault_entry TooMany = (13, codes "TooMany")
+fault_entry Cycle = (14, codes "Cycle")
+fault_entry Memory = (15, codes "Memory")
+
 abbrev pub fault_number : SmFaultKind → ℕ
-fault_number NoJobs = 1
-fault_number NoRenewable = 2
-fault_number ManyProjects = 3
-fault_number OtherResources = 4
-fault_number NoPrecedence = 5
-fault_number NoRequests = 6
-fault_number BadNumber = 7
-fault_number Limit = 8
-fault_number BadRow = 9
-fault_number NotSingleMode = 10
-fault_number BadSuccessor = 11
-fault_number TooFew = 12
-fault_number TooMany = 13
-fault_number Cycle = 14
-fault_number Memory = 15
+fault_number kind = (fault_entry kind).0
 
 abbrev pub fault_name : SmFaultKind → List ℕ
-fault_name NoJobs = codes "NoJobs"
-fault_name NoRenewable = codes "NoRenewable"
-fault_name ManyProjects = codes "ManyProjects"
-fault_name OtherResources = codes "OtherResources"
-fault_name NoPrecedence = codes "NoPrecedence"
-fault_name NoRequests = codes "NoRequests"
-fault_name BadNumber = codes "BadNumber"
-fault_name Limit = codes "Limit"
-fault_name BadRow = codes "BadRow"
-fault_name NotSingleMode = codes "NotSingleMode"
-fault_name BadSuccessor = codes "BadSuccessor"
-fault_name TooFew = codes "TooFew"
-fault_name TooMany = codes "TooMany"
-fault_name Cycle = codes "Cycle"
-fault_name Memory = codes "Memory"
+fault_name kind = (fault_entry kind).1
 
 -- lack of memory is at no line
 abbrev pub out_of_memory : SmFault

@@ -1,6 +1,6 @@
 use Rattle.std.proofs.Common.{◌≡◌, ◌∙◌, ◌-◌, Bool, is_some, false, arith, sym, subst}
 use Rattle.std.proofs.lemmas.Bool.{false≢true}
-use Rattle.racp_lexfix.specs.Stages.{IsDecided}
+use Rattle.racp_lexfix.specs.Stages.{IsYesOrNo}
 use Rattle.racp_lexfix.specs.Answers.{IsStoppedAt, IsPlanStop}
 use Rattle.racp_lexfix.specs.declared.answer.PlanStop.{PlanStop}
 use Rattle.racp_lexfix.proofs.Choosing.{enough_bounds, enough_roofs, plain_yes}
@@ -31,7 +31,7 @@ returns-in-Ok-true-clause-bounded g c = (
     lowest = c.in_ok-floors.ensures;
     most = c.in_ok-roofs.ensures;
     bounds = c.is_below.ensures.0 c.if-not-is_below.false;
-    yes = subst (λ (b : Bool). IsDecided c.args.net.now c.in_ok-roofs.roofs c.args.root.now b) c.in-Ok-true.field-0-test c.in-Ok-true.ensures.decided;
+    yes = subst (λ (b : Bool). IsYesOrNo c.args.net.now c.in_ok-roofs.roofs c.args.root.now b) c.in-Ok-true.field-0-test c.in-Ok-true.ensures.decided;
   },
   omega (arith, c.in-Ok-true.ensures.answered, some_ceilings c.args.order.now (sym c.has_ceilings.ensures ∙ c.if-not-has_ceilings.false)),
 )
@@ -39,7 +39,7 @@ returns-in-Ok-true-clause-bounded g c = (
 pub returns-in-Ok-false-clause-bounded : goal.returns-in-Ok-false-clause-bounded
 returns-in-Ok-false-clause-bounded g c = λ vector e.
     let some = enough_roofs c.args.net.now c.args.order.now c.args.root.now c.in_ok-floors.floors c.in_ok-roofs.roofs c.requires.terms c.requires.root c.in_ok-floors.ensures c.in_ok-roofs.ensures vector e in
-    let none = subst (λ (b : Bool). IsDecided c.args.net.now c.in_ok-roofs.roofs c.args.root.now b) c.in-Ok-false.field-0-test c.in-Ok-false.ensures.decided in
+    let none = subst (λ (b : Bool). IsYesOrNo c.args.net.now c.in_ok-roofs.roofs c.args.root.now b) c.in-Ok-false.field-0-test c.in-Ok-false.ensures.decided in
     none some.0 some.1
 
 pub returns-in-Err-clause-stop : goal.returns-in-Err-clause-stop
