@@ -51,6 +51,7 @@ pair_count resources = sum_below resources (λ k. resources - (k + 1))
 
 -- why sharpening ended early, after so many series were answered: the floors that were reached, where each series sharpened one more,
 -- as long as there were any left; and that the asker may give up, or may stop before it answered a series for each resource and each pair
-pub record IsUnsharpened (p : Project) (root : Bounds) (floors roofs : List ℕ) (answered : ℕ) (may_stop may_want_thread : Type 0) (refusal : List ℕ × AskStop) : Type 0 where
+pub record IsUnsharpened (p : Project) (root : Bounds) (floors roofs : List ℕ) (answered : ℕ) (may_stop may_want_thread : Type 0)
+    (refusal : List ℕ × AskStop) : Type 0 where
   pub reached : AreSharpenedBefore p root floors roofs answered refusal.0
   pub given_up : MayGiveUp (may_stop × (answered < p.resources + pair_count p.resources)) may_want_thread refusal.1

@@ -47,7 +47,8 @@ pub fn sharpen<A: Asker>(
     ensures sharp { IfOk result (IsSharp net.now root.now floors roofs.now) }
     ensures answered { OnOk result (A.answered asker.new ≡ A.answered asker.old + net.now.resources + pair_count net.now.resources) }
     ensures no_fewer { A.answered asker.old ≤ A.answered asker.new }
-    ensures refusal { IfErr result (IsUnsharpened net.now root.now floors roofs.now (A.answered asker.new - A.answered asker.old) (A.may_stop asker.new) (A.may_want_thread asker.new)) }
+    ensures refusal { IfErr result (IsUnsharpened net.now root.now floors roofs.now (A.answered asker.new - A.answered asker.old)
+        (A.may_stop asker.new) (A.may_want_thread asker.new)) }
 {
     let floors = raise_all(alloc, net, root, floors, roofs, asker)?;
     match refuted_pairs(alloc, net, root, &floors, roofs, asker) {
@@ -75,7 +76,8 @@ fn raise_all<A: Asker>(
     ensures sharp { IfOk result (AreSharpened net.now root.now floors roofs.now) }
     ensures answered { OnOk result (A.answered asker.new ≡ A.answered asker.old + net.now.resources) }
     ensures no_fewer { A.answered asker.old ≤ A.answered asker.new }
-    ensures refusal { IfErr result (IsUnsharpened net.now root.now floors roofs.now (A.answered asker.new - A.answered asker.old) (A.may_stop asker.new) (A.may_want_thread asker.new)) }
+    ensures refusal { IfErr result (IsUnsharpened net.now root.now floors roofs.now (A.answered asker.new - A.answered asker.old)
+        (A.may_stop asker.new) (A.may_want_thread asker.new)) }
 {
     let mut reached = floors;
     for k in 0..net.resource_count() {
@@ -155,7 +157,8 @@ fn refuted_pairs<A: Asker>(
     ensures refuted { IfOk result (λ pairs. AreRefutedPairs net.now root.now floors.now roofs.now pairs.items) }
     ensures answered { OnOk result (A.answered asker.new ≡ A.answered asker.old + pair_count net.now.resources) }
     ensures no_fewer { A.answered asker.old ≤ A.answered asker.new }
-    ensures stop { IfErr result (MayGiveUp (A.may_stop asker.new × (A.answered asker.new - A.answered asker.old < pair_count net.now.resources)) (A.may_want_thread asker.new)) }
+    ensures stop { IfErr result (MayGiveUp (A.may_stop asker.new × (A.answered asker.new - A.answered asker.old < pair_count net.now.resources))
+        (A.may_want_thread asker.new)) }
 {
     let mut pairs = Vec::new(alloc);
     for k in 0..net.resource_count() {

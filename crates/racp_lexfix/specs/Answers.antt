@@ -17,20 +17,16 @@ IsAnswer p terms (Impossible longest) = IsTooLong p terms longest
 IsAnswer p terms (Due job) = (i : ℕ) × (number i ≡ job) × IsTooLateAt p terms i
 IsAnswer p terms Ceiling = IsOverCeilings p terms
 
--- no capacities that are enough stand before these
-pub record IsNotAfterEnough (p : Project) (terms : Terms) (capacities : List ℕ) : Type 0 where
-  pub places : length capacities ≡ p.resources
-  pub none : (enough : List ℕ) → IsEnough p terms enough → IsBefore terms enough capacities → ⊥
-
 -- how many series planning asks before it sharpens the floors: one for the ceilings, where there are such
 abbrev pub ceiling_series : Terms → ℕ
 ceiling_series terms = if is_some terms.ceilings then 1 else 0
 
 -- capacities that are told where planning stops, by how many series were answered, and by what the asker told. None that are enough
--- stand before them; no job that runs requests more; of each resource that was sharpened there are as many units as in some capacities
--- that are enough. Where the vectors of the box were asked they are what the asker told, if it told any; behind that they are the plan's
+-- stand before them; no job that runs requests more; of each resource that was sharpened there are at least as many units as in some
+-- that are enough. Where the vectors of the box were asked they are what the asker told, if it told any; after that they are the plan's
 pub record IsStoppedAt (p : Project) (terms : Terms) (answered : ℕ) (told : Option (List ℕ)) (capacities : List ℕ) : Type 0 where
-  pub none : IsNotAfterEnough p terms capacities
+  pub places : length capacities ≡ p.resources
+  pub none : (enough : List ℕ) → IsEnough p terms enough → IsBefore terms enough capacities → ⊥
   pub requests : (i k : ℕ) → i < length p.jobs → k < p.resources → 0 < duration p i → request p i k ≤ slice_index capacities k
   pub sharpened : (k : ℕ) → k < p.resources → ceiling_series terms + k < answered →
       (enough : List ℕ) × IsEnough p terms enough × (slice_index enough k ≤ slice_index capacities k)

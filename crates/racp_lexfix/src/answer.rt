@@ -30,7 +30,8 @@ pub enum Answer {
 /// Why a plan is not known.
 #[derive(Debug, Drop, Error)]
 pub enum PlanStop {
-    /// The search was stopped. No capacities that are enough stand before these.
+    /// The search was stopped. No capacities that are enough stand before these: the floors so far, those that the asker reached,
+    /// or the plan's own.
     #[error("the search was stopped")]
     Stopped {
         /// How many units there are of each resource, by place from 0.

@@ -38,7 +38,8 @@ pub(crate) fn floors_and_roofs<A: Asker>(
     ensures network { A.network asker.new ≡ A.network asker.old }
     ensures bounded { IfOk result (IsBounded net.now order.now root.now (A.answered asker.new - A.answered asker.old)) }
     ensures no_fewer { A.answered asker.old ≤ A.answered asker.new }
-    ensures stop { IfErr result (IsPlanStop (IsStoppedAt net.now order.now (A.answered asker.new - A.answered asker.old) (A.told asker.new)) (A.may_stop asker.new) (A.may_want_thread asker.new)) }
+    ensures stop { IfErr result (IsPlanStop (IsStoppedAt net.now order.now (A.answered asker.new - A.answered asker.old) (A.told asker.new))
+        (A.may_stop asker.new) (A.may_want_thread asker.new)) }
 {
     let floors = lowest_units(alloc, net, order, root)?;
     let roofs = most_units(alloc, net, order)?;

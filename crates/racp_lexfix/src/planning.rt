@@ -37,7 +37,8 @@ pub fn plan<A: Asker>(
     requires terms { AreTermsOf net.now order.now }
     ensures network { A.network asker.new ≡ A.network asker.old }
     ensures answer { IfOk result (IsAnswer net.now order.now) }
-    ensures stop { IfErr result (IsPlanStop (IsStoppedAt net.now order.now (A.answered asker.new - A.answered asker.old) (A.told asker.new)) (A.may_stop asker.new) (A.may_want_thread asker.new)) }
+    ensures stop { IfErr result (IsPlanStop (IsStoppedAt net.now order.now (A.answered asker.new - A.answered asker.old) (A.told asker.new))
+        (A.may_stop asker.new) (A.may_want_thread asker.new)) }
 {
     let (critical, root) = match opening_of(alloc, net, order)? {
         Opening::Root { critical, window } => (critical, window),
@@ -68,7 +69,8 @@ fn chosen<A: Asker>(
     requires root { IsRootWindow net.now (release_of order.now) (due_of order.now) root.now }
     ensures network { A.network asker.new ≡ A.network asker.old }
     ensures chosen { IfOk result (IsChosen net.now order.now) }
-    ensures stop { IfErr result (IsPlanStop (IsStoppedAt net.now order.now (A.answered asker.new - A.answered asker.old) (A.told asker.new)) (A.may_stop asker.new) (A.may_want_thread asker.new)) }
+    ensures stop { IfErr result (IsPlanStop (IsStoppedAt net.now order.now (A.answered asker.new - A.answered asker.old) (A.told asker.new))
+        (A.may_stop asker.new) (A.may_want_thread asker.new)) }
 {
     let Some((floors, roofs)) = floors_and_roofs(alloc, net, order, root, asker)? else {
         return Ok(None);
@@ -101,7 +103,8 @@ fn cheapest<A: Asker>(
     ensures network { A.network asker.new ≡ A.network asker.old }
     ensures least { IfOk result (IsLeast (IsBefore order.now) (IsEnough net.now order.now)) }
     ensures answered { OnOk result (A.answered asker.new ≡ A.answered asker.old + 1) }
-    ensures stop { IfErr result (IsPlanStop (IsStoppedInBox net.now order.now sharp.floors (A.told asker.new)) (A.may_stop asker.new × (A.answered asker.new ≡ A.answered asker.old)) (A.may_want_thread asker.new)) }
+    ensures stop { IfErr result (IsPlanStop (IsStoppedInBox net.now order.now sharp.floors (A.told asker.new))
+        (A.may_stop asker.new × (A.answered asker.new ≡ A.answered asker.old)) (A.may_want_thread asker.new)) }
 {
     let again = vectors(alloc, net, order, root, &sharp, roofs)?;
     let series = vectors(alloc, net, order, root, &sharp, roofs)?;
