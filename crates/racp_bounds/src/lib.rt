@@ -29,10 +29,10 @@
 //!
 //! Proved: `floors` gives exactly the greatest of the three bounds, `roofs` the sums of the requests, `sharpen` the
 //! least numbers of units and exactly the refuted pairs. Where the asker gives up, `sharpen` gives floors of which the
-//! first ones are sharpened, one for each series that was answered, and the others are as before. In `laws`: capacities
-//! that admit are at or above the floors, still admit when they are cut to the roofs, and then lie in the box of the
-//! sharpened floors and the refuted pairs; the capacities of the plan lie in it as they are, whatever the prices.
-//! Tested alone: that memory is not refused without need.
+//! first ones are sharpened, one for each series that was answered until all are, and the others are as before. In
+//! `laws`: capacities that admit are at or above the floors, still admit when they are cut to the roofs, and then lie
+//! in the box of the sharpened floors and the refuted pairs; the capacities of the plan lie in it as they are, whatever
+//! the prices. Tested alone: that memory is not refused without need.
 #![tactic(auto)]
 
 mod floor;

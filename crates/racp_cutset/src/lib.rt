@@ -9,8 +9,8 @@
 //! capacities and the upper bounds of the second, its time is no later, each of its started jobs ends no later than
 //! there or by the time of the second, and each other job may start as early as there or at that time. Then from starts
 //! that answer the second, starts can be built that answer the first. So where the first is a no, the second is a no,
-//! and need not be searched. Other than there, capacities and bounds are compared too, and only refuted nodes become
-//! records; so a record serves all questions about one network.
+//! and need not be searched. Other than with Demeulemeester and Herroelen, capacities and bounds are compared too, and
+//! only refuted nodes become records; so a record serves all questions about one network.
 //!
 //! The five jobs of examples/a.sm are a no with 2 units in the root window of the deadline 4. The record of that node
 //! covers
