@@ -1,4 +1,28 @@
 //! The program `racp`: runs the command that the words of its command line name.
+//!
+//! It plans the capacities of a project. `racp plan NET ORDER` prints the cheapest capacities under which the project
+//! ends in time, with the least starts; `racp check NET ORDER PLAN` whether a plan, whoever made it, is right;
+//! `racp cpm NET` the critical length and the early starts. What the commands do is proved in racp_cli, over any
+//! readers and any writer; this crate opens files and standard streams, hands them over, and ends with the status.
+//!
+//! ```text
+//! racp plan b.sm b3.toml             what examples/b3.plan has                    status 0
+//! racp plan a.sm a2.toml             impossible critical 3 deadline 2             status 3
+//! racp plan a.sm b3.toml             refused order 6 Count                        status 5
+//! racp check a.sm a4.toml a4.plan    ok                                           status 0
+//! racp plan a.sm                     nothing; standard error has what is wrong    status 2
+//! ```
+//!
+//! Files are opened in the order of the words, before the first is read. A file that cannot be opened counts as a read
+//! that failed. Answers go to standard output, and so do help and the version. Words that are refused, a file or a
+//! stream that failed, and lack of memory for the words or the inputs are told on standard error; where that takes no
+//! text, the status alone tells.
+//!
+//! Proved: `failure::report` answers 2, 6 or 7 by the reason why no answer is written, and 0 or 7 after help and the
+//! version; `run::status` answers a status that some answer or some reason has. Not proved, and tested over the built
+//! program: that each command reads its own files in their order, that the bytes of files and of standard input are
+//! those that racp_cli is handed, which stream each text goes to, and which status goes with which words. Trusted: the
+//! toolchain, the C library and the machine.
 #![tactic(auto)]
 
 mod failure;

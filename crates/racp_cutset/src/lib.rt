@@ -1,6 +1,43 @@
-//! Records of refuted nodes of the search, and when one refutes another node: cutsets (Demeulemeester and Herroelen 1992).
+//! Records of refuted nodes of the search, and when one refutes another node: cutsets (Demeulemeester and Herroelen
+//! 1992).
 //!
 //! Jobs and resources are numbered from 1; their places in lists count from 0. Times are whole time units.
+//!
+//! A node of the search is a question with the early starts of its window and a time, that of their first conflict. The
+//! jobs that start before that time are started. Two nodes with the same started jobs differ in when these end, and in
+//! what is left open. The first covers the second where its early starts fit before its time, it has at least the
+//! capacities and the upper bounds of the second, its time is no later, each of its started jobs ends no later than
+//! there or by the time of the second, and each other job may start as early as there or at that time. Then from starts
+//! that answer the second, starts can be built that answer the first. So where the first is a no, the second is a no,
+//! and need not be searched. Other than with Demeulemeester and Herroelen, capacities and bounds are compared too, and
+//! only refuted nodes become records; so a record serves all questions about one network.
+//!
+//! The five jobs of examples/a.sm are a no with 2 units in the root window of the deadline 4. The record of that node
+//! covers
+//!
+//! ```text
+//! the root window with 2 units, or with 1           yes
+//! the same with the upper bounds 0, 0, 1, 1, 3      yes: it has to end by 3
+//! the same with the lower bounds 0, 0, 2, 0, 3      yes: job 3 may not start before 2
+//! the root window with 3 units                      no: that is more than in the record
+//! the same with the upper bounds 2, 2, 3, 3, 5      no: it may end at 5
+//! ```
+//!
+//! `local.keep(Nogood::of(node))` keeps a record; `local.find(&board, &other)` looks for one that covers a node.
+//!
+//! A `Nogood` is three rows, made in the memory of its node: the capacities, the upper bounds, and for each job the end
+//! if it is started and else the lower bound. With the started jobs and the time they tell one node: that with the
+//! early starts of its started jobs as their lower bounds, which covers the same nodes. `Board` has the records that
+//! threads share; it only grows, and is read without waiting. `Local` has one thread's own records and an index, by a
+//! hash of the started jobs, of these and of what it has read of the board. What the index leads to is tested by
+//! `covers` before it is answered. A place of the board stays empty where the push to it was refused; reading goes on
+//! past it. The index keeps at most the 64 newest places for one hash, and drops a record that a newer one covers.
+//!
+//! Proved: whoever makes a `Nogood` shows that its question is a no, and the type keeps that; so each record on a board
+//! is true, whoever wrote it. `covers` is true exactly where the covering relation holds, and then the node's question
+//! is a no. What `find` finds covers the node. In `laws`: why covering keeps a yes, step by step. Not proved: which
+//! records are found, so a body that never finds one would do; that records are found is tested. `Board::push` may wait
+//! for another thread, and is the only function of which it is not claimed that it returns.
 #![tactic(auto)]
 
 mod board;

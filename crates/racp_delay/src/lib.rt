@@ -1,4 +1,42 @@
 //! Conflicts of start vectors, and minimal delaying alternatives that resolve them (Demeulemeester and Herroelen 1992).
+//!
+//! Jobs are named by number, from 1; starts and capacities stand by place, from 0. Times are whole time units.
+//!
+//! Start each job as early as precedence allows. At the first time at which more is used of some resource than there
+//! is, some of the jobs that are then active have to be put off. A list of such jobs is a delaying alternative where
+//! the others can run at once, and a minimal one where that fails as soon as one of the list stays. In each schedule
+//! all jobs of some minimal alternative start at or after the first end, in the early starts, of a job that stays. So a
+//! search branches over these alternatives: each gives a child window, in which the lower bounds of the jobs that go
+//! are raised to that end.
+//!
+//! The five jobs of examples/a.sm with 2 units and the starts 0, 0, 0, 0, 3. At time 0 the jobs 2, 3 and 4 are active,
+//! and request 2 + 1 + 1 = 4 units:
+//!
+//! ```text
+//! go      stay    can run at once    the jobs that go start at or after
+//! 2       3, 4    1 + 1 = 2          2, the end of 3 and 4
+//! 3, 4    2       2                  3, the end of 2
+//! ```
+//!
+//! `conflict(&net, &capacities, &starts)` finds the time and the active jobs, `alternatives` the two lists, and
+//! `first_end` the times in the last column.
+//!
+//! `conflict` sorts the starts and the ends of the jobs in two rows of fixed length, and goes over the starts in order:
+//! at each it sets the loads of the jobs that started so far against the capacities and the loads of those that ended
+//! so far. So nothing is subtracted, and a job of duration 0 needs no case. `alternatives` decides the active jobs one
+//! by one, each first to go and then to stay, so the lists come in lexicographic order. It leaves a branch where the
+//! jobs that stay exceed the capacities by themselves, and where one that goes could stay with all the others.
+//!
+//! Why branching loses nothing: let starts in the window fit, and let f be the least end, in these starts, of the
+//! active jobs. Those that start before f are all active right before f, so they can run at once. The others have in
+//! them a minimal alternative, and start at f or later, which is at or after the first end in the early starts of those
+//! that stay.
+//!
+//! Proved: `conflict` finds the first time of an excess with exactly the jobs that are active then, or none where no
+//! usage exceeds its capacity, and takes no memory; `alternatives` all minimal delaying alternatives and nothing else,
+//! each once; `first_end` the first end; `JobSet` what is in a set of jobs. In `laws`: the child windows cover their
+//! window and lie inside it, and the sum of the lower bounds rises. Not proved: that memory is not refused without
+//! need, and the time that all this takes.
 #![tactic(auto)]
 
 mod conflicts;

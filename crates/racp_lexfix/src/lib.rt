@@ -1,7 +1,43 @@
-//! The plan of an order: the cheapest capacities under which the project ends in time, with the least start vector that fits them;
-//! or why there is none. From the texts of a network and an order to the text of the answer.
+//! The plan of an order: the cheapest capacities under which the project ends in time, with the least start vector that
+//! fits them; or why there is none. From the texts of a network and an order to the text of the answer.
 //!
 //! Jobs and resources are numbered from 1; their places in lists count from 0. Times are whole time units.
+//!
+//! This is the resource availability cost problem under a deadline (Möhring 1984, Demeulemeester 1995). Of capacities
+//! that cost the same the plan has the lexicographically least, and of the starts that fit them too; so an order has
+//! one plan at most, and two planners can be compared text by text. The stages of `plan`, and examples/b.sm with
+//! b3.toml: two jobs use resource 1 and two later ones resource 2, each for a time unit; the deadline is 3, and a unit
+//! costs 1:
+//!
+//! ```text
+//! 1  the critical length, then the due times             2 is at most 3: there is a root window
+//! 2  floors, and roofs that are cut to the ceilings      1 1 and 2 2
+//! 3  floors sharpened, pairs of resources refuted        1 1; resources 1 and 2 are not both at 1
+//! 4  the vectors of the box by cost, to the first yes    1 2 is a yes, before 2 1 at the same cost
+//! 5  the jobs one by one, each at its least start        0 0 1 2 2 3
+//! ```
+//!
+//! Where stage 1 fails, the answer is `Impossible` or `Due`. Where a floor is above its roof, or there are ceilings and
+//! the cut roofs are a no, it is `Ceiling`. For each job in stage 5, the lower bounds of the window become its early
+//! starts, the starts of the job are asked up to the first yes, and both of its bounds become that start. Why the first
+//! yes of stage 4 is the first of all vectors: one that is enough still admits when it is cut to the sums of requests;
+//! cut, it lies in the box, and it does not stand later than before. Why the starts are least: whatever answers in the
+//! root window lies in the window so far, or is greater at some job that is fixed and equal before it.
+//!
+//! Each stage asks through `Asker`, so the same planner runs over one thread or more. `Alone` is an asker on the
+//! calling thread, over a collector of one seat: it asks a question, takes its one piece, searches that to its end and
+//! hands it in. Records of one series serve the next. An answer tells its index alone, so the vectors of stage 4 are
+//! made a second time and walked up to it, which takes no search.
+//!
+//! `plan_alone(alloc, net_bytes, order_text)` answers the text of examples/b3.plan for the texts of b.sm and b3.toml,
+//! with the status 0; for a.sm and a2.toml it answers `impossible critical 3 deadline 2` with the status 3.
+//!
+//! Proved: the answer of `plan` is right (`IsAnswer`): the plan, without any bound on the numbers of units, or the
+//! first reason for which there is none. `plan_alone` prints that answer for what the texts are read as, or tells the
+//! fault of the first text that is refused, or that memory was refused (`IsPrinting`). Where an asker stops, `plan`
+//! tells capacities before which none are enough: the floors so far, the vector that was reached, or the plan's own. In
+//! `laws`: an order for a network has an answer, and only one. Tested alone: that memory is not refused without need.
+//! How long planning takes is measured (docs/GATE.md), not promised.
 #![tactic(auto)]
 
 mod alone;

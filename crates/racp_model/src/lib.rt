@@ -1,6 +1,47 @@
 //! Projects with renewable resources: networks of jobs, and which schedules fit them.
 //!
 //! Jobs and resources are numbered from 1; their places in lists count from 0. Times are whole time units from 0 on.
+//!
+//! A job runs for a time, and requests units of renewable resources while it runs. A pair (i, j) of job numbers says
+//! that job j starts only when job i has ended. A network is the jobs with their pairs, and a schedule has a start for
+//! each job. The problem, the usage of a resource at a time, and capacities that admit a schedule are after Möhring
+//! (1984). `specs/` has the definitions that the contracts of all crates cite, from a project to the plan of an order.
+//!
+//! Five jobs with one resource: 2, 3 and 4 come after 1 and before 5. They run for 3, 2 and 2 time units and request 2,
+//! 1 and 1 units; 1 and 5 have duration 0. With the starts 0, 0, 0, 2, 4 this is used:
+//!
+//! ```text
+//! time        0  1  2  3  4
+//! job 2       2  2  2
+//! job 3       1  1
+//! job 4             1  1
+//! together    3  3  3  1  0
+//! ```
+//!
+//! So `fits(&net, &capacities, &starts, 4)` is true for a capacity of 3, and false for 2. It looks at the starts of
+//! jobs alone, since a usage is greatest where some job starts; its work does not grow with the deadline.
+//!
+//! `Network::new` tests the limits and the numbers in the pairs, sorts the pairs and drops repeated ones. Then it ranks
+//! the jobs in a row of 512 numbers: a sweep raises the rank of the second job of each pair above that of the first,
+//! until a sweep raises none; a rank that would reach the number of jobs shows a ring. That takes no memory, so `Cycle`
+//! comes before `Memory`. Last, the pairs are copied as places, by the rank of the first job.
+//!
+//! Contracts see a `Network` as a `Project`, with its pairs in rising order, so that networks of one relation are
+//! equal; `Starts` and `Capacities` as lists; a `Window` as `Bounds`. Fields are private.
+//!
+//! Records and findings of a search are true of one network, and may be false of another. So their types have a
+//! parameter `N: OfNetwork`, and `N.network` is their project, for contracts alone: nothing of it is there at run time.
+//! A function over such values asks that the `Network` it is given is `N.network`; so values with one `N` are about one
+//! network. Which one that is, is known at run time only, and no `impl` can say it. A caller therefore passes the
+//! marker type `Brand` for `N`, as in `decide_named::<Brand>(alloc, net, question)`, and picks the network in the file
+//! `Invariants.antt` of its proof: `ghosts-decide_named a = record { network = a.net.now }`. No type in the signature
+//! of such a function names `N`.
+//!
+//! Proved: `Network::new` answers a network of the given jobs and pairs; or `Limit`, `BadJob` or `Cycle`, each exactly
+//! where it holds and none before it does; or `Memory`, only where none of these holds. `fits` is true exactly where
+//! the starts keep precedence, end by the deadline and never use more than the capacities. In `laws`: there is at most
+//! one plan, a project has a ranking or a ring, and more. Not proved: that memory is not refused without need, and that
+//! two sweeps are enough where each pair goes from a lower to a higher number.
 #![tactic(auto)]
 
 mod capacities;

@@ -1,7 +1,40 @@
-//! The search of a question by branching over minimal delaying alternatives (Demeulemeester and Herroelen 1992), and what a
-//! search of a part of it found.
+//! The search of a question by branching over minimal delaying alternatives (Demeulemeester and Herroelen 1992), and
+//! what a search of a part of it found.
 //!
 //! Jobs and resources are numbered from 1; their places in lists count from 0. Times are whole time units.
+//!
+//! A node is a window with its early starts. Where one of these exceeds its upper bound, or a record covers the node,
+//! nothing in the window answers. Where they keep the capacities, they answer. Else there is a first conflict, and for
+//! each minimal delaying alternative, other than all active jobs, a child window is searched. The six jobs of
+//! examples/c.sm, with 2 units in the root window of the deadline 8, in which job 2 may start from 0 to 4 and all
+//! others have one start:
+//!
+//! ```text
+//! window                early starts          what is found
+//! root                  0, 0, 0, 1, 4, 8      at time 1 the jobs 2 and 4 request 3 units
+//!   job 4 from 4 on     0, 0, 0, 4, 7, 11     4 is above the upper bound of job 4: a no
+//!   job 2 from 4 on     0, 4, 0, 1, 4, 8      they fit: the answer
+//! ```
+//!
+//! `decide(alloc, &net, &question)` answers a question whole. `explore` searches a `Piece`, the part of a question in a
+//! window, and tells a `Finding`: starts that answer, or the windows in which is still to be looked. A quantum bounds
+//! the number of nodes, and a `Stop` can end the search at any node; so a question can be searched in parts, by several
+//! workers. A piece and a finding cannot be dropped, so that no part of a question is lost by an oversight.
+//!
+//! `explore` goes by depth over a stack of frames on the heap. A frame is a node on the way to the window that is
+//! searched next, with its child windows still to be searched. What answers the question lies in an open window of a
+//! frame, or in the next one. A frame whose last child window was refuted is refuted itself: then, and at no other
+//! time, its node becomes a record. A search that ends early leaves its open windows. It ends in any case: each child
+//! window has a greater sum of lower bounds than its parent, this sum is at most 10,000,000 for each job where there is
+//! a conflict, and a node has fewer than 2^64 child windows. Rows and lists are used again from node to node, so a node
+//! takes memory only where its path is the longest so far, or where it becomes a record.
+//!
+//! Proved: `decide` answers starts in the window that fit, or `None` exactly where there are none. A finding of
+//! `explore` is true: the found starts answer, or what answers lies in a window of the rest, each inside the piece's
+//! window. Once a node was searched, and memory was not refused, each of these has a greater sum of lower bounds.
+//! Without a quantum, a stop and lack of memory nothing is left. The type keeps that truth, whoever holds the finding.
+//! Tested alone: that the stop is asked, that records are looked for and made, and that memory is not refused without
+//! need. How many nodes a search takes is not promised.
 #![tactic(auto)]
 
 mod branching;

@@ -1,4 +1,29 @@
 //! The words of the command line of the program `racp`, and what they ask for.
+//!
+//! The library `clap` reads the words: `command` in `command_line` tells it the commands of the program and their
+//! words, and `asked` turns what it found into a `Request`. The crate is apart from the others, so that a change of a
+//! help text leaves them as they were proved. The first of the words is the program's name; words are UTF-8.
+//!
+//! ```text
+//! words                          asked(alloc, &words) answers
+//! racp                           Cpm(StandardInput)
+//! racp cpm -                     Cpm(StandardInput)
+//! racp cpm a.sm                  Cpm(File) with the path a.sm
+//! racp plan b.sm b3.toml         Plan with the paths b.sm and b3.toml
+//! racp check a.sm a4.toml p      Check with the paths a.sm, a4.toml and p
+//! racp plan b.sm                 an error: a word is missing
+//! racp --help                    an error of the kind DisplayHelp
+//! ```
+//!
+//! The commands stand in `specs/` a second time, as values of the library's definitions: `racp`, `cpm`, `plan` and
+//! `check`. What `clap` is proved to do with them says what any words ask for.
+//!
+//! Proved: without words, with `cpm`, and with `cpm` and a word that does not begin with a hyphen or is a hyphen alone,
+//! `cpm` is asked for, of standard input or of the file with that path; with `plan` and two paths, and `check` and
+//! three, that command of these files. In these cases only memory can fail. A path here is a word that is not empty and
+//! does not begin with a hyphen. For any other words `asked` answers what `clap` is proved to find, or refuses with the
+//! kind of error that it is proved to give. Tested alone, over the built program: the texts of help, of the version and
+//! of errors.
 #![tactic(auto)]
 
 mod command_line;
