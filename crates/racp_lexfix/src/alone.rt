@@ -92,7 +92,9 @@ fn settle_next<N: OfNetwork, S: Series>(
 }
 
 /// Asks the next question, and takes its one piece. `None` where no question is to come, so that the answer is known.
-fn next_piece<N: OfNetwork, S: Series>(core: &mut Core<N, S>) -> Result<Option<Piece<N>>, AllocError>
+fn next_piece<N: OfNetwork, S: Series>(
+    core: &mut Core<N, S>,
+) -> Result<Option<Piece<N>>, AllocError>
     requires { IsIdle core.old }
     ensures questions { IfOk result (λ _. all_questions core.new ≡ all_questions core.old) }
     ensures next { IfOk result (λ piece. IsNextPiece N.network core.old piece core.new) }
