@@ -10,7 +10,8 @@ use std::marker::PhantomData;
 #[derive(Drop)]
 pub(crate) struct ByDefinition<N: OfNetwork> {
     alloc: Global,
-    series_left: u32,
+    answered: u32,
+    series: u32,
     of: PhantomData<N>,
 }
 
@@ -18,33 +19,39 @@ impl<N: OfNetwork> ByDefinition<N> {
     pub(crate) fn new(alloc: Global, series: u32) -> Self {
         ByDefinition {
             alloc,
-            series_left: series,
+            answered: 0,
+            series,
             of: PhantomData,
         }
     }
 }
 
 impl<N: OfNetwork> Asker for ByDefinition<N> {
-    ghost use Rattle.std.specs.Prelude.{⊤};
+    ghost use Rattle.std.specs.Prelude.{⊤, None};
 
     ghost network = { λ _. N.network };
+
+    ghost answered = { λ asker. asker.answered };
+
+    ghost told = { λ _. None };
 
     ghost may_stop = { λ _. ⊤ };
 
     ghost may_want_thread = { λ _. ⊥ };
 
     fn first<S: Series + Send>(&mut self, net: &Network, mut series: S) -> Result<First, AskStop> {
-        match self.series_left.checked_sub(1) {
-            Some(left) => self.series_left = left,
-            None => return Err(AskStop::Stopped { reached: None }),
+        if self.series <= self.answered {
+            return Err(AskStop::Stopped { reached: None });
         }
         let mut index = 0usize;
         while let Some(question) = series.next()? {
             if let Some(starts) = decide_by_definition(self.alloc, net, &question)? {
+                self.answered += 1;
                 return Ok(First::Yes { index, starts });
             }
             index = index.checked_add(1).ok_or(AskStop::Memory)?;
         }
+        self.answered += 1;
         Ok(First::None)
     }
 }

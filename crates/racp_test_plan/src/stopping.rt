@@ -1,13 +1,13 @@
 //! What is told where an asker gives up.
 
-ghost use Rattle.std.specs.Prelude.{◌≡◌};
+ghost use Rattle.std.specs.Prelude.{◌≡◌, IfOk};
 
 use racp_candidates::{AskStop, Asker, First, Series};
 use racp_lexfix::{Alone, PlanStop, plan};
-use racp_model::{Network, OfNetwork};
+use racp_model::{Capacities, Network, OfNetwork};
 use racp_prices::{Order, OrderFault, read_order};
 use racp_samples::crossed;
-use std::alloc::Global;
+use std::alloc::{AllocError, Global};
 use std::marker::Brand;
 use std::test::Fail;
 
@@ -15,9 +15,12 @@ use std::test::Fail;
 /// capacities of the first question that it gave up on.
 #[derive(Drop)]
 struct Tired<N: OfNetwork> {
+    alloc: Global,
     alone: Alone<N>,
-    series_left: u32,
+    answered: u32,
+    series: u32,
     tells: bool,
+    told: Option<Capacities>,
 }
 
 impl<N: OfNetwork> Asker for Tired<N> {
@@ -25,25 +28,39 @@ impl<N: OfNetwork> Asker for Tired<N> {
 
     ghost network = { λ _. N.network };
 
+    ghost answered = { λ tired. tired.answered };
+
+    ghost told = { λ tired. tired.told };
+
     ghost may_stop = { λ _. ⊤ };
 
     ghost may_want_thread = { λ _. ⊥ };
 
     fn first<S: Series + Send>(&mut self, net: &Network, mut series: S) -> Result<First, AskStop> {
-        if let Some(left) = self.series_left.checked_sub(1) {
-            self.series_left = left;
-            return self.alone.first(net, series);
+        if self.answered < self.series {
+            let first = self.alone.first(net, series)?;
+            self.answered += 1;
+            return Ok(first);
         }
+        self.told = None;
         if !self.tells {
             return Err(AskStop::Stopped { reached: None });
         }
-        match series.next()? {
-            Some(question) => Err(AskStop::Stopped {
-                reached: Some(question.capacities),
-            }),
-            None => Err(AskStop::Stopped { reached: None }),
-        }
+        let Some(question) = series.next()? else {
+            return Err(AskStop::Stopped { reached: None });
+        };
+        self.told = Some(copy_of(self.alloc, &question.capacities)?);
+        Err(AskStop::Stopped {
+            reached: Some(question.capacities),
+        })
     }
+}
+
+/// A copy of capacities.
+fn copy_of(alloc: Global, capacities: &Capacities) -> Result<Capacities, AllocError>
+    ensures { IfOk result (λ copy. copy ≡ capacities.now) }
+{
+    Ok(Capacities::new(capacities.as_slice().to_vec(alloc)?))
 }
 
 /// Whether planning stops, and tells these capacities.
@@ -81,11 +98,14 @@ fn tells<N: OfNetwork>(
     requires { net.now ≡ N.network }
 {
     let alone: Alone<N> = Alone::new(alloc, net)?;
-    let (series_left, tells) = gives_up;
+    let (series, tells) = gives_up;
     let mut asker = Tired {
+        alloc,
         alone,
-        series_left,
+        answered: 0,
+        series,
         tells,
+        told: None,
     };
     match order(alloc, net) {
         Ok(order) => Ok(is_told(alloc, net, &order, &mut asker, capacities)),

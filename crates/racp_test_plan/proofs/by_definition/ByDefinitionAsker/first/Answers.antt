@@ -26,18 +26,21 @@ not_found p capacities window answer is h = subst (IsFirstAnswer p capacities wi
 one_more : (answer : Option ℕ) (n v : ℕ) (P : Type 0) → answer ≡ Some n → SomeIff answer P v → v ≡ n
 one_more answer n v P is h = sym (subst (λ (o : Option ℕ). SomeIff o P v) is h).1
 
-pub returns-in-Some-3-clause-answer : goal.returns-in-Some-3-clause-answer
-returns-in-Some-3-clause-answer g c =
-    walk_yes c.args.net.now (g.S.Series.questions c.args.series) (g.S.Series.questions c.loop-series.series) (g.S.Series.questions c.next.new.self) c.in-Some-2.question c.loop-series.index
-    c.loop-series.invariant (given _ _ _ _ c.in-Some-2.is c.in_ok-question.ensures) c.in-Some-3.starts (found c.args.net.now _ _ _ _ c.in-Some-3.is c.in_ok-starts.ensures)
+pub returns-in-Some-2-clause-answer : goal.returns-in-Some-2-clause-answer
+returns-in-Some-2-clause-answer g c =
+    walk_yes c.args.net.now (g.S.Series.questions c.args.series) (g.S.Series.questions c.loop-series.series) (g.S.Series.questions c.next.new.self) c.in-Some.question c.loop-series.index
+    c.loop-series.invariant.walked (given _ _ _ _ c.in-Some.is c.in_ok-question.ensures) c.in-Some-2.starts (found c.args.net.now _ _ _ _ c.in-Some-2.is c.in_ok-starts.ensures)
 
 pub loop-series-preserved : goal.loop-series-preserved
 loop-series-preserved g c =
     let more : c.loop-series.index + 1 ≡ c.in_ok-index.index = one_more _ _ _ _ c.in_ok-index.ensures.ok_part c.checked_add.ensures in
-    subst (λ (n : ℕ). IsWalked c.args.net.now (g.S.Series.questions c.args.series) (g.S.Series.questions c.next.new.self) n) more
-    (walk_no c.args.net.now (g.S.Series.questions c.args.series) (g.S.Series.questions c.loop-series.series) (g.S.Series.questions c.next.new.self) c.in-Some-2.question c.loop-series.index
-    c.loop-series.invariant (given _ _ _ _ c.in-Some-2.is c.in_ok-question.ensures) (not_found c.args.net.now _ _ _ c.in_default-2.is c.in_ok-starts.ensures))
+    record {
+      answered = c.loop-series.invariant.answered;
+      walked = subst (λ (n : ℕ). IsWalked c.args.net.now (g.S.Series.questions c.args.series) (g.S.Series.questions c.next.new.self) n) more
+          (walk_no c.args.net.now (g.S.Series.questions c.args.series) (g.S.Series.questions c.loop-series.series) (g.S.Series.questions c.next.new.self) c.in-Some.question c.loop-series.index
+          c.loop-series.invariant.walked (given _ _ _ _ c.in-Some.is c.in_ok-question.ensures) (not_found c.args.net.now _ _ _ c.in_default-2.is c.in_ok-starts.ensures));
+    }
 
 pub returns-clause-answer : goal.returns-clause-answer
 returns-clause-answer g c =
-    walk_ended c.args.net.now (g.S.Series.questions c.args.series) (g.S.Series.questions c.loop-series.series) c.loop-series.index c.loop-series.invariant (none_given _ _ _ c.in_default.is c.in_ok-question.ensures)
+    walk_ended c.args.net.now (g.S.Series.questions c.args.series) (g.S.Series.questions c.loop-series.series) c.loop-series.index c.loop-series.invariant.walked (none_given _ _ _ c.in_default.is c.in_ok-question.ensures)
