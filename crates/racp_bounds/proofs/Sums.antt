@@ -22,6 +22,6 @@ pub energy-small : (p : Project) (i k : ℕ) → IsSound p → i < length p.jobs
 energy-small p i k sound job resource = mul-le (duration p i) (request p i k) 10000 10000 (duration-small p i sound job) (request-small p i k sound job resource)
 
 -- for a loop that sums over the jobs
-pub ruleset sums = (sum_below-step, sum_below-none, request-small, core_use-small)
+pub ruleset sums = (sum_below-step, sum_below-none, core_use-small)
 
 pub ruleset energies = (sum_below-step, sum_below-none, energy-small)

@@ -1,8 +1,7 @@
-ghost use Rattle.std.specs.Prelude.{◌≡◌, ◌<◌, IfOk};
-ghost use Rattle.racp_model.specs.Schedule.{roof};
+ghost use Rattle.std.specs.Prelude.{◌≡◌, IfOk};
 ghost use Rattle.racp_bounds.specs.Floors.{AreRoofs};
 
-use racp_model::{Capacities, Network};
+use racp_model::{Capacities, Network, roof_of};
 use std::alloc::{AllocError, Global};
 
 /// The roof of each resource, by place from 0: the sum of all requests of it, in units. No schedule ever uses more.
@@ -18,17 +17,4 @@ pub fn roofs(alloc: Global, net: &Network) -> Result<Capacities, AllocError>
         units.push(roof_of(net, k))?;
     }
     Ok(Capacities::new(units))
-}
-
-/// The sum of all requests of one resource.
-#[tactic(auto, using(crate::proofs::Sums::sums))]
-fn roof_of(net: &Network, k: usize) -> u32
-    requires { k < net.now.resources }
-    ensures { result ≡ roof net.now k }
-{
-    let mut sum = 0;
-    for i in 0..net.job_count() {
-        sum += net.request(i, k);
-    }
-    sum
 }

@@ -7,3 +7,4 @@ pub mod PlanFaults
 pub mod PlanTests
 pub mod CheckLaws
 pub mod Plans
+pub mod Openings

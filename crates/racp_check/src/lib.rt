@@ -43,6 +43,7 @@ mod check;
 pub mod laws;
 pub mod lines;
 mod number;
+mod opening;
 mod plan;
 mod plan_fault;
 mod read;
@@ -51,6 +52,7 @@ mod text_fault;
 mod write;
 
 pub use check::check_plan;
+pub use opening::{Opening, opening_of};
 pub use plan::Plan;
 pub use plan_fault::PlanFault;
 pub use read::read_plan;

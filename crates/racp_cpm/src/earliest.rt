@@ -1,10 +1,10 @@
 ghost use Rattle.std.specs.Prelude.{◌≡◌, ℕ, ◌+◌, ◌<◌, ◌≤◌, All, IfOk, length, slice_index};
-ghost use Rattle.racp_model.specs.Project.{IsSound};
 ghost use Rattle.racp_model.specs.Path.{IsEarly, IsCriticalLength};
 ghost use Rattle.racp_cpm.specs.Ends.{IsLastEnd};
 
 use racp_model::{Network, Starts};
 use std::alloc::{AllocError, Global};
+use std::cmp::max;
 
 /// The early starts, in time units: the least starts at or above the lower bounds that keep precedence. `lower` has a bound
 /// for each job, by place from 0, of at most 20,000,000.
@@ -49,22 +49,21 @@ pub fn longest(alloc: Global, net: &Network, release: &[u32]) -> Result<u64, All
     ensures { IfOk result (IsCriticalLength net.now (slice_index release.now)) }
 {
     let starts = early(alloc, net, release)?;
-    Ok(last_end(net, starts.as_slice()))
+    Ok(last_end(net, &starts))
 }
 
-/// The greatest finish of a job.
-fn last_end(net: &Network, starts: &[u32]) -> u64
+/// The greatest finish of a job, in time units. Of early starts it is the critical length. There is a start for each job, by place
+/// from 0. Takes no memory.
+pub fn last_end(net: &Network, starts: &Starts) -> u64
     requires { length starts.now ≡ length net.now.jobs }
     ensures last { IsLastEnd net.now starts.now result }
-    ensures sound { IsSound net.now }
+    ensures critical { (release : ℕ → ℕ) → IsEarly net.now release starts.now → IsCriticalLength net.now release result }
 {
     let count = net.job_count();
+    let starts = starts.as_slice();
     let mut last = starts[0] as u64 + net.duration(0) as u64;
     for i in 1..count {
-        let end = starts[i] as u64 + net.duration(i) as u64;
-        if last < end {
-            last = end;
-        }
+        last = max(last, starts[i] as u64 + net.duration(i) as u64);
     }
     last
 }

@@ -1,4 +1,6 @@
 ghost use Rattle.std.specs.Prelude.{◌≡◌, ◌≤◌, All, IfOk, length, slice_index};
+ghost use Rattle.racp_model.specs.Schedule.{KeepsPrecedence, EndsBy};
+ghost use Rattle.racp_model.specs.Path.{IsLate};
 ghost use Rattle.racp_cpm.specs.Ends.{IsRootAnswer, IsFirstLateAnswer};
 
 use crate::earliest::early;
@@ -29,8 +31,30 @@ pub fn root(
     if first_late(net, &lower, due).is_some() {
         return Ok(None);
     }
+    Ok(Some(window_above(alloc, net, lower, due)?))
+}
+
+/// The window from starts that keep precedence and end by the due times, in time units, to the late starts by these. There is a
+/// due time for each job, by place from 0, of at most 10,000,000.
+///
+/// # Errors
+///
+/// Memory was refused.
+pub fn window_above(
+    alloc: Global,
+    net: &Network,
+    lower: Starts,
+    due: &[u32],
+) -> Result<Window, AllocError>
+    requires lower_places { length lower ≡ length net.now.jobs }
+    requires precedence { KeepsPrecedence net.now lower }
+    requires ends { EndsBy net.now (slice_index due.now) lower }
+    requires due_places { length due.now ≡ length net.now.jobs }
+    requires due_small { All (λ x. x ≤ 10000000) due.now }
+    ensures { IfOk result (λ window. (window.lower ≡ lower) × IsLate net.now (slice_index due.now) window.upper) }
+{
     match late(alloc, net, due)? {
-        Some(upper) => Ok(Some(Window::new(lower, upper))),
+        Some(upper) => Ok(Window::new(lower, upper)),
         None => unreachable!(),
     }
 }

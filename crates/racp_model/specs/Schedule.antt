@@ -60,3 +60,13 @@ Admits p release due capacities = (starts : List ℕ) × FitsInTime p release du
 -- the roof of resource k: the sum of all requests of it. No schedule ever uses more
 abbrev pub roof : Project → ℕ → ℕ
 roof p k = sum_below (length p.jobs) (λ i. request p i k)
+
+-- the peak of resource k: the most units of it that the jobs use at a time
+pub record IsPeak (p : Project) (starts : List ℕ) (k peak : ℕ) : Type 0 where
+  pub most : (t : ℕ) → usage p starts k t ≤ peak
+  pub reached : (t : ℕ) × (usage p starts k t ≡ peak)
+
+-- the peak of each resource
+pub record ArePeaks (p : Project) (starts peaks : List ℕ) : Type 0 where
+  pub places : length peaks ≡ p.resources
+  pub each : (k : ℕ) → k < p.resources → IsPeak p starts k (slice_index peaks k)

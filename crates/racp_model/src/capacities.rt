@@ -1,5 +1,6 @@
-ghost use Rattle.std.specs.Prelude.{◌≡◌, ℕ, length};
+ghost use Rattle.std.specs.Prelude.{◌≡◌, ℕ, length, IfOk};
 
+use std::alloc::AllocError;
 use std::marker::Model;
 
 /// How many units there are of each resource, by place from 0. Contracts see a list.
@@ -36,5 +37,15 @@ impl Capacities {
         ensures { result.items ≡ self }
     {
         self.items
+    }
+    /// The same capacities once more. `Clone` does the same, but does not promise that they are the same.
+    ///
+    /// # Errors
+    ///
+    /// Memory was refused.
+    pub fn copy(&self) -> Result<Capacities, AllocError>
+        ensures { IfOk result (λ copy. copy ≡ self.now) }
+    {
+        self.clone()
     }
 }

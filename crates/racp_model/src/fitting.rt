@@ -1,9 +1,10 @@
 ghost use Rattle.std.specs.Prelude.{◌≡◌, ℕ, ◌+◌, ◌<◌, ◌≤◌, ◌↔◌, IsTrue, length, slice_index};
-ghost use Rattle.racp_model.specs.Schedule.{KeepsPrecedence, EndsBy, IsWithinCapacities, FitsInTime, use_of, usage};
+ghost use Rattle.racp_model.specs.Schedule.{KeepsPrecedence, EndsBy, IsWithinCapacities, FitsInTime, usage};
 
 use crate::capacities::Capacities;
 use crate::network::Network;
 use crate::starts::Starts;
+use crate::usage::usage_at;
 
 /// Whether the starts are a schedule that ends by the deadline and never uses more than the capacities (Möhring 1984).
 /// There is a capacity for each resource and a start for each job, by place; the deadline is in time units, and any may be asked. Takes no memory.
@@ -62,34 +63,4 @@ fn keeps_capacity(net: &Network, starts: &[u32], k: usize, capacity: u32) -> boo
         }
     }
     true
-}
-
-/// How many units of the resource at place `k`, from 0, all jobs together use at a time. There is a start for each job, by
-/// place; times are in time units. Takes no memory.
-#[tactic(auto, using(crate::proofs::lemmas::Sums::sums))]
-pub fn usage_at(net: &Network, starts: &[u32], k: usize, time: u32) -> u64
-    requires starts { length starts.now ≡ length net.now.jobs }
-    requires resource { k < net.now.resources }
-    ensures { result ≡ usage net.now starts.now k time }
-{
-    let mut sum = 0;
-    for i in 0..net.job_count() {
-        sum += use_at(net, starts, k, time, i) as u64;
-    }
-    sum
-}
-
-/// What one job uses of a resource at a time.
-#[tactic(auto, unfolding(crate::specs::Schedule::use_of))]
-fn use_at(net: &Network, starts: &[u32], k: usize, time: u32, i: usize) -> u32
-    requires starts { length starts.now ≡ length net.now.jobs }
-    requires job { i < length net.now.jobs }
-    requires resource { k < net.now.resources }
-    ensures { result ≡ use_of net.now starts.now k time i }
-{
-    if starts[i] <= time && (time as u64) < starts[i] as u64 + net.duration(i) as u64 {
-        net.request(i, k)
-    } else {
-        0
-    }
 }

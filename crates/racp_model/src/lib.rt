@@ -55,14 +55,16 @@ mod network;
 mod question;
 mod starts;
 mod topology;
+mod usage;
 mod window;
 
 pub use capacities::Capacities;
 pub use fault::NetFault;
-pub use fitting::{fits, usage_at};
+pub use fitting::fits;
 pub use job::Job;
 pub use named::OfNetwork;
 pub use network::Network;
 pub use question::Question;
 pub use starts::Starts;
+pub use usage::{peaks, roof_of, usage_at};
 pub use window::Window;

@@ -1,7 +1,8 @@
-ghost use Rattle.std.specs.Prelude.{◌≡◌, ◌≤◌, All};
+ghost use Rattle.std.specs.Prelude.{◌≡◌, ◌≤◌, All, IfOk};
 ghost use Rattle.racp_model.specs.Window.{Bounds};
 
 use crate::starts::Starts;
+use std::alloc::AllocError;
 use std::marker::Model;
 
 /// A time window for each job: a lower and an upper bound on its start, in time units. Lower bounds are at most 20,000,000,
@@ -55,5 +56,15 @@ impl Window {
         ensures upper { result.1 ≡ self.upper }
     {
         (self.lower, self.upper)
+    }
+    /// The same window once more. `Clone` does the same, but does not promise that it is the same.
+    ///
+    /// # Errors
+    ///
+    /// Memory was refused.
+    pub fn copy(&self) -> Result<Window, AllocError>
+        ensures { IfOk result (λ copy. copy ≡ self.now) }
+    {
+        self.clone()
     }
 }

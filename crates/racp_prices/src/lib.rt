@@ -30,10 +30,10 @@
 //! Proved: for every byte text, `read_order` answers the order that the definition `IsOrder` gives it, over the table
 //! that `toml` is proved to read; or exactly the first rule that it breaks; or that memory was refused, which it never
 //! answers at a text that is not UTF-8. What is read has an entry for each resource and each job, in range.
-//! `Order::is_for` is true exactly where that holds of an order, and `cost_of` answers exactly the cost. In `laws`:
-//! each text is read as something, and as at most one thing; what an order without a version says of all that it does
-//! not name. Trusted: the statements of `toml`, which say what TOML is. Tested alone: that memory is not refused
-//! without need.
+//! `Order::is_for` is true exactly where that holds of an order; `cost_of` answers exactly the cost, and `most_units`
+//! exactly the roofs, cut to the ceilings. In `laws`: each text is read as something, and as at most one thing; what an
+//! order without a version says of all that it does not name. Trusted: the statements of `toml`, which say what TOML
+//! is. Tested alone: that memory is not refused without need.
 #![tactic(auto)]
 
 mod cost;
@@ -43,6 +43,7 @@ pub mod laws;
 mod numbers;
 mod order;
 mod read;
+mod units;
 mod version;
 
 pub use cost::cost_of;
@@ -50,3 +51,4 @@ pub use due::due_times;
 pub use fault::OrderFault;
 pub use order::Order;
 pub use read::read_order;
+pub use units::most_units;

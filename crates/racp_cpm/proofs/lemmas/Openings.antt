@@ -1,12 +1,10 @@
--- From an order's times to the root window, or to the first reason for which there is none.
-use Rattle.std.proofs.Common.{◌≡◌, ℕ, zero, suc, ◌≤◌, min, List, [], ◌∷◌, slice_index, map, Option, Some, All, arith, refl, subst}
+-- From an order's times to the first reason for which there is no root window.
+use Rattle.std.proofs.Common.{◌≡◌, ℕ, zero, suc, ◌≤◌, min, List, [], ◌∷◌, slice_index, map, Some, All, arith, refl}
 use Rattle.racp_model.specs.Project.{Project, number}
-use Rattle.racp_model.specs.Schedule.{EndsBy}
 use Rattle.racp_model.specs.Path.{IsEarly, IsCriticalLength}
 use Rattle.racp_model.specs.Terms.{Terms, release_of, due_of}
 use Rattle.racp_model.specs.Plan.{IsTooLong, IsTooLateAt}
-use Rattle.racp_model.specs.Window.{Bounds, IsRootWindow}
-use Rattle.racp_cpm.specs.Ends.{HasNoRoot, IsFirstLateAnswer, IsRootAnswer}
+use Rattle.racp_cpm.specs.Ends.{IsFirstLateAnswer}
 
 -- due times that are cut to the deadline, at a place
 pub due-at : (deadline : ℕ) (due : List ℕ) (i : ℕ) → slice_index (map (λ time. min time deadline) due) i ≡ min (slice_index due i) deadline
@@ -33,16 +31,3 @@ not_too_long p terms critical h most other long =
 pub too_late : (p : Project) (terms : Terms) (critical : ℕ) (early : List ℕ) (job : ℕ) → IsCriticalLength p (release_of terms) critical → critical ≤ terms.deadline →
     IsEarly p (release_of terms) early → IsFirstLateAnswer p (due_of terms) early (Some job) → (i : ℕ) × (number i ≡ job) × IsTooLateAt p terms i
 too_late p terms critical early job h most e late = (late.0, late.1, record { not_long = not_too_long p terms critical h most; late = (early, e, late.2) })
-
--- where each early finish is in time, there is a root window
-pub has_root : (p : Project) (release due : ℕ → ℕ) (early : List ℕ) → IsEarly p release early → EndsBy p due early → HasNoRoot p release due → ⊥
-has_root p release due early e ends none =
-    omega (arith, none.3.late, ends none.2 none.3.job, none.1.least early e.above e.precedence none.2 none.3.job)
-
--- the root window, from the times that are lent and cut
-pub root_of : (p : Project) (terms : Terms) (release due : List ℕ) (answer : Option Bounds) (window : Bounds) → release ≡ terms.release → due ≡ map (λ time. min time terms.deadline) terms.due →
-    IsRootAnswer p (slice_index release) (slice_index due) answer → answer ≡ Some window → IsRootWindow p (release_of terms) (due_of terms) window
-root_of p terms release due answer window lent same h some =
-    let P : List ℕ → Type 0 = λ times. IsRootAnswer p (slice_index times) (slice_index due) answer in
-    let Q : (ℕ → ℕ) → Type 0 = λ times. IsRootAnswer p (release_of terms) times answer in
-    subst (IsRootAnswer p (release_of terms) (due_of terms)) some (subst Q (due-is terms due same) (subst P lent h))

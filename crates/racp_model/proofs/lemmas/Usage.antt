@@ -3,7 +3,7 @@ use Rattle.std.proofs.Common.{◌≡◌, ℕ, ◌+◌, ◌<◌, ◌≤◌, ◌�
 use Rattle.std.proofs.lemmas.Bool.{cases_lt}
 use Rattle.std.proofs.lemmas.Bool.Decides.{nat_tests}
 use Rattle.racp_model.specs.Project.{Project, duration, request}
-use Rattle.racp_model.specs.Schedule.{IsActive, use_of, usage, roof}
+use Rattle.racp_model.specs.Schedule.{IsActive, use_of, usage, roof, Fits, ArePeaks}
 use Rattle.racp_model.proofs.lemmas.Sums.{sum_below-mono}
 
 -- an active job uses its request
@@ -47,3 +47,11 @@ use_of-request p starts k t i =
 -- all jobs together use at most the roof
 pub usage-roof : (p : Project) (starts : List ℕ) (k t : ℕ) → usage p starts k t ≤ roof p k
 usage-roof p starts k t = sum_below-mono (length p.jobs) (use_of p starts k t) (λ i. request p i k) (λ i l. use_of-request p starts k t i)
+
+-- starts that fit some capacities fit their peaks
+pub fits-peaks : (p : Project) (capacities starts peaks : List ℕ) → Fits p capacities starts → ArePeaks p starts peaks → Fits p peaks starts
+fits-peaks p capacities starts peaks fits are = record { precedence = fits.precedence; within = λ k t l. (are.each k l).most t }
+
+-- which are at most those capacities
+pub peaks-below : (p : Project) (capacities starts peaks : List ℕ) → Fits p capacities starts → ArePeaks p starts peaks → (k : ℕ) → k < p.resources → slice_index peaks k ≤ slice_index capacities k
+peaks-below p capacities starts peaks fits are k l = let reached = (are.each k l).reached in omega (arith, reached.1, fits.within k reached.0 l)

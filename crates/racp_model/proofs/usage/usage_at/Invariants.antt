@@ -1,6 +1,6 @@
 use Rattle.std.proofs.Common.{◌≡◌, ◌*◌, ◌≤◌}
 use Rattle.racp_model.specs.Schedule.{sum_below, use_of}
-use Rattle.racp_model.proofs.fitting.usage_at.Given as goal
+use Rattle.racp_model.proofs.usage.usage_at.Given as goal
 
 abbrev pub invariant-loop-i : goal.invariant-loop-i
 invariant-loop-i l = record {
