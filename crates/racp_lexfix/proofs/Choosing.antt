@@ -5,14 +5,15 @@ use Rattle.std.proofs.lemmas.Bool.{cases_lt}
 use Rattle.std.proofs.lemmas.List.{get_or_read}
 use Rattle.std.proofs.lemmas.List.Elements.{Contains-get_or}
 use Rattle.racp_model.specs.Project.{Project}
-use Rattle.racp_model.specs.Schedule.{Admits, roof}
+use Rattle.racp_model.specs.Schedule.{Admits, roof, ArePeaks}
 use Rattle.racp_model.specs.Terms.{Terms, AreTermsOf, release_of, due_of, cost, IsBefore}
 use Rattle.racp_model.specs.Plan.{IsLeast, IsEnough}
-use Rattle.racp_model.specs.Window.{Bounds, IsYes, IsRootWindow}
+use Rattle.racp_model.specs.Window.{Bounds, Answers, IsYes, IsRootWindow}
 use Rattle.racp_model.specs.declared.question.Question.{Question}
 use Rattle.racp_model.proofs.lemmas.Sums.{sum_below-mono}
-use Rattle.racp_model.proofs.lemmas.Orders.{HasFirstPlace, first_from_lex}
-use Rattle.racp_model.proofs.lemmas.Costs.{before_cases, before_trans, before_apart}
+use Rattle.racp_model.proofs.lemmas.Orders.{HasFirstPlace, first_from_lex, lower-same}
+use Rattle.racp_model.proofs.lemmas.Costs.{before_cases, before_trans, before_apart, cheaper-before, lesser-before}
+use Rattle.racp_model.proofs.lemmas.Usage.{fits-peaks, peaks-below}
 use Rattle.racp_model.proofs.lemmas.Cuts.{cut, cut-at, cut_places, cut_admitting, cut_before}
 use Rattle.racp_cpm.proofs.lemmas.Rooted.{answers-fit}
 use Rattle.racp_prices.specs.Units.{AreMostUnits, cut_to}
@@ -26,21 +27,33 @@ use Rattle.racp_bounds.proofs.lemmas.Above.{admitting_above, roofs_admit}
 use Rattle.racp_bounds.proofs.lemmas.Sharpened.{above_admits, admitting_yes, admitting_above_sharpened, admitting_in_box}
 use Rattle.racp_lexfix.specs.Stages.{IsNotAfterEnough}
 
+-- a vector that is at or above another in each place costs no less
+above-cost : (p : Project) (terms : Terms) (low high : List ℕ) → AreTermsOf p terms → ((k : ℕ) → k < p.resources → slice_index low k ≤ slice_index high k) → cost terms low ≤ cost terms high
+above-cost p terms low high t above =
+    sum_below-mono (length terms.prices) (λ k. slice_index terms.prices k * (slice_index low k - slice_index terms.owned k)) (λ k. slice_index terms.prices k * (slice_index high k - slice_index terms.owned k))
+    (λ k l.
+    let fewer : slice_index low k - slice_index terms.owned k ≤ slice_index high k - slice_index terms.owned k = omega (arith, above k (omega (arith, l, t.price_places))) in
+    mul-le-mul_left (slice_index terms.prices k) fewer)
+
 -- a vector that is at or above another in each place does not stand before it
 pub above-no_before : (p : Project) (terms : Terms) (low high : List ℕ) → AreTermsOf p terms → length low ≡ p.resources → length high ≡ p.resources →
     ((k : ℕ) → k < p.resources → slice_index low k ≤ slice_index high k) → IsBefore terms high low → ⊥
 above-no_before p terms low high t low_places high_places above before = elim (before_cases terms high low before) [
-  | inl less ↦
-      let most : cost terms low ≤ cost terms high =
-      sum_below-mono (length terms.prices) (λ k. slice_index terms.prices k * (slice_index low k - slice_index terms.owned k)) (λ k. slice_index terms.prices k * (slice_index high k - slice_index terms.owned k))
-      (λ k l.
-      let fewer : slice_index low k - slice_index terms.owned k ≤ slice_index high k - slice_index terms.owned k = omega (arith, above k (omega (arith, l, t.price_places))) in
-      mul-le-mul_left (slice_index terms.prices k) fewer) in
-      omega (arith, less, most)
+  | inl less ↦ omega (arith, less, above-cost p terms low high t above)
   | inr tie ↦
       let k : HasFirstPlace high low = first_from_lex high low (omega (arith, low_places, high_places)) tie.1 in
       omega (arith, k.3, above k.0 (omega (arith, k.1, high_places)))
 ]
+
+-- so it is the same where the other does not stand before it
+above-same : (p : Project) (terms : Terms) (low high : List ℕ) → AreTermsOf p terms → length low ≡ p.resources → length high ≡ p.resources →
+    ((k : ℕ) → k < p.resources → slice_index low k ≤ slice_index high k) → (IsBefore terms low high → ⊥) → low ≡ high
+above-same p terms low high t low_places high_places above not_before =
+    lower-same low high (omega (arith, low_places, high_places)) (λ k l. above k (omega (arith, l, high_places)))
+    (λ lesser. elim (cases_lt (cost terms low) (cost terms high)) [
+      | inl less ↦ not_before (cheaper-before terms low high less)
+      | inr more ↦ not_before (lesser-before terms low high (omega (arith, more, above-cost p terms low high t above)) lesser)
+    ])
 
 -- without ceilings the most units are the roofs
 plain_roofs : (p : Project) (terms : Terms) (roofs : List ℕ) → AreMostUnits p terms roofs → terms.ceilings ≡ None → AreRoofs p roofs
@@ -184,6 +197,18 @@ module _ (p : Project) (terms : Terms) (root : Bounds) (floors roofs : List ℕ)
     -- so those of the first yes are the first of all that are enough
     pub first_least : (i : ℕ) → IsFirstYes p questions (Some i) → IsLeast (IsBefore terms) (IsEnough p terms) (question_at questions i).capacities
     first_least i first = record { is = boxed_enough i first.0 first.1; least = (none_before i first.0 first.2).none }
+
+    -- they are the peaks of starts that answer its question
+    pub peaks_least : (i : ℕ) (starts peaks : List ℕ) → IsFirstYes p questions (Some i) → Answers p (question_at questions i).capacities (question_at questions i).window starts → ArePeaks p starts peaks →
+        IsLeast (IsBefore terms) (IsEnough p terms) peaks
+    peaks_least i starts peaks first answers are_peaks =
+        let capacities = (question_at questions i).capacities in
+        let inside : Answers p capacities root starts = subst (λ (w : Bounds). Answers p capacities w starts) (window_is i first.0) answers in
+        let below = peaks-below p capacities starts peaks inside.fits are_peaks in
+        let some : Answers p peaks root starts = record { lies = inside.lies; fits = fits-peaks p capacities starts peaks inside.fits are_peaks } in
+        let enough : IsEnough p terms peaks = yes_enough peaks are_peaks.places (λ k l. omega (arith, below k l, (boxed i first.0).between.below k (omega (arith, l, are.places)))) (starts, some) in
+        let least = first_least i first in
+        subst (λ (c : List ℕ). IsLeast (IsBefore terms) (IsEnough p terms) c) (sym (above-same p terms peaks capacities t are_peaks.places (boxed_places i first.0) below (least.least peaks enough))) least
 
     -- and those that were reached stand after none
     pub reached_box : (capacities : List ℕ) → IsReached p questions (Some capacities) → IsNotAfterEnough p terms capacities

@@ -3,6 +3,7 @@ use Rattle.std.proofs.Common.{◌≡◌, ◌∙◌, ℕ, ◌+◌, ◌<◌, ◌�
 use Rattle.std.proofs.lemmas.Bool.{cases_lt}
 use Rattle.std.proofs.lemmas.List.{length-set, set-get_or}
 use Rattle.racp_model.specs.Project.{Project, duration, request}
+use Rattle.racp_model.specs.Schedule.{ArePeaks}
 use Rattle.racp_model.specs.Terms.{Terms, AreTermsOf, release_of, due_of, IsLexBefore, IsBefore}
 use Rattle.racp_model.specs.Plan.{IsLeast, IsEnough, IsPlan, IsOverCeilings}
 use Rattle.racp_model.specs.Window.{Bounds, Answers, IsYes, IsRootWindow}
@@ -12,9 +13,10 @@ use Rattle.racp_cpm.proofs.lemmas.Rooted.{fits-answers, least-fit}
 use Rattle.racp_prices.specs.Units.{AreMostUnits}
 use Rattle.racp_candidates.specs.declared.asker.AskStop.{AskStop}
 use Rattle.racp_candidates.specs.declared.asker.AskStop.TheVariants.{Stopped as AskStopped, Memory as AskMemory, NoThread as AskNoThread}
-use Rattle.racp_candidates.specs.FirstYes.{question_at, IsReached, IsStop, MayGiveUp, IsFirstYes, AreNoBefore}
+use Rattle.racp_candidates.specs.declared.asker.First.{First}
+use Rattle.racp_candidates.specs.declared.asker.First.TheVariants.{Yes}
+use Rattle.racp_candidates.specs.FirstYes.{IsReached, IsStop, MayGiveUp, IsFirst, AreNoBefore}
 use Rattle.racp_candidates.specs.Box.{AreBounds, AreBoxQuestions}
-use Rattle.racp_candidates.proofs.lemmas.OneBox.{one_box}
 use Rattle.racp_bounds.specs.Floors.{AreFloors}
 use Rattle.racp_bounds.specs.Sharp.{IsSharpened, AreSharpened, AreSharpenedBefore, pair_count, IsUnsharpened}
 use Rattle.racp_bounds.specs.declared.sharp.Sharp.{Sharp}
@@ -22,7 +24,7 @@ use Rattle.racp_lexfix.specs.Answers.{ceiling_series, IsStoppedAt, IsPlanStop}
 use Rattle.racp_lexfix.specs.declared.answer.PlanStop.{PlanStop}
 use Rattle.racp_lexfix.specs.declared.answer.PlanStop.TheVariants.{Stopped, Memory, NoThread}
 use Rattle.racp_lexfix.specs.Stages.{AreFloorsAndRoofs, AreSharpFloorsAndRoofs, IsNotAfterEnough, IsStoppedInBox, HasNoEnough, given_up, stopped_at}
-use Rattle.racp_lexfix.proofs.Choosing.{first_reached, reached_first, yes_enough, enough_above, some_yes, first_least, reached_box, reached_boxed}
+use Rattle.racp_lexfix.proofs.Choosing.{first_reached, reached_first, yes_enough, enough_above, some_yes, peaks_least, reached_box, reached_boxed}
 use Rattle.racp_bounds.proofs.lemmas.Sharpened.{all_sharpened}
 
 -- an option that is not there is none
@@ -181,11 +183,11 @@ module _ (p : Project) (terms : Terms) (root : Bounds) (t : AreTermsOf p terms) 
         some_yes p terms root ends.first roofs t h ends.ends.lowest ends.ends.most sharp.floors sharp.pairs.items questions ends.sharp_are.sharpened ends.sharp_are.refuted box roofs
         (yes_enough p terms root ends.first roofs t h ends.ends.lowest ends.ends.most roofs ends.ends.most.places (λ k l. omega arith) ends.ends.yes) none
 
-    -- the first yes has the first capacities that are enough
-    pub box_least : (others : List Question) (index : ℕ) → AreBoxQuestions terms sharp.floors roofs sharp.pairs.items root others → IsFirstYes p questions (Some index) → IsLeast (IsBefore terms) (IsEnough p terms) (question_at others index).capacities
-    box_least others index again first =
-        subst (λ (qs : List Question). IsLeast (IsBefore terms) (IsEnough p terms) (question_at qs index).capacities) (one_box terms sharp.floors roofs sharp.pairs.items root questions others box again)
-        (first_least p terms root ends.first roofs t h ends.ends.lowest ends.ends.most sharp.floors sharp.pairs.items questions ends.sharp_are.sharpened ends.sharp_are.refuted box index first)
+    -- the starts of the first yes have the first capacities that are enough as their peaks
+    pub box_least : (answer : First) (index : ℕ) (starts peaks : List ℕ) → IsFirst p questions answer → answer ≡ Yes index starts → ArePeaks p starts peaks → IsLeast (IsBefore terms) (IsEnough p terms) peaks
+    box_least answer index starts peaks first is are =
+        let told : IsFirst p questions (Yes index starts) = subst (λ (a : First). IsFirst p questions a) is first in
+        peaks_least p terms root ends.first roofs t h ends.ends.lowest ends.ends.most sharp.floors sharp.pairs.items questions ends.sharp_are.sharpened ends.sharp_are.refuted box index starts peaks told.0 told.1 are
 
     -- asking ends early
     pub box_stopped : (told : Option (List ℕ)) (may_stop may_want_thread left : Type 0) (stop : AskStop) → IsStop p questions told may_stop may_want_thread stop → left →
@@ -197,7 +199,3 @@ module _ (p : Project) (terms : Terms) (root : Bounds) (t : AreTermsOf p terms) 
           reached_box p terms root ends.first roofs t h ends.ends.lowest ends.ends.most sharp.floors sharp.pairs.items questions ends.sharp_are.sharpened ends.sharp_are.refuted box capacities reached,
           reached_boxed p terms root ends.first roofs t h ends.ends.lowest ends.ends.most sharp.floors sharp.pairs.items questions ends.sharp_are.sharpened ends.sharp_are.refuted box capacities reached,
         ))
-
-    -- the index of the first yes is one of the same box
-    pub box_index : (others : List Question) (index : ℕ) → AreBoxQuestions terms sharp.floors roofs sharp.pairs.items root others → IsFirstYes p questions (Some index) → index < length others
-    box_index others index again first = subst (λ (qs : List Question). index < length qs) (one_box terms sharp.floors roofs sharp.pairs.items root questions others box again) first.0

@@ -1,10 +1,9 @@
 -- Contracts of private functions: what is known at each stage of planning.
 use Rattle.std.specs.Prelude.{◌≡◌, ℕ, ◌<◌, ◌≤◌, List, length, slice_index, Option, Some, None, IfSome, Bool, true, false}
 use Rattle.racp_model.specs.Project.{Project}
-use Rattle.racp_model.specs.Path.{IsCriticalLength}
-use Rattle.racp_model.specs.Terms.{Terms, release_of, due_of, IsBefore}
+use Rattle.racp_model.specs.Terms.{Terms, IsBefore}
 use Rattle.racp_model.specs.Plan.{IsPlan, IsEnough}
-use Rattle.racp_model.specs.Window.{Bounds, IsRootWindow, IsYes, IsNo}
+use Rattle.racp_model.specs.Window.{Bounds, IsYes, IsNo}
 use Rattle.racp_prices.specs.Units.{AreMostUnits}
 use Rattle.racp_candidates.specs.declared.asker.AskStop.{AskStop}
 use Rattle.racp_candidates.specs.declared.asker.AskStop.TheVariants.{Stopped as AskStopped, Memory as AskMemory, NoThread as AskNoThread}
@@ -12,16 +11,9 @@ use Rattle.racp_candidates.specs.Box.{AreBounds}
 use Rattle.racp_bounds.specs.Floors.{AreFloors}
 use Rattle.racp_bounds.specs.Sharp.{IsSharp}
 use Rattle.racp_bounds.specs.declared.sharp.Sharp.{Sharp}
-use Rattle.racp_lexfix.specs.Answers.{IsAnswer, ceiling_series}
-use Rattle.racp_lexfix.specs.declared.opening.Opening.{Opening}
-use Rattle.racp_lexfix.specs.declared.opening.Opening.TheVariants.{Root, Closed}
+use Rattle.racp_lexfix.specs.Answers.{ceiling_series}
 use Rattle.racp_lexfix.specs.declared.answer.PlanStop.{PlanStop}
 use Rattle.racp_lexfix.specs.declared.answer.PlanStop.TheVariants.{Stopped, Memory, NoThread}
-
--- the root window, and the critical length; or why there is no plan
-abbrev pub IsOpening : Project → Terms → Opening → Type 0
-IsOpening p terms (Root critical window) = IsCriticalLength p (release_of terms) critical × IsRootWindow p (release_of terms) (due_of terms) window
-IsOpening p terms (Closed answer) = IsAnswer p terms answer
 
 -- no capacities are enough
 abbrev pub HasNoEnough : Project → Terms → Type 0

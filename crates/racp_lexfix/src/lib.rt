@@ -42,14 +42,12 @@
 
 mod alone;
 mod answer;
-mod ends;
+mod bounds;
 pub mod laws;
 mod lines;
-mod opening;
 mod planning;
 mod printed;
 mod starts;
-mod walking;
 
 pub use alone::Alone;
 pub use answer::{Answer, PlanStop};

@@ -9,14 +9,12 @@ ghost use Rattle.racp_lexfix.specs.Answers.{IsAnswer, IsStoppedAt, IsPlanStop};
 ghost use Rattle.racp_lexfix.specs.Stages.{AreSharpFloorsAndRoofs, IsStoppedInBox, IsChosen};
 
 use crate::answer::{Answer, PlanStop};
-use crate::ends::floors_and_roofs;
-use crate::opening::{Opening, opening_of};
+use crate::bounds::floors_and_roofs;
 use crate::starts::least_starts;
-use crate::walking::question_at;
 use racp_bounds::{Sharp, sharpen};
 use racp_candidates::{Asker, First, Vectors};
-use racp_check::Plan;
-use racp_model::{Capacities, Network, Starts, Window};
+use racp_check::{Opening, Plan, opening_of};
+use racp_model::{Capacities, Network, Starts, Window, peaks};
 use racp_prices::{Order, cost_of};
 use std::alloc::{AllocError, Global};
 
@@ -42,7 +40,8 @@ pub fn plan<A: Asker>(
 {
     let (critical, root) = match opening_of(alloc, net, order)? {
         Opening::Root { critical, window } => (critical, window),
-        Opening::Closed(answer) => return Ok(answer),
+        Opening::TooLong { critical } => return Ok(Answer::Impossible { longest: critical }),
+        Opening::TooLate { job } => return Ok(Answer::Due { job }),
     };
     let Some((capacities, starts)) = chosen(alloc, net, order, &root, asker)? else {
         return Ok(Answer::Ceiling);
@@ -86,7 +85,8 @@ fn chosen<A: Asker>(
     }
 }
 
-/// The first capacities of all that are enough: those of the first question of the box that is a yes.
+/// The first capacities of all that are enough: those of the first question of the box that is a yes. They are the peaks of the
+/// starts that were found, since these peaks are enough too, and no others that are stand before them.
 fn cheapest<A: Asker>(
     alloc: Global,
     net: &Network,
@@ -106,14 +106,13 @@ fn cheapest<A: Asker>(
     ensures stop { IfErr result (IsPlanStop (IsStoppedInBox net.now order.now sharp.floors (A.told asker.new))
         (A.may_stop asker.new × (A.answered asker.new ≡ A.answered asker.old)) (A.may_want_thread asker.new)) }
 {
-    let again = vectors(alloc, net, order, root, &sharp, roofs)?;
     let series = vectors(alloc, net, order, root, &sharp, roofs)?;
     let first = match asker.first(net, series) {
         Ok(first) => first,
         Err(stop) => return Err(PlanStop::stopped_at(stop, sharp.floors)),
     };
     match first {
-        First::Yes { index, .. } => Ok(question_at(again, index)?.capacities),
+        First::Yes { starts, .. } => Ok(peaks(alloc, net, &starts)?),
         First::None => unreachable!(),
     }
 }
@@ -132,8 +131,8 @@ fn vectors(
     ensures { IfOk result (AreBoxQuestions order.now sharp.now.floors roofs.now sharp.now.pairs.items root.now) }
 {
     prove!(order.prices.len() == net.resource_count());
-    let floors = Capacities::new(sharp.floors.as_slice().to_vec(alloc)?);
-    let roofs = Capacities::new(roofs.as_slice().to_vec(alloc)?);
+    let floors = sharp.floors.copy()?;
+    let roofs = roofs.copy()?;
     let pairs = sharp.pairs.to_vec(alloc)?;
     Vectors::new(alloc, order, floors, roofs, pairs, root)
 }

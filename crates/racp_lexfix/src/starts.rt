@@ -36,7 +36,7 @@ pub(crate) fn least_starts<A: Asker>(
     ensures no_fewer { A.answered asker.old ≤ A.answered asker.new }
     ensures stop { IfErr result (MayGiveUp (A.may_stop asker.new) (A.may_want_thread asker.new)) }
 {
-    let mut window = copy_of(root)?;
+    let mut window = root.copy()?;
     for j in 0..net.job_count() {
         window = settled(net, window);
         let start = least_start(alloc, net, capacities, &window, j, asker)?;
@@ -44,13 +44,6 @@ pub(crate) fn least_starts<A: Asker>(
     }
     let (starts, _) = window.into_bounds();
     Ok(starts)
-}
-
-/// A copy of a window.
-fn copy_of(window: &Window) -> Result<Window, AllocError>
-    ensures { IfOk result (λ copy. copy ≡ window.now) }
-{
-    window.clone()
 }
 
 /// The window with its early starts as lower bounds.

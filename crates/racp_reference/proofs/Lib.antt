@@ -1,6 +1,5 @@
 mod Carrying
 mod Counts
-mod Totals
 mod Searching
 mod Choosing
 mod Cutting

@@ -1,11 +1,11 @@
 ghost use Rattle.std.specs.Prelude.{◌≡◌, ◌↔◌, IfOk, IsTrue, length};
-ghost use Rattle.racp_model.specs.Schedule.{EndsBy, Fits};
+ghost use Rattle.racp_model.specs.Schedule.{Fits};
 ghost use Rattle.racp_reference.specs.Outcomes.{IsFirstAnswer};
 
 use crate::boxes::{is_box, next_in};
+use racp_cpm::last_end;
 use racp_model::{Capacities, Network, Question, Starts, Window, fits};
 use std::alloc::{AllocError, Global};
-use std::cmp::max;
 
 /// The lexicographically least starts that answer the question, or `None` where none do. The capacities have an entry for
 /// each resource, the bounds of the window one for each job. All start vectors in the window are looked at, one by one.
@@ -62,17 +62,5 @@ fn keeps_all(net: &Network, capacities: &Capacities, starts: &Starts) -> bool
     requires starts { length starts.now ≡ length net.now.jobs }
     ensures { IsTrue result ↔ Fits net.now capacities.now starts.now }
 {
-    fits(net, capacities, starts, last_end(net, starts.as_slice()))
-}
-
-/// A time by which each job has ended.
-fn last_end(net: &Network, starts: &[u32]) -> u64
-    requires { length starts.now ≡ length net.now.jobs }
-    ensures { EndsBy net.now (λ _. result) starts.now }
-{
-    let mut last = 0;
-    for i in 0..net.job_count() {
-        last = max(last, starts[i] as u64 + net.duration(i) as u64);
-    }
-    last
+    fits(net, capacities, starts, last_end(net, starts))
 }

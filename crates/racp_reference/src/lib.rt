@@ -36,7 +36,6 @@ mod answers;
 mod boxes;
 mod choice;
 mod plan;
-mod prices;
 
 pub use answers::decide_by_definition;
 pub use plan::{Outcome, plan_by_definition};

@@ -3,11 +3,9 @@ ghost use Rattle.racp_model.specs.Terms.{AreTermsOf};
 ghost use Rattle.racp_reference.specs.Outcomes.{IsOutcome};
 
 use crate::choice::cheapest;
-use crate::prices::most_units;
-use racp_check::Plan;
-use racp_cpm::{early, first_late, longest, root};
+use racp_check::{Opening, Plan, opening_of};
 use racp_model::Network;
-use racp_prices::{Order, due_times};
+use racp_prices::{Order, most_units};
 use std::alloc::{AllocError, Global};
 
 /// The plan of an order, or why there is none: the first of the reasons that holds, in this order.
@@ -44,21 +42,13 @@ pub fn plan_by_definition(
     requires { AreTermsOf net.now order.now }
     ensures { IfOk result (IsOutcome net.now order.now) }
 {
-    let release = order.release.as_slice();
-    let critical = longest(alloc, net, release)?;
-    if (order.deadline as u64) < critical {
-        return Ok(Outcome::TooLong { critical });
-    }
-    let due = due_times(alloc, order)?;
-    let starts = early(alloc, net, release)?;
-    if let Some(job) = first_late(net, &starts, &due) {
-        return Ok(Outcome::TooLate { job });
-    }
-    let Some(window) = root(alloc, net, release, &due)? else {
-        unreachable!()
+    let (critical, window) = match opening_of(alloc, net, order)? {
+        Opening::Root { critical, window } => (critical, window),
+        Opening::TooLong { critical } => return Ok(Outcome::TooLong { critical }),
+        Opening::TooLate { job } => return Ok(Outcome::TooLate { job }),
     };
     let most = most_units(alloc, net, order)?;
-    let Some(choice) = cheapest(alloc, net, order, &most, &window)? else {
+    let Some(choice) = cheapest(alloc, net, order, most.as_slice(), &window)? else {
         return Ok(Outcome::OverCeilings);
     };
     Ok(Outcome::Plan(Plan {

@@ -1,25 +1,16 @@
-use Rattle.std.proofs.Common.{◌≡◌, Some, refl, sym, subst}
-use Rattle.racp_model.specs.Terms.{IsBefore}
-use Rattle.racp_model.specs.Plan.{IsLeast, IsEnough}
-use Rattle.racp_model.specs.declared.question.Question.{Question}
-use Rattle.racp_candidates.specs.FirstYes.{IsFirstYes}
+use Rattle.std.proofs.Common.{◌≡◌, refl, sym, subst}
 use Rattle.racp_candidates.proofs.lemmas.Forms.{box_formed}
-use Rattle.racp_candidates.proofs.lemmas.Answered.{yes_of, no_of}
+use Rattle.racp_candidates.proofs.lemmas.Answered.{no_of}
 use Rattle.racp_lexfix.specs.Answers.{IsPlanStop}
 use Rattle.racp_lexfix.specs.Stages.{IsStoppedInBox}
 use Rattle.racp_lexfix.specs.declared.answer.PlanStop.{PlanStop}
-use Rattle.racp_lexfix.proofs.Staging.{box_yes, box_least, box_stopped, box_index}
+use Rattle.racp_lexfix.proofs.Staging.{box_yes, box_least, box_stopped}
 use Rattle.racp_lexfix.proofs.planning.cheapest.Goals as goal
 
 pub first-requires-clause-formed : goal.first-requires-clause-formed
 first-requires-clause-formed g c =
     box_formed c.args.net.now c.args.order.now c.args.sharp.floors c.args.roofs.now c.args.sharp.pairs.items c.args.root.now c.in_ok-series.series c.in_ok-series.ensures c.requires.sharp.sharp_are.sharpened.places
     (record { lower = c.requires.root.early.places; upper = c.requires.root.late.places })
-
-pub question_at-requires : goal.question_at-requires
-question_at-requires g c =
-    let first : IsFirstYes c.args.net.now c.in_ok-series.series (Some c.in-Yes.index) = yes_of c.args.net.now _ _ _ _ _ refl c.in-Yes.is c.in-Ok.ensures.answer in
-    box_index c.args.net.now c.args.order.now c.args.root.now c.requires.terms c.requires.root c.args.sharp c.args.roofs.now c.requires.sharp c.in_ok-series.series c.in_ok-series.ensures c.in_ok-again.again c.in-Yes.index c.in_ok-again.ensures first
 
 pub unreachable-requires : goal.unreachable-requires
 unreachable-requires g c =
@@ -28,9 +19,8 @@ unreachable-requires g c =
 
 pub returns-clause-least : goal.returns-clause-least
 returns-clause-least g c =
-    let first : IsFirstYes c.args.net.now c.in_ok-series.series (Some c.in-Yes.index) = yes_of c.args.net.now _ _ _ _ _ refl c.in-Yes.is c.in-Ok.ensures.answer in
-    subst (λ (q : Question). IsLeast (IsBefore c.args.order.now) (IsEnough c.args.net.now c.args.order.now) q.capacities) (sym c.in_ok-question_at-in-Yes.ensures)
-    (box_least c.args.net.now c.args.order.now c.args.root.now c.requires.terms c.requires.root c.args.sharp c.args.roofs.now c.requires.sharp c.in_ok-series.series c.in_ok-series.ensures c.in_ok-again.again c.in-Yes.index c.in_ok-again.ensures first)
+    box_least c.args.net.now c.args.order.now c.args.root.now c.requires.terms c.requires.root c.args.sharp c.args.roofs.now c.requires.sharp c.in_ok-series.series c.in_ok-series.ensures
+    c.in-Ok.first c.in-Yes.index c.in-Yes.starts c.in_ok-peaks-in-Yes.field-0 c.in-Ok.ensures.answer c.in-Yes.is c.in_ok-peaks-in-Yes.ensures
 
 pub returns-in-Err-clause-stop : goal.returns-in-Err-clause-stop
 returns-in-Err-clause-stop g c =

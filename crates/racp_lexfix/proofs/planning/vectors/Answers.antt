@@ -5,7 +5,7 @@ use Rattle.racp_lexfix.proofs.planning.vectors.Goals as goal
 
 pub new-requires-clause-bounds : goal.new-requires-clause-bounds
 new-requires-clause-bounds c =
-    let floors : c.new-floors.result ≡ c.args.sharp.now.floors = search rules in
-    let roofs : c.new-roofs.result ≡ c.args.roofs.now = search rules in
+    let floors : c.in_ok-floors.floors ≡ c.args.sharp.now.floors = search rules in
+    let roofs : c.in_ok-roofs.roofs ≡ c.args.roofs.now = search rules in
     let below = sharp_below c.args.net.now c.args.root.now c.requires.sharp.first c.args.roofs.now c.args.sharp.now.floors c.requires.sharp.ends.lowest.places c.requires.sharp.ends.bounds c.requires.sharp.ends.yes c.requires.sharp.sharp_are.sharpened in
-    subst (λ (xs : List ℕ). AreBounds xs c.new-roofs.result) (sym floors) (subst (λ (xs : List ℕ). AreBounds c.args.sharp.now.floors xs) (sym roofs) below)
+    subst (λ (xs : List ℕ). AreBounds xs c.in_ok-roofs.roofs) (sym floors) (subst (λ (xs : List ℕ). AreBounds c.args.sharp.now.floors xs) (sym roofs) below)

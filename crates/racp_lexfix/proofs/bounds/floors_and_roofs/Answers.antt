@@ -5,7 +5,7 @@ use Rattle.racp_lexfix.specs.Answers.{IsStoppedAt, IsPlanStop}
 use Rattle.racp_lexfix.specs.declared.answer.PlanStop.{PlanStop}
 use Rattle.racp_lexfix.proofs.Choosing.{enough_bounds, enough_roofs, plain_yes}
 use Rattle.racp_lexfix.proofs.Staging.{none_there, no_ceilings, some_ceilings, ends_with, stopped_first}
-use Rattle.racp_lexfix.proofs.ends.floors_and_roofs.Goals as goal
+use Rattle.racp_lexfix.proofs.bounds.floors_and_roofs.Goals as goal
 
 pub returns-then-not-is_below-clause-bounded : goal.returns-then-not-is_below-clause-bounded
 returns-then-not-is_below-clause-bounded g c = λ vector e.

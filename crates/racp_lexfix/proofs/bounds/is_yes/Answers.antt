@@ -1,6 +1,6 @@
 use Rattle.racp_lexfix.proofs.Deciding.{is_a_yes, is_a_no}
-use Rattle.racp_lexfix.proofs.ends.is_yes.Goals.{in-Yes, in-None}
-use Rattle.racp_lexfix.proofs.ends.is_yes.Goals as goal
+use Rattle.racp_lexfix.proofs.bounds.is_yes.Goals.{in-Yes, in-None}
+use Rattle.racp_lexfix.proofs.bounds.is_yes.Goals as goal
 
 pub returns-clause-decided : goal.returns-clause-decided
 returns-clause-decided g c =

@@ -4,7 +4,6 @@ ghost use Rattle.std.specs.Prelude.{◌≡◌, ◌↔◌, ℕ, ◌+◌, ◌-◌,
 ghost use Rattle.racp_model.specs.Formed.{HasBounds};
 ghost use Rattle.racp_model.specs.Terms.{AreTermsOf, release_of, due_of};
 ghost use Rattle.racp_model.specs.Window.{IsRootWindow};
-ghost use Rattle.racp_prices.specs.Units.{AreMostUnits};
 ghost use Rattle.racp_bounds.specs.Floors.{AreFloors};
 ghost use Rattle.racp_candidates.specs.Box.{AreBounds};
 ghost use Rattle.racp_candidates.specs.FirstYes.{MayGiveUp};
@@ -12,12 +11,11 @@ ghost use Rattle.racp_lexfix.specs.Answers.{IsStoppedAt, IsPlanStop};
 ghost use Rattle.racp_lexfix.specs.Stages.{IsBounded, IsYesOrNo, given_up};
 
 use crate::answer::PlanStop;
-use racp_bounds::{floors, roofs};
+use racp_bounds::floors;
 use racp_candidates::{AskStop, Asker, First, One};
 use racp_model::{Capacities, Network, Window};
-use racp_prices::Order;
+use racp_prices::{Order, most_units};
 use std::alloc::{AllocError, Global};
-use std::cmp::min;
 
 /// The floors, and the roofs cut to the ceilings; or none where no capacities within the ceilings are enough. That is asked where
 /// there are ceilings and no floor is above its roof.
@@ -74,29 +72,6 @@ fn has_ceilings(order: &Order) -> bool
     ensures { result ≡ is_some order.now.ceilings }
 {
     order.ceilings.is_some()
-}
-
-/// The most units of each resource that there can be: the roof, or the ceiling where that is less.
-fn most_units(alloc: Global, net: &Network, order: &Order) -> Result<Capacities, AllocError>
-    requires { AreTermsOf net.now order.now }
-    ensures { IfOk result (AreMostUnits net.now order.now) }
-{
-    let mut units = roofs(alloc, net)?.into_vec();
-    if let Some(ceilings) = &order.ceilings {
-        cut(&mut units, ceilings);
-    }
-    Ok(Capacities::new(units))
-}
-
-/// Cuts each number to the one at its place in another list.
-fn cut(units: &mut [u32], ceilings: &[u32])
-    requires { length units.old ≡ length ceilings.now }
-    ensures places { length units.new ≡ length units.old }
-    ensures each { (k : ℕ) → k < length units.old → slice_index units.new k ≡ min (slice_index units.old k) (slice_index ceilings.now k) }
-{
-    for k in 0..units.len() {
-        units[k] = min(units[k], ceilings[k]);
-    }
 }
 
 /// Whether no floor is above its roof.
