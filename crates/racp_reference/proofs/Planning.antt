@@ -7,13 +7,9 @@ use Rattle.racp_model.specs.Window.{Bounds, IsRootWindow}
 use Rattle.racp_model.proofs.lemmas.Cuts.{cut}
 use Rattle.racp_reference.specs.declared.choice.Choice.{Choice}
 use Rattle.racp_prices.specs.Units.{AreMostUnits}
-use Rattle.racp_reference.specs.Choices.{AreBounds, IsCheapest}
+use Rattle.racp_reference.specs.Choices.{IsCheapest}
 use Rattle.racp_cpm.proofs.lemmas.Rooted.{least-fit}
 use Rattle.racp_reference.proofs.Cutting.{enough-candidate, least-enough}
-
--- a root window and the most units have their places
-pub bounds_of : (p : Project) (terms : Terms) (window : Bounds) (most : List ℕ) → IsRootWindow p (release_of terms) (due_of terms) window → AreMostUnits p terms most → AreBounds p most window
-bounds_of p terms window most root units = record { resources = units.places; lower = root.early.places; upper = root.late.places }
 
 -- the cheapest choice is the plan
 pub plan_is : (p : Project) (terms : Terms) (window : Bounds) (most : List ℕ) (choice : Choice) → AreTermsOf p terms → IsRootWindow p (release_of terms) (due_of terms) window → AreMostUnits p terms most →

@@ -6,12 +6,6 @@ use Rattle.racp_model.specs.Plan.{IsLeast}
 use Rattle.racp_model.specs.Window.{Bounds, Answers, IsYes, IsNo}
 use Rattle.racp_reference.specs.declared.choice.Choice.{Choice}
 
--- a number of units for each resource, and two bounds on the start of each job
-pub record AreBounds (p : Project) (units : List ℕ) (window : Bounds) : Type 0 where
-  pub resources : length units ≡ p.resources
-  pub lower : length window.lower ≡ length p.jobs
-  pub upper : length window.upper ≡ length p.jobs
-
 -- capacities of at most these units, under which some starts in the window fit
 pub record IsCandidate (p : Project) (window : Bounds) (most capacities : List ℕ) : Type 0 where
   pub places : length capacities ≡ length most

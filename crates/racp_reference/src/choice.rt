@@ -1,6 +1,7 @@
 ghost use Rattle.std.specs.Prelude.{◌≡◌, IfOk, length};
+ghost use Rattle.racp_model.specs.Formed.{IsFormed};
 ghost use Rattle.racp_model.specs.Terms.{AreTermsOf};
-ghost use Rattle.racp_reference.specs.Choices.{cheaper_of, IsPriced, IsCheapest, AreBounds};
+ghost use Rattle.racp_reference.specs.Choices.{cheaper_of, IsPriced, IsCheapest};
 
 use crate::answers::first_answer;
 use crate::boxes::next_in;
@@ -29,7 +30,7 @@ pub(crate) fn cheapest(
     window: &Window,
 ) -> Result<Option<Choice>, AllocError>
     requires terms { AreTermsOf net.now order.now }
-    requires bounds { AreBounds net.now most.now window.now }
+    requires formed { IsFormed net.now (record { capacities = most.now; window = window.now }) }
     ensures { IfOk result (IsCheapest net.now order.now window.now most.now) }
 {
     let least = vec![in alloc; 0; most.len()]?;
@@ -54,7 +55,7 @@ fn priced(
     capacities: &Capacities,
 ) -> Result<Option<Choice>, AllocError>
     requires terms { AreTermsOf net.now order.now }
-    requires bounds { AreBounds net.now capacities.now window.now }
+    requires formed { IsFormed net.now (record { capacities = capacities.now; window = window.now }) }
     ensures { IfOk result (IsPriced net.now order.now window.now capacities.now) }
 {
     let Some(starts) = first_answer(alloc, net, capacities, window)? else {

@@ -1,54 +1,27 @@
-use Rattle.std.proofs.Common.{◌≡◌, ◌≤◌, ℕ, List, map, min, slice_index, All, arith, rules, subst, sym, ap, ◌∙◌, Some}
-use Rattle.racp_model.specs.Path.{IsEarly, IsCriticalLength}
+use Rattle.std.proofs.Common.{ap, subst}
 use Rattle.racp_model.specs.Terms.{Terms}
-use Rattle.racp_cpm.specs.Ends.{IsFirstLateAnswer}
+use Rattle.racp_check.specs.Openings.{IsOpening}
 use Rattle.racp_reference.specs.Choices.{IsCheapest}
-use Rattle.racp_cpm.proofs.lemmas.Openings.{due-is, due-small, root_of, too_late}
 use Rattle.racp_reference.proofs.Planning.{plan_is, over_ceilings}
 use Rattle.racp_reference.proofs.plan.plan_by_definition.Goals as goal
 
-pub returns-in-Some : goal.returns-in-Some
-returns-in-Some c =
+pub returns-in_default : goal.returns-in_default
+returns-in_default c =
     let net = c.args.net.now in
     let terms = c.args.order.now in
-    let release : c.as_slice-release.result.now ≡ terms.release = c.as_slice-release.ensures.value ∙ ap (λ (t : Terms). t.release) c.order.view_is in
-    let deadline : c.order.inside.deadline ≡ terms.deadline = ap (λ (t : Terms). t.deadline) c.order.view_is in
-    let due : c.deref.result.now ≡ map (λ time. min time terms.deadline) terms.due = search rules in
-    let P : List ℕ → Type 0 = λ times. IsCriticalLength net (slice_index times) c.in_ok-critical.critical in
-    let Q : List ℕ → Type 0 = λ times. IsEarly net (slice_index times) c.in_ok-starts.starts in
-    let R : (ℕ → ℕ) → Type 0 = λ times. IsFirstLateAnswer net times c.in_ok-starts.starts (Some c.in-Some.job) in
-    too_late net terms c.in_ok-critical.critical c.in_ok-starts.starts c.in-Some.job (subst P release c.in_ok-critical.ensures) (omega (arith, c.if-order-critical.false, deadline))
-    (subst Q release c.in_ok-starts.ensures) (subst R (due-is terms c.deref.result.now due) c.in-Some.ensures)
-
-pub root-requires-clause-due_small : goal.root-requires-clause-due_small
-root-requires-clause-due_small c =
-    let P : List ℕ → Type 0 = λ due. All (λ time. time ≤ 10000000) due in
-    let due : c.deref-2.result.now ≡ map (λ time. min time c.args.order.now.deadline) c.args.order.now.due = search rules in
-    subst P (sym due) (due-small c.args.order.now.deadline 10000000 c.args.order.now.due c.requires.deadline)
-
-pub returns-in_default-3 : goal.returns-in_default-3
-returns-in_default-3 c =
-    let net = c.args.net.now in
-    let terms = c.args.order.now in
-    let release : c.as_slice-release.result.now ≡ terms.release = c.as_slice-release.ensures.value ∙ ap (λ (t : Terms). t.release) c.order.view_is in
-    let due : c.deref-2.result.now ≡ map (λ time. min time terms.deadline) terms.due = search rules in
-    let root = root_of net terms c.as_slice-release.result.now c.deref-2.result.now c.in_ok-window.field-0 c.in-Some-2.window release due c.in_ok-window.ensures c.in-Some-2.is in
-    let none = subst (IsCheapest net terms c.in-Some-2.window c.deref-3.result.now) c.in_default-3.is c.in_ok-choice.ensures in
-    over_ceilings net terms c.in-Some-2.window c.in_ok-most.most.items c.requires root c.in_ok-most.ensures (rw (← c.deref-3.ensures.value) none)
+    let root = subst (IsOpening net terms) c.in-Root.is c.in_ok-critical.ensures in
+    let none = subst (IsCheapest net terms c.in-Root.window c.as_slice.result.now) c.in_default.is c.in_ok-choice.ensures in
+    over_ceilings net terms c.in-Root.window c.in_ok-most.most c.requires root.window_is c.in_ok-most.ensures (rw (← c.as_slice.ensures) none)
 
 pub returns : goal.returns
 returns c =
     let net = c.args.net.now in
     let terms = c.args.order.now in
-    let release : c.as_slice-release.result.now ≡ terms.release = c.as_slice-release.ensures.value ∙ ap (λ (t : Terms). t.release) c.order.view_is in
-    let deadline : c.order.inside.deadline ≡ terms.deadline = ap (λ (t : Terms). t.deadline) c.order.view_is in
-    let due : c.deref-2.result.now ≡ map (λ time. min time terms.deadline) terms.due = search rules in
-    let root = root_of net terms c.as_slice-release.result.now c.deref-2.result.now c.in_ok-window.field-0 c.in-Some-2.window release due c.in_ok-window.ensures c.in-Some-2.is in
-    let some = subst (IsCheapest net terms c.in-Some-2.window c.deref-3.result.now) c.in-Some-3.is c.in_ok-choice.ensures in
-    let P : List ℕ → Type 0 = λ times. IsCriticalLength net (slice_index times) c.in_ok-critical.critical in
+    let root = subst (IsOpening net terms) c.in-Root.is c.in_ok-critical.ensures in
+    let some = subst (IsCheapest net terms c.in-Root.window c.as_slice.result.now) c.in-Some.is c.in_ok-choice.ensures in
     record {
-      is_plan = plan_is net terms c.in-Some-2.window c.in_ok-most.most.items c.in-Some-3.choice c.requires root c.in_ok-most.ensures (rw (← c.deref-3.ensures.value) some);
-      deadline = deadline;
+      is_plan = plan_is net terms c.in-Root.window c.in_ok-most.most c.in-Some.choice c.requires root.window_is c.in_ok-most.ensures (rw (← c.as_slice.ensures) some);
+      deadline = ap (λ (t : Terms). t.deadline) c.order.view_is;
       cost = some.1.cost;
-      critical = subst P release c.in_ok-critical.ensures;
+      critical = root.length;
     }
