@@ -31,10 +31,14 @@
 //! cost, end, precedence, capacity, ceiling and start, and takes no memory. A usage is greatest where some job starts,
 //! so only these times are looked at, in at most jobs * jobs * resources steps.
 //!
+//! `opening_of(alloc, &net, &order)` is where planning and each check of a plan's leastness begin: the critical length
+//! and the root window, or why no starts are in time.
+//!
 //! Proved: `write_plan` gives exactly the text of the plan. `read_plan` answers for every byte text the plan whose text
 //! it is, where its numbers are in range, or exactly the first line that is wrong; `Memory` only where no line is.
 //! `check_plan` answers `Ok` exactly where the cost is right and the starts fit the capacities on the order's terms and
-//! within its ceilings; else the first fault, with its least names. In `laws`: a written plan is read as itself;
+//! within its ceilings; else the first fault, with its least names. `opening_of` answers the critical length and the
+//! root window, or the first reason for which there is none. In `laws`: a written plan is read as itself;
 //! nothing is wrong with the plan of an order. Not looked at by `check_plan`: the deadline and the critical length that
 //! a plan names, and whether cheaper capacities or lesser starts would do.
 #![tactic(auto)]

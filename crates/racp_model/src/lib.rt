@@ -7,7 +7,7 @@
 //! each job. The problem, the usage of a resource at a time, and capacities that admit a schedule are after Möhring
 //! (1984). `specs/` has the definitions that the contracts of all crates cite, from a project to the plan of an order.
 //!
-//! Five jobs with one resource: 2, 3 and 4 come after 1 and before 5. They run for 3, 2 and 2 time units and request 2,
+//! Five jobs with one resource: 2, 3 and 4 come after 1 and before 5. They run for 3, 2 and 2 time units and need 2,
 //! 1 and 1 units; 1 and 5 have duration 0. With the starts 0, 0, 0, 2, 4 this is used:
 //!
 //! ```text
@@ -39,7 +39,8 @@
 //!
 //! Proved: `Network::new` answers a network of the given jobs and pairs; or `Limit`, `BadJob` or `Cycle`, each exactly
 //! where it holds and none before it does; or `Memory`, only where none of these holds. `fits` is true exactly where
-//! the starts keep precedence, end by the deadline and never use more than the capacities. In `laws`: there is at most
+//! the starts keep precedence, end by the deadline and never use more than the capacities; `peaks` answers the least
+//! capacities that they keep. In `laws`: there is at most
 //! one plan, a project has a ranking or a ring, and more. Not proved: that memory is not refused without need, and that
 //! two sweeps are enough where each pair goes from a lower to a higher number.
 #![tactic(auto)]
