@@ -7,7 +7,7 @@ use Rattle.std.specs.List.Sorted.{IsStrictlyIncreasing}
 use Rattle.smallvec.specs.SmallVec.{SmallVec}
 use Rattle.racp_model.specs.Project.{Project, request}
 use Rattle.racp_delay.specs.Alternatives.{place, load, job_lists, AreAlternatives}
-use Rattle.racp_delay.specs.Found.{AreWithin, SomeMoreRuns, with_load, AreFound, AreAdded}
+use Rattle.racp_delay.specs.Found.{AreWithin, SomeHaveRoom, with_load, AreFound, AreAdded}
 use Rattle.racp_delay.proofs.Each.{Ascends, ascends}
 use Rattle.racp_delay.proofs.Tight.{none_kept}
 use Rattle.racp_delay.proofs.Searching.{IsMore, found-over, found-loose, found-here, found-both, found-same, found-alternatives}
@@ -63,14 +63,14 @@ module _ (p : Project) (capacities : List ℕ) (kept left : ℕ → ℕ) (gone r
   pub added-over : (AreWithin p capacities kept → ⊥) → AreAdded p capacities kept gone rest old old
   added-over over = ([], sym (append-nil old), found-over p capacities kept gone rest over)
 
-  pub added-loose : (jobs : List ℕ) → jobs ≡ gone → SomeMoreRuns p capacities left jobs → AreAdded p capacities kept gone rest old old
+  pub added-loose : (jobs : List ℕ) → jobs ≡ gone → SomeHaveRoom p capacities left jobs → AreAdded p capacities kept gone rest old old
   added-loose jobs e loose =
-      let here : SomeMoreRuns p capacities left gone = subst (λ (x : List ℕ). SomeMoreRuns p capacities left x) e loose in
+      let here : SomeHaveRoom p capacities left gone = subst (λ (x : List ℕ). SomeHaveRoom p capacities left x) e loose in
       ([], sym (append-nil old), found-loose p capacities kept gone rest (here.0, here.1, λ k l. omega (arith, is_left k l, here.2 k l)))
 
-  pub added-here : (jobs : List ℕ) → jobs ≡ gone → new ≡ old ++ gone ∷ [] → AreWithin p capacities left → (SomeMoreRuns p capacities left jobs → ⊥) → AreAdded p capacities kept gone rest old new
+  pub added-here : (jobs : List ℕ) → jobs ≡ gone → new ≡ old ++ gone ∷ [] → AreWithin p capacities left → (SomeHaveRoom p capacities left jobs → ⊥) → AreAdded p capacities kept gone rest old new
   added-here jobs e en runs tight =
-      (gone ∷ [], en, found-here p capacities kept gone rest (λ k l. omega (arith, is_left k l, runs k l)) (λ loose. tight (subst (λ (x : List ℕ). SomeMoreRuns p capacities left x) (sym e) (loose.0, loose.1, λ k l. omega (arith, is_left k l, loose.2 k l)))))
+      (gone ∷ [], en, found-here p capacities kept gone rest (λ k l. omega (arith, is_left k l, runs k l)) (λ loose. tight (subst (λ (x : List ℕ). SomeHaveRoom p capacities left x) (sym e) (loose.0, loose.1, λ k l. omega (arith, is_left k l, loose.2 k l)))))
 
   pub added-both : (mid : List (List ℕ)) (job : ℕ) (others gone1 gone2 : List ℕ) (more : ℕ → ℕ) → rest ≡ job ∷ others → IsStrictlyIncreasing rest → gone1 ≡ gone ++ job ∷ [] → gone2 ≡ gone → IsMore p kept job more
       → (AreWithin p capacities left → ⊥) → AreAdded p capacities kept gone1 others old mid → AreAdded p capacities more gone2 others mid new → AreAdded p capacities kept gone rest old new

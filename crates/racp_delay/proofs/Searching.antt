@@ -1,5 +1,5 @@
 -- The search for minimal delaying alternatives: what is found where it stops, and where it goes on.
-use Rattle.std.proofs.Common.{◌≡◌, ℕ, ◌+◌, ◌-◌, ◌<◌, inl, inr, List, [], ◌∷◌, ◌++◌, length, get_or, arith, refl, ap, sym, ◌∙◌, subst, Contains, AllPairs, append_assoc, length-append}
+use Rattle.std.proofs.Common.{◌≡◌, ℕ, ◌+◌, ◌-◌, ◌<◌, slice_index, inl, inr, List, [], ◌∷◌, ◌++◌, length, get_or, arith, refl, ap, sym, ◌∙◌, subst, Contains, AllPairs, append_assoc, length-append}
 use Rattle.std.proofs.lemmas.Bool.{cases_lt}
 use Rattle.std.proofs.lemmas.Bool.Decides.{nat_tests}
 use Rattle.std.proofs.lemmas.Cmp.{tied_itself, nat_cmp_total}
@@ -12,7 +12,7 @@ use Rattle.racp_model.specs.Terms.{lex_cmp, IsLexBefore}
 use Rattle.racp_model.proofs.lemmas.Relations.{member_cases, no_member}
 use Rattle.racp_delay.specs.Alternatives.{place, Splits, load, IsMinimalDelayingAlternative, AreAlternatives}
 use Rattle.racp_delay.specs.Alternatives.Splits.{goes, stays}
-use Rattle.racp_delay.specs.Found.{AreWithin, OneMoreRuns, SomeMoreRuns, Each, with_load, IsTight, AreFound}
+use Rattle.racp_delay.specs.Found.{AreWithin, OneMoreRuns, SomeHaveRoom, Each, with_load, IsTight, AreFound}
 use Rattle.racp_delay.proofs.Each.{each-left, each-right, each-at, each-from, each-map}
 use Rattle.racp_delay.proofs.Splitting.{load-splits, splits-none, all_stay, each-gone}
 use Rattle.racp_delay.proofs.Tight.{none_kept, tight-from_minimal, minimal-from_tight}
@@ -63,16 +63,19 @@ module _ (p : Project) (capacities : List ℕ) (kept : ℕ → ℕ) (chosen rest
   }
 
   -- nor where some job that goes could stay with all the others
-  pub found-loose : SomeMoreRuns p capacities (with_load p kept rest) chosen → AreFound p capacities kept chosen rest []
+  pub found-loose : SomeHaveRoom p capacities (with_load p kept rest) chosen → AreFound p capacities kept chosen rest []
   found-loose loose = record {
     all = λ gone stay s t. absurd (each-at (λ job. OneMoreRuns p capacities (with_load p kept stay) job → ⊥) chosen loose.0 loose.1 (each-left (λ job. OneMoreRuns p capacities (with_load p kept stay) job → ⊥) chosen gone t.tight)
-        (λ k l. omega (arith, load-splits p k s, loose.2 k l)));
+        (λ k l. elim (cases_lt 0 (request p (place (slice_index chosen loose.0)) k)) [
+          | inl some ↦ omega (arith, load-splits p k s, loose.2 k l some)
+          | inr nothing ↦ omega (arith, nothing, t.runs k l)
+        ]));
     only = λ x c. absurd (no_member x c);
     in_order = λ a b d before within. absurd (omega arith);
   }
 
   -- where the others run, those that go are one
-  pub found-here : AreWithin p capacities (with_load p kept rest) → (SomeMoreRuns p capacities (with_load p kept rest) chosen → ⊥) → AreFound p capacities kept chosen rest (chosen ∷ [])
+  pub found-here : AreWithin p capacities (with_load p kept rest) → (SomeHaveRoom p capacities (with_load p kept rest) chosen → ⊥) → AreFound p capacities kept chosen rest (chosen ∷ [])
   unfolding load
   found-here runs tight = record {
     all = λ gone stay s t. none_goes gone stay s t;
@@ -81,7 +84,7 @@ module _ (p : Project) (capacities : List ℕ) (kept : ℕ → ℕ) (chosen rest
   }
     where
       each_tight : Each (λ job. OneMoreRuns p capacities (with_load p kept rest) job → ⊥) chosen
-      each_tight = each-from (λ job. OneMoreRuns p capacities (with_load p kept rest) job → ⊥) chosen (λ i l runs_too. tight (i, l, runs_too))
+      each_tight = each-from (λ job. OneMoreRuns p capacities (with_load p kept rest) job → ⊥) chosen (λ i l runs_too. tight (i, l, λ k m some. runs_too k m))
 
       none_goes : (gone stay : List ℕ) → Splits rest gone stay → IsTight p capacities kept (chosen ++ gone) stay → Contains (chosen ∷ []) (chosen ++ gone)
       none_goes [] stay s t = (0, omega arith, sym (append-nil chosen))

@@ -13,9 +13,14 @@ AreWithin p capacities loads = (k : ℕ) → k < p.resources → loads k ≤ sli
 abbrev pub OneMoreRuns : Project → List ℕ → (ℕ → ℕ) → ℕ → Type 0
 OneMoreRuns p capacities loads job = (k : ℕ) → k < p.resources → loads k + request p (place job) k ≤ slice_index capacities k
 
--- some of these jobs could run with these loads
-abbrev pub SomeMoreRuns : Project → List ℕ → (ℕ → ℕ) → List ℕ → Type 0
-SomeMoreRuns p capacities loads jobs = (i : ℕ) × (i < length jobs) × OneMoreRuns p capacities loads (slice_index jobs i)
+-- one job more has room beside these loads, of each resource that it requests
+abbrev pub HasRoom : Project → List ℕ → (ℕ → ℕ) → ℕ → Type 0
+HasRoom p capacities loads job =
+    (k : ℕ) → k < p.resources → 0 < request p (place job) k → loads k + request p (place job) k ≤ slice_index capacities k
+
+-- some of these jobs have
+abbrev pub SomeHaveRoom : Project → List ℕ → (ℕ → ℕ) → List ℕ → Type 0
+SomeHaveRoom p capacities loads jobs = (i : ℕ) × (i < length jobs) × HasRoom p capacities loads (slice_index jobs i)
 
 -- what is true of each job of a list
 abbrev pub Each : (ℕ → Type 0) → List ℕ → Type 0

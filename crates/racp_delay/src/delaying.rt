@@ -2,7 +2,7 @@ ghost use Rattle.std.specs.Prelude.{◌≡◌, ◌↔◌, ℕ, ◌+◌, ◌*◌,
 ghost use Rattle.std.specs.List.Sorted.{IsStrictlyIncreasing};
 ghost use Rattle.racp_model.specs.Project.{request, IsNumber, IsSound};
 ghost use Rattle.racp_delay.specs.Alternatives.{place, AreAlternatives, Splits, job_lists};
-ghost use Rattle.racp_delay.specs.Found.{AreWithin, OneMoreRuns, SomeMoreRuns, with_load, AreAdded, AreLoads, IsEarlier};
+ghost use Rattle.racp_delay.specs.Found.{AreWithin, HasRoom, SomeHaveRoom, with_load, AreAdded, AreLoads, IsEarlier};
 ghost use Rattle.racp_delay.specs.Branching.{IsFirstEndAnswer};
 ghost use Rattle.racp_delay.specs.JobSets.{AreJobs};
 
@@ -23,30 +23,33 @@ fn are_within(net: &Network, capacities: &[u32], loads: &Loads) -> bool
     (0..net.resource_count()).all(|k| loads[k] <= capacities[k])
 }
 
-/// Whether one job more could run with these loads.
-fn could_stay(net: &Network, capacities: &[u32], loads: &Loads, job: u32) -> bool
+/// Whether one job more has room beside these loads, of each resource that it requests.
+fn has_room(net: &Network, capacities: &[u32], loads: &Loads, job: u32) -> bool
     requires capacities { length capacities.now ≡ net.now.resources }
     requires job { IsNumber (length net.now.jobs) job }
-    ensures { IsTrue result ↔ OneMoreRuns net.now capacities.now (slice_index loads.now) job }
+    ensures { IsTrue result ↔ HasRoom net.now capacities.now (slice_index loads.now) job }
 {
     let place = job as usize - 1;
-    (0..net.resource_count()).all(|k| loads[k] as u64 + net.request(place, k) as u64
-        <= capacities[k] as u64)
+    (0..net.resource_count()).all(|k| {
+        let request = net.request(place, k);
+        request == 0 || loads[k] as u64 + request as u64 <= capacities[k] as u64
+    })
 }
 
-/// Whether one of these jobs could run with these loads.
-fn some_could_stay(net: &Network, capacities: &[u32], loads: &Loads, jobs: &[u32]) -> bool
+/// Whether one of these jobs has room beside these loads.
+fn some_have_room(net: &Network, capacities: &[u32], loads: &Loads, jobs: &[u32]) -> bool
     requires capacities { length capacities.now ≡ net.now.resources }
     requires jobs { All (IsNumber (length net.now.jobs)) jobs.now }
-    ensures { IsTrue result ↔ SomeMoreRuns net.now capacities.now (slice_index loads.now) jobs.now }
+    ensures { IsTrue result ↔ SomeHaveRoom net.now capacities.now (slice_index loads.now) jobs.now }
 {
     jobs.iter()
-        .any(|job| could_stay(net, capacities, loads, *job))
+        .any(|job| has_room(net, capacities, loads, *job))
 }
 
 /// Adds, in lexicographic order, the alternatives in which the jobs of `gone` go and those that load `kept` stay, where the
 /// jobs of `rest` may go or stay. `left` are the loads of the kept and the rest together. Nothing is looked for where the kept
-/// exceed the capacities by themselves, or where one of the gone could stay with all the others.
+/// exceed the capacities by themselves, or where one of the gone has room beside all the others: it could then stay with any of
+/// them that run.
 fn add(
     net: &Network,
     capacities: &[u32],
@@ -65,7 +68,7 @@ fn add(
     ensures gone { IfOk result (λ _. gone.new.items ≡ gone.old.items) }
     ensures added { IfOk result (λ _. AreAdded net.now capacities.now (slice_index kept.now) gone.old.items rest.now (job_lists lists.old.items) (job_lists lists.new.items)) }
 {
-    if !are_within(net, capacities, kept) || some_could_stay(net, capacities, left, gone) {
+    if !are_within(net, capacities, kept) || some_have_room(net, capacities, left, gone) {
         return Ok(());
     }
     if are_within(net, capacities, left) {

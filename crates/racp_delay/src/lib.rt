@@ -10,7 +10,7 @@
 //! are raised to that end.
 //!
 //! The five jobs of examples/a.sm with 2 units and the starts 0, 0, 0, 0, 3. At time 0 the jobs 2, 3 and 4 are active,
-//! and request 2 + 1 + 1 = 4 units:
+//! and need 2 + 1 + 1 = 4 units:
 //!
 //! ```text
 //! go      stay    can run at once    the jobs that go start at or after
@@ -25,7 +25,9 @@
 //! at each it sets the loads of the jobs that started so far against the capacities and the loads of those that ended
 //! so far. So nothing is subtracted, and a job of duration 0 needs no case. `alternatives` decides the active jobs one
 //! by one, each first to go and then to stay, so the lists come in lexicographic order. It leaves a branch where the
-//! jobs that stay exceed the capacities by themselves, and where one that goes could stay with all the others.
+//! jobs that stay exceed the capacities by themselves, and where one that goes has room beside all the others, of each
+//! resource that it requests; so a job without requests never goes. With one resource and equal requests each branch
+//! leads to an alternative; in general some do not, and the work for each alternative is not bounded by a polynomial.
 //!
 //! Why branching loses nothing: let starts in the window fit, and let f be the least end, in these starts, of the
 //! active jobs. Those that start before f are all active right before f, so they can run at once. The others have in

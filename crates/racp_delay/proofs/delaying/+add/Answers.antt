@@ -3,7 +3,7 @@ use Rattle.racp_model.specs.Project.{IsNumber}
 use Rattle.racp_delay.specs.Alternatives.{job_lists}
 use Rattle.racp_delay.proofs.Adding.{added-over, added-loose, added-here, added-both, lists-push, popped, all-tail, all-head, all-push, all-same, rising-rest, left-is, none-left}
 use Rattle.racp_delay.proofs.delaying.+add.Goals as goal
-use Rattle.racp_delay.proofs.delaying.+add.Goals.{then-not-are_within-via-then-not-are_within, then-not-are_within-via-else-not-are_within+then-some_could_stay}
+use Rattle.racp_delay.proofs.delaying.+add.Goals.{then-not-are_within-via-then-not-are_within, then-not-are_within-via-else-not-are_within+then-some_have_room}
 
 pub returns-then-not-are_within-clause-added : goal.returns-then-not-are_within-clause-added
 returns-then-not-are_within-clause-added t c =
@@ -12,8 +12,8 @@ returns-then-not-are_within-clause-added t c =
     elim c.then-not-are_within.branch [
       | then-not-are_within-via-then-not-are_within w ↦
           added-over c.args.net.now c.args.capacities.now kept (slice_index c.args.left.now) c.args.gone.now.items c.args.rest.now lists lists c.requires.left (λ runs. cc (c.are_within.ensures.1 runs, w.if-not-are_within.true))
-      | then-not-are_within-via-else-not-are_within+then-some_could_stay w ↦
-          added-loose c.args.net.now c.args.capacities.now kept (slice_index c.args.left.now) c.args.gone.now.items c.args.rest.now lists lists c.requires.left w.deref.result.now w.deref.ensures.value (w.some_could_stay.ensures.0 w.if-some_could_stay.true)
+      | then-not-are_within-via-else-not-are_within+then-some_have_room w ↦
+          added-loose c.args.net.now c.args.capacities.now kept (slice_index c.args.left.now) c.args.gone.now.items c.args.rest.now lists lists c.requires.left w.deref.result.now w.deref.ensures.value (w.some_have_room.ensures.0 w.if-some_have_room.true)
     ]
 
 pub returns-then-are_within-clause-added : goal.returns-then-are_within-clause-added
@@ -21,7 +21,7 @@ returns-then-are_within-clause-added t c =
     added-here c.args.net.now c.args.capacities.now (slice_index c.args.kept.now) (slice_index c.args.left.now) c.args.gone.now.items c.args.rest.now (job_lists c.args.lists.now.items) (job_lists c.push.new.self.items) c.requires.left
     c.deref.result.now c.deref.ensures.value
     (lists-push c.args.lists.now.items c.push.new.self.items c.in_ok-alternative.alternative c.args.gone.now.items c.in_ok-push.ensures.items (c.in_ok-alternative.ensures.ok ∙ c.deref-then-are_within.ensures.value))
-    (c.are_within-2.ensures.0 c.if-are_within.true) (λ loose. cc (c.some_could_stay.ensures.1 loose, c.if-some_could_stay.false))
+    (c.are_within-2.ensures.0 c.if-are_within.true) (λ loose. cc (c.some_have_room.ensures.1 loose, c.if-some_have_room.false))
 
 pub returns-in_default-clause-added : goal.returns-in_default-clause-added
 returns-in_default-clause-added t c =
