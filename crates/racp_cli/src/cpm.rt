@@ -10,7 +10,7 @@ use crate::refusal::network_refused;
 use crate::respond::respond;
 use crate::status::DONE;
 use crate::streams::read_whole;
-use racp_cpm::{early, longest};
+use racp_cpm::{early, last_end};
 use racp_model::Network;
 use racp_sm::read_sm;
 use std::alloc::{AllocError, Global};
@@ -50,7 +50,7 @@ fn early_answer(alloc: Global, network: &Network) -> Result<Vec<u8>, AllocError>
     ensures { IfOk result (λ text. IsEarlyText network.now text.items) }
 {
     let release = vec![in alloc; 0; network.job_count()]?;
-    let critical = longest(alloc, network, &release)?;
     let starts = early(alloc, network, &release)?;
+    let critical = last_end(network, &starts);
     early_lines(alloc, critical, starts.as_slice())
 }
