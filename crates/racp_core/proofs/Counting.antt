@@ -8,7 +8,7 @@ use Rattle.std.proofs.lemmas.List.FromFn.{get_or-range_with_len, length-range_wi
 use Rattle.std.proofs.lemmas.Map.Keys.{below_from_sorted}
 use borrow.Author.Tests.{ltb-true, ltb-false}
 use Rattle.racp_model.proofs.lemmas.Relations.{same_from_members}
-use Rattle.racp_candidates.proofs.Members.{filter_from, filter_to, range_from, range_to}
+use Rattle.racp_questions.proofs.lemmas.Members.{filter_from, filter_to, range_from, range_to}
 use Rattle.racp_core.specs.Machine.{KnownYes, Machine, row_at, is_before, StandsBefore}
 use Rattle.racp_core.specs.Counts.{is_undecided, undecided_count}
 use Rattle.racp_core.specs.Truth.{AreUndecided}

@@ -8,7 +8,7 @@ use Rattle.racp_model.specs.Formed.{IsFormed}
 use Rattle.racp_model.specs.declared.question.Question.{Question}
 use Rattle.racp_model.proofs.lemmas.Relations.{member_first}
 use Rattle.racp_search.specs.Truth.{SearchPiece}
-use Rattle.racp_candidates.specs.FirstYes.{no_question}
+use Rattle.racp_questions.specs.FirstYes.{no_question}
 use Rattle.racp_core.specs.Machine.{QuestionRow, KnownYes, Machine, all_questions, row_at, no_row, StandsBefore}
 use Rattle.racp_core.specs.Steps.{IsSent, IsLeastOpen, HasNoOpen, IsPieceTaken, out_of}
 use Rattle.racp_core.specs.Rows.{IsFirstReady, IsCut}

@@ -7,7 +7,7 @@ use Rattle.racp_model.specs.Project.{Project}
 use Rattle.racp_model.specs.Window.{Answers}
 use Rattle.racp_model.specs.declared.question.Question.{Question}
 use Rattle.racp_model.proofs.lemmas.Relations.{no_member}
-use Rattle.racp_candidates.specs.FirstYes.{question_at, IsFirstYes, IsNoAt, AreNoBefore, IsReached}
+use Rattle.racp_questions.specs.FirstYes.{question_at, IsFirstYes, IsNoAt, AreNoBefore, IsReached}
 use Rattle.racp_core.specs.Machine.{QuestionRow, KnownYes, Machine, all_questions, row_at, no_row, StandsBefore, IsDone, AreDone, IsSettledBy, IsSettled, IsUndecided}
 use Rattle.racp_core.specs.Truth.{HasAnswer, IsSoundState, IsState}
 use Rattle.racp_core.specs.Rows.{IsFirstPlace}

@@ -5,7 +5,7 @@ use Rattle.racp_model.specs.Project.{Project}
 use Rattle.racp_model.specs.Window.{Answers}
 use Rattle.racp_model.specs.Formed.{IsFormed}
 use Rattle.racp_model.specs.declared.question.Question.{Question}
-use Rattle.racp_candidates.specs.FirstYes.{question_at, IsFirstYes, AreNoBefore}
+use Rattle.racp_questions.specs.FirstYes.{question_at, IsFirstYes, AreNoBefore}
 use Rattle.racp_search.specs.Truth.{SearchPiece, SearchFinding, rest_windows}
 use Rattle.racp_core.specs.Machine.{QuestionRow, Machine, IsSettled, IsDecided}
 use Rattle.racp_core.specs.Steps.{IsNextAsked, IsPieceTaken, HasNoOpen, IsOut, IsReturned, IsAnswered}

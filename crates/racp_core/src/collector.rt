@@ -2,7 +2,7 @@
 
 ghost use Rattle.std.specs.Prelude.{◌≡◌, ◌↔◌, ◌<◌, length, Some, None, IsTrue, true};
 ghost use Rattle.racp_model.specs.Formed.{AreFormed};
-ghost use Rattle.racp_candidates.specs.FirstYes.{question_at};
+ghost use Rattle.racp_questions.specs.FirstYes.{question_at};
 ghost use Rattle.racp_core.specs.Machine.{fresh, all_questions, row_at, is_before, IsSettled};
 ghost use Rattle.racp_core.specs.Truth.{IsSoundState};
 ghost use Rattle.racp_core.specs.Counts.{undecided_count};
@@ -11,8 +11,8 @@ ghost use Rattle.racp_core.specs.Runs.{Step, Halt, OfHalt};
 use crate::replies::Verdict;
 use crate::row::Row;
 use crate::undecided::Undecided;
-use racp_candidates::Series;
 use racp_model::{Network, OfNetwork, Question, Starts};
+use racp_questions::Series;
 use std::alloc::Global;
 use std::marker::{Model, PhantomData};
 

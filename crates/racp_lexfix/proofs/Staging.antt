@@ -10,9 +10,9 @@ use Rattle.racp_model.specs.declared.question.Question.{Question}
 use Rattle.racp_model.proofs.lemmas.Lists.{at_set}
 use Rattle.racp_cpm.proofs.lemmas.Rooted.{fits-answers, least-fit}
 use Rattle.racp_prices.specs.Units.{AreMostUnits}
-use Rattle.racp_candidates.specs.declared.asker.AskStop.{AskStop}
-use Rattle.racp_candidates.specs.declared.asker.AskStop.TheVariants.{Stopped as AskStopped, Memory as AskMemory, NoThread as AskNoThread}
-use Rattle.racp_candidates.specs.FirstYes.{question_at, IsReached, IsStop, MayGiveUp, IsFirstYes, AreNoBefore}
+use Rattle.racp_questions.specs.declared.asker.AskStop.{AskStop}
+use Rattle.racp_questions.specs.declared.asker.AskStop.TheVariants.{Stopped as AskStopped, Memory as AskMemory, NoThread as AskNoThread}
+use Rattle.racp_questions.specs.FirstYes.{question_at, IsReached, IsStop, MayGiveUp, IsFirstYes, AreNoBefore}
 use Rattle.racp_candidates.specs.Box.{AreBounds, AreBoxQuestions}
 use Rattle.racp_candidates.proofs.lemmas.OneBox.{one_box}
 use Rattle.racp_bounds.specs.Floors.{AreFloors}

@@ -7,15 +7,16 @@ ghost use Rattle.racp_model.specs.Window.{IsRootWindow};
 ghost use Rattle.racp_prices.specs.Units.{AreMostUnits};
 ghost use Rattle.racp_bounds.specs.Floors.{AreFloors};
 ghost use Rattle.racp_candidates.specs.Box.{AreBounds};
-ghost use Rattle.racp_candidates.specs.FirstYes.{MayGiveUp};
+ghost use Rattle.racp_questions.specs.FirstYes.{MayGiveUp};
 ghost use Rattle.racp_lexfix.specs.Answers.{IsStoppedAt, IsPlanStop};
 ghost use Rattle.racp_lexfix.specs.Stages.{IsBounded, IsYesOrNo, given_up};
 
 use crate::answer::PlanStop;
 use racp_bounds::{floors, roofs};
-use racp_candidates::{AskStop, Asker, First, One};
+use racp_candidates::One;
 use racp_model::{Capacities, Network, Window};
 use racp_prices::Order;
+use racp_questions::{AskStop, Asker, First};
 use std::alloc::{AllocError, Global};
 use std::cmp::min;
 

@@ -14,10 +14,11 @@ use crate::opening::{Opening, opening_of};
 use crate::starts::least_starts;
 use crate::walking::question_at;
 use racp_bounds::{Sharp, sharpen};
-use racp_candidates::{Asker, First, Vectors};
+use racp_candidates::Vectors;
 use racp_check::Plan;
 use racp_model::{Capacities, Network, Starts, Window};
 use racp_prices::{Order, cost_of};
+use racp_questions::{Asker, First};
 use std::alloc::{AllocError, Global};
 
 /// The plan of an order, or why there is none. Questions go to the asker, which is about this network: first whether the ceilings

@@ -1,8 +1,8 @@
 ghost use Rattle.std.specs.Prelude.{◌≡◌, ◌<◌, length, IfOk};
-ghost use Rattle.racp_candidates.specs.FirstYes.{question_at};
+ghost use Rattle.racp_questions.specs.FirstYes.{question_at};
 
-use racp_candidates::Series;
 use racp_model::Question;
+use racp_questions::Series;
 use std::alloc::AllocError;
 
 /// The question of a series at a place, from 0.

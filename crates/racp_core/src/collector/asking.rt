@@ -10,8 +10,8 @@ use super::Core;
 use crate::replies::Asked;
 use crate::row::{Row, copy_of_window};
 use crate::undecided::Undecided;
-use racp_candidates::Series;
 use racp_model::{OfNetwork, Question};
+use racp_questions::Series;
 use std::alloc::{AllocError, Global};
 
 impl<N: OfNetwork, S: Series> Core<N, S> {

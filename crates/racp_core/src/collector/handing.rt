@@ -12,8 +12,8 @@ use super::{Best, Core};
 use crate::replies::Merged;
 use crate::row::Row;
 use crate::undecided::Undecided;
-use racp_candidates::Series;
 use racp_model::{OfNetwork, Starts};
+use racp_questions::Series;
 use racp_search::{Finding, Piece};
 use std::alloc::AllocError;
 

@@ -7,8 +7,8 @@ ghost use Rattle.racp_core.specs.Runs.{Step, Take, OfTake};
 
 use super::Core;
 use crate::replies::Reply;
-use racp_candidates::Series;
 use racp_model::OfNetwork;
+use racp_questions::Series;
 use racp_search::Piece;
 use std::alloc::AllocError;
 

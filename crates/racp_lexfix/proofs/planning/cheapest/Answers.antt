@@ -2,9 +2,9 @@ use Rattle.std.proofs.Common.{◌≡◌, Some, refl, sym, subst}
 use Rattle.racp_model.specs.Terms.{IsBefore}
 use Rattle.racp_model.specs.Plan.{IsLeast, IsEnough}
 use Rattle.racp_model.specs.declared.question.Question.{Question}
-use Rattle.racp_candidates.specs.FirstYes.{IsFirstYes}
+use Rattle.racp_questions.specs.FirstYes.{IsFirstYes}
 use Rattle.racp_candidates.proofs.lemmas.Forms.{box_formed}
-use Rattle.racp_candidates.proofs.lemmas.Answered.{yes_of, no_of}
+use Rattle.racp_questions.proofs.lemmas.Answered.{yes_of, no_of}
 use Rattle.racp_lexfix.specs.Answers.{IsPlanStop}
 use Rattle.racp_lexfix.specs.Stages.{IsStoppedInBox}
 use Rattle.racp_lexfix.specs.declared.answer.PlanStop.{PlanStop}

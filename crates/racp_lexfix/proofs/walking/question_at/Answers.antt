@@ -1,6 +1,6 @@
 use Rattle.std.proofs.Common.{arith, subst, Option, Ok}
 use Rattle.racp_model.specs.declared.question.Question.{Question}
-use Rattle.racp_candidates.specs.Questions.{IsNextQuestion}
+use Rattle.racp_questions.specs.Series.{IsNextQuestion}
 use Rattle.racp_lexfix.proofs.Passing.{not_past, next_taken}
 use Rattle.racp_lexfix.proofs.walking.question_at.Goals as goal
 

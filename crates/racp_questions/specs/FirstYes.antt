@@ -3,10 +3,10 @@ use Rattle.std.specs.Prelude.{◌≡◌, ℕ, ◌<◌, List, [], length, slice_i
 use Rattle.racp_model.specs.Project.{Project}
 use Rattle.racp_model.specs.Window.{Answers, IsYes, IsNo}
 use Rattle.racp_model.specs.declared.question.Question.{Question}
-use Rattle.racp_candidates.specs.declared.asker.First.{First}
-use Rattle.racp_candidates.specs.declared.asker.First.TheVariants.{Yes, None as NoYes}
-use Rattle.racp_candidates.specs.declared.asker.AskStop.{AskStop}
-use Rattle.racp_candidates.specs.declared.asker.AskStop.TheVariants.{Stopped, Memory, NoThread}
+use Rattle.racp_questions.specs.declared.asker.First.{First}
+use Rattle.racp_questions.specs.declared.asker.First.TheVariants.{Yes, None as NoYes}
+use Rattle.racp_questions.specs.declared.asker.AskStop.{AskStop}
+use Rattle.racp_questions.specs.declared.asker.AskStop.TheVariants.{Stopped, Memory, NoThread}
 
 -- what is read at a place where there is no question
 abbrev pub no_question : Question
