@@ -71,5 +71,6 @@ pub trait Asker {
         ensures answer { IfOk result (IsFirst net.now (S.questions series)) }
         ensures answered { OnOk result (answered self.new ≡ answered self.old + 1) }
         ensures unanswered { OnErr result (answered self.new ≡ answered self.old) }
-        ensures stop { IfErr result (IsStop net.now (S.questions series) (told self.new) (may_stop self.new) (may_want_thread self.new)) };
+        ensures stop { IfErr result (IsStop net.now (S.questions series) (told self.new) (may_stop self.new)
+            (may_want_thread self.new)) };
 }
