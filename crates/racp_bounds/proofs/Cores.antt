@@ -4,8 +4,7 @@ use Rattle.racp_model.specs.Project.{Project, duration, request}
 use Rattle.racp_model.specs.Plan.{IsLeast}
 use Rattle.racp_model.specs.Window.{Bounds}
 use Rattle.racp_model.proofs.lemmas.Parts.{part, parts-within}
-use Rattle.racp_bounds.specs.Floors.{core_use, core_usage}
-use Rattle.racp_bounds.specs.LowerBounds.{IsAtCore}
+use Rattle.racp_bounds.specs.Floors.{core_use, core_usage, IsAtCore}
 
 -- a core use is the weight of the part from the late start to the early finish
 pub core_use-part : (p : Project) (root : Bounds) (k t i : ℕ) → core_use p root k t i ≡ part (slice_index root.upper) (λ i. slice_index root.lower i + duration p i) (λ i. request p i k) t i

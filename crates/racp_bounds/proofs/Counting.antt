@@ -3,9 +3,9 @@ use Rattle.std.proofs.Common.{◌≡◌, ℕ, zero, suc, ◌+◌, ◌-◌, ◌<�
 use Rattle.std.proofs.lemmas.Bool.{cases_lt}
 use Rattle.racp_model.specs.Schedule.{sum_below}
 use Rattle.racp_model.proofs.lemmas.Sums.{sum_below-step}
-use Rattle.racp_candidates.specs.FirstYes.{MayGiveUp}
-use Rattle.racp_candidates.specs.declared.asker.AskStop.{AskStop}
-use Rattle.racp_candidates.specs.declared.asker.AskStop.TheVariants.{Stopped, Memory, NoThread}
+use Rattle.racp_questions.specs.FirstYes.{MayGiveUp}
+use Rattle.racp_questions.specs.declared.asker.AskStop.{AskStop}
+use Rattle.racp_questions.specs.declared.asker.AskStop.TheVariants.{Stopped, Memory, NoThread}
 use Rattle.racp_bounds.specs.Sharp.{pair_count}
 
 -- the pairs of the resources before place k

@@ -6,7 +6,7 @@ use Rattle.racp_model.specs.Project.{Project}
 use Rattle.racp_model.specs.Window.{Bounds, IsYes, IsNo}
 use Rattle.racp_model.specs.declared.question.Question.{Question}
 use Rattle.racp_model.proofs.lemmas.Lists.{at_set}
-use Rattle.racp_candidates.specs.FirstYes.{IsFirstYes, question_at, no_question, AreNoBefore}
+use Rattle.racp_questions.specs.FirstYes.{IsFirstYes, question_at, no_question, AreNoBefore}
 use Rattle.racp_candidates.specs.Questions.{question_of, single_questions}
 use Rattle.racp_bounds.specs.Sharp.{IsSharpened, AreSharpenedBefore}
 

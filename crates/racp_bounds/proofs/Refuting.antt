@@ -7,12 +7,12 @@ use Rattle.racp_model.specs.Project.{Project, number, IsNumber, AreNumbers, IsAr
 use Rattle.racp_model.specs.Window.{Bounds, IsYes, IsNo}
 use Rattle.racp_model.specs.declared.question.Question.{Question}
 use Rattle.racp_model.proofs.lemmas.Relations.{all_members, no_member}
-use Rattle.racp_candidates.specs.FirstYes.{IsFirst, IsFirstYes, IsYesAt}
+use Rattle.racp_questions.specs.FirstYes.{IsFirst, IsFirstYes, IsYesAt}
 use Rattle.racp_candidates.specs.Questions.{question_of}
-use Rattle.racp_candidates.specs.declared.asker.First.{First}
-use Rattle.racp_candidates.specs.declared.asker.First.TheVariants.{Yes, None as NoYes}
+use Rattle.racp_questions.specs.declared.asker.First.{First}
+use Rattle.racp_questions.specs.declared.asker.First.TheVariants.{Yes, None as NoYes}
 use Rattle.racp_bounds.specs.Sharp.{IsRefutedPair, AreRefutedPairs}
-use Rattle.racp_candidates.proofs.lemmas.Answered.{yes_of, no_of}
+use Rattle.racp_questions.proofs.lemmas.Answered.{yes_of, no_of}
 
 -- the refuted pairs of resources before the pair of the resources at places k and l
 pub record ArePairsBefore (p : Project) (root : Bounds) (floors roofs : List ℕ) (k l : ℕ) (pairs : List (ℕ × ℕ)) : Type 0 where

@@ -28,12 +28,24 @@ core_use p root k t i = if is_core_time p root t i then request p i k else 0
 abbrev pub core_usage : Project → Bounds → ℕ → ℕ → ℕ
 core_usage p root k t = sum_below (length p.jobs) (core_use p root k t)
 
+-- so many units of resource k are at or above the requests of the jobs that run for some time
+abbrev pub IsAtRequests : Project → ℕ → ℕ → Type 0
+IsAtRequests p k units = (i : ℕ) → i < length p.jobs → 0 < duration p i → request p i k ≤ units
+
+-- they are at or above the energy over the deadline, rounded up
+abbrev pub IsAtEnergy : Project → ℕ → ℕ → ℕ → Type 0
+IsAtEnergy p deadline k units = 0 < deadline → div_ceil (energy p k) deadline ≤ units
+
+-- they are at or above the core usage at any time
+abbrev pub IsAtCore : Project → Bounds → ℕ → ℕ → Type 0
+IsAtCore p root k units = (t : ℕ) → core_usage p root k t ≤ units
+
 -- so many units of resource k are at or above three lower bounds: the largest request of a job that runs for some time; the
 -- energy over the deadline, rounded up; and the core usage at any time
 pub record IsAtBounds (p : Project) (root : Bounds) (deadline k units : ℕ) : Type 0 where
-  pub requests : (i : ℕ) → i < length p.jobs → 0 < duration p i → request p i k ≤ units
-  pub energy : 0 < deadline → div_ceil (energy p k) deadline ≤ units
-  pub core : (t : ℕ) → core_usage p root k t ≤ units
+  pub requests : IsAtRequests p k units
+  pub energy : IsAtEnergy p deadline k units
+  pub core : IsAtCore p root k units
 
 -- the floor of resource k: the greatest of these lower bounds, so the least number that is at or above each
 abbrev pub IsFloor : Project → Bounds → ℕ → ℕ → ℕ → Type 0

@@ -1,4 +1,3 @@
 pub mod Floors
-pub mod LowerBounds
 pub mod Laws
 pub mod Sharp

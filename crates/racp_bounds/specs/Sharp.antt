@@ -5,8 +5,8 @@ use Rattle.racp_model.specs.Project.{Project, number, AreNumbers, IsArcBefore}
 use Rattle.racp_model.specs.Schedule.{sum_below}
 use Rattle.racp_model.specs.Plan.{IsLeast}
 use Rattle.racp_model.specs.Window.{Bounds, IsYes, IsNo}
-use Rattle.racp_candidates.specs.FirstYes.{MayGiveUp}
-use Rattle.racp_candidates.specs.declared.asker.AskStop.{AskStop}
+use Rattle.racp_questions.specs.FirstYes.{MayGiveUp}
+use Rattle.racp_questions.specs.declared.asker.AskStop.{AskStop}
 use Rattle.racp_bounds.specs.declared.sharp.Sharp.{Sharp}
 
 -- so many units of resource k, from its first floor on, with which some starts in the root window fit, the other resources having

@@ -2,8 +2,7 @@ ghost use Rattle.std.specs.Prelude.{◌≡◌, ◌<◌, ◌≤◌, IfOk, length}
 ghost use Rattle.racp_model.specs.Project.{IsSound};
 ghost use Rattle.racp_model.specs.Schedule.{EndsBy};
 ghost use Rattle.racp_model.specs.Plan.{IsLeast};
-ghost use Rattle.racp_bounds.specs.Floors.{energy, core_use, core_usage, IsFloor, AreFloors};
-ghost use Rattle.racp_bounds.specs.LowerBounds.{IsAtRequests, IsAtEnergy, IsAtCore};
+ghost use Rattle.racp_bounds.specs.Floors.{energy, core_use, core_usage, IsAtRequests, IsAtEnergy, IsAtCore, IsFloor, AreFloors};
 
 use racp_model::{Capacities, Network, Window};
 use std::alloc::{AllocError, Global};
@@ -55,7 +54,7 @@ fn floor(net: &Network, root: &Window, deadline: u32, k: usize) -> u32
 /// The largest request of a job that runs for some time.
 fn largest_request(net: &Network, k: usize) -> u32
     requires { k < net.now.resources }
-    ensures { IsLeast ◌<◌ (IsAtRequests net.now k (length net.now.jobs)) result }
+    ensures { IsLeast ◌<◌ (IsAtRequests net.now k) result }
 {
     let mut most = 0;
     for i in 0..net.job_count() {

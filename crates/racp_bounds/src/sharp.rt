@@ -3,11 +3,12 @@ ghost use Rattle.racp_model.specs.Project.{number};
 ghost use Rattle.racp_model.specs.Formed.{HasBounds};
 ghost use Rattle.racp_model.specs.Window.{IsYes};
 ghost use Rattle.racp_candidates.specs.Box.{AreBounds};
-ghost use Rattle.racp_candidates.specs.FirstYes.{MayGiveUp};
+ghost use Rattle.racp_questions.specs.FirstYes.{MayGiveUp};
 ghost use Rattle.racp_bounds.specs.Sharp.{IsSharpened, AreSharpened, IsRefutedPair, AreRefutedPairs, IsSharp, pair_count, IsUnsharpened};
 
-use racp_candidates::{AskStop, Asker, First, One, Singles};
+use racp_candidates::{One, Singles};
 use racp_model::{Capacities, Network, Window};
+use racp_questions::{AskStop, Asker, First};
 use std::alloc::{AllocError, Global};
 
 /// Sharpened floors, and the pairs of resources that are refuted.

@@ -5,7 +5,8 @@ use Rattle.racp_model.proofs.lemmas.Relations.{member_cases, member_later, membe
 use Rattle.racp_candidates.specs.Questions.{numbers_between}
 use Rattle.racp_candidates.specs.Box.{IsBetween}
 use Rattle.racp_candidates.specs.Vectors.{all_begun, all_between}
-use Rattle.racp_candidates.proofs.Members.{map_from, map_to, range_from, range_to}
+use Rattle.racp_questions.proofs.lemmas.Members.{range_from, range_to}
+use Rattle.racp_candidates.proofs.Members.{map_from, map_to}
 
 -- a vector that begins with a number of a list and goes on as a vector of another
 abbrev pub IsBegun : List ℕ → List (List ℕ) → List ℕ → Type 0

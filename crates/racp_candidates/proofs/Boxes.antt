@@ -12,7 +12,8 @@ use Rattle.racp_model.proofs.lemmas.Relations.{all_members}
 use Rattle.racp_candidates.specs.Questions.{question_of}
 use Rattle.racp_candidates.specs.Box.{IsAbovePairs, IsInBox, AreBoxQuestions}
 use Rattle.racp_candidates.specs.Vectors.{terms_of, AreVectorsInOrder, is_above, is_above_pairs, vectors_above, box_questions, HavePlaces}
-use Rattle.racp_candidates.proofs.Members.{map_from, map_to, map_pairs, filter_from, filter_to, all_from, all_to}
+use Rattle.racp_questions.proofs.lemmas.Members.{filter_from, filter_to}
+use Rattle.racp_candidates.proofs.Members.{map_from, map_to, map_pairs, all_from, all_to}
 
 pub either_from : (a b : Bool) → (a || b) ≡ true → (a ≡ true) ⊎ (b ≡ true)
 either_from true b e = inl refl

@@ -1,7 +1,6 @@
 pub mod lemmas
-mod FirstYes
 mod Values
-pub mod Members
+mod Members
 mod InOrder
 mod Between
 mod Reached

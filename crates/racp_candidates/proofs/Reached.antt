@@ -8,7 +8,8 @@ use Rattle.racp_model.specs.Terms.{Terms, vector_cmp, IsBefore}
 use Rattle.racp_model.proofs.lemmas.Orders.{vector_total, vector_same}
 use Rattle.racp_candidates.specs.Box.{IsBetween}
 use Rattle.racp_candidates.specs.Vectors.{is_reached, to_come, all_between, in_order}
-use Rattle.racp_candidates.proofs.Members.{filter_from, filter_to, any_from, any_to}
+use Rattle.racp_questions.proofs.lemmas.Members.{filter_from, filter_to}
+use Rattle.racp_candidates.proofs.Members.{any_from, any_to}
 use Rattle.racp_candidates.proofs.InOrder.{IsInOrder, in_order_is}
 use Rattle.racp_candidates.proofs.Between.{listed_from, listed_to}
 

@@ -1,5 +1,4 @@
 pub mod Questions
-pub mod FirstYes
 pub mod Box
 pub mod Laws
 pub mod Vectors

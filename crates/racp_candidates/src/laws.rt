@@ -1,11 +1,8 @@
 //! Laws of the definitions. Each function does nothing; its contract is the law.
 
-ghost use Rattle.racp_candidates.specs.Laws.{FirstYesIsOne, BoxQuestionsAreOne};
+ghost use Rattle.racp_candidates.specs.Laws.{BoxQuestionsAreOne};
 
-/// A list of questions has at most one first yes.
-pub fn first_yes_is_one()
-    ensures { FirstYesIsOne }
-{}
+pub use racp_questions::laws::first_yes_is_one;
 
 /// A box has at most one list of questions.
 pub fn box_questions_are_one()

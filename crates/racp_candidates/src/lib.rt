@@ -1,14 +1,13 @@
-//! Series of questions about capacities and windows: each is a list of questions, given one by one.
+//! The series of questions that a planner asks: the capacity vectors of a box, in order; the units of one resource; the
+//! starts of one job; one question.
 //!
 //! Resources and jobs stand by place, from 0; pairs of resources name them by number, from 1. Times are whole time
 //! units.
 //!
-//! A question is whether some starts in a window keep precedence and given capacities. A planner learns all that it
-//! wants to know by the first yes of such lists: the least number of units of a resource (`Singles`), the cheapest
-//! capacities (`Vectors`), the least start of a job (`Starts1`), or whether one question is a yes (`One`).
-//! Demeulemeester (1995), too, solves the problem by a series of scheduling problems with given capacities. Who answers
-//! a series is an `Asker`: it tells the index of the first yes with starts, or that no question is one. So planning
-//! does not depend on how questions are searched, on one thread or more.
+//! A question is whether some starts in a window keep precedence and given capacities, and a series is a list of
+//! questions, given one by one (racp_questions). By the first yes of a series a planner learns the least number of units
+//! of a resource (`Singles`), the cheapest capacities (`Vectors`), the least start of a job (`Starts1`), or whether one
+//! question is a yes (`One`).
 //!
 //! The box has the capacity vectors between floors and roofs that are, of each refuted pair, above the floor of one of
 //! the two resources. `Vectors` asks them in the order of vectors: by cost, of which owned units have none, and at
@@ -32,13 +31,10 @@
 //!
 //! Proved: `next` of each series takes the first question off that list, and after a refusal the list is as before.
 //! `Vectors` has one question for each vector of the box and no other, in the order of vectors; `Singles` one for each
-//! number of units from floor to roof; `Starts1` one for each start from the lower to the upper bound. Whoever
-//! implements `Asker` proves that its answer is the first yes, with starts that answer, or that each question is a no.
-//! In `laws`: a list has at most one first yes, and a box at most one list of questions. Tested alone: that memory is
-//! not refused without need.
+//! number of units from floor to roof; `Starts1` one for each start from the lower to the upper bound. In `laws`: a box
+//! has at most one list of questions. Tested alone: that memory is not refused without need.
 #![tactic(auto)]
 
-mod asker;
 mod children;
 mod copies;
 mod entry;
@@ -46,14 +42,12 @@ mod frontier;
 pub mod laws;
 mod one;
 mod pairs;
-mod series;
 mod singles;
 mod start_values;
 mod vectors;
 
-pub use asker::{AskStop, Asker, First};
 pub use one::One;
-pub use series::Series;
+pub use racp_questions::{AskStop, Asker, First, Series};
 pub use singles::Singles;
 pub use start_values::Starts1;
 pub use vectors::Vectors;

@@ -2,8 +2,8 @@ ghost use Rattle.std.specs.Prelude.{◌≡◌, List, [], ◌∷◌, IfOk};
 ghost use Rattle.racp_candidates.specs.Questions.{question_of};
 
 use crate::copies::copy_of;
-use crate::series::Series;
 use racp_model::{Capacities, Question, Window};
+use racp_questions::Series;
 use std::alloc::{AllocError, Global};
 use std::marker::Model;
 

@@ -2,8 +2,8 @@ ghost use Rattle.std.specs.Prelude.{◌≡◌, ◌<◌, length, IfOk};
 ghost use Rattle.racp_candidates.specs.Questions.{start_questions};
 
 use crate::copies::copy_with;
-use crate::series::Series;
 use racp_model::{Capacities, Question, Starts, Window};
+use racp_questions::Series;
 use std::alloc::{AllocError, Global};
 use std::marker::Model;
 

@@ -5,9 +5,9 @@ ghost use Rattle.racp_candidates.specs.Box.{ArePrices, AreBounds, AreBoxQuestion
 use crate::copies::{copy_list, copy_of};
 use crate::frontier::Frontier;
 use crate::pairs::next_above;
-use crate::series::Series;
 use racp_model::{Capacities, Question, Window};
 use racp_prices::Order;
+use racp_questions::Series;
 use std::alloc::{AllocError, Global};
 use std::marker::Model;
 

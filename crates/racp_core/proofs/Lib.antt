@@ -1,5 +1,6 @@
 pub mod OutAndBack
 pub mod Places
+pub mod Tests
 pub mod Kept
 pub mod Questions
 pub mod Sound

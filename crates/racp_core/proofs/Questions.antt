@@ -3,7 +3,7 @@ use Rattle.std.proofs.Common.{◌≡◌, ◌∙◌, inl, inr, ℕ, suc, ◌<◌,
 use Rattle.std.proofs.lemmas.List.{map-append, get_or-set_same, get_or-set_other, length-set, get_or-map, get_or_append_left, length-map}
 use Rattle.std.proofs.lemmas.Bool.{cases_eq, cases_lt}
 use Rattle.racp_model.specs.declared.question.Question.{Question}
-use Rattle.racp_candidates.specs.FirstYes.{no_question, question_at}
+use Rattle.racp_questions.specs.FirstYes.{no_question, question_at}
 use Rattle.racp_core.specs.Machine.{QuestionRow, Machine, all_questions, opened, row_at, no_row}
 use Rattle.racp_core.specs.Steps.{AreShutFrom}
 

@@ -1,20 +1,21 @@
 -- Whatever calls a collector has had, what is true of its states stays true.
-use Rattle.std.proofs.Common.{◌≡◌, ◌∙◌, ℕ, true, List, [], ◌∷◌, ◌++◌, Option, Some, None, sym, ap, subst}
+use Rattle.std.proofs.Common.{◌≡◌, ◌∙◌, ℕ, true, IsTrue, List, [], ◌∷◌, ◌++◌, Option, Some, None, refl, sym, ap, subst}
 use Rattle.racp_model.specs.Project.{Project}
 use Rattle.racp_model.specs.Window.{Bounds}
 use Rattle.racp_model.specs.declared.question.Question.{Question}
-use Rattle.racp_search.specs.Truth.{SearchPiece, SearchFinding, IsRestOf, IsFoundOrLeft, rest_windows}
+use Rattle.racp_model.proofs.lemmas.Relations.{member_first, member_later}
+use Rattle.racp_search.specs.Truth.{SearchPiece, SearchFinding, IsRestOf, IsFoundOrLeft, IsTrueFinding, rest_windows}
 use Rattle.racp_core.specs.declared.replies.Asked.{Asked}
 use Rattle.racp_core.specs.declared.replies.Asked.TheVariants.{Question as Next, End, Enough, Halted as AskHalted}
 use Rattle.racp_core.specs.declared.replies.Reply.{Reply}
 use Rattle.racp_core.specs.declared.replies.Reply.TheVariants.{Piece as Work, Nothing, Done, Halted as TakeHalted}
 use Rattle.racp_core.specs.declared.replies.Merged.{Merged}
 use Rattle.racp_core.specs.declared.replies.Merged.TheVariants.{Taken, Stale}
-use Rattle.racp_core.specs.Machine.{Machine, all_questions, fresh, row_at, StandsBefore}
+use Rattle.racp_core.specs.Machine.{Machine, all_questions, fresh, row_at, is_before}
 use Rattle.racp_core.specs.Truth.{IsSoundState}
 use Rattle.racp_core.specs.Steps.{IsReturned, out_of}
 use Rattle.racp_core.specs.Replies.{IsAsked, IsTaken, IsMerged, IsHanded, IsGivenBack}
-use Rattle.racp_core.specs.Runs.{Event, Answer, Ask, Take, Hand, GiveBack, Halt, OfAsk, OfTake, OfMerge, OfHalt, Step, Run, IsTrueEvent, AreTrueEvents, RunsAreSound}
+use Rattle.racp_core.specs.Runs.{Call, Ask, Take, Hand, GiveBack, Halt, Step, Run, AreTrueFindings, RunsAreSound}
 use Rattle.racp_core.proofs.Kept.{whole_rest, out_held}
 use Rattle.racp_core.proofs.Questions.{questions_in, asked_all}
 use Rattle.racp_core.proofs.Sound.{sound_fresh, sound_asked, sound_sent, sound_back, sound_halted, sound_ended}
@@ -28,7 +29,7 @@ Follows p old new = IsSoundState p new × (all_questions new ≡ all_questions o
 follows_same : (p : Project) (old new : Machine) → new ≡ old → IsSoundState p old → Follows p old new
 follows_same p old new e h = (subst (λ (m : Machine). IsSoundState p m) (sym e) h, ap all_questions e)
 
-after_returned : (p : Project) (old : Machine) (piece : SearchPiece) (windows : List Bounds) (new : Machine) → (StandsBefore old.least piece.index → IsRestOf p piece.question.capacities piece.question.window windows) → IsReturned old piece windows new → IsSoundState p old → Follows p old new
+after_returned : (p : Project) (old : Machine) (piece : SearchPiece) (windows : List Bounds) (new : Machine) → (IsTrue (is_before old.least piece.index) → IsRestOf p piece.question.capacities piece.question.window windows) → IsReturned old piece windows new → IsSoundState p old → Follows p old new
 after_returned p old piece windows new rest step h = (
   subst (λ (m : Machine). IsSoundState p m) (sym step.row.2)
       (sound_back p old piece.index (out_of piece) windows step.row.0 step.out.0 step.row.1 (λ b. subst (λ (c : List ℕ). IsRestOf p c piece.question.window windows) step.out.1 (rest b)) h),
@@ -59,7 +60,7 @@ after_merged p old finding (Some starts) new is_true step h =
     (subst (λ (m : Machine). IsSoundState p m) (sym step.rest) (sound_answered p old finding.piece starts step.row.0 new.asked step.out step.row.1 step.row.2 is_true.0 h), answered_all old finding.piece starts new step)
 after_merged p old finding None new is_true step h = after_returned p old finding.piece (rest_windows finding.piece.question.window finding.rest) new (λ b. is_true) step h
 
-after_handed : (p : Project) (old : Machine) (finding : SearchFinding) (merged : Merged) (new : Machine) → IsTrueEvent p (Hand finding) → IsHanded old finding merged new → IsSoundState p old → Follows p old new
+after_handed : (p : Project) (old : Machine) (finding : SearchFinding) (merged : Merged) (new : Machine) → IsTrueFinding p finding → IsHanded old finding merged new → IsSoundState p old → Follows p old new
 after_handed p old finding Taken new is_true step h = after_merged p old finding finding.found new is_true step h
 after_handed p old finding Stale new is_true step h = follows_same p old new step.1 h
 
@@ -70,34 +71,19 @@ after_given p old piece Taken new step h =
 after_given p old piece Stale new step h = follows_same p old new step.1 h
 
 -- one step
-pub after_step : (p : Project) (old : Machine) (event : Event) (answer : Answer) (new : Machine) → IsTrueEvent p event → Step old event answer new → IsSoundState p old → Follows p old new
-after_step p old Ask (OfAsk asked) new is_true step h = after_asked p old asked new step h
-after_step p old Ask (OfTake reply) new is_true step h = absurd step
-after_step p old Ask (OfMerge merged) new is_true step h = absurd step
-after_step p old Ask OfHalt new is_true step h = absurd step
-after_step p old (Take seat) (OfTake reply) new is_true step h = after_taken p old seat reply new step h
-after_step p old (Take seat) (OfAsk asked) new is_true step h = absurd step
-after_step p old (Take seat) (OfMerge merged) new is_true step h = absurd step
-after_step p old (Take seat) OfHalt new is_true step h = absurd step
-after_step p old (Hand finding) (OfMerge merged) new is_true step h = after_handed p old finding merged new is_true step h
-after_step p old (Hand finding) (OfAsk asked) new is_true step h = absurd step
-after_step p old (Hand finding) (OfTake reply) new is_true step h = absurd step
-after_step p old (Hand finding) OfHalt new is_true step h = absurd step
-after_step p old (GiveBack piece) (OfMerge merged) new is_true step h = after_given p old piece merged new step h
-after_step p old (GiveBack piece) (OfAsk asked) new is_true step h = absurd step
-after_step p old (GiveBack piece) (OfTake reply) new is_true step h = absurd step
-after_step p old (GiveBack piece) OfHalt new is_true step h = absurd step
-after_step p old Halt OfHalt new is_true step h = (subst (λ (m : Machine). IsSoundState p m) (sym step) (sound_halted p old true h), ap all_questions step)
-after_step p old Halt (OfAsk asked) new is_true step h = absurd step
-after_step p old Halt (OfTake reply) new is_true step h = absurd step
-after_step p old Halt (OfMerge merged) new is_true step h = absurd step
+pub after_step : (p : Project) (old : Machine) (call : Call) (new : Machine) → ((finding : SearchFinding) (merged : Merged) → call ≡ Hand finding merged → IsTrueFinding p finding) → Step old call new → IsSoundState p old → Follows p old new
+after_step p old (Ask asked) new is_true step h = after_asked p old asked new step h
+after_step p old (Take seat reply) new is_true step h = after_taken p old seat reply new step h
+after_step p old (Hand finding merged) new is_true step h = after_handed p old finding merged new (is_true finding merged refl) step h
+after_step p old (GiveBack piece merged) new is_true step h = after_given p old piece merged new step h
+after_step p old Halt new is_true step h = (subst (λ (m : Machine). IsSoundState p m) (sym step) (sound_halted p old true h), ap all_questions step)
 
 -- any number of them
-after_run : (p : Project) (calls : List (Event × Answer)) (old new : Machine) → AreTrueEvents p calls → Run old calls new → IsSoundState p old → Follows p old new
+after_run : (p : Project) (calls : List Call) (old new : Machine) → AreTrueFindings p calls → Run old calls new → IsSoundState p old → Follows p old new
 after_run p [] old new are_true run h = follows_same p old new run h
 after_run p (call ∷ calls) old new are_true run h =
-    let one = after_step p old call.0 call.1 run.0 are_true.0 run.1 h in
-    let rest = after_run p calls run.0 new are_true.1 run.2 one.0 in
+    let one = after_step p old call run.0 (λ finding merged is. are_true finding merged (member_first call calls (Hand finding merged) is)) run.1 h in
+    let rest = after_run p calls run.0 new (λ finding merged later. are_true finding merged (member_later call calls (Hand finding merged) later)) run.2 one.0 in
     (rest.0, rest.1 ∙ one.1)
 
 pub runs_sound : RunsAreSound

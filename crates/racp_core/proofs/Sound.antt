@@ -1,48 +1,28 @@
 -- What is true of the collector's states stays true: where it is new, where a question is asked, where a piece goes out or comes
 -- back without a yes.
-use Rattle.std.proofs.Common.{◌≡◌, ◌∙◌, ◌⊎◌, inl, inr, ℕ, ◌<◌, Bool, true, false, nat_lt, List, [], ◌∷◌, ◌++◌, length, slice_set, Option, Some, None, refl, sym, ap, subst, arith, length-append}
+use Rattle.std.proofs.Common.{◌≡◌, ◌∙◌, inl, inr, ℕ, ◌<◌, Bool, true, IsTrue, IsFalse, List, [], ◌∷◌, ◌++◌, length, slice_set, Option, Some, None, refl, sym, ap, subst, arith, length-append}
 use Rattle.std.proofs.lemmas.List.{get_or-set_same, get_or-set_other, length-set, get_or_append_left, get_or_push}
 use Rattle.std.proofs.lemmas.Bool.{cases_eq, cases_lt}
 use Rattle.std.proofs.lemmas.List.Elements.{Contains-append_right}
-use borrow.Author.Tests.{ltb-true, ltb-false}
 use Rattle.racp_model.specs.Project.{Project}
 use Rattle.racp_model.specs.Window.{Bounds, Answers}
 use Rattle.racp_model.specs.Formed.{AreFormed, HasBounds}
 use Rattle.racp_model.specs.declared.question.Question.{Question}
 use Rattle.racp_model.proofs.lemmas.Relations.{member_first}
 use Rattle.racp_search.specs.Truth.{IsRestOf}
-use Rattle.racp_core.specs.Machine.{PieceOut, QuestionRow, KnownYes, Machine, fresh, all_questions, opened, row_at, no_row, is_before, StandsBefore}
+use Rattle.racp_core.specs.Machine.{PieceOut, QuestionRow, KnownYes, Machine, fresh, all_questions, opened, row_at, no_row, is_before}
 use Rattle.racp_core.specs.Truth.{IsKept, HasAnswer, IsSoundState}
 use Rattle.racp_core.specs.Steps.{IsSent, IsBack, windows_before}
+use Rattle.racp_core.proofs.Tests.{not_both}
 use Rattle.racp_core.proofs.Kept.{kept_new, kept_sent, kept_back}
 use Rattle.racp_core.proofs.Questions.{questions_in, AreSameQuestions, set_same, same_all, asked_all}
 
--- whether a place stands before the least yes, as a test
-pub before_true : (least : Option KnownYes) (i : ℕ) → StandsBefore least i → is_before least i ≡ true
-before_true None i h = refl
-before_true (Some y) i h = go (nat_lt i y.index) refl
-  where
-    go : (b : Bool) → nat_lt i y.index ≡ b → nat_lt i y.index ≡ true
-    go true e = e
-    go false e = absurd (let o = ltb-false i y.index e in omega (arith, o, h))
+-- the windows that open of a question: all before the least yes, and none from there on
+pub windows_there : (least : Option KnownYes) (i : ℕ) (windows : List Bounds) → IsTrue (is_before least i) → windows_before least i windows ≡ windows
+windows_there least i windows h = rw h refl
 
-pub before_false : (least : Option KnownYes) (i : ℕ) → (StandsBefore least i → ⊥) → is_before least i ≡ false
-before_false None i h = absurd (h tt)
-before_false (Some y) i h = go (nat_lt i y.index) refl
-  where
-    go : (b : Bool) → nat_lt i y.index ≡ b → nat_lt i y.index ≡ false
-    go true e = absurd (h (ltb-true i y.index e))
-    go false e = e
-
-pub before_or_not : (least : Option KnownYes) (i : ℕ) → StandsBefore least i ⊎ (StandsBefore least i → ⊥)
-before_or_not None i = inl tt
-before_or_not (Some y) i = elim (cases_lt i y.index) [ inl l ↦ inl l | inr more ↦ inr (λ l. omega (arith, l, more)) ]
-
-pub windows_there : (least : Option KnownYes) (i : ℕ) (windows : List Bounds) → StandsBefore least i → windows_before least i windows ≡ windows
-windows_there least i windows h = rw (before_true least i h) refl
-
-pub windows_gone : (least : Option KnownYes) (i : ℕ) (windows : List Bounds) → (StandsBefore least i → ⊥) → windows_before least i windows ≡ []
-windows_gone least i windows h = rw (before_false least i h) refl
+pub windows_gone : (least : Option KnownYes) (i : ℕ) (windows : List Bounds) → IsFalse (is_before least i) → windows_before least i windows ≡ []
+windows_gone least i windows h = rw h refl
 
 -- a collector of which nothing was asked
 pub sound_fresh : (p : Project) (questions : List Question) → AreFormed p questions → IsSoundState p (fresh questions)
@@ -71,7 +51,7 @@ pub sound_asked : (p : Project) (m : Machine) (question : Question) (rest : List
 sound_asked p m question rest none next h = record {
   kept = kept;
   answers = rw none tt;
-  shut = λ i l b. absurd (b (rw none tt));
+  shut = λ i l b. absurd (not_both (is_before m.least i) (rw none refl) b);
   formed = formed_stays p (all_questions m) (questions_in (m.asked ++ opened question ∷ []) ++ rest) (asked_all m.asked question rest ∙ ap (λ (qs : List Question). questions_in m.asked ++ qs) (sym next)) h.formed;
   finished = λ e. absurd (let none_left = sym next ∙ h.finished e in cc none_left);
 }
@@ -79,7 +59,7 @@ sound_asked p m question rest none next h = record {
     bounds : HasBounds p question.window
     bounds = (h.formed question (Contains-append_right (questions_in m.asked) m.to_come question (rw next (member_first question rest question refl)))).bounds
 
-    kept : (i : ℕ) → i < length (m.asked ++ opened question ∷ []) → StandsBefore m.least i → IsKept p (row_at (m.asked ++ opened question ∷ []) i)
+    kept : (i : ℕ) → i < length (m.asked ++ opened question ∷ []) → IsTrue (is_before m.least i) → IsKept p (row_at (m.asked ++ opened question ∷ []) i)
     kept i l b = elim (cases_lt i (length m.asked)) [
       | inl before ↦ rw (get_or_append_left m.asked (opened question ∷ []) no_row i before) (h.kept i before b)
       | inr after ↦
@@ -89,16 +69,16 @@ sound_asked p m question rest none next h = record {
     ]
 
 -- one row changes, and keeps what it kept
-pub sound_set : (p : Project) (m : Machine) (index taken : ℕ) (row : QuestionRow) → index < length m.asked → row.question ≡ (row_at m.asked index).question → (StandsBefore m.least index → IsKept p (row_at m.asked index) → IsKept p row) →
-    ((StandsBefore m.least index → ⊥) → (row_at m.asked index).ready ≡ [] → row.ready ≡ []) → IsSoundState p m → IsSoundState p (record m { asked = slice_set m.asked index row; taken = taken })
+pub sound_set : (p : Project) (m : Machine) (index taken : ℕ) (row : QuestionRow) → index < length m.asked → row.question ≡ (row_at m.asked index).question → (IsTrue (is_before m.least index) → IsKept p (row_at m.asked index) → IsKept p row) →
+    (IsFalse (is_before m.least index) → (row_at m.asked index).ready ≡ [] → row.ready ≡ []) → IsSoundState p m → IsSoundState p (record m { asked = slice_set m.asked index row; taken = taken })
 sound_set p m index taken row there same keeps stays h = record {
   kept = λ i l b. elim (cases_eq i index) [
-    | inl e ↦ rw (e, get_or-set_same m.asked index row no_row there) (keeps (subst (λ (k : ℕ). StandsBefore m.least k) e b) (h.kept index there (subst (λ (k : ℕ). StandsBefore m.least k) e b)))
+    | inl e ↦ rw (e, get_or-set_same m.asked index row no_row there) (keeps (subst (λ (k : ℕ). IsTrue (is_before m.least k)) e b) (h.kept index there (subst (λ (k : ℕ). IsTrue (is_before m.least k)) e b)))
     | inr other ↦ rw (get_or-set_other m.asked index i row no_row other) (h.kept i (let long = length-set m.asked index row in omega (arith, l, long)) b)
   ];
   answers = answer_stays p m.asked (slice_set m.asked index row) m.least (set_same m.asked index row there same) h.answers;
   shut = λ i l b. elim (cases_eq i index) [
-    | inl e ↦ rw (e, get_or-set_same m.asked index row no_row there) (stays (λ here. b (subst (λ (k : ℕ). StandsBefore m.least k) (sym e) here)) (h.shut index there (λ here. b (subst (λ (k : ℕ). StandsBefore m.least k) (sym e) here))))
+    | inl e ↦ rw (e, get_or-set_same m.asked index row no_row there) (let here = subst (λ (k : ℕ). IsFalse (is_before m.least k)) e b in stays here (h.shut index there here))
     | inr other ↦ rw (get_or-set_other m.asked index i row no_row other) (h.shut i (let long = length-set m.asked index row in omega (arith, l, long)) b)
   ];
   formed = formed_stays p (all_questions m) (questions_in (slice_set m.asked index row) ++ m.to_come) (same_all m.asked (slice_set m.asked index row) m.to_come (set_same m.asked index row there same)) h.formed;
@@ -106,13 +86,13 @@ sound_set p m index taken row there same keeps stays h = record {
 }
 
 -- a piece goes out, of a question before the least yes
-pub sound_sent : (p : Project) (m : Machine) (index taken : ℕ) (piece : PieceOut) (row : QuestionRow) → index < length m.asked → StandsBefore m.least index → IsSent piece (row_at m.asked index) row → IsSoundState p m → IsSoundState p (record m { asked = slice_set m.asked index row; taken = taken })
+pub sound_sent : (p : Project) (m : Machine) (index taken : ℕ) (piece : PieceOut) (row : QuestionRow) → index < length m.asked → IsTrue (is_before m.least index) → IsSent piece (row_at m.asked index) row → IsSoundState p m → IsSoundState p (record m { asked = slice_set m.asked index row; taken = taken })
 sound_sent p m index taken piece row there before sent h =
-    sound_set p m index taken row there sent.0 (λ _. kept_sent p piece (row_at m.asked index) row sent) (λ not. absurd (not before)) h
+    sound_set p m index taken row there sent.0 (λ _. kept_sent p piece (row_at m.asked index) row sent) (λ not _. absurd (not_both (is_before m.least index) before not)) h
 
 -- a piece comes back, with what is left of its window
 pub sound_back : (p : Project) (m : Machine) (index : ℕ) (piece : PieceOut) (windows : List Bounds) (row : QuestionRow) → index < length m.asked → IsBack piece (windows_before m.least index windows) (row_at m.asked index) row →
-    (StandsBefore m.least index → IsRestOf p (row_at m.asked index).question.capacities piece.window windows) → IsSoundState p m → IsSoundState p (record m { asked = slice_set m.asked index row })
+    (IsTrue (is_before m.least index) → IsRestOf p (row_at m.asked index).question.capacities piece.window windows) → IsSoundState p m → IsSoundState p (record m { asked = slice_set m.asked index row })
 sound_back p m index piece windows row there back rest h =
     sound_set p m index m.taken row there back.0
     (λ b. kept_back p piece windows (row_at m.asked index) row (subst (λ (ws : List Bounds). IsBack piece ws (row_at m.asked index) row) (windows_there m.least index windows b) back) (rest b))

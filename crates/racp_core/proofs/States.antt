@@ -1,11 +1,11 @@
 -- All that is kept of a state, with the places of its undecided questions, stays true.
-use Rattle.std.proofs.Common.{◌≡◌, ◌∙◌, ℕ, zero, suc, ◌+◌, ◌<◌, Bool, if◌then◌else◌, List, [], ◌∷◌, ◌++◌, length, slice_index_or, slice_set, Option, Some, None, refl, sym, ap, subst, arith}
+use Rattle.std.proofs.Common.{◌≡◌, ◌∙◌, ℕ, zero, suc, ◌+◌, ◌<◌, Bool, if◌then◌else◌, IsTrue, List, [], ◌∷◌, ◌++◌, length, slice_index_or, slice_set, Option, Some, None, refl, sym, ap, subst, arith}
 use Rattle.std.proofs.lemmas.List.{get_or_default, get_or_read}
 use Rattle.racp_model.specs.Project.{Project}
 use Rattle.racp_model.specs.Window.{Bounds, Answers}
 use Rattle.racp_model.specs.declared.question.Question.{Question}
 use Rattle.racp_search.specs.Truth.{SearchPiece, IsRestOf, IsFoundOrLeft}
-use Rattle.racp_core.specs.Machine.{PieceOut, QuestionRow, KnownYes, Machine, all_questions, opened, row_at, no_row, is_before, StandsBefore}
+use Rattle.racp_core.specs.Machine.{PieceOut, QuestionRow, KnownYes, Machine, all_questions, opened, row_at, no_row, is_before}
 use Rattle.racp_core.specs.Steps.{IsOut, IsSent, IsBack, out_of, windows_before, lesser, AreShutFrom, IsReturned, IsAnswered, IsPieceTaken}
 use Rattle.racp_core.specs.Rows.{no_out, IsPlaceIn, IsAdded, IsRemoved, IsSettledAt, IsCutAt}
 use Rattle.racp_core.specs.Truth.{IsState}
@@ -33,7 +33,7 @@ state_asked p m places more question rest none next added h = record {
 }
 
 -- a piece goes out
-pub state_sent : (p : Project) (m : Machine) (places : List ℕ) (index taken : ℕ) (piece : PieceOut) (row : QuestionRow) → index < length m.asked → StandsBefore m.least index → 0 < length (row_at m.asked index).ready →
+pub state_sent : (p : Project) (m : Machine) (places : List ℕ) (index taken : ℕ) (piece : PieceOut) (row : QuestionRow) → index < length m.asked → IsTrue (is_before m.least index) → 0 < length (row_at m.asked index).ready →
     IsSent piece (row_at m.asked index) row → IsState p m places → IsState p (record m { asked = slice_set m.asked index row; taken = taken }) places
 state_sent p m places index taken piece row l before some sent h = record {
   sound = sound_sent p m index taken piece row l before sent h.sound;
@@ -50,7 +50,7 @@ busy_there m piece (l, same, (k, within, e)) = omega (arith, within)
 
 -- a piece comes back, with what is left of its window
 pub state_back : (p : Project) (m : Machine) (places more : List ℕ) (piece : SearchPiece) (windows : List Bounds) (row : QuestionRow) → IsOut m piece → IsBack (out_of piece) (windows_before m.least piece.index windows) (row_at m.asked piece.index) row →
-    (StandsBefore m.least piece.index → IsRestOf p piece.question.capacities piece.question.window windows) → IsSettledAt (slice_set m.asked piece.index row) places piece.index more → IsState p m places →
+    (IsTrue (is_before m.least piece.index) → IsRestOf p piece.question.capacities piece.question.window windows) → IsSettledAt (slice_set m.asked piece.index row) places piece.index more → IsState p m places →
     IsState p (record m { asked = slice_set m.asked piece.index row }) more
 state_back p m places more piece windows row out back rest settled h = record {
   sound = sound_back p m piece.index (out_of piece) windows row out.0 back (λ b. subst (λ (c : List ℕ). IsRestOf p c piece.question.window windows) out.1 (rest b)) h.sound;
@@ -60,7 +60,7 @@ state_back p m places more piece windows row out back rest settled h = record {
 -- so it does where the code looks at its place
 pub state_put : (p : Project) (m now : Machine) (places more : List ℕ) (piece : SearchPiece) (at index : ℕ) (opens : Bool) (windows : List Bounds) (row new : QuestionRow) → m ≡ now → index ≡ piece.index → IsPlaceIn now.asked piece at →
     opens ≡ is_before now.least index → row ≡ slice_index_or m.asked index row → IsBack (slice_index_or row.out at no_out) (if opens then windows else []) row new →
-    (StandsBefore m.least piece.index → IsRestOf p piece.question.capacities piece.question.window windows) → IsSettledAt (slice_set m.asked index new) places index more → IsState p m places → IsState p (record m { asked = slice_set m.asked index new }) more
+    (IsTrue (is_before m.least piece.index) → IsRestOf p piece.question.capacities piece.question.window windows) → IsSettledAt (slice_set m.asked index new) places index more → IsState p m places → IsState p (record m { asked = slice_set m.asked index new }) more
 state_put p m now places more piece at index opens windows row new same e place is here back rest settled h =
     subst (λ (k : ℕ). IsState p (record m { asked = slice_set m.asked k new }) more) (sym e)
     (state_back p m places more piece windows new (place_out m piece at there) moved rest (subst (λ (k : ℕ). IsSettledAt (slice_set m.asked k new) places k more) e settled) h)
@@ -81,7 +81,7 @@ state_put p m now places more piece at index opens windows row new same e place 
         (subst (λ (b : Bool). IsBack (slice_index_or row.out at no_out) (if b then windows else []) row new) test back))
 
 -- the window of a piece that is out is what is left of it
-pub whole_left : (p : Project) (m : Machine) (places : List ℕ) (piece : SearchPiece) → IsOut m piece → IsState p m places → StandsBefore m.least piece.index → IsRestOf p piece.question.capacities piece.question.window (piece.question.window ∷ [])
+pub whole_left : (p : Project) (m : Machine) (places : List ℕ) (piece : SearchPiece) → IsOut m piece → IsState p m places → IsTrue (is_before m.least piece.index) → IsRestOf p piece.question.capacities piece.question.window (piece.question.window ∷ [])
 whole_left p m places piece out h b =
     whole_rest p piece.question.capacities piece.question.window ((h.sound.kept piece.index out.0 b).bounds piece.question.window (out_held (out_of piece) (row_at m.asked piece.index) out.2))
 

@@ -1,5 +1,5 @@
 -- A piece goes out.
-use Rattle.std.proofs.Common.{◌≡◌, ◌∙◌, ℕ, ◌+◌, ◌<◌, List, [], ◌∷◌, length, slice_index_or, slice_set, Option, Some, None, Contains, refl, ap, subst, arith}
+use Rattle.std.proofs.Common.{◌≡◌, ◌∙◌, ℕ, ◌+◌, ◌<◌, IsTrue, List, [], ◌∷◌, length, slice_index_or, slice_set, Option, Some, None, Contains, refl, ap, subst, arith}
 use Rattle.std.proofs.lemmas.List.{get_or_read, get_or-map, length-map}
 use Rattle.std.proofs.lemmas.List.Sorted.{Contains-permutation, IsPermutation-sym}
 use Rattle.std.proofs.lemmas.List.Elements.{Contains-append_left, Contains-get_or}
@@ -8,35 +8,35 @@ use Rattle.racp_model.specs.Formed.{IsFormed}
 use Rattle.racp_model.specs.declared.question.Question.{Question}
 use Rattle.racp_model.proofs.lemmas.Relations.{member_first}
 use Rattle.racp_search.specs.Truth.{SearchPiece}
-use Rattle.racp_candidates.specs.FirstYes.{no_question}
-use Rattle.racp_core.specs.Machine.{QuestionRow, KnownYes, Machine, all_questions, row_at, no_row, StandsBefore}
+use Rattle.racp_questions.specs.FirstYes.{no_question}
+use Rattle.racp_core.specs.Machine.{QuestionRow, KnownYes, Machine, all_questions, row_at, no_row, is_before}
 use Rattle.racp_core.specs.Steps.{IsSent, IsLeastOpen, HasNoOpen, IsPieceTaken, out_of}
 use Rattle.racp_core.specs.Rows.{IsFirstReady, IsCut}
 use Rattle.racp_core.specs.Truth.{IsState}
+use Rattle.racp_core.proofs.Tests.{below_yes, before_yes, undecided_is, undecided_if}
 use Rattle.racp_core.proofs.Places.{empty_from}
 use Rattle.racp_core.proofs.Questions.{questions_in}
 use Rattle.racp_core.proofs.States.{state_sent}
 
 -- what stands before a place before the least yes does too
-before_down : (least : Option KnownYes) (i j : ℕ) → StandsBefore least i → j < i → StandsBefore least j
-before_down None i j b l = tt
-before_down (Some y) i j b l = omega (arith, b, l)
+before_down : (least : Option KnownYes) (i j : ℕ) → IsTrue (is_before least i) → j < i → IsTrue (is_before least j)
+before_down None i j b l = refl
+before_down (Some y) i j b l = let o = below_yes y i b in before_yes y j (omega (arith, o, l))
 
 module _ (p : Project) (m : Machine) (places : List ℕ) (h : IsState p m places) where
   -- no undecided question has an open window
   pub none_ready : ((i : ℕ) → Contains places i → i < length m.asked → (row_at m.asked i).ready ≡ []) → HasNoOpen m
-  none_ready none i l b = empty_from (row_at m.asked i).ready (λ some. (let e = ap length (none i ((h.undecided i).1 (l, b, omega (arith, some))) l) in omega (arith, e, some)))
+  none_ready none i l b = empty_from (row_at m.asked i).ready (λ some. (let e = ap length (none i ((h.undecided i).1 (undecided_if m.least m.asked i b (omega (arith, some)))) l) in omega (arith, e, some)))
 
   -- the first that has one
   pub least_ready : (i : ℕ) → IsFirstReady m.asked places i → IsLeastOpen m i
   least_ready i first = record {
     asked = first.asked_there;
-    before = ((h.undecided i).0 first.is).1;
+    before = (undecided_is m.least m.asked i ((h.undecided i).0 first.is)).1;
     some = first.some;
     least = λ j l. empty_from (row_at m.asked j).ready (λ some.
-        (let b = before_down m.least i j ((h.undecided i).0 first.is).1 l in
-        let there = first.asked_there in
-        let e = ap length (first.least j ((h.undecided j).1 (omega (arith, l, there), b, omega (arith, some))) l) in
+        (let b = before_down m.least i j (undecided_is m.least m.asked i ((h.undecided i).0 first.is)).1 l in
+        let e = ap length (first.least j ((h.undecided j).1 (undecided_if m.least m.asked j b (omega (arith, some)))) l) in
         omega (arith, e, some)));
   }
 

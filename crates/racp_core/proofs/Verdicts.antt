@@ -1,5 +1,5 @@
 -- What the places of the undecided questions say of the answer, and what the answer says of the questions.
-use Rattle.std.proofs.Common.{◌≡◌, ◌∙◌, inl, inr, ℕ, ◌+◌, ◌-◌, ◌<◌, ◌≤◌, min, Bool, true, false, List, [], length, Option, Some, None, Contains, sym, ap, subst, arith, length-append}
+use Rattle.std.proofs.Common.{◌≡◌, ◌∙◌, inl, inr, ℕ, ◌-◌, ◌<◌, ◌≤◌, min, Bool, true, false, IsTrue, IsFalse, List, [], length, Option, Some, None, Contains, refl, sym, ap, subst, arith, length-append}
 use Rattle.std.proofs.lemmas.List.{length-map}
 use Rattle.std.proofs.lemmas.Option.{slice_get-get_or, slice_get_past}
 use Rattle.std.proofs.lemmas.Bool.{cases_lt}
@@ -7,27 +7,19 @@ use Rattle.racp_model.specs.Project.{Project}
 use Rattle.racp_model.specs.Window.{Answers}
 use Rattle.racp_model.specs.declared.question.Question.{Question}
 use Rattle.racp_model.proofs.lemmas.Relations.{no_member}
-use Rattle.racp_candidates.specs.FirstYes.{question_at, IsFirstYes, IsNoAt, AreNoBefore, IsReached}
-use Rattle.racp_core.specs.Machine.{QuestionRow, KnownYes, Machine, all_questions, row_at, no_row, StandsBefore, IsDone, AreDone, IsSettledBy, IsSettled, IsUndecided}
+use Rattle.racp_questions.specs.FirstYes.{question_at, IsFirstYes, IsNoAt, AreNoBefore, IsReached}
+use Rattle.racp_core.specs.Machine.{QuestionRow, KnownYes, Machine, all_questions, row_at, no_row, is_before, is_undecided, IsDone, AreDone, IsSettledBy, IsSettled}
 use Rattle.racp_core.specs.Truth.{HasAnswer, IsSoundState, IsState}
 use Rattle.racp_core.specs.Rows.{IsFirstPlace}
 use Rattle.racp_core.specs.Replies.{IsFirstOpen, IsYesKnown, capacities_at}
+use Rattle.racp_core.proofs.Tests.{yes_or_no, not_both, no_from, below_yes, before_yes, busy_done, undecided_is, decided_done}
 use Rattle.racp_core.proofs.Kept.{done_no}
-use Rattle.racp_core.proofs.Places.{empty_from}
 use Rattle.racp_core.proofs.Questions.{questions_in, question_there}
-use Rattle.racp_core.proofs.Sound.{before_or_not}
-
--- nothing of a question is open or out, or something is
-pub done_from : (row : QuestionRow) → (0 < length row.ready + length row.out → ⊥) → IsDone row
-done_from row h = (empty_from row.ready (λ l. h (omega (arith, l))), empty_from row.out (λ l. h (omega (arith, l))))
-
-pub busy_done : (row : QuestionRow) → IsDone row → 0 < length row.ready + length row.out → ⊥
-busy_done row (ready, out) busy = let a = ap length ready in let b = ap length out in omega (arith, a, b, busy)
 
 -- a question that is undecided leaves the answer unknown
-unsettled : (least : Option KnownYes) (ended : Bool) (asked : List QuestionRow) (i : ℕ) → IsUndecided least asked i → IsSettledBy least ended asked → ⊥
-unsettled None ended asked i (l, b, busy) (e, done) = busy_done (row_at asked i) (done i l) busy
-unsettled (Some y) ended asked i (l, b, busy) done = busy_done (row_at asked i) (done i b) busy
+unsettled : (least : Option KnownYes) (ended : Bool) (asked : List QuestionRow) (i : ℕ) → IsTrue (is_undecided least asked i) → IsSettledBy least ended asked → ⊥
+unsettled None ended asked i undecided (e, done) = let is = undecided_is None asked i undecided in busy_done (row_at asked i) (done i is.0) is.2
+unsettled (Some y) ended asked i undecided done = let is = undecided_is (Some y) asked i undecided in busy_done (row_at asked i) (done i (below_yes y i is.1)) is.2
 
 -- so does a series that goes on
 unsettled_running : (least : Option KnownYes) (ended : Bool) (asked : List QuestionRow) → least ≡ None → ended ≡ false → IsSettledBy least ended asked → ⊥
@@ -35,23 +27,24 @@ unsettled_running None ended asked none e (yes_ended, done) = absurd (let clash 
 unsettled_running (Some y) ended asked none e done = absurd (cc none)
 
 -- where each question before a place that is not before the least yes is done, the answer is known
-settled_past : (least : Option KnownYes) (ended : Bool) (asked : List QuestionRow) (j : ℕ) → (StandsBefore least j → ⊥) → ((k : ℕ) → k < j → StandsBefore least k → IsDone (row_at asked k)) → IsSettledBy least ended asked
-settled_past None ended asked j not done = absurd (not tt)
-settled_past (Some y) ended asked j not done = λ k l. done k (elim (cases_lt j y.index) [ inl before ↦ absurd (not before) | inr after ↦ omega (arith, after, l) ]) l
+settled_past : (least : Option KnownYes) (ended : Bool) (asked : List QuestionRow) (j : ℕ) → IsFalse (is_before least j) → ((k : ℕ) → k < j → IsTrue (is_before least k) → IsDone (row_at asked k)) → IsSettledBy least ended asked
+settled_past None ended asked j not done = absurd (cc not)
+settled_past (Some y) ended asked j not done = λ k l. done k (elim (cases_lt j y.index) [ inl before ↦ absurd (not_both (is_before (Some y) j) (before_yes y j before) not) | inr after ↦ omega (arith, after, l) ]) (before_yes y k l)
 
 module _ (p : Project) (m : Machine) (places : List ℕ) (h : IsState p m places) where
   -- no place is left
-  pub none_undecided : places ≡ [] → (i : ℕ) → i < length m.asked → StandsBefore m.least i → IsDone (row_at m.asked i)
-  none_undecided e i l b = done_from (row_at m.asked i) (λ busy. no_member i (subst (λ (xs : List ℕ). Contains xs i) e ((h.undecided i).1 (l, b, busy))))
+  pub none_undecided : places ≡ [] → (i : ℕ) → IsFalse (is_undecided m.least m.asked i)
+  none_undecided e i = no_from (is_undecided m.least m.asked i) (λ undecided. no_member i (subst (λ (xs : List ℕ). Contains xs i) e ((h.undecided i).1 undecided)))
 
   pub settled_yes : (y : KnownYes) → places ≡ [] → m.least ≡ Some y → IsSettled m
   settled_yes y e known =
-      let there : HasAnswer p m.asked (Some y) = subst (λ (least : Option KnownYes). HasAnswer p m.asked least) known h.sound.answers in
-      subst (λ (least : Option KnownYes). IsSettledBy least m.ended m.asked) (sym known) (λ i l. none_undecided e i (omega (arith, l, there.0)) (subst (λ (least : Option KnownYes). StandsBefore least i) (sym known) l))
+      subst (λ (least : Option KnownYes). IsSettledBy least m.ended m.asked) (sym known)
+      (λ i l. decided_done m.least m.asked i (subst (λ (least : Option KnownYes). IsTrue (is_before least i)) (sym known) (before_yes y i l)) (none_undecided e i))
 
   pub settled_none : places ≡ [] → m.least ≡ None → m.ended ≡ true → IsSettled m
   settled_none e known over =
-      subst (λ (least : Option KnownYes). IsSettledBy least m.ended m.asked) (sym known) (over, λ i l. none_undecided e i l (subst (λ (least : Option KnownYes). StandsBefore least i) (sym known) tt))
+      subst (λ (least : Option KnownYes). IsSettledBy least m.ended m.asked) (sym known)
+      (over, λ i l. decided_done m.least m.asked i (subst (λ (least : Option KnownYes). IsTrue (is_before least i)) (sym known) refl) (none_undecided e i))
 
   pub pending_first : (i : ℕ) → IsFirstPlace places i → IsSettled m → ⊥
   pending_first i first = unsettled m.least m.ended m.asked i ((h.undecided i).0 first.is)
@@ -62,22 +55,23 @@ module _ (p : Project) (m : Machine) (places : List ℕ) (h : IsState p m places
   pub first_open : (i : ℕ) → IsFirstPlace places i → IsFirstOpen m i
   first_open i first =
       let here = (h.undecided i).0 first.is in
+      let is = undecided_is m.least m.asked i here in
       record {
-        most = omega (arith, here.0);
-        decided = λ j l b. done_from (row_at m.asked j) (λ busy. (let least = first.least j ((h.undecided j).1 (omega (arith, l, here.0), b, busy)) in omega (arith, least, l)));
-        open_there = λ l dec. busy_done (row_at m.asked i) (dec here.1) here.2;
+        most = omega (arith, is.0);
+        decided = λ j l. no_from (is_undecided m.least m.asked j) (λ undecided. (let least = first.least j ((h.undecided j).1 undecided) in omega (arith, least, l)));
+        open_there = λ l. here;
       }
 
   pub first_end : places ≡ [] → IsFirstOpen m (length m.asked)
   first_end e = record {
     most = omega arith;
-    decided = λ j l b. none_undecided e j l b;
-    open_there = λ l dec. omega (arith, l);
+    decided = λ j l. none_undecided e j;
+    open_there = λ l. absurd (omega (arith, l));
   }
 
 module _ (p : Project) (m : Machine) (sound : IsSoundState p m) where
   -- a question that is done, before the least yes, is a no
-  pub no_at : (i : ℕ) → i < length m.asked → StandsBefore m.least i → IsDone (row_at m.asked i) → IsNoAt p (all_questions m) i
+  pub no_at : (i : ℕ) → i < length m.asked → IsTrue (is_before m.least i) → IsDone (row_at m.asked i) → IsNoAt p (all_questions m) i
   no_at i l b done starts answer =
       done_no p (row_at m.asked i) (sound.kept i l b) done starts (subst (λ (q : Question). Answers p q.capacities q.window starts) (question_there m i l) answer)
 
@@ -85,9 +79,9 @@ module _ (p : Project) (m : Machine) (sound : IsSoundState p m) where
   pub known_open : (i : ℕ) → (IsSettled m → ⊥) → IsFirstOpen m i → AreNoBefore p (all_questions m) i
   known_open i pending first j l =
       let short = first.most in
-      elim (before_or_not m.least j) [
-        | inl before ↦ no_at j (omega (arith, l, short)) before (first.decided j l before)
-        | inr not ↦ absurd (pending (settled_past m.least m.ended m.asked j not (λ k less b. first.decided k (omega (arith, less, l)) b)))
+      elim (yes_or_no (is_before m.least j)) [
+        | inl before ↦ no_at j (omega (arith, l, short)) before (decided_done m.least m.asked j before (first.decided j l))
+        | inr not ↦ absurd (pending (settled_past m.least m.ended m.asked j not (λ k less b. decided_done m.least m.asked k b (first.decided k (omega (arith, less, l))))))
       ]
 
   -- the least yes is the first one
@@ -99,7 +93,7 @@ module _ (p : Project) (m : Machine) (sound : IsSoundState p m) where
       let same = length-map m.asked (λ (r : QuestionRow). r.question) in
       let answer : Answers p (question_at (all_questions m) y.index).capacities (question_at (all_questions m) y.index).window y.starts =
       subst (λ (q : Question). Answers p q.capacities q.window y.starts) (sym (question_there m y.index there.0)) there.1 in
-      let noes : AreNoBefore p (all_questions m) y.index = λ j l. no_at j (omega (arith, l, there.0)) (subst (λ (least : Option KnownYes). StandsBefore least j) (sym known) l) (done j l) in
+      let noes : AreNoBefore p (all_questions m) y.index = λ j l. no_at j (omega (arith, l, there.0)) (subst (λ (least : Option KnownYes). IsTrue (is_before least j)) (sym known) (before_yes y j l)) (done j l) in
       ((omega (arith, there.0, long, same), (y.starts, answer), noes), answer)
 
   -- where there is no yes, each is a no
@@ -110,7 +104,7 @@ module _ (p : Project) (m : Machine) (sound : IsSoundState p m) where
       let long = length-append (questions_in m.asked) m.to_come in
       let same = length-map m.asked (λ (r : QuestionRow). r.question) in
       let there : j < length m.asked = omega (arith, l, gone, long, same) in
-      no_at j there (subst (λ (least : Option KnownYes). StandsBefore least j) (sym known) tt) (over.1 j there)
+      no_at j there (subst (λ (least : Option KnownYes). IsTrue (is_before least j)) (sym known) refl) (over.1 j there)
 
   -- the capacities that were reached
   pub known_reached : (i : ℕ) → i ≤ length m.asked → AreNoBefore p (all_questions m) i → IsReached p (all_questions m) (capacities_at m.asked i)

@@ -2,6 +2,5 @@ pub mod Machine
 pub mod Truth
 pub mod Steps
 pub mod Replies
-pub mod Counts
 pub mod Runs
 pub mod Rows

@@ -1,8 +1,9 @@
 -- The collector as a machine: what it has been asked, what is still to be searched, and what it knows.
-use Rattle.std.specs.Prelude.{◌≡◌, ℕ, ◌+◌, ◌<◌, Bool, true, false, nat_lt, IsTrue, List, [], ◌∷◌, ◌++◌, length, map, slice_index_or, Option, Some, None}
+use Rattle.std.specs.Prelude.{◌≡◌, ℕ, ◌+◌, ◌<◌, ◌&&◌, Bool, true, false, nat_lt, IsTrue, List, [], ◌∷◌, ◌++◌, length, map, slice_index_or, Option, Some, None}
+use Rattle.std.specs.List.{filter, range_with_len}
 use Rattle.racp_model.specs.Window.{Bounds}
 use Rattle.racp_model.specs.declared.question.Question.{Question}
-use Rattle.racp_candidates.specs.FirstYes.{no_question}
+use Rattle.racp_questions.specs.FirstYes.{no_question}
 
 -- a piece that is out: its number, the seat of the worker that took it, and its window
 pub record PieceOut : Type 0 where
@@ -51,14 +52,10 @@ no_row = record { question = no_question; ready = []; out = [] }
 abbrev pub row_at : List QuestionRow → ℕ → QuestionRow
 row_at asked i = slice_index_or asked i no_row
 
--- the place stands before the least yes
+-- whether the place stands before the least yes
 abbrev pub is_before : Option KnownYes → ℕ → Bool
 is_before None i = true
 is_before (Some y) i = nat_lt i y.index
-
-abbrev pub StandsBefore : Option KnownYes → ℕ → Type 0
-StandsBefore None i = Unit {0}
-StandsBefore (Some y) i = i < y.index
 
 -- nothing of the question is open or out
 abbrev pub IsDone : QuestionRow → Type 0
@@ -68,10 +65,6 @@ IsDone row = (row.ready ≡ []) × (row.out ≡ [])
 abbrev pub AreDone : List QuestionRow → ℕ → Type 0
 AreDone asked n = (i : ℕ) → i < n → IsDone (row_at asked i)
 
--- the question is decided: it stands at or after the least yes, or nothing of it is open or out
-abbrev pub IsDecided : Machine → ℕ → Type 0
-IsDecided m i = StandsBefore m.least i → IsDone (row_at m.asked i)
-
 -- the answer is known: of the questions before the least yes each is decided; or the series has ended, and each is
 abbrev pub IsSettledBy : Option KnownYes → Bool → List QuestionRow → Type 0
 IsSettledBy (Some y) ended asked = AreDone asked y.index
@@ -80,6 +73,10 @@ IsSettledBy None ended asked = IsTrue ended × AreDone asked (length asked)
 abbrev pub IsSettled : Machine → Type 0
 IsSettled m = IsSettledBy m.least m.ended m.asked
 
--- something of the question is open or out, and it stands before the least yes
-abbrev pub IsUndecided : Option KnownYes → List QuestionRow → ℕ → Type 0
-IsUndecided least asked i = (i < length asked) × StandsBefore least i × (0 < length (row_at asked i).ready + length (row_at asked i).out)
+-- whether the asked question at a place is not decided: it stands before the least yes, and something of it is open or out
+abbrev pub is_undecided : Option KnownYes → List QuestionRow → ℕ → Bool
+is_undecided least asked i = is_before least i && nat_lt 0 (length (row_at asked i).ready + length (row_at asked i).out)
+
+-- how many are not
+unfoldable pub undecided_count : Machine → ℕ
+undecided_count m = length (filter (is_undecided m.least m.asked) (range_with_len 0 (length m.asked)))

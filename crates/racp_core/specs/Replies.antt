@@ -1,13 +1,13 @@
 -- What the collector answers to each call, and the change that goes with it.
-use Rattle.std.specs.Prelude.{◌≡◌, ℕ, ◌-◌, ◌^◌, ◌<◌, ◌≤◌, min, true, false, List, [], ◌∷◌, length, Option, Some, None, option_map}
+use Rattle.std.specs.Prelude.{◌≡◌, ℕ, ◌-◌, ◌^◌, ◌<◌, ◌≤◌, min, true, false, IsTrue, IsFalse, List, [], ◌∷◌, length, Option, Some, None, option_map}
 use Rattle.std.specs.List.{slice_get}
 use Rattle.racp_model.specs.Project.{Project}
 use Rattle.racp_model.specs.Window.{Answers}
 use Rattle.racp_model.specs.Formed.{IsFormed}
 use Rattle.racp_model.specs.declared.question.Question.{Question}
-use Rattle.racp_candidates.specs.FirstYes.{question_at, IsFirstYes, AreNoBefore}
+use Rattle.racp_questions.specs.FirstYes.{question_at, IsFirstYes, AreNoBefore}
 use Rattle.racp_search.specs.Truth.{SearchPiece, SearchFinding, rest_windows}
-use Rattle.racp_core.specs.Machine.{QuestionRow, Machine, IsSettled, IsDecided}
+use Rattle.racp_core.specs.Machine.{QuestionRow, Machine, IsSettled, is_undecided}
 use Rattle.racp_core.specs.Steps.{IsNextAsked, IsPieceTaken, HasNoOpen, IsOut, IsReturned, IsAnswered}
 use Rattle.racp_core.specs.declared.replies.Asked.{Asked}
 use Rattle.racp_core.specs.declared.replies.Asked.TheVariants.{Question as Next, End, Enough, Halted as AskHalted}
@@ -59,8 +59,8 @@ IsGivenBack old piece Stale new = (IsOut old piece → ⊥) × (new ≡ old)
 -- the least asked question that is not decided, or the number of asked questions
 pub record IsFirstOpen (m : Machine) (index : ℕ) : Type 0 where
   pub most : index ≤ length m.asked
-  pub decided : (i : ℕ) → i < index → IsDecided m i
-  pub open_there : index < length m.asked → IsDecided m index → ⊥
+  pub decided : (i : ℕ) → i < index → IsFalse (is_undecided m.least m.asked i)
+  pub open_there : index < length m.asked → IsTrue (is_undecided m.least m.asked index)
 
 -- the answer of a state
 abbrev pub IsVerdict : Machine → Verdict → Type 0

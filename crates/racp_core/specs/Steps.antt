@@ -1,11 +1,11 @@
 -- The changes of the collector's states.
-use Rattle.std.specs.Prelude.{◌≡◌, ℕ, ◌+◌, ◌<◌, ◌≤◌, false, nat_le, if◌then◌else◌, List, [], ◌∷◌, ◌++◌, length, slice_set, Option, Some, None, Contains, IsPermutation}
+use Rattle.std.specs.Prelude.{◌≡◌, ℕ, ◌+◌, ◌<◌, ◌≤◌, false, nat_le, IsTrue, if◌then◌else◌, List, [], ◌∷◌, ◌++◌, length, slice_set, Option, Some, None, Contains, IsPermutation}
 use Rattle.racp_model.specs.Window.{Bounds}
 use Rattle.racp_model.specs.declared.question.Question.{Question}
 use Rattle.racp_search.specs.Truth.{SearchPiece}
 use Rattle.racp_search.specs.declared.finding.Rest.{Rest}
 use Rattle.racp_search.specs.declared.finding.Rest.TheVariants.{Whole, Windows}
-use Rattle.racp_core.specs.Machine.{PieceOut, QuestionRow, KnownYes, Machine, opened, row_at, is_before, StandsBefore}
+use Rattle.racp_core.specs.Machine.{PieceOut, QuestionRow, KnownYes, Machine, opened, row_at, is_before}
 
 -- a piece as one that is out
 abbrev pub out_of : SearchPiece → PieceOut
@@ -33,13 +33,13 @@ IsSent piece old new =
 -- the least question before the least yes that has an open window
 pub record IsLeastOpen (m : Machine) (index : ℕ) : Type 0 where
   pub asked : index < length m.asked
-  pub before : StandsBefore m.least index
+  pub before : IsTrue (is_before m.least index)
   pub some : 0 < length (row_at m.asked index).ready
   pub least : (j : ℕ) → j < index → (row_at m.asked j).ready ≡ []
 
 -- no question before the least yes has an open window
 abbrev pub HasNoOpen : Machine → Type 0
-HasNoOpen m = (i : ℕ) → i < length m.asked → StandsBefore m.least i → (row_at m.asked i).ready ≡ []
+HasNoOpen m = (i : ℕ) → i < length m.asked → IsTrue (is_before m.least i) → (row_at m.asked i).ready ≡ []
 
 -- a piece goes out, with the next number
 pub record IsPieceTaken (old : Machine) (seat : ℕ) (piece : SearchPiece) (new : Machine) : Type 0 where

@@ -1,10 +1,10 @@
 -- What is true of the collector's states, of a network.
-use Rattle.std.specs.Prelude.{◌≡◌, ◌↔◌, ℕ, ◌<◌, IsTrue, List, [], ◌++◌, length, map, Option, Some, None, Contains}
+use Rattle.std.specs.Prelude.{◌≡◌, ◌↔◌, ℕ, ◌<◌, IsTrue, IsFalse, List, [], ◌++◌, length, map, Option, Some, None, Contains}
 use Rattle.racp_model.specs.Project.{Project}
 use Rattle.racp_model.specs.Window.{Bounds, Answers}
 use Rattle.racp_model.specs.Formed.{AreFormed}
 use Rattle.racp_search.specs.Truth.{IsRestOf}
-use Rattle.racp_core.specs.Machine.{QuestionRow, KnownYes, Machine, all_questions, row_at, StandsBefore, IsUndecided}
+use Rattle.racp_core.specs.Machine.{QuestionRow, KnownYes, Machine, all_questions, row_at, is_before, is_undecided}
 
 -- the windows of a question that are open, and those of its pieces that are out
 abbrev pub held_windows : QuestionRow → List Bounds
@@ -23,15 +23,15 @@ HasAnswer p asked (Some y) =
 -- of each question before the least yes what is open or out covers its window and lies inside it; the least yes answers; no
 -- window is open from there on; the questions have the network's form; and where the series has ended none is to come
 pub record IsSoundState (p : Project) (m : Machine) : Type 0 where
-  pub kept : (i : ℕ) → i < length m.asked → StandsBefore m.least i → IsKept p (row_at m.asked i)
+  pub kept : (i : ℕ) → i < length m.asked → IsTrue (is_before m.least i) → IsKept p (row_at m.asked i)
   pub answers : HasAnswer p m.asked m.least
-  pub shut : (i : ℕ) → i < length m.asked → (StandsBefore m.least i → ⊥) → (row_at m.asked i).ready ≡ []
+  pub shut : (i : ℕ) → i < length m.asked → IsFalse (is_before m.least i) → (row_at m.asked i).ready ≡ []
   pub formed : AreFormed p (all_questions m)
   pub finished : IsTrue m.ended → m.to_come ≡ []
 
 -- the places of the undecided questions
 abbrev pub AreUndecided : Option KnownYes → List QuestionRow → List ℕ → Type 0
-AreUndecided least asked places = (i : ℕ) → Contains places i ↔ IsUndecided least asked i
+AreUndecided least asked places = (i : ℕ) → Contains places i ↔ IsTrue (is_undecided least asked i)
 
 -- a state with the places of its undecided questions, of which all is true
 pub record IsState (p : Project) (m : Machine) (places : List ℕ) : Type 0 where

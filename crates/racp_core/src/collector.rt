@@ -2,17 +2,16 @@
 
 ghost use Rattle.std.specs.Prelude.{◌≡◌, ◌↔◌, ◌<◌, length, Some, None, IsTrue, true};
 ghost use Rattle.racp_model.specs.Formed.{AreFormed};
-ghost use Rattle.racp_candidates.specs.FirstYes.{question_at};
-ghost use Rattle.racp_core.specs.Machine.{fresh, all_questions, row_at, is_before, IsSettled};
+ghost use Rattle.racp_questions.specs.FirstYes.{question_at};
+ghost use Rattle.racp_core.specs.Machine.{fresh, all_questions, is_before, undecided_count, IsSettled};
 ghost use Rattle.racp_core.specs.Truth.{IsSoundState};
-ghost use Rattle.racp_core.specs.Counts.{undecided_count};
-ghost use Rattle.racp_core.specs.Runs.{Step, Halt, OfHalt};
+ghost use Rattle.racp_core.specs.Runs.{Step, Halt};
 
 use crate::replies::Verdict;
 use crate::row::Row;
 use crate::undecided::Undecided;
-use racp_candidates::Series;
 use racp_model::{Network, OfNetwork, Question, Starts};
+use racp_questions::Series;
 use std::alloc::Global;
 use std::marker::{Model, PhantomData};
 
@@ -88,7 +87,7 @@ impl<N: OfNetwork, S: Series> Core<N, S> {
 
     /// Halts the collector: no question is asked and no piece is handed out any more. Takes no memory.
     pub fn halt(&mut self)
-        ensures step { Step self.old Halt OfHalt self.new }
+        ensures step { Step self.old Halt self.new }
         ensures questions { all_questions self.new ≡ all_questions self.old }
     {
         self.halted = true;

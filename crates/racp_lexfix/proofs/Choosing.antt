@@ -19,7 +19,7 @@ use Rattle.racp_cpm.proofs.lemmas.Rooted.{answers-fit}
 use Rattle.racp_prices.specs.Units.{AreMostUnits, cut_to}
 use Rattle.racp_prices.proofs.lemmas.Ceilings.{cut-below, most-within}
 use Rattle.racp_candidates.specs.Questions.{question_of}
-use Rattle.racp_candidates.specs.FirstYes.{question_at, no_question, IsYesAt, AreNoBefore, IsFirstYes, IsReached}
+use Rattle.racp_questions.specs.FirstYes.{question_at, no_question, IsYesAt, AreNoBefore, IsFirstYes, IsReached}
 use Rattle.racp_candidates.specs.Box.{AreBounds, IsInBox, AreBoxQuestions}
 use Rattle.racp_bounds.specs.Floors.{AreFloors, AreRoofs}
 use Rattle.racp_bounds.specs.Sharp.{AreSharpened, AreRefutedPairs, AreSharpenedBefore}

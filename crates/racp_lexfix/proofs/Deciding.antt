@@ -3,11 +3,11 @@ use Rattle.std.proofs.Common.{◌≡◌, ℕ, List, [], ◌∷◌, Some, subst, 
 use Rattle.racp_model.specs.Project.{Project}
 use Rattle.racp_model.specs.Window.{Bounds, IsYes, IsNo}
 use Rattle.racp_model.specs.declared.question.Question.{Question}
-use Rattle.racp_candidates.specs.FirstYes.{IsFirst, IsFirstYes, IsYesAt}
-use Rattle.racp_candidates.specs.declared.asker.First.{First}
-use Rattle.racp_candidates.specs.declared.asker.First.TheVariants.{Yes, None as NoYes}
+use Rattle.racp_questions.specs.FirstYes.{IsFirst, IsFirstYes, IsYesAt}
+use Rattle.racp_questions.specs.declared.asker.First.{First}
+use Rattle.racp_questions.specs.declared.asker.First.TheVariants.{Yes, None as NoYes}
 use Rattle.racp_candidates.specs.Questions.{question_of}
-use Rattle.racp_candidates.proofs.lemmas.Answered.{yes_of, no_of}
+use Rattle.racp_questions.proofs.lemmas.Answered.{yes_of, no_of}
 
 module _ (p : Project) (capacities : List ℕ) (window : Bounds) (questions : List Question) (answer : First) (is : questions ≡ question_of capacities window ∷ []) (first : IsFirst p questions answer) where
   -- a yes

@@ -16,7 +16,7 @@ use Rattle.racp_model.specs.declared.question.Question.{Question}
 use Rattle.racp_model.proofs.lemmas.Lists.{at_set}
 use Rattle.racp_model.proofs.lemmas.Orders.{lex_from_first}
 use Rattle.racp_model.proofs.lemmas.Costs.{lex_apart, lex_one_way}
-use Rattle.racp_candidates.specs.FirstYes.{IsFirstYes, question_at, no_question, AreNoBefore}
+use Rattle.racp_questions.specs.FirstYes.{IsFirstYes, question_at, no_question, AreNoBefore}
 use Rattle.racp_candidates.specs.Questions.{question_of, window_at, start_questions}
 use Rattle.racp_lexfix.specs.Fixing.{HasSchedule, IsSettledEarly, IsLeastStart, IsAfterFront, IsFixedBefore}
 

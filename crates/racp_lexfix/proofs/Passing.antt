@@ -1,7 +1,7 @@
 -- A series of which the first questions were taken.
 use Rattle.std.proofs.Common.{◌≡◌, ◌∙◌, ℕ, zero, suc, ◌+◌, ◌<◌, List, [], ◌∷◌, length, drop, Option, Some, None, Ok, ap, sym, refl, arith}
 use Rattle.std.proofs.lemmas.List.{length-drop}
-use Rattle.racp_candidates.specs.Questions.{IsNextQuestion}
+use Rattle.racp_questions.specs.Series.{IsNextQuestion}
 use Rattle.racp_model.specs.declared.question.Question.{Question}
 
 -- at a place within the list it is not at its end

@@ -11,11 +11,11 @@ use Rattle.racp_model.specs.declared.question.Question.{Question}
 use Rattle.racp_model.proofs.lemmas.Lists.{at_set}
 use Rattle.racp_cpm.proofs.lemmas.Rooted.{fits-answers, least-fit}
 use Rattle.racp_prices.specs.Units.{AreMostUnits}
-use Rattle.racp_candidates.specs.declared.asker.AskStop.{AskStop}
-use Rattle.racp_candidates.specs.declared.asker.AskStop.TheVariants.{Stopped as AskStopped, Memory as AskMemory, NoThread as AskNoThread}
-use Rattle.racp_candidates.specs.declared.asker.First.{First}
-use Rattle.racp_candidates.specs.declared.asker.First.TheVariants.{Yes}
-use Rattle.racp_candidates.specs.FirstYes.{IsReached, IsStop, MayGiveUp, IsFirst, AreNoBefore}
+use Rattle.racp_questions.specs.declared.asker.AskStop.{AskStop}
+use Rattle.racp_questions.specs.declared.asker.AskStop.TheVariants.{Stopped as AskStopped, Memory as AskMemory, NoThread as AskNoThread}
+use Rattle.racp_questions.specs.declared.asker.First.{First}
+use Rattle.racp_questions.specs.declared.asker.First.TheVariants.{Yes}
+use Rattle.racp_questions.specs.FirstYes.{IsReached, IsStop, MayGiveUp, IsFirst, AreNoBefore}
 use Rattle.racp_candidates.specs.Box.{AreBounds, AreBoxQuestions}
 use Rattle.racp_bounds.specs.Floors.{AreFloors}
 use Rattle.racp_bounds.specs.Sharp.{IsSharpened, AreSharpened, AreSharpenedBefore, pair_count, IsUnsharpened}
@@ -65,13 +65,13 @@ ends_at : (p : Project) (terms : Terms) (questions : List Question) (told : Opti
     IsStop p questions told may_stop may_want_thread stop → left → IsNotAfterEnough p terms floors →
     ((capacities : List ℕ) → IsReached p questions (Some capacities) → IsNotAfterEnough p terms capacities × ((k : ℕ) → k < p.resources → slice_index floors k ≤ slice_index capacities k)) →
     IsPlanStop (IsStoppedInBox p terms floors told) (may_stop × left) may_want_thread (stopped_at stop floors)
-ends_at p terms questions told may_stop may_want_thread left (AskStopped (Some reached)) floors may some none there =
-    let inside = there reached may.2 in
-    ((may.0, some), record { none = inside.0; above = inside.1; as_told = subst (λ (o : Option (List ℕ)). IfSome o (λ r. reached ≡ r)) (sym may.1) refl })
-ends_at p terms questions told may_stop may_want_thread left (AskStopped None) floors may some none there =
-    ((may.0, some), record { none = none; above = λ k l. omega arith; as_told = subst (λ (o : Option (List ℕ)). IfSome o (λ r. floors ≡ r)) (sym may.1) tt })
+ends_at p terms questions told may_stop may_want_thread left (AskStopped (Some reached)) floors (may, as_told) some none there =
+    let inside = there reached as_told.1 in
+    ((may, some), record { none = inside.0; above = inside.1; as_told = subst (λ (o : Option (List ℕ)). IfSome o (λ r. reached ≡ r)) (sym as_told.0) refl })
+ends_at p terms questions told may_stop may_want_thread left (AskStopped None) floors (may, as_told) some none there =
+    ((may, some), record { none = none; above = λ k l. omega arith; as_told = subst (λ (o : Option (List ℕ)). IfSome o (λ r. floors ≡ r)) (sym as_told.0) tt })
 ends_at p terms questions told may_stop may_want_thread left AskMemory floors may some none there = tt
-ends_at p terms questions told may_stop may_want_thread left AskNoThread floors may some none there = may
+ends_at p terms questions told may_stop may_want_thread left AskNoThread floors may some none there = may.0
 
 -- a sharpened floor is at most a roof that is a yes
 sharpened_below : (p : Project) (root : Bounds) (floors roofs : List ℕ) (k units : ℕ) → slice_index floors k ≤ slice_index roofs k → IsYes p roofs root → IsSharpened p root floors roofs k units → units ≤ slice_index roofs k

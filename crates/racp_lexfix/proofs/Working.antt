@@ -1,12 +1,12 @@
 -- A collector of one seat, of which each piece is searched to its end before the next is taken.
-use Rattle.std.proofs.Common.{◌≡◌, ◌∙◌, ℕ, ◌+◌, ◌<◌, Bool, true, false, is_some, not, Bor, option_copied, if◌then◌else◌, append-nil, IsPermutation, inl, inr, List, [], ◌∷◌, ◌++◌, length, slice_set, Option, Some, None, Contains, refl, sym, ap, subst, arith}
+use Rattle.std.proofs.Common.{◌≡◌, ◌∙◌, ℕ, ◌+◌, ◌<◌, Bool, true, false, is_some, not, IsTrue, Bor, option_copied, if◌then◌else◌, append-nil, IsPermutation, inl, inr, List, [], ◌∷◌, ◌++◌, length, slice_set, Option, Some, None, Contains, refl, sym, ap, subst, arith}
 use Rattle.std.proofs.lemmas.Bool.{cases_lt}
 use Rattle.std.proofs.lemmas.List.{get_or-append-add, get_or_append_left, get_or-set_same, get_or-set_other, length-set, length-append}
 use Rattle.std.proofs.lemmas.List.Sorted.{length_permutation}
 use Rattle.racp_model.specs.Window.{Bounds}
 use Rattle.racp_model.specs.declared.question.Question.{Question}
 use Rattle.racp_search.specs.Truth.{SearchPiece, SearchFinding, rest_windows}
-use Rattle.racp_core.specs.Machine.{PieceOut, QuestionRow, KnownYes, Machine, opened, row_at, no_row, is_before, StandsBefore, IsDone, AreDone, IsSettledBy, IsSettled}
+use Rattle.racp_core.specs.Machine.{PieceOut, QuestionRow, KnownYes, Machine, opened, row_at, no_row, is_before, IsDone, AreDone, IsSettledBy, IsSettled}
 use Rattle.racp_core.specs.Steps.{out_of, IsOut, IsNextAsked, IsSent, HasNoOpen, IsPieceTaken, windows_before, IsReturned, IsAnswered, lesser}
 use Rattle.racp_core.specs.Replies.{IsMerged}
 use Rattle.racp_lexfix.specs.Working.{IsIdle, IsAtWork, IsHandedIn}
@@ -25,8 +25,8 @@ row_behind : (asked : List QuestionRow) (row : QuestionRow) → row_at (asked ++
 row_behind asked row = ap (λ n. row_at (asked ++ row ∷ []) n) (omega arith) ∙ get_or-append-add asked (row ∷ []) 0 no_row
 
 -- what is known of a yes where none is known
-before_unknown : (least : Option KnownYes) (i : ℕ) → least ≡ None → StandsBefore least i
-before_unknown None i e = tt
+before_unknown : (least : Option KnownYes) (i : ℕ) → least ≡ None → IsTrue (is_before least i)
+before_unknown None i e = refl
 before_unknown (Some y) i e = absurd (cc e)
 
 -- a list of one element is not empty

@@ -1,14 +1,14 @@
 ghost use Rattle.std.specs.Prelude.{◌≡◌, None, [], IfOk, IfErr};
-ghost use Rattle.racp_candidates.specs.declared.asker.AskStop.TheVariants.{Memory};
+ghost use Rattle.racp_questions.specs.declared.asker.AskStop.TheVariants.{Memory};
 ghost use Rattle.racp_search.specs.Truth.{rest_windows};
 ghost use Rattle.racp_core.specs.Machine.{all_questions, IsSettled};
-ghost use Rattle.racp_candidates.specs.FirstYes.{IsFirst};
+ghost use Rattle.racp_questions.specs.FirstYes.{IsFirst};
 ghost use Rattle.racp_lexfix.specs.Working.{IsIdle, IsAtWork, IsNextPiece, IsHandedIn, IsGoneOn};
 
-use racp_candidates::{AskStop, Asker, First, Series};
 use racp_core::{Asked, Core, Merged, Outcome, Reply};
 use racp_cutset::{Board, Local};
 use racp_model::{Network, OfNetwork};
+use racp_questions::{AskStop, Asker, First, Series};
 use racp_search::{Finding, Never, Piece, explore};
 use std::alloc::{AllocError, Global};
 

@@ -6,15 +6,16 @@ ghost use Rattle.racp_model.specs.Terms.{AreTermsOf, release_of, due_of};
 ghost use Rattle.racp_model.specs.Window.{IsRootWindow};
 ghost use Rattle.racp_bounds.specs.Floors.{AreFloors};
 ghost use Rattle.racp_candidates.specs.Box.{AreBounds};
-ghost use Rattle.racp_candidates.specs.FirstYes.{MayGiveUp};
+ghost use Rattle.racp_questions.specs.FirstYes.{MayGiveUp};
 ghost use Rattle.racp_lexfix.specs.Answers.{IsStoppedAt, IsPlanStop};
 ghost use Rattle.racp_lexfix.specs.Stages.{IsBounded, IsYesOrNo, given_up};
 
 use crate::answer::PlanStop;
 use racp_bounds::floors;
-use racp_candidates::{AskStop, Asker, First, One};
+use racp_candidates::One;
 use racp_model::{Capacities, Network, Window};
 use racp_prices::{Order, most_units};
+use racp_questions::{AskStop, Asker, First};
 use std::alloc::{AllocError, Global};
 
 /// The floors, and the roofs cut to the ceilings; or none where no capacities within the ceilings are enough. That is asked where

@@ -12,10 +12,11 @@ use crate::answer::{Answer, PlanStop};
 use crate::bounds::floors_and_roofs;
 use crate::starts::least_starts;
 use racp_bounds::{Sharp, sharpen};
-use racp_candidates::{Asker, First, Vectors};
+use racp_candidates::Vectors;
 use racp_check::{Opening, Plan, opening_of};
 use racp_model::{Capacities, Network, Starts, Window, peaks};
 use racp_prices::{Order, cost_of};
+use racp_questions::{Asker, First};
 use std::alloc::{AllocError, Global};
 
 /// The plan of an order, or why there is none. Questions go to the asker, which is about this network: first whether the ceilings

@@ -6,13 +6,14 @@ ghost use Rattle.racp_model.specs.Path.{IsEarly};
 ghost use Rattle.racp_model.specs.Plan.{IsLeast};
 ghost use Rattle.racp_model.specs.Terms.{IsLexBefore};
 ghost use Rattle.racp_model.specs.Window.{Answers, IsYes};
-ghost use Rattle.racp_candidates.specs.FirstYes.{MayGiveUp};
+ghost use Rattle.racp_questions.specs.FirstYes.{MayGiveUp};
 ghost use Rattle.racp_candidates.specs.Questions.{window_at};
 ghost use Rattle.racp_lexfix.specs.Fixing.{HasSchedule, IsSettledEarly, IsLeastStart};
 
-use racp_candidates::{AskStop, Asker, First, Starts1};
+use racp_candidates::Starts1;
 use racp_cpm::settle_early;
 use racp_model::{Capacities, Network, Starts, Window};
+use racp_questions::{AskStop, Asker, First};
 use std::alloc::{AllocError, Global};
 
 /// The lexicographically least starts in the window that keep precedence and the capacities. Some starts do.

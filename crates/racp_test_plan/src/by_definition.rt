@@ -1,7 +1,7 @@
 //! An asker that decides each question by its definition.
 
-use racp_candidates::{AskStop, Asker, First, Series};
 use racp_model::{Network, OfNetwork};
+use racp_questions::{AskStop, Asker, First, Series};
 use racp_reference::decide_by_definition;
 use std::alloc::Global;
 use std::marker::PhantomData;

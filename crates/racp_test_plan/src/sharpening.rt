@@ -5,8 +5,8 @@ ghost use Rattle.racp_model.specs.Window.{IsYes};
 
 use crate::by_definition::ByDefinition;
 use racp_bounds::{Sharp, roofs, sharpen};
-use racp_candidates::AskStop;
 use racp_model::{Capacities, Network, OfNetwork, Question, Window};
+use racp_questions::AskStop;
 use racp_reference::decide_by_definition;
 use racp_samples::{crossed, root_window};
 use std::alloc::{AllocError, Global};

@@ -2,10 +2,10 @@
 
 ghost use Rattle.std.specs.Prelude.{◌≡◌, IfOk};
 
-use racp_candidates::{AskStop, Asker, First, Series};
 use racp_lexfix::{Alone, PlanStop, plan};
 use racp_model::{Capacities, Network, OfNetwork};
 use racp_prices::{Order, OrderFault, read_order};
+use racp_questions::{AskStop, Asker, First, Series};
 use racp_samples::crossed;
 use std::alloc::{AllocError, Global};
 use std::marker::Brand;

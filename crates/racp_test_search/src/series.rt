@@ -4,9 +4,10 @@ ghost use Rattle.std.specs.Prelude.{◌≡◌, IsTrue, length};
 ghost use Rattle.racp_model.specs.Project.{AreNumbers};
 ghost use Rattle.racp_candidates.specs.Box.{ArePrices, AreBounds};
 
-use racp_candidates::{One, Series, Singles, Starts1, Vectors};
+use racp_candidates::{One, Singles, Starts1, Vectors};
 use racp_model::{Capacities, Question, Window};
 use racp_prices::Order;
+use racp_questions::Series;
 use racp_samples::{SampleFault, parallel, root_window};
 use std::alloc::{AllocError, Global};
 

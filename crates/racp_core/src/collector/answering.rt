@@ -2,15 +2,15 @@
 
 ghost use Rattle.std.specs.Prelude.{◌≡◌, ◌<◌, length, None, Some};
 ghost use Rattle.std.specs.List.{slice_get};
-ghost use Rattle.racp_candidates.specs.FirstYes.{IsReached};
+ghost use Rattle.racp_questions.specs.FirstYes.{IsReached};
 ghost use Rattle.racp_core.specs.Machine.{all_questions};
 ghost use Rattle.racp_core.specs.Replies.{IsVerdict, IsKnown, IsOutcome, IsOutcomeKnown, reached_by, capacities_at};
 
 use super::Core;
 use crate::replies::{Outcome, Verdict};
 use crate::row::Row;
-use racp_candidates::Series;
 use racp_model::{Capacities, OfNetwork};
+use racp_questions::Series;
 
 impl<N: OfNetwork, S: Series> Core<N, S> {
     /// What is known of the series. Takes no memory.

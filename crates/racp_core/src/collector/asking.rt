@@ -4,14 +4,14 @@ ghost use Rattle.std.specs.Prelude.{◌≡◌, ◌++◌, ◌<◌, [], Some, None
 ghost use Rattle.racp_core.specs.Machine.{all_questions};
 ghost use Rattle.racp_core.specs.Replies.{IsSmallPlace};
 ghost use Rattle.racp_core.specs.Rows.{IsOpenedIf};
-ghost use Rattle.racp_core.specs.Runs.{Step, Ask, OfAsk};
+ghost use Rattle.racp_core.specs.Runs.{Step, Ask};
 
 use super::Core;
 use crate::replies::Asked;
 use crate::row::{Row, copy_of_window};
 use crate::undecided::Undecided;
-use racp_candidates::Series;
 use racp_model::{OfNetwork, Question};
+use racp_questions::Series;
 use std::alloc::{AllocError, Global};
 
 impl<N: OfNetwork, S: Series> Core<N, S> {
@@ -21,7 +21,7 @@ impl<N: OfNetwork, S: Series> Core<N, S> {
     ///
     /// Memory was refused. Nothing has changed, and the next call asks the same question.
     pub fn ask(&mut self) -> Result<Asked, AllocError>
-        ensures step { IfOk result (λ asked. Step self.old Ask (OfAsk asked) self.new) }
+        ensures step { IfOk result (λ asked. Step self.old (Ask asked) self.new) }
         ensures small { IfOk result IsSmallPlace }
         ensures questions { all_questions self.new ≡ all_questions self.old }
         ensures err { IfErr result (λ _. self.new ≡ self.old) }

@@ -6,14 +6,14 @@ ghost use Rattle.racp_search.specs.Truth.{rest_windows};
 ghost use Rattle.racp_core.specs.Machine.{all_questions, row_at};
 ghost use Rattle.racp_core.specs.Steps.{IsOut, IsReturned, IsAnswered, AreShutFrom, lesser, listed};
 ghost use Rattle.racp_core.specs.Rows.{IsPlaceIn, IsSettledAt, IsCutAt};
-ghost use Rattle.racp_core.specs.Runs.{Step, Hand, GiveBack, OfMerge};
+ghost use Rattle.racp_core.specs.Runs.{Step, Hand, GiveBack};
 
 use super::{Best, Core};
 use crate::replies::Merged;
 use crate::row::Row;
 use crate::undecided::Undecided;
-use racp_candidates::Series;
 use racp_model::{OfNetwork, Starts};
+use racp_questions::Series;
 use racp_search::{Finding, Piece};
 use std::alloc::AllocError;
 
@@ -26,7 +26,7 @@ impl<N: OfNetwork, S: Series> Core<N, S> {
     ///
     /// Memory was refused, for windows that are left of the piece. Nothing has changed, and the finding comes back.
     pub fn hand(&mut self, finding: Finding<N>) -> Result<Merged, (Finding<N>, AllocError)>
-        ensures step { IfOk result (λ merged. Step self.old (Hand finding) (OfMerge merged) self.new) }
+        ensures step { IfOk result (λ merged. Step self.old (Hand finding merged) self.new) }
         ensures questions { all_questions self.new ≡ all_questions self.old }
         ensures err { IfErr result (λ e. (self.new ≡ self.old) × (e.0 ≡ finding) × (finding.found ≡ None) × (0 < listed finding.rest)) }
     {
@@ -49,7 +49,7 @@ impl<N: OfNetwork, S: Series> Core<N, S> {
     /// Takes back a piece that was not searched: its window is open again, where its question stands before each known yes. Takes
     /// no memory.
     pub fn give_back(&mut self, piece: Piece<N>) -> Merged
-        ensures step { Step self.old (GiveBack piece) (OfMerge result) self.new }
+        ensures step { Step self.old (GiveBack piece result) self.new }
         ensures questions { all_questions self.new ≡ all_questions self.old }
     {
         match self.place(&piece) {

@@ -3,12 +3,12 @@
 ghost use Rattle.std.specs.Prelude.{◌≡◌, ◌<◌, ◌-◌, ◌^◌, IfOk, IfErr};
 ghost use Rattle.racp_core.specs.Machine.{all_questions};
 ghost use Rattle.racp_core.specs.Replies.{IsFormedReply};
-ghost use Rattle.racp_core.specs.Runs.{Step, Take, OfTake};
+ghost use Rattle.racp_core.specs.Runs.{Step, Take};
 
 use super::Core;
 use crate::replies::Reply;
-use racp_candidates::Series;
 use racp_model::OfNetwork;
+use racp_questions::Series;
 use racp_search::Piece;
 use std::alloc::AllocError;
 
@@ -22,7 +22,7 @@ impl<N: OfNetwork, S: Series> Core<N, S> {
     /// Memory was refused. Nothing has changed.
     pub fn take(&mut self, seat: usize) -> Result<Reply<Piece<N>>, AllocError>
         requires { self.old.taken < 2 ^ 64 - 1 }
-        ensures step { IfOk result (λ reply. Step self.old (Take seat) (OfTake reply) self.new) }
+        ensures step { IfOk result (λ reply. Step self.old (Take seat reply) self.new) }
         ensures formed { IfOk result (IsFormedReply N.network) }
         ensures questions { all_questions self.new ≡ all_questions self.old }
         ensures err { IfErr result (λ _. self.new ≡ self.old) }

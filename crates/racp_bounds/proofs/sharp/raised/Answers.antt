@@ -1,10 +1,10 @@
 use Rattle.std.proofs.Common.{◌≡◌, ℕ, ◌+◌, List, Some, slice_index, arith, sym, subst, ap}
 use Rattle.racp_model.specs.Formed.{AreFormed}
-use Rattle.racp_candidates.specs.FirstYes.{IsFirstYes}
+use Rattle.racp_questions.specs.FirstYes.{IsFirstYes}
 use Rattle.racp_candidates.specs.Questions.{single_questions}
 use Rattle.racp_candidates.proofs.lemmas.Forms.{singles_formed}
 use Rattle.racp_bounds.specs.Sharp.{IsSharpened}
-use Rattle.racp_candidates.proofs.lemmas.Answered.{yes_of, no_of}
+use Rattle.racp_questions.proofs.lemmas.Answered.{yes_of, no_of}
 use Rattle.racp_bounds.proofs.Raising.{first_within, first_sharpened, some_yes}
 use Rattle.racp_bounds.proofs.sharp.raised.Goals as goal
 

@@ -1,6 +1,6 @@
 use Rattle.std.proofs.Common.{◌≡◌, refl, sym, subst}
 use Rattle.racp_candidates.proofs.lemmas.Forms.{box_formed}
-use Rattle.racp_candidates.proofs.lemmas.Answered.{no_of}
+use Rattle.racp_questions.proofs.lemmas.Answered.{no_of}
 use Rattle.racp_lexfix.specs.Answers.{IsPlanStop}
 use Rattle.racp_lexfix.specs.Stages.{IsStoppedInBox}
 use Rattle.racp_lexfix.specs.declared.answer.PlanStop.{PlanStop}

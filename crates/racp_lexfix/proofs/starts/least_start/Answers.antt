@@ -1,9 +1,9 @@
 use Rattle.std.proofs.Common.{Some, sym, subst}
 use Rattle.racp_model.specs.Formed.{AreFormed}
-use Rattle.racp_candidates.specs.FirstYes.{IsFirstYes}
+use Rattle.racp_questions.specs.FirstYes.{IsFirstYes}
 use Rattle.racp_candidates.specs.Questions.{start_questions}
 use Rattle.racp_candidates.proofs.lemmas.Forms.{starts_formed}
-use Rattle.racp_candidates.proofs.lemmas.Answered.{yes_of, no_of}
+use Rattle.racp_questions.proofs.lemmas.Answered.{yes_of, no_of}
 use Rattle.racp_lexfix.specs.Fixing.{IsLeastStart}
 use Rattle.racp_lexfix.proofs.Fixing.{start_within, start_least, some_start}
 use Rattle.racp_lexfix.proofs.starts.least_start.Goals as goal

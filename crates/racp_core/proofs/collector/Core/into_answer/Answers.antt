@@ -1,6 +1,6 @@
 use Rattle.std.proofs.Common.{◌≡◌, ◌++◌, ◌∙◌, List, ℕ, Option, Some, None, length, ap, sym, subst, arith}
 use Rattle.std.specs.Option.{option_to_list}
-use Rattle.racp_candidates.specs.FirstYes.{IsFirstYes, AreNoBefore, IsReached}
+use Rattle.racp_questions.specs.FirstYes.{IsFirstYes, AreNoBefore, IsReached}
 use Rattle.racp_core.specs.Machine.{KnownYes, Machine, all_questions, IsSettled}
 use Rattle.racp_core.specs.Replies.{IsFirstOpen, IsYesKnown, capacities_at}
 use Rattle.racp_core.proofs.Verdicts.{settled_yes, settled_none, pending_first, pending_running, first_open, first_end, known_open, known_first, known_none, known_reached}

@@ -1,7 +1,6 @@
 use Rattle.std.proofs.Common.{◌≡◌, ◌++◌, ◌∙◌, subst}
 use Rattle.std.specs.Option.{option_to_list}
-use Rattle.racp_core.specs.Machine.{Machine}
-use Rattle.racp_core.specs.Counts.{undecided_count}
+use Rattle.racp_core.specs.Machine.{Machine, undecided_count}
 use Rattle.racp_core.proofs.Counting.{counted}
 use Rattle.racp_core.proofs.collector.Core.undecided.Goals as goal
 

@@ -3,8 +3,8 @@ use Rattle.std.specs.Prelude.{SomeIff}
 use Rattle.racp_model.specs.Project.{Project}
 use Rattle.racp_model.specs.Window.{Bounds, Answers, IsNo}
 use Rattle.racp_model.specs.declared.question.Question.{Question}
-use Rattle.racp_candidates.specs.Questions.{IsNextQuestion}
-use Rattle.racp_candidates.proofs.lemmas.Walks.{IsWalked, walk_yes, walk_no, walk_ended}
+use Rattle.racp_questions.specs.Series.{IsNextQuestion}
+use Rattle.racp_questions.proofs.lemmas.Walks.{IsWalked, walk_yes, walk_no, walk_ended}
 use Rattle.racp_reference.specs.Outcomes.{IsFirstAnswer}
 use Rattle.racp_test_plan.proofs.by_definition.ByDefinitionAsker.first.Goals as goal
 

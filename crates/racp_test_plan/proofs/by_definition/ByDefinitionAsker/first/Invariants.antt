@@ -1,5 +1,5 @@
 use Rattle.std.proofs.Common.{◌≡◌, length}
-use Rattle.racp_candidates.proofs.lemmas.Walks.{IsWalked}
+use Rattle.racp_questions.proofs.lemmas.Walks.{IsWalked}
 use Rattle.racp_test_plan.proofs.by_definition.ByDefinitionAsker.first.Given as goal
 
 abbrev pub invariant-loop-series : goal.invariant-loop-series

@@ -29,7 +29,7 @@ pub enum AskStop {
 
 impl From<AllocError> for AskStop {
     ghost use Rattle.std.specs.Prelude.{◌≡◌};
-    ghost use Rattle.racp_candidates.specs.declared.asker.AskStop.TheVariants.{Memory};
+    ghost use Rattle.racp_questions.specs.declared.asker.AskStop.TheVariants.{Memory};
 
     ghost from_gives = { λ _ stop. stop ≡ Memory };
 
@@ -44,7 +44,7 @@ pub trait Asker {
     ghost use Rattle.std.specs.Prelude.{◌≡◌, ℕ, ◌+◌, List, Option, OnOk, OnErr, IfOk, IfErr};
     ghost use Rattle.racp_model.specs.Project.{Project};
     ghost use Rattle.racp_model.specs.Formed.{AreFormed};
-    ghost use Rattle.racp_candidates.specs.FirstYes.{IsFirst, IsStop};
+    ghost use Rattle.racp_questions.specs.FirstYes.{IsFirst, IsStop};
 
     ghost network: { Self → Project };
 
@@ -71,5 +71,6 @@ pub trait Asker {
         ensures answer { IfOk result (IsFirst net.now (S.questions series)) }
         ensures answered { OnOk result (answered self.new ≡ answered self.old + 1) }
         ensures unanswered { OnErr result (answered self.new ≡ answered self.old) }
-        ensures stop { IfErr result (IsStop net.now (S.questions series) (told self.new) (may_stop self.new) (may_want_thread self.new)) };
+        ensures stop { IfErr result (IsStop net.now (S.questions series) (told self.new) (may_stop self.new)
+            (may_want_thread self.new)) };
 }

@@ -2,9 +2,9 @@
 use Rattle.std.proofs.Common.{◌≡◌, ℕ, List, length, Some, subst}
 use Rattle.racp_model.specs.Project.{Project}
 use Rattle.racp_model.specs.declared.question.Question.{Question}
-use Rattle.racp_candidates.specs.FirstYes.{IsFirst, IsFirstYes, AreNoBefore}
-use Rattle.racp_candidates.specs.declared.asker.First.{First}
-use Rattle.racp_candidates.specs.declared.asker.First.TheVariants.{Yes, None as NoYes}
+use Rattle.racp_questions.specs.FirstYes.{IsFirst, IsFirstYes, AreNoBefore}
+use Rattle.racp_questions.specs.declared.asker.First.{First}
+use Rattle.racp_questions.specs.declared.asker.First.TheVariants.{Yes, None as NoYes}
 
 -- what an asker answers of a list of questions is so of an equal list, and of an equal answer
 pub yes_of : (p : Project) (questions others : List Question) (answer : First) (index : ℕ) (starts : List ℕ) → questions ≡ others → answer ≡ Yes index starts →

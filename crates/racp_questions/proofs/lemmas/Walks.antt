@@ -5,8 +5,8 @@ use Rattle.racp_model.specs.Window.{Answers, IsNo}
 use Rattle.racp_model.specs.Formed.{IsFormed, AreFormed}
 use Rattle.racp_model.specs.declared.question.Question.{Question}
 use Rattle.racp_model.proofs.lemmas.Lists.{below_suc}
-use Rattle.racp_candidates.specs.FirstYes.{no_question, question_at, IsNoAt, AreNoBefore, IsFirst}
-use Rattle.racp_candidates.specs.declared.asker.First.TheVariants.{Yes, None as NoYes}
+use Rattle.racp_questions.specs.FirstYes.{no_question, question_at, IsNoAt, AreNoBefore, IsFirst}
+use Rattle.racp_questions.specs.declared.asker.First.TheVariants.{Yes, None as NoYes}
 
 -- so many questions of a list were looked at, each is a no, and these are left
 pub record IsWalked (p : Project) (questions left : List Question) (index : ℕ) : Type 0 where

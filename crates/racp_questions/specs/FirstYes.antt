@@ -3,10 +3,10 @@ use Rattle.std.specs.Prelude.{◌≡◌, ℕ, ◌<◌, List, [], length, slice_i
 use Rattle.racp_model.specs.Project.{Project}
 use Rattle.racp_model.specs.Window.{Answers, IsYes, IsNo}
 use Rattle.racp_model.specs.declared.question.Question.{Question}
-use Rattle.racp_candidates.specs.declared.asker.First.{First}
-use Rattle.racp_candidates.specs.declared.asker.First.TheVariants.{Yes, None as NoYes}
-use Rattle.racp_candidates.specs.declared.asker.AskStop.{AskStop}
-use Rattle.racp_candidates.specs.declared.asker.AskStop.TheVariants.{Stopped, Memory, NoThread}
+use Rattle.racp_questions.specs.declared.asker.First.{First}
+use Rattle.racp_questions.specs.declared.asker.First.TheVariants.{Yes, None as NoYes}
+use Rattle.racp_questions.specs.declared.asker.AskStop.{AskStop}
+use Rattle.racp_questions.specs.declared.asker.AskStop.TheVariants.{Stopped, Memory, NoThread}
 
 -- what is read at a place where there is no question
 abbrev pub no_question : Question
@@ -50,8 +50,12 @@ MayGiveUp may_stop may_want_thread (Stopped reached) = may_stop
 MayGiveUp may_stop may_want_thread Memory = ⊤
 MayGiveUp may_stop may_want_thread NoThread = may_want_thread
 
--- why the first yes is not known, of an asker that may stop, or want a thread, or neither; where it stops, it tells what it reached
+-- where it stops, it tells what it reached
+abbrev pub IsTold : Project → List Question → (told : Option (List ℕ)) → AskStop → Type 0
+IsTold p questions told (Stopped reached) = (told ≡ reached) × IsReached p questions reached
+IsTold p questions told Memory = ⊤
+IsTold p questions told NoThread = ⊤
+
+-- why the first yes is not known: a reason for which the asker may give up, and what it tells
 abbrev pub IsStop : Project → List Question → (told : Option (List ℕ)) → (may_stop may_want_thread : Type 0) → AskStop → Type 0
-IsStop p questions told may_stop may_want_thread (Stopped reached) = may_stop × (told ≡ reached) × IsReached p questions reached
-IsStop p questions told may_stop may_want_thread Memory = ⊤
-IsStop p questions told may_stop may_want_thread NoThread = may_want_thread
+IsStop p questions told may_stop may_want_thread stop = MayGiveUp may_stop may_want_thread stop × IsTold p questions told stop

@@ -3,8 +3,8 @@ use Rattle.std.proofs.Common.{◌≡◌, ℕ, List, inl, inr, arith, refl, ap, S
 use Rattle.std.proofs.lemmas.Bool.{cases_lt}
 use Rattle.racp_model.specs.Project.{Project}
 use Rattle.racp_model.specs.declared.question.Question.{Question}
-use Rattle.racp_candidates.specs.FirstYes.{IsYesAt, IsNoAt}
-use Rattle.racp_candidates.specs.Laws.{FirstYesIsOne}
+use Rattle.racp_questions.specs.FirstYes.{IsYesAt, IsNoAt}
+use Rattle.racp_questions.specs.Laws.{FirstYesIsOne}
 
 -- a question is not both a yes and a no
 pub not_both : (p : Project) (questions : List Question) (i : ℕ) → IsYesAt p questions i → IsNoAt p questions i → ⊥

@@ -5,7 +5,7 @@ use std::alloc::AllocError;
 pub trait Series: Drop {
     ghost use Rattle.std.specs.Prelude.{List};
     ghost use Rattle.racp_model.specs.declared.question.Question.{Question};
-    ghost use Rattle.racp_candidates.specs.Questions.{IsNextQuestion};
+    ghost use Rattle.racp_questions.specs.Series.{IsNextQuestion};
 
     ghost questions: { Self → List Question };
 

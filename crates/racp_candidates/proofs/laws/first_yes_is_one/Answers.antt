@@ -1,5 +1,0 @@
-use Rattle.racp_candidates.proofs.FirstYes.{one_first_yes}
-use Rattle.racp_candidates.proofs.laws.first_yes_is_one.Goals as goal
-
-pub returns : goal.returns
-returns c = one_first_yes

@@ -1,0 +1,3 @@
+pub mod Series
+pub mod FirstYes
+pub mod Laws
