@@ -110,6 +110,10 @@ pub gone_numbers : (p : Project) (capacities early : List ℕ) (t : ℕ) (active
 gone_numbers p capacities early t active gone n law same clash minimal = all_members (IsNumber n) gone
     (λ job c. let is = ((clash.set.members job).0 (((law active gone clash.set.rises).0 (minimal.delays.0, minimal.delays.1)).1 job c)).0 in (is.0, omega (arith, is.1, same)))
 
+-- the first end of those that stay, in equal projects
+pub same_ends : (p q : Project) (early active gone : List ℕ) (end : ℕ) → p ≡ q → ((kept : List ℕ) → Splits active gone kept → IsFirstEnd p early kept end) → (kept : List ℕ) → Splits active gone kept → IsFirstEnd q early kept end
+same_ends p q early active gone end same ends kept s = subst (λ (r : Project). IsFirstEnd r early kept end) same (ends kept s)
+
 -- the first end of those that stay is small
 pub end_small : (p : Project) (capacities early : List ℕ) (t : ℕ) (active gone kept : List ℕ) (end : ℕ) → OthersStay → IsSound p → IsClash p capacities early t active → ((i : ℕ) → i < length p.jobs → slice_index early i ≤ 10000000) →
     Splits active gone kept → IsFirstEnd p early kept end → end ≤ 10010000

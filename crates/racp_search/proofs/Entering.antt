@@ -3,19 +3,29 @@ use Rattle.std.proofs.Common.{◌≡◌, ◌≢◌, inl, inr, ◌∙◌, ℕ, �
 use Rattle.std.proofs.lemmas.List.Elements.{Contains-append_left, Contains-append_right, Contains-append_cases}
 use Rattle.racp_model.specs.Project.{Project}
 use Rattle.racp_model.specs.Window.{Bounds, IsNo}
+use Rattle.racp_model.specs.Formed.{HasBounds}
 use Rattle.racp_model.proofs.lemmas.Relations.{member_cases, member_first, member_later, no_member}
-use Rattle.racp_search.specs.Truth.{IsRestOf}
-use Rattle.racp_search.specs.Searching.{SearchFrame, open_windows, IsHigher, IsSearching, IsFrameOf}
-use Rattle.racp_search.specs.Ends.{IsClosed, IsSpent}
-use Rattle.racp_search.proofs.Stacks.{searching-refuted, searching-framed, covers-more}
+use Rattle.racp_search.specs.Truth.{IsRestOf, IsFoundOrLeft}
+use Rattle.racp_search.specs.DepthFirst.{SearchFrame, open_windows, IsHigher, IsSearching, IsFrameOf}
+use Rattle.racp_search.specs.Glances.{IsGlance}
+use Rattle.racp_search.specs.declared.glance.Glance.{Glance}
+use Rattle.racp_search.specs.Steps.{IsClosed}
+use Rattle.racp_search.specs.Ends.{IsSpent, IsEnd}
+use Rattle.racp_search.specs.declared.ended.Ended.{Ended}
+use Rattle.racp_search.proofs.Stacks.{searching-start, searching-refuted, searching-framed, covers-more}
 use Rattle.racp_search.proofs.Popping.{open-with}
 use Rattle.racp_search.proofs.Weights.{framed-lighter, closed-lighter}
 
+-- what is learnt of a window, in equal projects
+pub same_glance : (p q : Project) (a b : List ℕ) (window : Bounds) (glance : Glance) → p ≡ q → a ≡ b → IsGlance p a window glance → IsGlance q b window glance
+same_glance p q a b window glance named same h =
+    subst (λ (xs : List ℕ). IsGlance q xs window glance) same (subst (λ (r : Project). IsGlance r a window glance) named h)
+
 -- a refuted window is closed
-pub closed-refuted : (p q : Project) (capacities : List ℕ) (whole : Bounds) (stack : List SearchFrame) (window : Bounds) → p ≡ q → IsSearching q capacities whole stack (window ∷ []) → IsNo p capacities window → IsClosed q capacities whole stack window stack
-closed-refuted p q capacities whole stack window named h refuted = record {
-  state = searching-refuted q capacities whole stack window h (subst (λ (r : Project). IsNo r capacities window) named refuted);
-  lighter = closed-lighter q (open_windows stack) window;
+pub closed-refuted : (p : Project) (capacities : List ℕ) (whole : Bounds) (stack : List SearchFrame) (window : Bounds) → IsSearching p capacities whole stack (window ∷ []) → IsNo p capacities window → IsClosed p capacities whole stack window stack
+closed-refuted p capacities whole stack window h refuted = record {
+  state = searching-refuted p capacities whole stack window h refuted;
+  lighter = closed-lighter p (open_windows stack) window;
 }
 
 -- so is one whose frame is on the stack
@@ -28,6 +38,32 @@ closed-framed q capacities whole stack new window f h is e =
 pub gather : (window : Bounds) (ys : List SearchFrame) (f : SearchFrame) (rest more new : List Bounds) → rest ≡ window ∷ open_windows ys → more ≡ f.children → new ≡ rest ++ more → new ≡ window ∷ open_windows (ys ++ f ∷ [])
 gather window ys f rest more new is_rest is_more is_new =
     is_new ∙ (ap (λ (xs : List Bounds). xs ++ more) is_rest ∙ (ap (λ (xs : List Bounds). window ∷ (open_windows ys ++ xs)) is_more ∙ ap (λ (xs : List Bounds). window ∷ xs) (sym (open-with ys f))))
+
+-- at the start a copy of the whole window is searched next
+pub started : (p : Project) (capacities : List ℕ) (whole copy : Bounds) (frames : List SearchFrame) → HasBounds p whole → copy.lower ≡ whole.lower → copy.upper ≡ whole.upper → frames ≡ [] → IsSearching p capacities whole frames (copy ∷ [])
+started p capacities whole copy frames bounds lower upper none =
+    let same_lower : record { lower = copy.lower; upper = whole.upper } ≡ whole = subst (λ (xs : List ℕ). record { lower = xs; upper = whole.upper } ≡ whole) (sym lower) refl in
+    let same : copy ≡ whole = subst (λ (xs : List ℕ). record { lower = copy.lower; upper = xs } ≡ whole) (sym upper) same_lower in
+    let copied : IsSearching p capacities whole [] (copy ∷ []) = subst (λ (w : Bounds). IsSearching p capacities whole [] (w ∷ [])) (sym same) (searching-start p capacities whole bounds) in
+    subst (λ (xs : List SearchFrame). IsSearching p capacities whole xs (copy ∷ [])) (sym none) copied
+
+-- a search that leaves nothing and finds nothing
+pub end_nothing : (p : Project) (capacities : List ℕ) (whole : Bounds) (quantum : Option ℕ) (nodes : ℕ) (ended : Ended) → IsSearching p capacities whole [] [] → 0 < nodes →
+    ended.found ≡ None → ended.rest.items ≡ [] → ended.stopped ≡ false → IsEnd p capacities whole quantum nodes ended
+end_nothing p capacities whole quantum nodes ended h some found rest stopped =
+    let left : IsRestOf p capacities whole ended.rest.items = subst (λ (xs : List Bounds). IsRestOf p capacities whole xs) (sym rest) (record {
+      covers = h.covers;
+      inside = λ part c. absurd (no_member part c);
+      bounds = λ part c. absurd (no_member part c);
+    }) in
+    record {
+      is_true = subst (λ (xs : Option (List ℕ)). IsFoundOrLeft p capacities whole xs ended.rest.items) (sym found) left;
+      searched = λ a. some;
+      stopped = λ a. absurd (cc (a, stopped));
+      spent = λ a b. absurd (b rest);
+      all = λ a b. rest;
+      higher = λ a part c. absurd (no_member part (subst (λ (xs : List Bounds). Contains xs part) rest c));
+    }
 
 -- the members of a window and others, in either order
 swap : (xs : List Bounds) (window v : Bounds) → Contains (xs ++ window ∷ []) v → Contains (window ∷ xs) v
@@ -48,9 +84,7 @@ open_left p capacities whole stack window rest h e =
     subst (λ (xs : List Bounds). IsRestOf p capacities whole xs) (sym e) (record {
       covers = covers-more p capacities whole (open_windows stack ++ window ∷ []) (window ∷ open_windows stack) h.covers (swap (open_windows stack) window);
       inside = λ part c. (h.parts part (swap-back (open_windows stack) window part c)).inside;
-      bounds = λ part c.
-          let is = h.parts part (swap-back (open_windows stack) window part c) in
-          record { lower = is.lower; upper = is.upper };
+      bounds = λ part c. (h.parts part (swap-back (open_windows stack) window part c)).bounds;
     })
 
 -- and is higher, where the window is
@@ -60,6 +94,11 @@ left_higher p capacities whole stack window rest h e higher part c = elim (membe
   | inl same ↦ subst (λ (x : Bounds). IsHigher p whole x) same higher
   | inr there ↦ h.higher part there
 ]
+
+-- no node is within each quantum
+pub none_yet : (quantum : Option ℕ) (nodes : ℕ) → nodes ≡ 0 → IfSome quantum (λ most. nodes ≤ most)
+none_yet (Some most) nodes e = omega (arith, e)
+none_yet None nodes e = tt
 
 -- a spent quantum allows some node, and is there
 pub spent_some : (quantum : Option ℕ) (nodes : ℕ) → IsSpent quantum nodes true → IfSome quantum (λ most. 1 ≤ most) → 0 < nodes

@@ -7,7 +7,7 @@ use Rattle.racp_model.specs.Window.{Bounds, IsNo}
 use Rattle.racp_model.proofs.lemmas.Relations.{member_first}
 use Rattle.racp_cutset.specs.Covering.{SearchNode}
 use Rattle.racp_cutset.specs.Kept.{StayKept, IsKeptOrDropped}
-use Rattle.racp_search.specs.Searching.{SearchFrame, open_windows, IsSearching, weights}
+use Rattle.racp_search.specs.DepthFirst.{SearchFrame, open_windows, IsSearching, weights}
 use Rattle.racp_search.specs.Steps.{IsNext}
 use Rattle.racp_search.proofs.Stacks.{open-last, searching-next, searching-popped, split-higher, frame-refuted}
 use Rattle.racp_search.proofs.Weights.{weights-append}
@@ -39,31 +39,30 @@ open-next fs f g window e = open-last fs g (window ∷ []) ∙ (ap (λ (xs : Lis
 
 module _ (p : Project) (capacities : List ℕ) (whole : Bounds) (start stack fs : List SearchFrame) (f : SearchFrame) (node : SearchNode) (children : List Bounds) where
   -- the last window of the last frame
-  pub is_next : (left : List Bounds) (window : Bounds) (new : List SearchFrame) → stack ≡ fs ++ f ∷ [] → record { node = node; children = children } ≡ f → IsSearching p capacities whole stack [] →
+  pub is_next : (g : SearchFrame) (left : List Bounds) (window : Bounds) (new : List SearchFrame) → stack ≡ fs ++ f ∷ [] → node ≡ f.node → children ≡ f.children → IsSearching p capacities whole stack [] →
       weights p (open_windows stack) ≤ weights p (open_windows start) →
-      children ≡ left ++ window ∷ [] → new ≡ fs ++ record { node = node; children = left } ∷ [] → IsNext p capacities whole start window new
-  is_next left window new is_stack is_f h lighter is_children is_new =
-      let g : SearchFrame = record { node = node; children = left } in
-      let all : f.children ≡ g.children ++ window ∷ [] = sym (ap (λ (x : SearchFrame). x.children) is_f) ∙ is_children in
+      children ≡ left ++ window ∷ [] → g.node ≡ node → g.children ≡ left → new ≡ fs ++ g ∷ [] → IsNext p capacities whole start window new
+  is_next g left window new is_stack is_node is_children h lighter is_left same_node same_left is_new =
+      let all : f.children ≡ g.children ++ window ∷ [] = sym is_children ∙ (is_left ∙ ap (λ (xs : List Bounds). xs ++ window ∷ []) (sym same_left)) in
       let at : IsSearching p capacities whole (fs ++ f ∷ []) [] = subst (λ (xs : List SearchFrame). IsSearching p capacities whole xs []) is_stack h in
       subst (λ (xs : List SearchFrame). IsNext p capacities whole start window xs) (sym is_new)
       (record {
-        state = searching-next p capacities whole fs f g window at (ap (λ (x : SearchFrame). x.node) is_f) all;
+        state = searching-next p capacities whole fs f g window at (same_node ∙ is_node) all;
         higher = split-higher p capacities whole fs f [] at window (subst (λ (xs : List Bounds). Contains xs window) (sym all) (Contains-append_right g.children (window ∷ []) window (member_first window [] window refl)));
         lighter = omega (arith, ap (weights p) (open-next fs f g window all), ap (λ (xs : List SearchFrame). weights p (open_windows xs)) is_stack, lighter);
       })
 
   -- the frame has run out
-  pub is_refuted : stack ≡ fs ++ f ∷ [] → record { node = node; children = children } ≡ f → IsSearching p capacities whole stack [] → length children ≡ 0 → IsNo p node.capacities node.window
-  is_refuted is_stack is_f h none =
+  pub is_refuted : stack ≡ fs ++ f ∷ [] → node ≡ f.node → children ≡ f.children → IsSearching p capacities whole stack [] → length children ≡ 0 → IsNo p node.capacities node.window
+  is_refuted is_stack is_node is_children h none =
       let at : IsSearching p capacities whole (fs ++ f ∷ []) [] = subst (λ (xs : List SearchFrame). IsSearching p capacities whole xs []) is_stack h in
-      let gone : f.children ≡ [] = sym (ap (λ (x : SearchFrame). x.children) is_f) ∙ empty children none in
-      subst (λ (v : SearchNode). IsNo p v.capacities v.window) (sym (ap (λ (x : SearchFrame). x.node) is_f)) (frame-refuted p capacities whole fs f at gone)
+      let gone : f.children ≡ [] = sym is_children ∙ empty children none in
+      subst (λ (v : SearchNode). IsNo p v.capacities v.window) (sym is_node) (frame-refuted p capacities whole fs f at gone)
 
-  pub is_popped : stack ≡ fs ++ f ∷ [] → record { node = node; children = children } ≡ f → IsSearching p capacities whole stack [] → length children ≡ 0 → IsSearching p capacities whole fs []
-  is_popped is_stack is_f h none =
+  pub is_popped : stack ≡ fs ++ f ∷ [] → children ≡ f.children → IsSearching p capacities whole stack [] → length children ≡ 0 → IsSearching p capacities whole fs []
+  is_popped is_stack is_children h none =
       let at : IsSearching p capacities whole (fs ++ f ∷ []) [] = subst (λ (xs : List SearchFrame). IsSearching p capacities whole xs []) is_stack h in
-      searching-popped p capacities whole fs f at (sym (ap (λ (x : SearchFrame). x.children) is_f) ∙ empty children none)
+      searching-popped p capacities whole fs f at (sym is_children ∙ empty children none)
 
   pub popped-lighter : stack ≡ fs ++ f ∷ [] → weights p (open_windows stack) ≤ weights p (open_windows start) → weights p (open_windows fs) ≤ weights p (open_windows start)
   popped-lighter is_stack lighter =

@@ -4,11 +4,12 @@ use Rattle.std.proofs.lemmas.List.{append-nil}
 use Rattle.std.proofs.lemmas.List.Elements.{Contains-append_left, Contains-append_right, Contains-append_cases}
 use Rattle.racp_model.specs.Project.{Project}
 use Rattle.racp_model.specs.Window.{Bounds, Answers, IsNo, WindowsCover, IsInside}
+use Rattle.racp_model.specs.Formed.{HasBounds}
 use Rattle.racp_model.proofs.lemmas.Sums.{sum_below-mono}
 use Rattle.racp_model.proofs.lemmas.Relations.{member_cases, member_first, no_member}
 use Rattle.racp_delay.specs.Laws.{lower_sum}
 use Rattle.racp_cutset.specs.Covering.{SearchNode}
-use Rattle.racp_search.specs.Searching.{SearchFrame, open_windows, IsOpenFrame, AreOpenFrames, IsPartOf, IsHigher, IsSearching, IsFrameOf}
+use Rattle.racp_search.specs.DepthFirst.{SearchFrame, open_windows, IsOpenFrame, AreOpenFrames, IsPartOf, IsHigher, IsSearching, IsFrameOf}
 
 -- the windows of a stack with one frame more
 pub open-last : (fs : List SearchFrame) (f : SearchFrame) (next : List Bounds) → open_windows (fs ++ f ∷ []) ++ next ≡ open_windows fs ++ (f.children ++ next)
@@ -23,8 +24,7 @@ inside-sum p whole window h = sum_below-mono (length p.jobs) (slice_index whole.
 -- a part of a part is a part
 pub part-of_part : (p : Project) (whole window part : Bounds) → IsPartOf p whole window → IsPartOf p window part → IsPartOf p whole part
 part-of_part p whole window part a b = record {
-  lower = b.lower;
-  upper = b.upper;
+  bounds = b.bounds;
   inside = record {
     lower = λ i l. omega (arith, a.inside.lower i l, b.inside.lower i l);
     upper = λ i l. omega (arith, a.inside.upper i l, b.inside.upper i l);
@@ -110,12 +110,12 @@ module _ (p : Project) (capacities : List ℕ) where
   }
 
   -- at the start the whole window is open
-  pub searching-start : (whole : Bounds) → length whole.lower ≡ length p.jobs → length whole.upper ≡ length p.jobs → IsSearching p capacities whole [] (whole ∷ [])
-  searching-start whole lower upper = record {
+  pub searching-start : (whole : Bounds) → HasBounds p whole → IsSearching p capacities whole [] (whole ∷ [])
+  searching-start whole bounds = record {
     covers = λ starts answer. (whole, member_first whole [] whole refl, answer.lies);
     frames = tt;
     parts = λ v c. elim (member_cases whole [] v c) [
-      | inl same ↦ subst (λ (x : Bounds). IsPartOf p whole x) same (record { lower = lower; upper = upper; inside = record { lower = λ i l. omega arith; upper = λ i l. omega arith } })
+      | inl same ↦ subst (λ (x : Bounds). IsPartOf p whole x) same (record { bounds = bounds; inside = record { lower = λ i l. omega arith; upper = λ i l. omega arith } })
       | inr none ↦ absurd (no_member v none)
     ];
     higher = λ v c. absurd (no_member v c);

@@ -5,7 +5,7 @@ use Rattle.racp_model.specs.Project.{Project}
 use Rattle.racp_model.specs.Window.{Bounds}
 use Rattle.racp_model.proofs.lemmas.Relations.{member_first, member_later}
 use Rattle.racp_delay.specs.Laws.{lower_sum}
-use Rattle.racp_search.specs.Searching.{SearchFrame, open_windows, IsFrameOf, weight, weights}
+use Rattle.racp_search.specs.DepthFirst.{SearchFrame, open_windows, IsFrameOf, weight, weights}
 use Rattle.racp_search.proofs.Stacks.{open-last}
 
 -- the weights of two lists

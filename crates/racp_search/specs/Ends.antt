@@ -1,26 +1,16 @@
 -- Contracts of private functions: how a search by depth ends.
-use Rattle.std.specs.Prelude.{◌≡◌, ◌≢◌, ◌↔◌, ℕ, ◌<◌, ◌≤◌, List, [], ◌∷◌, ◌++◌, Bool, false, IsTrue, IsFalse, Option, Some, None, Contains}
+use Rattle.std.specs.Prelude.{◌≡◌, ◌≢◌, ◌↔◌, ℕ, ◌<◌, ◌≤◌, List, [], Bool, false, IsTrue, IsFalse, Option, Some, None, Contains}
 use Rattle.racp_model.specs.Project.{Project}
-use Rattle.racp_model.specs.Window.{Bounds, Answers}
+use Rattle.racp_model.specs.Window.{Bounds}
 use Rattle.racp_search.specs.Truth.{SearchPiece, SearchFinding, IsFoundOrLeft}
-use Rattle.racp_search.specs.Searching.{SearchFrame, open_windows, IsHigher, IsSearching, weights}
+use Rattle.racp_search.specs.DepthFirst.{IsHigher}
 use Rattle.racp_search.specs.declared.finding.Rest.TheVariants.{Whole, Windows}
-use Rattle.racp_search.specs.declared.searching.Ended.{Ended}
+use Rattle.racp_search.specs.declared.ended.Ended.{Ended}
 
 -- whether as many nodes were entered as the quantum allows
 abbrev pub IsSpent : Option ℕ → ℕ → Bool → Type 0
 IsSpent (Some most) nodes result = IsTrue result ↔ (most ≤ nodes)
 IsSpent None nodes result = IsFalse result
-
--- a window is not open any more: its child windows are on the stack, or nothing in it answers
-pub record IsClosed (p : Project) (capacities : List ℕ) (whole : Bounds) (old : List SearchFrame) (window : Bounds) (new : List SearchFrame) : Type 0 where
-  pub state : IsSearching p capacities whole new []
-  pub lighter : weights p (open_windows new) < weights p (open_windows old ++ window ∷ [])
-
--- what entering a window answers: starts that answer the question, or that the window is closed
-abbrev pub IsEntered : Project → List ℕ → Bounds → List SearchFrame → Bounds → List SearchFrame → Option (List ℕ) → Type 0
-IsEntered p capacities whole old window new (Some starts) = Answers p capacities whole starts
-IsEntered p capacities whole old window new None = IsClosed p capacities whole old window new
 
 -- how a search of a window ended, and after how many nodes
 pub record IsEnd (p : Project) (capacities : List ℕ) (window : Bounds) (quantum : Option ℕ) (nodes : ℕ) (ended : Ended) : Type 0 where

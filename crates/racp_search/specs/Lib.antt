@@ -1,6 +1,6 @@
 pub mod Truth
 pub mod Children
-pub mod Searching
+pub mod DepthFirst
 pub mod Steps
 pub mod Glances
 pub mod Ends

@@ -1,39 +1,38 @@
 ghost use Rattle.std.specs.Prelude.{◌≡◌, ◌≢◌, ℕ, ◌<◌, ◌≤◌, [], All, IfOk, length, slice_index};
-ghost use Rattle.racp_model.specs.Project.{IsNumber, IsSound};
+ghost use Rattle.racp_model.specs.Project.{IsNumber};
 ghost use Rattle.racp_delay.specs.Alternatives.{IsMinimalDelayingAlternative};
 ghost use Rattle.racp_delay.specs.Branching.{IsClash};
 ghost use Rattle.racp_search.specs.Children.{AreChildren, IsChildAnswer, IsPutOff, IsRaised};
 
+use crate::subject::Subject;
 use crate::workspace::{Spare, Workspace};
 use racp_delay::{Clash, first_end, laws};
-use racp_model::{Capacities, Network, Starts, Window};
+use racp_model::{OfNetwork, Starts, Window};
 use std::alloc::AllocError;
 
 /// The child windows of a window at the first conflict of its early starts, which are at most 10,000,000: one for each minimal
 /// delaying alternative other than the whole active set, in the order of the alternatives. In it the lower bounds of the jobs
 /// that go are raised to the first end of a job that stays (Demeulemeester and Herroelen 1992).
-pub(crate) fn children(
+pub(crate) fn children<N: OfNetwork>(
     workspace: &mut Workspace,
-    net: &Network,
-    capacities: &Capacities,
+    subject: &Subject<N>,
     window: &Window,
     early: &Starts,
-    clash: &Clash,
+    conflict: &Clash,
 ) -> Result<Vec<Window>, AllocError>
-    requires sound { IsSound net.now }
-    requires capacities { length capacities.now ≡ net.now.resources }
-    requires lower { length window.now.lower ≡ length net.now.jobs }
-    requires early { length early.now ≡ length net.now.jobs }
-    requires small { (i : ℕ) → i < length net.now.jobs → slice_index early.now i ≤ 10000000 }
-    requires clash { IsClash net.now capacities.now early.now clash.now.time clash.now.active }
-    ensures { IfOk result (λ windows. AreChildren net.now capacities.now early.now clash.now.active window.now windows.items) }
+    requires lower { length window.now.lower ≡ length N.network.jobs }
+    requires early { length early.now ≡ length N.network.jobs }
+    requires small { (i : ℕ) → i < length N.network.jobs → slice_index early.now i ≤ 10000000 }
+    requires conflict { IsClash N.network subject.now.capacities early.now conflict.now.time conflict.now.active }
+    ensures { IfOk result (λ windows. AreChildren N.network subject.now.capacities early.now conflict.now.active window.now windows.items) }
 {
-    workspace.found.find(net, capacities, clash)?;
+    let found = &mut workspace.found;
+    found.find(subject.network(), subject.capacities(), conflict)?;
     let mut windows = workspace.spare.list();
     for list in workspace.found.lists() {
         let gone = list.as_slice();
         let spare = &mut workspace.spare;
-        let child = match child(spare, net, capacities, window, early, clash, gone)? {
+        let child = match child(spare, subject, window, early, conflict, gone)? {
             Some(child) => child,
             None => continue,
         };
@@ -43,27 +42,24 @@ pub(crate) fn children(
 }
 
 /// The child window in which the jobs of a minimal delaying alternative go; `None` where no active job stays.
-fn child(
+fn child<N: OfNetwork>(
     spare: &mut Spare,
-    net: &Network,
-    capacities: &Capacities,
+    subject: &Subject<N>,
     window: &Window,
     early: &Starts,
-    clash: &Clash,
+    conflict: &Clash,
     gone: &[u32],
 ) -> Result<Option<Window>, AllocError>
-    requires sound { IsSound net.now }
-    requires lower { length window.now.lower ≡ length net.now.jobs }
-    requires early { length early.now ≡ length net.now.jobs }
-    requires small { (i : ℕ) → i < length net.now.jobs → slice_index early.now i ≤ 10000000 }
-    requires clash { IsClash net.now capacities.now early.now clash.now.time clash.now.active }
-    requires minimal { IsMinimalDelayingAlternative net.now capacities.now clash.now.active gone.now }
-    ensures { IfOk result (IsChildAnswer net.now early.now clash.now.active window.now gone.now) }
+    requires lower { length window.now.lower ≡ length N.network.jobs }
+    requires early { length early.now ≡ length N.network.jobs }
+    requires small { (i : ℕ) → i < length N.network.jobs → slice_index early.now i ≤ 10000000 }
+    requires conflict { IsClash N.network subject.now.capacities early.now conflict.now.time conflict.now.active }
+    requires minimal { IsMinimalDelayingAlternative N.network subject.now.capacities conflict.now.active gone.now }
+    ensures { IfOk result (IsChildAnswer N.network early.now conflict.now.active window.now gone.now) }
 {
     laws::others_stay();
     laws::subsets_go();
-    let _ = capacities;
-    match first_end(net, early, &clash.active, gone) {
+    match first_end(subject.network(), early, &conflict.active, gone) {
         Some(end) => Ok(Some(put_off(spare, window, gone, end as u32)?)),
         None => Ok(None),
     }

@@ -3,8 +3,8 @@ ghost use Rattle.racp_model.specs.Formed.{HasBounds};
 ghost use Rattle.racp_search.specs.Truth.{IsFoundOrLeft, IsTrueFinding};
 ghost use Rattle.racp_search.specs.Ends.{finding_after, unsearched};
 
+use crate::ended::Ended;
 use crate::piece::Piece;
-use crate::searching::Ended;
 use racp_model::{OfNetwork, Starts, Window};
 use std::alloc::AllocError;
 use std::marker::{Model, PhantomData};

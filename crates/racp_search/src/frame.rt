@@ -1,13 +1,14 @@
-ghost use Rattle.std.specs.Prelude.{◌≡◌, ◌↔◌, ℕ, ◌++◌, ◌∷◌, [], IfOk, Contains};
-ghost use Rattle.racp_model.specs.Window.{Bounds};
+ghost use Rattle.std.specs.Prelude.{◌≡◌, IfOk};
+ghost use Rattle.racp_model.specs.Formed.{HasBounds};
 ghost use Rattle.racp_cutset.specs.Covering.{FitsBeforeTime};
-ghost use Rattle.racp_cutset.specs.Kept.{StayKept};
-ghost use Rattle.racp_search.specs.Searching.{IsSearching, open_windows};
-ghost use Rattle.racp_search.specs.Steps.{IsNextAnswer};
+ghost use Rattle.racp_search.specs.Glances.{HasConflict, IsExpanded};
 
+use crate::branching::children;
+use crate::subject::Subject;
 use crate::workspace::Workspace;
-use racp_cutset::{Local, Node, Nogood};
-use racp_model::{OfNetwork, Question, Window};
+use racp_cutset::{Local, Node};
+use racp_delay::{Clash, laws};
+use racp_model::{Capacities, OfNetwork, Question, Starts, Window};
 use std::alloc::AllocError;
 use std::marker::Model;
 
@@ -21,7 +22,7 @@ pub(crate) struct Frame<N: OfNetwork> {
 
 impl<N: OfNetwork> Model for Frame<N> {
     ghost use Rattle.racp_cutset.specs.Covering.{FitsBeforeTime};
-    ghost use Rattle.racp_search.specs.Searching.{SearchFrame};
+    ghost use Rattle.racp_search.specs.DepthFirst.{SearchFrame};
 
     ghost Value = { SearchFrame };
 
@@ -40,41 +41,46 @@ impl<N: OfNetwork> Frame<N> {
         Frame { node, children }
     }
 
-    /// The child windows that are still to be searched.
-    pub(crate) fn into_children(self) -> Vec<Window>
-        ensures { result.items ≡ self.children }
+    /// The node, and the child windows that are still to be searched.
+    pub(crate) fn into_parts(self) -> (Node<N>, Vec<Window>)
+        ensures node { result.0 ≡ self.node }
+        ensures children { result.1.items ≡ self.children }
+        ensures fits { FitsBeforeTime N.network self.node }
     {
-        self.children
+        (self.node, self.children)
     }
 }
 
-/// The next window to be searched: the last child window of the last frame that has one. Frames that have none are taken out,
-/// and their nodes, which are refuted, are kept as records.
-pub(crate) fn next_window<N: OfNetwork>(
-    question: &Question,
+/// The frame of a window's node at the first conflict of its early starts, with all child windows; or `None` where a record
+/// covers the node, so that nothing in the window answers.
+pub(crate) fn expand<N: OfNetwork>(
     workspace: &mut Workspace,
-    stack: &mut Vec<Frame<N>>,
+    subject: &Subject<N>,
+    window: Window,
+    starts: Starts,
+    conflict: &Clash,
     local: &mut Local<N>,
-) -> Result<Option<Window>, AllocError>
-    requires { IsSearching N.network question.now.capacities question.now.window stack.old.items [] }
-    ensures next { IfOk result (IsNextAnswer N.network question.now.capacities question.now.window stack.old.items stack.new.items) }
-    ensures kept { StayKept local.old local.new }
+) -> Result<Option<Frame<N>>, AllocError>
+    requires bounds { HasBounds N.network window }
+    requires conflict { HasConflict N.network subject.now.capacities window starts conflict.now }
+    ensures expanded { IfOk result (IsExpanded N.network subject.now.capacities window) }
+    ensures kept { local.new ≡ local.old }
 {
-    while let Some(frame) = stack.pop() {
-        let Frame { node, mut children } = frame;
-        match children.pop() {
-            Some(window) => {
-                stack.push(Frame { node, children })?;
-                return Ok(Some(window));
-            }
-            None => {
-                let (nogood, lower, early) = Nogood::of_reusing(node);
-                local.keep(nogood);
-                workspace.spare.give_list(children);
-                workspace.spare.give_row(lower.into_vec());
-                workspace.spare.give_row(early.into_vec());
-            }
-        }
+    laws::children_cover();
+    laws::child_is_inside();
+    laws::child_is_higher();
+    let net = subject.network();
+    let capacities = workspace.spare.row_of(subject.capacities().as_slice())?;
+    let question = Question {
+        capacities: Capacities::new(capacities),
+        window,
+    };
+    let node = Node::reusing(net, question, starts, workspace.spare.row(), conflict.time)?;
+    if local.find(subject.board(), &node).is_some() {
+        workspace.spare.give_node(node);
+        return Ok(None);
     }
-    Ok(None)
+    let window = &node.question().window;
+    let children = children(workspace, subject, window, node.early(), conflict)?;
+    Ok(Some(Frame::new(node, children)))
 }

@@ -38,16 +38,18 @@
 #![tactic(auto)]
 
 mod branching;
-mod expanding;
-mod exploring;
+mod depth_first;
+mod ended;
+mod entry_points;
 mod finding;
 mod frame;
+mod glance;
 mod piece;
-mod searching;
 mod stop;
+mod subject;
 mod workspace;
 
-pub use exploring::{decide, explore};
+pub use entry_points::{decide, explore};
 pub use finding::{Finding, Rest};
 pub use piece::{Collector, Piece};
 pub use stop::{Never, Stop};

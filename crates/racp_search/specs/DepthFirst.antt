@@ -3,6 +3,7 @@
 use Rattle.std.specs.Prelude.{◌≡◌, ℕ, ◌+◌, ◌-◌, ◌*◌, ◌^◌, ◌<◌, ◌≤◌, List, [], ◌∷◌, ◌++◌, length, Contains}
 use Rattle.racp_model.specs.Project.{Project}
 use Rattle.racp_model.specs.Window.{Bounds, WindowsCover, IsInside}
+use Rattle.racp_model.specs.Formed.{HasBounds}
 use Rattle.racp_delay.specs.Laws.{lower_sum}
 use Rattle.racp_cutset.specs.Covering.{SearchNode}
 
@@ -29,8 +30,7 @@ AreOpenFrames p capacities (frame ∷ frames) next =
 
 -- a window of a project that lies inside another
 pub record IsPartOf (p : Project) (whole window : Bounds) : Type 0 where
-  pub lower : length window.lower ≡ length p.jobs
-  pub upper : length window.upper ≡ length p.jobs
+  pub bounds : HasBounds p window
   pub inside : IsInside p whole window
 
 -- a window has a greater sum of lower bounds than another

@@ -3,10 +3,11 @@ ghost use Rattle.racp_cutset.specs.Kept.{StayKept};
 ghost use Rattle.racp_search.specs.Truth.{IsExplored, IsDecision};
 ghost use Rattle.racp_search.specs.Ends.{AllowsNone};
 
+use crate::depth_first::search;
 use crate::finding::Finding;
 use crate::piece::Piece;
-use crate::searching::{Ended, search};
 use crate::stop::{Never, Stop};
+use crate::subject::Subject;
 use racp_cutset::{Board, Local};
 use racp_model::{Network, OfNetwork, Question, Starts};
 use std::alloc::{AllocError, Global};
@@ -39,10 +40,8 @@ pub fn explore<N: OfNetwork, S: Stop>(
         return Finding::whole(piece, 0, false);
     }
     let mut nodes = 0;
-    let question = piece.question();
-    let end = search(
-        alloc, net, question, quantum, &mut nodes, board, local, stop,
-    );
+    let subject = Subject::new(net, piece.question(), board);
+    let end = search(alloc, &subject, quantum, &mut nodes, local, stop);
     Finding::after(piece, end, nodes)
 }
 
@@ -89,16 +88,8 @@ fn decide_named<N: OfNetwork>(
 {
     let board: Board<N> = Board::new(alloc, net)?;
     let mut local: Local<N> = Local::new(alloc, net);
+    let subject = Subject::new(net, question, &board);
     let mut nodes = 0;
-    let ended = search(
-        alloc, net, question, None, &mut nodes, &board, &mut local, &Never,
-    )?;
-    Ok(found_at(ended))
-}
-
-/// What a search found.
-fn found_at(ended: Ended) -> Option<Starts>
-    ensures { result ≡ ended.found }
-{
-    ended.found
+    let ended = search(alloc, &subject, None, &mut nodes, &mut local, &Never)?;
+    Ok(ended.into_found())
 }

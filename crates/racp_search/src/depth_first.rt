@@ -1,0 +1,169 @@
+ghost use Rattle.std.specs.Prelude.{◌≡◌, ◌↔◌, ◌≤◌, ◌++◌, ◌∷◌, [], IsTrue, IsFalse, IfOk, OnOk, IfSome, Contains};
+ghost use Rattle.racp_cutset.specs.Kept.{StayKept};
+ghost use Rattle.racp_search.specs.DepthFirst.{IsSearching, open_windows};
+ghost use Rattle.racp_search.specs.Ends.{IsEnd, IsSpent};
+ghost use Rattle.racp_search.specs.Steps.{IsEntered, IsNextAnswer};
+
+use crate::ended::Ended;
+use crate::frame::{Frame, expand};
+use crate::glance::{Glance, look_at};
+use crate::stop::Stop;
+use crate::subject::Subject;
+use crate::workspace::Workspace;
+use racp_cutset::{Local, Nogood};
+use racp_model::{OfNetwork, Starts, Window};
+use std::alloc::{AllocError, Global};
+
+/// Searches the question's window by depth, until starts are found, nothing is left, as many nodes were entered as the quantum
+/// allows, or the search is stopped. Counts the nodes.
+pub(crate) fn search<N: OfNetwork, S: Stop>(
+    alloc: Global,
+    subject: &Subject<N>,
+    quantum: Option<u64>,
+    nodes: &mut u64,
+    local: &mut Local<N>,
+    stop: &S,
+) -> Result<Ended, AllocError>
+    requires quantum { IfSome quantum (λ most. 1 ≤ most) }
+    requires nodes { nodes.old ≡ 0 }
+    ensures end { IfOk result (IsEnd N.network subject.now.capacities subject.now.window quantum nodes.new) }
+    ensures quiet { IfOk result (λ ended. IsTrue S.QUIET → IsFalse ended.stopped) }
+    ensures nodes { IfSome quantum (λ most. nodes.new ≤ most) }
+    ensures kept { StayKept local.old local.new }
+{
+    let mut stack = Stack::new(alloc);
+    let mut window = stack.workspace.spare.window_of(subject.whole())?;
+    'next: loop {
+        if is_spent(quantum, *nodes) {
+            let rest = stack.into_open_windows(alloc, window)?;
+            return Ok(Ended::left(rest, false));
+        }
+        if stop.asked() {
+            let rest = stack.into_open_windows(alloc, window)?;
+            return Ok(Ended::left(rest, true));
+        }
+        *nodes = nodes.saturating_add(1);
+        if let Some(starts) = stack.enter(subject, window, local)? {
+            return Ok(Ended::found(alloc, starts));
+        }
+        match stack.next_window(subject, local)? {
+            Some(next) => window = next,
+            None => return Ok(Ended::nothing(alloc)),
+        }
+    }
+}
+
+/// Whether as many nodes were entered as the quantum allows.
+fn is_spent(quantum: Option<u64>, nodes: u64) -> bool
+    ensures { IsSpent quantum nodes result }
+{
+    match quantum {
+        Some(most) => most <= nodes,
+        None => false,
+    }
+}
+
+/// The frames on the way to the window that is searched next, the first node first, and the memory that is used again from node
+/// to node.
+#[derive(Drop)]
+struct Stack<N: OfNetwork> {
+    frames: Vec<Frame<N>>,
+    workspace: Workspace,
+}
+
+impl<N: OfNetwork> Stack<N> {
+    /// A stack without frames. Takes no memory.
+    fn new(alloc: Global) -> Self
+        ensures { result.frames.items ≡ [] }
+    {
+        Stack {
+            frames: Vec::new(alloc),
+            workspace: Workspace::new(alloc),
+        }
+    }
+
+    /// Enters the node of a window: answers the early starts where they answer, and takes up a frame where they have a conflict.
+    fn enter(
+        &mut self,
+        subject: &Subject<N>,
+        window: Window,
+        local: &mut Local<N>,
+    ) -> Result<Option<Starts>, AllocError>
+        requires { IsSearching N.network subject.now.capacities subject.now.window self.old.frames.items (window ∷ []) }
+        ensures entered { IfOk result (IsEntered N.network subject.now.capacities subject.now.window self.old.frames.items window self.new.frames.items) }
+        ensures kept { local.new ≡ local.old }
+    {
+        let (net, capacities) = (subject.network(), subject.capacities());
+        let workspace = &mut self.workspace;
+        match look_at(&mut workspace.spare, net, capacities, &window)? {
+            Glance::Refuted => {
+                workspace.spare.give_window(window);
+                Ok(None)
+            }
+            Glance::Found(starts) => Ok(Some(starts)),
+            Glance::Conflict(starts, first) => {
+                match expand(workspace, subject, window, starts, &first, local)? {
+                    Some(frame) => {
+                        self.frames.push(frame)?;
+                        Ok(None)
+                    }
+                    None => Ok(None),
+                }
+            }
+        }
+    }
+
+    /// The next window to be searched: the last child window of the last frame that has one. Frames that have none are taken
+    /// out, and their nodes, which are refuted, are kept as records.
+    fn next_window(
+        &mut self,
+        subject: &Subject<N>,
+        local: &mut Local<N>,
+    ) -> Result<Option<Window>, AllocError>
+        requires { IsSearching N.network subject.now.capacities subject.now.window self.old.frames.items [] }
+        ensures next { IfOk result (IsNextAnswer N.network subject.now.capacities subject.now.window self.old.frames.items self.new.frames.items) }
+        ensures kept { StayKept local.old local.new }
+    {
+        while let Some(frame) = self.frames.pop() {
+            let (node, mut children) = frame.into_parts();
+            match children.pop() {
+                Some(window) => {
+                    self.frames.push(Frame::new(node, children))?;
+                    return Ok(Some(window));
+                }
+                None => {
+                    let (nogood, lower, early) = Nogood::of_reusing(node);
+                    local.keep(nogood);
+                    let spare = &mut self.workspace.spare;
+                    spare.give_list(children);
+                    spare.give_row(lower.into_vec());
+                    spare.give_row(early.into_vec());
+                }
+            }
+        }
+        Ok(None)
+    }
+
+    /// A window, and those of the frames that are still to be searched.
+    fn into_open_windows(self, alloc: Global, window: Window) -> Result<Vec<Window>, AllocError>
+        ensures { IfOk result (λ rest. rest.items ≡ window ∷ open_windows self.frames.items) }
+    {
+        let mut rest = Vec::new(alloc);
+        rest.push(window)?;
+        for frame in self.frames {
+            let (_node, children) = frame.into_parts();
+            append(&mut rest, children)?;
+        }
+        Ok(rest)
+    }
+}
+
+/// Puts windows behind others.
+fn append(rest: &mut Vec<Window>, more: Vec<Window>) -> Result<(), AllocError>
+    ensures { OnOk result (rest.new.items ≡ rest.old.items ++ more.items) }
+{
+    for window in more {
+        rest.push(window)?;
+    }
+    Ok(())
+}
