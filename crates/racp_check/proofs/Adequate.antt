@@ -2,11 +2,11 @@
 use Rattle.std.proofs.Common.{◌≡◌, refl, sym, ◌∙◌, ap, subst, ℕ, zero, suc, ◌+◌, ◌^◌, ◌<◌, ◌≤◌, inl, inr, List, [], ◌∷◌, ◌++◌, length, drop, arith, codes, Ok, Err, length-append}
 use Rattle.std.specs.Prelude.{Result, ◌≢◌}
 use Rattle.racp_model.specs.Project.{Project, IsWithinLimits}
-use Rattle.racp_check.specs.declared.text_fault.TextFault.{TextFault}
+use Rattle.racp_check.specs.TextFaults.{TextFault}
 use Rattle.racp_check.specs.declared.text_fault.TextFaultKind.TheVariants.{Memory}
 use Rattle.racp_check.specs.declared.plan.Plan.{Plan}
 use Rattle.racp_check.specs.Texts.{plan_text}
-use Rattle.racp_check.specs.TextFaults.{fault_at}
+use Rattle.racp_text.specs.Faults.{fault_at}
 use Rattle.racp_check.specs.PlanReading.{IsPlanReading, IsPlanReadingOrMemory, IsReadable, Form, forms, forms_for, IsWrong, IsFirstFault, words_for, most_number, most_cost}
 use Rattle.racp_model.specs.Steps.{◌>>=◌}
 use Rattle.racp_model.proofs.lemmas.Results.{IsFault}

@@ -1,6 +1,6 @@
 -- Numbers in decimal: the digits of a number, and the number of digits.
-use Rattle.std.proofs.Common.{◌≡◌, refl, sym, ◌∙◌, ap, subst, ℕ, zero, suc, ◌+◌, ◌-◌, ◌*◌, ◌^◌, ◌<◌, ◌≤◌, inl, inr, Bool, true, false, List, [], ◌∷◌, ◌++◌, length, take, slice_index, arith, append_assoc}
-use Rattle.std.specs.Prelude.{Some, None, min, not, ◌&&◌, ◌||◌, ◌==◌, nat_lt, nat_le, bytes_eq}
+use Rattle.std.proofs.Common.{◌≡◌, refl, sym, ◌∙◌, ap, subst, ℕ, zero, suc, ◌^◌, ◌<◌, inl, inr, Bool, true, false, List, [], ◌∷◌, ◌++◌, length, slice_index, arith, append_assoc}
+use Rattle.std.specs.Prelude.{Option, Some, None, min, not, ◌&&◌, ◌||◌, ◌==◌, nat_lt, nat_le, bytes_eq}
 use Rattle.std.specs.List.{list_all, list_any, position_or_len}
 use Rattle.std.specs.Char.{is_ascii_digit}
 use Rattle.std.specs.Fmt.{decimal}
@@ -9,31 +9,12 @@ use Rattle.std.proofs.lemmas.Bool.{cases_Bool, and_parts, leb-true, le-leb, true
 use Rattle.std.proofs.lemmas.Bool.Decides.{same_from_decides, Decides-like, Decides-eqb}
 use Rattle.std.proofs.lemmas.Slice.Eq.{bytes_eq-Decides}
 use Rattle.std.proofs.lemmas.Fmt.{decimal_is_IsNumeral, decimal-digits_value, decimal_nonempty, first_decimal, decimal_digit}
-use Rattle.std.proofs.lemmas.Str.{digit_value_digit}
 use Rattle.std.proofs.lemmas.Str.Parse.{IsDigitsTest, IsNumeralModel, numerals_by_value, digit_from_value}
-use Rattle.std.proofs.lemmas.Int.Digits.{digits_value_more}
-use Rattle.std.proofs.lemmas.List.Folds.{list_all_at}
-use Rattle.racp_check.specs.PlanReading.{is_decimal, value}
+use Rattle.racp_text.specs.Numbers.{IsCapped, is_number, value}
+use Rattle.racp_text.specs.Cuts.{AreParts}
+use Rattle.racp_check.specs.PlanReading.{has_zero_in_front, is_decimal}
 use Rattle.racp_check.specs.Steps.{after_words}
-use Rattle.racp_check.proofs.Fronts.{AreParts, parts_of, whole_of, words_before, words_cases}
-
--- a byte of a number is a digit
-pub digit_at : (digits : List ℕ) (k : ℕ) → k < length digits → list_all is_ascii_digit digits ≡ true → (48 ≤ slice_index digits k) × (slice_index digits k ≤ 57)
-digit_at digits k l all = elim (cases_Bool (is_ascii_digit (slice_index digits k))) [
-  | inl t ↦ let parts = and_parts _ _ t in (leb-true 48 (slice_index digits k) parts.0, leb-true (slice_index digits k) 57 parts.1)
-  | inr f ↦ absurd (true≢false (sym all ∙ list_all_at is_ascii_digit digits k 0 l f))
-]
-
--- one digit more
-pub value-more : (digits : List ℕ) (k : ℕ) → k < length digits → list_all is_ascii_digit digits ≡ true → value (take (k + 1) digits) ≡ value (take k digits) * 10 + (slice_index digits k - 48)
-value-more digits k l all =
-    let range = digit_at digits k l all in
-    omega (arith, digits_value_more 10 digits k l, digit_value_digit (slice_index digits k) range, range.0)
-
--- the same, where all numbers are cut to a bound
-pub capped-more : (digits : List ℕ) (k number raised sum : ℕ) → k < length digits → list_all is_ascii_digit digits ≡ true → number ≡ min (value (take k digits)) 18446744073709551615 → raised ≡ min (number * 10) 18446744073709551615
-    → sum ≡ min (raised + (slice_index digits k - 48)) 18446744073709551615 → sum ≡ min (value (take (k + 1) digits)) 18446744073709551615
-capped-more digits k number raised sum l all n r s = omega (arith, n, r, s, value-more digits k l all)
+use Rattle.racp_check.proofs.Fronts.{parts_of, whole_of, words_before, words_cases}
 
 -- digits, one by one or all
 tells_digits : IsDigitsTest (λ ds. list_all is_ascii_digit ds ≡ true)
@@ -49,6 +30,14 @@ are_digits = numerals_by_value (λ ds. list_all is_ascii_digit ds ≡ true) tell
 and_false : (b : Bool) → (b && false) ≡ false
 and_false true = refl
 and_false false = refl
+
+-- a zero in front makes no number of a plan, and where none is, it is a number as any other
+pub zero_in_front : (digits : List ℕ) → has_zero_in_front digits ≡ true → is_decimal digits ≡ false
+zero_in_front digits e = ap (λ b. is_number digits && not b) e ∙ and_false (is_number digits)
+
+pub no_zero_in_front : (digits : List ℕ) (r : Option ℕ) → has_zero_in_front digits ≡ false → IsCapped is_number digits r → IsCapped is_decimal digits r
+no_zero_in_front digits (Some n) e h = ((λ i. h.0 i && not (e i)), h.1)
+no_zero_in_front digits None e h = λ i. h i && not (e i)
 
 -- the digits of a number are a number, and stand for it
 no_zero_first : (n : ℕ) → n < 2 ^ 64 → (nat_lt 1 (length (decimal n)) && (slice_index (decimal n) 0 == 48)) ≡ false

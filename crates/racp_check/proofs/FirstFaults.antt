@@ -7,15 +7,18 @@ use Rattle.std.proofs.lemmas.Bool.{cases_Bool, cond-true, cond-false, le-leb, lt
 use Rattle.std.proofs.lemmas.Bool.Decides.{leb_tells}
 use Rattle.std.proofs.lemmas.List.Folds.{list_any-append}
 use Rattle.std.proofs.lemmas.Slice.Eq.{bytes_eq-Decides}
-use Rattle.racp_check.specs.declared.text_fault.TextFault.{TextFault}
+use Rattle.racp_check.specs.TextFaults.{TextFault}
 use Rattle.racp_check.specs.declared.text_fault.TextFaultKind.{TextFaultKind}
 use Rattle.racp_check.specs.declared.text_fault.TextFaultKind.TheVariants.{Syntax, Range, Memory}
 use Rattle.racp_check.specs.Texts.{line}
-use Rattle.racp_check.specs.TextFaults.{fault_at}
-use Rattle.racp_check.specs.PlanReading.{Form, BeginsWithLine, IsWrong, IsWrongEnd, is_decimal, value}
+use Rattle.racp_text.specs.Faults.{fault_at}
+use Rattle.racp_text.specs.Numbers.{value}
+use Rattle.racp_check.specs.PlanReading.{Form, BeginsWithLine, IsWrong, IsWrongEnd, is_decimal}
 use Rattle.racp_model.specs.Steps.{◌>>=◌}
 use Rattle.racp_model.proofs.lemmas.Results.{IsFault}
-use Rattle.racp_check.specs.Steps.{Rest, is_line_feed, next_line, after_words, number_on, next_number, nothing_left, last_line, refused}
+use Rattle.racp_text.specs.Cuts.{is_line_feed}
+use Rattle.racp_text.specs.Faults.{refused}
+use Rattle.racp_check.specs.Steps.{Rest, next_line, after_words, number_on, next_number, nothing_left, last_line}
 use Rattle.racp_check.proofs.Fronts.{words_before, words_cases}
 use Rattle.racp_check.proofs.Digits.{not_in_digits, decimal-is, value-decimal}
 use Rattle.racp_check.proofs.Written.{rest_at, line_next, line_read, bind_on, no_more, next_read, last_read}

@@ -1,8 +1,8 @@
 -- Bytes cut at the first byte of a kind, and bytes that begin with words.
-use Rattle.std.proofs.Common.{◌≡◌, refl, sym, ◌∙◌, ap, ℕ, suc, ◌+◌, ◌<◌, ◌⊎◌, inl, inr, Bool, true, false, List, [], ◌∷◌, ◌++◌, length, take, drop, get_or, arith, nat_lt, ◌==◌, Ok, length-append, add-one, append_assoc, codes}
-use Rattle.std.specs.Prelude.{Option, Some, None, position, not, MatchOption, bytes_eq}
-use Rattle.std.specs.List.{position_or_len, before_first, after_first, list_any}
-use Rattle.std.proofs.lemmas.Bool.{cases_Bool, true≢false, ltb-false, cond-true, cond-false, eqb-true}
+use Rattle.std.proofs.Common.{◌≡◌, refl, sym, ◌∙◌, ap, ℕ, suc, ◌+◌, ◌<◌, ◌⊎◌, inl, inr, Bool, true, false, List, [], ◌∷◌, ◌++◌, length, take, drop, get_or, arith, ◌==◌, Ok, length-append, add-one, append_assoc, codes}
+use Rattle.std.specs.Prelude.{Option, Some, None, not, MatchOption, bytes_eq}
+use Rattle.std.specs.List.{position_or_len, list_any}
+use Rattle.std.proofs.lemmas.Bool.{cases_Bool, true≢false, cond-true, cond-false, eqb-true}
 use Rattle.std.proofs.lemmas.Option.{none-some}
 use Rattle.std.proofs.lemmas.List.{take_at, take-append-drop, append_cancel_left}
 use Rattle.std.proofs.lemmas.List.Sums.{prefix_len-le-length, split_at_first, prefix_len_stops}
@@ -10,15 +10,10 @@ use Rattle.std.proofs.lemmas.Slice.Eq.{bytes_eq-Decides}
 use denote.Ref.{Bor}
 use Rattle.std.specs.Fmt.{decimal}
 use Rattle.racp_check.specs.PlanReading.{words_for}
-use Rattle.racp_check.specs.Steps.{Rest, after_words, contents, is_line_feed, next_line, refused}
+use Rattle.racp_text.specs.Cuts.{AreParts, is_line_feed}
+use Rattle.racp_text.specs.Faults.{refused}
+use Rattle.racp_check.specs.Steps.{Rest, after_words, contents, next_line}
 use Rattle.racp_check.specs.declared.text_fault.TextFaultKind.TheVariants.{Syntax}
-
--- where no place is found, no element passes
-pub not_found : {X : Type 0} (test : X → Bool) (xs : List X) → position test xs ≡ None → position_or_len test xs ≡ length xs
-not_found test xs e = elim (cases_Bool (nat_lt (position_or_len test xs) (length xs))) [
-  | inl t ↦ absurd (none-some (position_or_len test xs) (sym e ∙ cond-true _ (Some (position_or_len test xs)) None t))
-  | inr f ↦ omega (arith, prefix_len-le-length (λ x. not (test x)) xs, ltb-false (position_or_len test xs) (length xs) f)
-]
 
 -- whether an element passes, by the place of the first that does
 pub some_passes : (test : ℕ → Bool) (xs : List ℕ) → position_or_len test xs < length xs → list_any test xs ≡ true
@@ -34,10 +29,6 @@ pub some_place : (test : ℕ → Bool) (xs : List ℕ) → list_any test xs ≡ 
 some_place test xs e =
     let other : position_or_len test xs ≡ length xs → ⊥ = λ same. true≢false (sym e ∙ none_passes test xs same) in
     omega (arith, prefix_len-le-length (λ x. not (test x)) xs, other)
-
--- what a cut says of its two parts
-abbrev pub AreParts : (ℕ → Bool) → List ℕ → List ℕ → List ℕ → Type 0
-AreParts test bytes front back = (position_or_len test bytes < length bytes) × (front ≡ before_first test bytes) × (back ≡ after_first test bytes)
 
 -- a front without such a byte, the byte, and the rest are the parts of a cut
 place_after : (test : ℕ → Bool) (front : List ℕ) (byte : ℕ) (back : List ℕ) → list_any test front ≡ false → test byte ≡ true → position_or_len test (front ++ byte ∷ back) ≡ length front

@@ -8,13 +8,15 @@ use Rattle.std.proofs.lemmas.List.Elements.{All-head, All-tail, All-nil, All-con
 use Rattle.std.proofs.lemmas.List.Folds.{list_any-append}
 use Rattle.std.proofs.lemmas.Slice.Eq.{bytes_eq-Decides}
 use Rattle.racp_model.specs.Project.{Project, IsWithinLimits}
-use Rattle.racp_check.specs.declared.text_fault.TextFault.{TextFault}
+use Rattle.racp_check.specs.TextFaults.{TextFault}
 use Rattle.racp_check.specs.declared.plan.Plan.{Plan}
 use Rattle.racp_check.specs.Texts.{line, plan_text}
-use Rattle.racp_check.specs.PlanReading.{IsReadable, is_decimal, value, words_for, most_number, most_cost}
+use Rattle.racp_text.specs.Numbers.{value}
+use Rattle.racp_check.specs.PlanReading.{IsReadable, is_decimal, words_for, most_number, most_cost}
 use Rattle.racp_model.specs.Steps.{◌>>=◌}
 use Rattle.racp_model.proofs.lemmas.Results.{IsFault, bind_ok, same_ok}
-use Rattle.racp_check.specs.Steps.{Rest, is_line_feed, next_line, after_words, number_on, next_number, next_numbers, last_line, reading, number_line, number_lines}
+use Rattle.racp_text.specs.Cuts.{is_line_feed}
+use Rattle.racp_check.specs.Steps.{Rest, next_line, after_words, number_on, next_number, next_numbers, last_line, reading, number_line, number_lines}
 use Rattle.racp_check.proofs.Fronts.{parts_of, whole_of, words_before, words_from, line_cut, some_place}
 use Rattle.racp_check.proofs.Digits.{decimal-is, value-decimal, decimal-value, not_in_decimal}
 use Rattle.racp_check.proofs.lemmas.Numbered.{start_word, capacity_word}

@@ -1,13 +1,10 @@
 -- What a text is read as, for a network: the plan whose text it is, or the first line that is wrong.
 use Rattle.std.specs.Prelude.{◌≡◌, ◌≢◌, ◌⊎◌, ℕ, zero, suc, ◌+◌, ◌<◌, ◌≤◌, ◌==◌, ◌&&◌, not, Bool, List, [], ◌∷◌, ◌++◌, length, slice_index, Result, Ok, Err, nat_lt, true, All, codes}
-use Rattle.std.specs.List.{list_all}
-use Rattle.std.specs.Char.{is_ascii_digit}
-use Rattle.std.specs.Str.Parse.{digits_value}
 use Rattle.std.specs.Fmt.{decimal}
 use Rattle.racp_model.specs.Project.{Project}
+use Rattle.racp_text.specs.Numbers.{is_number, value}
 use Rattle.racp_check.specs.Texts.{line, plan_text}
-use Rattle.racp_check.specs.TextFaults.{out_of_memory}
-use Rattle.racp_check.specs.declared.text_fault.TextFault.{TextFault}
+use Rattle.racp_check.specs.TextFaults.{out_of_memory, TextFault}
 use Rattle.racp_check.specs.declared.text_fault.TextFaultKind.{TextFaultKind}
 use Rattle.racp_check.specs.declared.text_fault.TextFaultKind.TheVariants.{Syntax, Range, Memory}
 use Rattle.racp_check.specs.declared.plan.Plan.{Plan}
@@ -49,13 +46,13 @@ forms resources jobs =
     record { words = codes "deadline "; most = most_number } ∷ (record { words = codes "critical "; most = most_number } ∷ (record { words = codes "cost "; most = most_cost }
     ∷ (forms_for (codes "capacity ") 1 resources ++ forms_for (codes "start ") 1 jobs)))
 
--- a number is one or more decimal digits, and a zero stands first only in `0`
-abbrev pub is_decimal : List ℕ → Bool
-is_decimal digits = not (length digits == 0) && list_all is_ascii_digit digits && not (nat_lt 1 (length digits) && (slice_index digits 0 == 48))
+-- whether a zero stands first, and not alone
+abbrev pub has_zero_in_front : List ℕ → Bool
+has_zero_in_front digits = nat_lt 1 (length digits) && (slice_index digits 0 == 48)
 
--- the number that digits stand for
-abbrev pub value : List ℕ → ℕ
-value digits = digits_value 10 digits
+-- a number of a plan is one or more decimal digits, and a zero stands first only in `0`
+abbrev pub is_decimal : List ℕ → Bool
+is_decimal digits = is_number digits && not (has_zero_in_front digits)
 
 -- a text begins with a line of these words and this number, and goes on so
 pub record BeginsWithLine (words : List ℕ) (number : ℕ) (text rest : List ℕ) : Type 0 where

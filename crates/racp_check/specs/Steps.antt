@@ -1,14 +1,15 @@
 -- What the steps of writing and reading answer: private words.
-use Rattle.std.specs.Prelude.{◌≡◌, ◌⊎◌, ℕ, zero, suc, ◌+◌, ◌<◌, ◌==◌, Bool, true, false, List, [], ◌∷◌, ◌++◌, length, take, drop, min, Option, Some, None, Result, Ok, Err, bytes_eq, nat_le, if◌then◌else◌, codes}
-use Rattle.std.specs.List.{before_first, after_first, position_or_len, list_any}
+use Rattle.std.specs.Prelude.{◌≡◌, ◌⊎◌, ℕ, zero, suc, ◌+◌, ◌==◌, List, [], ◌∷◌, ◌++◌, length, take, drop, Option, Some, None, Result, Ok, Err, bytes_eq, nat_le, if◌then◌else◌, codes}
+use Rattle.std.specs.List.{before_first, after_first, list_any}
 use denote.Ref.{Bor}
 use Rattle.std.specs.Fmt.{decimal}
 use Rattle.racp_model.specs.Steps.{◌>>=◌}
 use Rattle.racp_check.specs.Texts.{line}
-use Rattle.racp_check.specs.PlanReading.{most_number, most_cost, is_decimal, value, words_for}
-use Rattle.racp_check.specs.TextFaults.{fault_at, out_of_memory}
-use Rattle.racp_check.specs.declared.text_fault.TextFault.{TextFault}
-use Rattle.racp_check.specs.declared.text_fault.TextFaultKind.{TextFaultKind}
+use Rattle.racp_text.specs.Numbers.{value}
+use Rattle.racp_check.specs.PlanReading.{most_number, most_cost, is_decimal, words_for}
+use Rattle.racp_text.specs.Cuts.{is_line_feed}
+use Rattle.racp_text.specs.Faults.{refused}
+use Rattle.racp_check.specs.TextFaults.{out_of_memory, TextFault}
 use Rattle.racp_check.specs.declared.text_fault.TextFaultKind.TheVariants.{Syntax, Range}
 use Rattle.racp_check.specs.declared.plan.Plan.{Plan}
 
@@ -21,33 +22,15 @@ abbrev pub number_lines : List ℕ → ℕ → List ℕ → List ℕ
 number_lines word place [] = []
 number_lines word place (number ∷ numbers) = number_line (words_for word place) number ++ number_lines word (place + 1) numbers
 
--- what stands before the first byte that passes the test, and what after it, or none where no byte does
-abbrev pub IsCut : (ℕ → Bool) → List ℕ → Option (Bor (List ℕ) × Bor (List ℕ)) → Type 0
-IsCut test bytes (Some parts) = (position_or_len test bytes < length bytes) × (parts.0.now ≡ before_first test bytes) × (parts.1.now ≡ after_first test bytes)
-IsCut test bytes None = position_or_len test bytes ≡ length bytes
-
 -- the bytes behind a reference, if there is one
 abbrev pub contents : Option (Bor (List ℕ)) → Option (List ℕ)
 contents (Some bytes) = Some bytes.now
 contents None = None
 
--- the number that digits stand for, or 2^64 - 1 where it is greater; none where they are no number
-abbrev pub IsCapped : List ℕ → Option ℕ → Type 0
-IsCapped digits (Some number) = (is_decimal digits ≡ true) × (number ≡ min (value digits) 18446744073709551615)
-IsCapped digits None = is_decimal digits ≡ false
-
--- a fault in place of what is read
-abbrev pub refused : {A : Type 0} → TextFaultKind → ℕ → Result A TextFault
-refused kind line = Err (fault_at kind line)
-
 -- what is left of a text, from a line on: the number of this line, from 1, and the bytes
 pub record Rest : Type 0 where
   pub line : ℕ
   pub bytes : List ℕ
-
--- the byte that ends a line
-abbrev pub is_line_feed : ℕ → Bool
-is_line_feed b = b == 10
 
 -- the next line, without its line feed, and what is left after it; a line without line feed is not of its form
 abbrev pub next_line : Rest → Result (List ℕ × Rest) TextFault
@@ -103,21 +86,6 @@ reading resources jobs text = do
   starts ← next_numbers (codes "start ") 1 jobs capacities.1
   end ← last_line starts.1
   Ok (record { deadline = deadline.0; critical = critical.0; cost = cost.0; capacities = capacities.0; starts = starts.0 })
-
--- a result, with what is left of the text
-abbrev pub with_rest : {X Y : Type 0} → (X → Y) → Result X TextFault → Rest → Result (Y × Rest) TextFault
-with_rest view (Ok x) rest = Ok (view x, rest)
-with_rest view (Err fault) rest = Err fault
-
--- a list that is kept has these numbers; it is kept unless memory ran out
-abbrev pub HasItems : {V : Type 0} → (V → List ℕ) → Option V → List ℕ → Type 0
-HasItems view (Some list) numbers = view list ≡ numbers
-HasItems view None numbers = Unit {0}
-
--- reading answers the numbers that are kept
-abbrev pub GivesNumbers : {V : Type 0} → (V → List ℕ) → Result (Option V) TextFault → Rest → Result (List ℕ × Rest) TextFault → Type 0
-GivesNumbers view (Ok kept) rest read = (numbers : List ℕ) × HasItems view kept numbers × (read ≡ Ok (numbers, rest))
-GivesNumbers view (Err fault) rest read = read ≡ Err fault
 
 -- reading answers this, unless it answers a plan and memory ran out
 abbrev pub GivesOrMemory : Result Plan TextFault → Result Plan TextFault → Type 0

@@ -1,8 +1,13 @@
 -- The faults of a text, and their numbers and names.
 use Rattle.std.specs.Prelude.{ℕ, List, codes}
-use Rattle.racp_check.specs.declared.text_fault.TextFault.{TextFault}
+use Rattle.racp_text.specs.Faults.{fault_at}
+use Rattle.racp_text.specs.declared.fault.LineFault.{LineFault}
 use Rattle.racp_check.specs.declared.text_fault.TextFaultKind.{TextFaultKind}
 use Rattle.racp_check.specs.declared.text_fault.TextFaultKind.TheVariants.{Syntax, Range, Memory}
+
+-- the fault of a text: its kind, and the line
+abbrev pub TextFault : Type 0
+TextFault = LineFault TextFaultKind
 
 -- the number and the name of each
 abbrev pub fault_entry : TextFaultKind → ℕ × List ℕ
@@ -15,10 +20,6 @@ fault_number kind = (fault_entry kind).0
 
 abbrev pub fault_name : TextFaultKind → List ℕ
 fault_name kind = (fault_entry kind).1
-
--- the fault of this kind at this line
-abbrev pub fault_at : TextFaultKind → ℕ → TextFault
-fault_at kind line = record { kind = kind; line = line }
 
 -- lack of memory is at no line
 abbrev pub out_of_memory : TextFault

@@ -3,7 +3,7 @@ use Rattle.std.specs.Prelude.{◌≡◌, ◌^◌, ◌<◌, ℕ, All, List, Resul
 use Rattle.racp_model.specs.Project.{Project, IsWithinLimits}
 use Rattle.racp_check.specs.Texts.{plan_text}
 use Rattle.racp_check.specs.PlanReading.{IsPlanReading, IsReadable}
-use Rattle.racp_check.specs.declared.text_fault.TextFault.{TextFault}
+use Rattle.racp_check.specs.TextFaults.{TextFault}
 use Rattle.racp_check.specs.declared.text_fault.TextFaultKind.TheVariants.{Memory}
 use Rattle.racp_check.specs.declared.plan.Plan.{Plan}
 

@@ -1,4 +1,4 @@
-ghost use Rattle.std.specs.Prelude.{◌≡◌, ◌<◌, ◌≤◌, ◌↔◌, length, IsTrue, MatchOption};
+ghost use Rattle.std.specs.Prelude.{◌≡◌, ◌<◌, ◌↔◌, length, IsTrue, MatchOption};
 ghost use Rattle.racp_model.specs.Terms.{AreTermsOf, release_of, due_of};
 ghost use Rattle.racp_cpm.specs.Ends.{IsFirstLateAnswer};
 ghost use Rattle.racp_check.specs.PlanFaults.{IsChecked};

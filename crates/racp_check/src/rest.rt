@@ -1,9 +1,12 @@
-ghost use Rattle.std.specs.Prelude.{◌≡◌, ◌<◌, ◌≤◌, ℕ, List, [], ◌∷◌, ◌++◌, IfOk};
+ghost use Rattle.std.specs.Prelude.{◌≡◌, ◌<◌, ◌≤◌, IfOk};
 ghost use Rattle.racp_check.specs.PlanReading.{most_number, words_for};
-ghost use Rattle.racp_check.specs.Steps.{GivesNumbers, HasItems, after_words, contents, last_line, next_line, next_number, next_numbers, number_on, with_rest};
+ghost use Rattle.racp_text.specs.Kept.{Keeps};
+ghost use Rattle.racp_text.specs.Reading.{Gives, with_rest};
+ghost use Rattle.racp_check.specs.Steps.{after_words, contents, last_line, next_line, next_number, next_numbers, number_on};
 
-use crate::number::{after_number, after_words, cut_at, number};
+use crate::number::{after_number, after_words, plain_number};
 use crate::text_fault::{TextFault, TextFaultKind};
+use racp_text::{cut_at, with_item};
 use std::alloc::Global;
 use std::marker::Model;
 
@@ -86,12 +89,12 @@ impl<'a> Rest<'a> {
         count: usize,
     ) -> Result<Option<Vec<u32>>, TextFault>
         requires { count ≤ 512 }
-        ensures { GivesNumbers (λ list. list.items) result self.new (next_numbers word.now 1 count self.old) }
+        ensures { Gives (Keeps (λ list. list.items)) result self.new (next_numbers word.now 1 count self.old) }
     {
         let mut numbers = Some(Vec::new(alloc));
         for place in 0..count as u32 {
             let number = self.next_number_for(word, place + 1)?;
-            numbers = with_number(numbers, number);
+            numbers = with_item(numbers, Some(number));
         }
         Ok(numbers)
     }
@@ -113,17 +116,6 @@ impl<'a> Rest<'a> {
     }
 }
 
-/// Adds a number to a list that is kept; where memory is refused, the list is kept no longer.
-fn with_number(numbers: Option<Vec<u32>>, number: u32) -> Option<Vec<u32>>
-    ensures { (items : List ℕ) → HasItems (λ list. list.items) numbers items → HasItems (λ list. list.items) result (items ++ number ∷ []) }
-{
-    let mut list = numbers?;
-    match list.push(number) {
-        Ok(()) => Some(list),
-        Err(_) => None,
-    }
-}
-
 /// What stands after this word, this number and a blank, or `None` where the line begins otherwise.
 #[tactic(auto, unfolding(crate::specs::PlanReading::words_for))]
 fn after_words_for<'a>(line: &'a [u8], word: &str, number: u32) -> Option<&'a [u8]>
@@ -138,7 +130,7 @@ fn number_on(line: usize, most: u64, digits: Option<&[u8]>) -> Result<u64, TextF
     ensures number { result ≡ number_on line most (contents digits.entry) }
     ensures most { IfOk result (λ n. n ≤ most) }
 {
-    match digits.and_then(number) {
+    match digits.and_then(plain_number) {
         Some(number) if number <= most => Ok(number),
         Some(_) => Err(TextFault::at(TextFaultKind::Range, line)),
         None => Err(TextFault::at(TextFaultKind::Syntax, line)),

@@ -1,6 +1,7 @@
 ghost use Rattle.std.specs.Prelude.{◌≡◌};
-ghost use Rattle.racp_check.specs.TextFaults.{fault_at, fault_name, fault_number};
+ghost use Rattle.racp_check.specs.TextFaults.{fault_name, fault_number};
 
+use racp_text::LineFault;
 use thiserror::Error;
 
 /// What is wrong with a text of a plan.
@@ -18,23 +19,7 @@ pub enum TextFaultKind {
 }
 
 /// Why a text was not read as a plan, and the number of the line, from 1; 0 where memory ran out.
-#[derive(Debug, Clone, Copy, PartialEq, Eq, Drop, Error)]
-#[error("line {line}: {kind}")]
-pub struct TextFault {
-    /// What is wrong.
-    pub kind: TextFaultKind,
-    /// The number of the line, from 1, or 0.
-    pub line: usize,
-}
-
-impl TextFault {
-    /// A fault of this kind at this line.
-    pub(crate) fn at(kind: TextFaultKind, line: usize) -> Self
-        ensures { result ≡ fault_at kind line }
-    {
-        TextFault { kind, line }
-    }
-}
+pub type TextFault = LineFault<TextFaultKind>;
 
 impl TextFaultKind {
     /// The fault's number, from 1 to 3.

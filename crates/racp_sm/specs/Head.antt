@@ -1,10 +1,11 @@
 -- The head of a network text: how many jobs and resources there are.
 use Rattle.std.specs.Prelude.{ℕ, ◌==◌, ◌&&◌, Bool, true, false, List, [], ◌∷◌, Option, Some, None, Result, Ok, nat_le, if◌then◌else◌, codes}
 use Rattle.std.specs.List.{before_first, after_first, list_any}
-use Rattle.racp_sm.specs.Lines.{Line, Word, words_in, is_word, is_number, value}
+use Rattle.racp_text.specs.Numbers.{is_number, value}
+use Rattle.racp_sm.specs.Lines.{Line, Word, words_in, is_word}
 use Rattle.racp_model.specs.Steps.{◌>>=◌}
-use Rattle.racp_sm.specs.Faults.{refused}
-use Rattle.racp_sm.specs.declared.fault.SmFault.{SmFault}
+use Rattle.racp_text.specs.Faults.{refused}
+use Rattle.racp_sm.specs.Faults.{SmFault}
 use Rattle.racp_sm.specs.declared.fault.SmFaultKind.{SmFaultKind}
 use Rattle.racp_sm.specs.declared.fault.SmFaultKind.TheVariants.{NoJobs, NoRenewable, ManyProjects, OtherResources, BadNumber, Limit}
 

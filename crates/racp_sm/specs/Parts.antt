@@ -1,11 +1,12 @@
 -- The two parts of a network text, each a stream of words: the precedence relation, and the durations and requests.
 use Rattle.std.specs.Prelude.{ℕ, zero, suc, ◌+◌, List, [], ◌∷◌, ◌++◌, map, Result, Ok, Err, if◌then◌else◌}
 use Rattle.racp_model.specs.Project.{Activity}
-use Rattle.racp_sm.specs.Lines.{Word, is_number}
+use Rattle.racp_text.specs.Numbers.{is_number}
+use Rattle.racp_sm.specs.Lines.{Word}
 use Rattle.racp_sm.specs.Head.{number_within}
 use Rattle.racp_model.specs.Steps.{◌>>=◌}
-use Rattle.racp_sm.specs.Faults.{fault_at, refused}
-use Rattle.racp_sm.specs.declared.fault.SmFault.{SmFault}
+use Rattle.racp_text.specs.Faults.{fault_at, refused}
+use Rattle.racp_sm.specs.Faults.{SmFault}
 use Rattle.racp_sm.specs.declared.fault.SmFaultKind.{SmFaultKind}
 use Rattle.racp_sm.specs.declared.fault.SmFaultKind.TheVariants.{BadNumber, Limit, BadRow, NotSingleMode, BadSuccessor, TooFew, TooMany}
 

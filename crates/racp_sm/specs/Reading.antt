@@ -8,8 +8,8 @@ use Rattle.racp_sm.specs.Lines.{Line, Word, lines_of, words_in, words_of, has_wo
 use Rattle.racp_sm.specs.Head.{entries_of, counts_of}
 use Rattle.racp_sm.specs.Parts.{arcs_of, jobs_of}
 use Rattle.racp_model.specs.Steps.{◌>>=◌}
-use Rattle.racp_sm.specs.Faults.{refused, fault_at, out_of_memory}
-use Rattle.racp_sm.specs.declared.fault.SmFault.{SmFault}
+use Rattle.racp_text.specs.Faults.{refused, fault_at}
+use Rattle.racp_sm.specs.Faults.{out_of_memory, SmFault}
 use Rattle.racp_sm.specs.declared.fault.SmFaultKind.TheVariants.{NoPrecedence, NoRequests, Cycle}
 
 -- the title lines

@@ -1,6 +1,7 @@
 ghost use Rattle.racp_sm.specs.Reading.{IsReadingOrMemory, precedence_part, reading, requests_part};
 ghost use Rattle.std.specs.Prelude.{◌≡◌, ◌≤◌};
-ghost use Rattle.racp_sm.specs.Steps.{GivesAll, Keeps, part_stream};
+ghost use Rattle.racp_text.specs.Kept.{Keeps};
+ghost use Rattle.racp_sm.specs.Steps.{GivesAll, part_stream};
 
 use crate::fault::{SmFault, SmFaultKind};
 use crate::head::{Counts, Head};

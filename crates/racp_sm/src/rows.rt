@@ -1,15 +1,18 @@
 //! The rows of the two parts. What is read is kept in lists. Where memory is refused for a list, it is kept no longer, and
 //! reading goes on: so a fault of the text is found however little memory there is.
 
-ghost use Rattle.std.specs.Prelude.{◌≤◌, [], ◌∷◌};
+ghost use Rattle.std.specs.Prelude.{◌≤◌};
 ghost use Rattle.racp_sm.specs.Parts.{next_numbers, successor_row, request_row, successor_rows, request_rows};
 ghost use Rattle.racp_sm.specs.declared.fault.SmFaultKind.TheVariants.{BadSuccessor, Limit};
-ghost use Rattle.racp_sm.specs.Steps.{Gives, IsSameStream, Keeps, KeepsMore, with_each};
+ghost use Rattle.racp_text.specs.Kept.{Keeps, KeepsMore};
+ghost use Rattle.racp_text.specs.Reading.{Gives};
+ghost use Rattle.racp_sm.specs.Steps.{IsSameStream, with_each};
 
 use crate::fault::{SmFault, SmFaultKind};
 use crate::stream::Stream;
 use racp_model::Job;
 use racp_model::limits::{MOST_DURATION, MOST_REQUEST};
+use racp_text::with_item;
 use std::alloc::Global;
 
 /// The most successors that a row may name, repeated ones among them.
@@ -126,15 +129,4 @@ fn read_requests(
         requests = with_item(requests, Some(request));
     }
     Ok(requests)
-}
-
-/// Adds an item to a list that is kept. The list is kept no longer where the item was not kept, or memory is refused for it.
-fn with_item<T: Drop>(list: Option<Vec<T>>, item: Option<T>) -> Option<Vec<T>>
-    ensures { (x : T) → Keeps (λ x. x) item x → KeepsMore (λ list. list.items) list result (x ∷ []) }
-{
-    let mut list = list?;
-    match list.push(item?) {
-        Ok(()) => Some(list),
-        Err(_) => None,
-    }
 }

@@ -1,6 +1,7 @@
 ghost use Rattle.std.specs.Prelude.{◌≡◌, ◌<◌, []};
 ghost use Rattle.racp_sm.specs.Parts.{next_number, nothing_left};
-ghost use Rattle.racp_sm.specs.Steps.{Takes, IsSameStream, map_ok, stream_of, with_rest};
+ghost use Rattle.racp_text.specs.Reading.{with_rest};
+ghost use Rattle.racp_sm.specs.Steps.{Takes, IsSameStream, map_ok, stream_of};
 
 use crate::fault::{SmFault, SmFaultKind};
 use crate::line::Lines;
@@ -67,7 +68,6 @@ impl<'a> Stream<'a> {
         low: u32,
         high: u32,
     ) -> Result<u32, SmFault>
-        requires { high < 4294967295 }
         ensures number { with_rest (λ x. x) result self.new.words ≡ next_number self.old.title kind low high self.old.words }
         ensures same { IsSameStream self.old self.new }
     {

@@ -1,5 +1,5 @@
-use Rattle.racp_check.proofs.Digits.{capped-more}
-use Rattle.racp_check.proofs.number.value.Goals as goal
+use Rattle.racp_text.proofs.Digits.{capped-more}
+use Rattle.racp_text.proofs.numbers.value.Goals as goal
 
 pub loop-digit-preserved : goal.loop-digit-preserved
 loop-digit-preserved c =
