@@ -1,9 +1,3 @@
-pub mod Texts
-pub mod TextFaults
-pub mod PlanReading
-pub mod Steps
-pub mod TextLaws
 pub mod PlanFaults
 pub mod PlanTests
 pub mod CheckLaws
-pub mod Plans

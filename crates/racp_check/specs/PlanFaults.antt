@@ -5,7 +5,7 @@ use Rattle.racp_model.specs.Schedule.{usage, KeepsPrecedence, EndsBy, IsWithinCa
 use Rattle.racp_model.specs.Path.{IsFirstLate}
 use Rattle.racp_model.specs.Terms.{Terms, release_of, due_of, cost, IsWithinCeilings}
 use Rattle.racp_model.specs.Plan.{FitsTerms}
-use Rattle.racp_check.specs.declared.plan.Plan.{Plan}
+use Rattle.racp_plan.specs.declared.plan.Plan.{Plan}
 use Rattle.racp_check.specs.declared.plan_fault.PlanFault.{PlanFault}
 use Rattle.racp_check.specs.declared.plan_fault.PlanFault.TheVariants.{Cost, Late, Order, Over, Ceiling, Early}
 

@@ -4,9 +4,9 @@ ghost use Rattle.racp_cpm.specs.Ends.{IsFirstLateAnswer};
 ghost use Rattle.racp_check.specs.PlanFaults.{IsChecked};
 ghost use Rattle.racp_check.specs.PlanTests.{IsBrokenAnswer, IsOverAtAnswer, IsOverAnswer, IsAboveAnswer, IsFirstEarlyAnswer};
 
-use crate::plan::Plan;
 use crate::plan_fault::PlanFault;
 use racp_model::{Network, usage_at};
+use racp_plan::Plan;
 use racp_prices::{Order, cost_of};
 use std::cmp::min;
 

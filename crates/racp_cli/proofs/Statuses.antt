@@ -1,6 +1,6 @@
 -- The text that `plan` writes tells its status, by its first letter.
 use Rattle.std.proofs.Common.{◌≡◌, ◌==◌, inl, inr, ℕ, List, get_or, if◌then◌else◌, refl, sym, ap, ◌∙◌}
-use Rattle.racp_check.specs.Texts.{line, deadline_line, plan_text}
+use Rattle.racp_plan.specs.Texts.{line, deadline_line, plan_text}
 use Rattle.racp_lexfix.specs.Texts.{impossible_line, due_line, ceiling_line, answer_text, answer_status}
 use Rattle.racp_lexfix.specs.declared.answer.Answer.{Answer}
 use Rattle.racp_lexfix.specs.declared.answer.Answer.TheVariants.{Plan as ThePlan, Impossible, Due, Ceiling}

@@ -2,8 +2,8 @@ ghost use Rattle.std.specs.Prelude.{◌≡◌};
 ghost use Rattle.racp_lexfix.specs.Stages.{given_up, stopped_at};
 
 use racp_candidates::AskStop;
-use racp_check::Plan;
 use racp_model::Capacities;
+use racp_plan::Plan;
 use std::alloc::AllocError;
 use thiserror::Error;
 

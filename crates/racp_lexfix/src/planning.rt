@@ -15,8 +15,8 @@ use crate::starts::least_starts;
 use crate::walking::question_at;
 use racp_bounds::{Sharp, sharpen};
 use racp_candidates::{Asker, First, Vectors};
-use racp_check::Plan;
 use racp_model::{Capacities, Network, Starts, Window};
+use racp_plan::Plan;
 use racp_prices::{Order, cost_of};
 use std::alloc::{AllocError, Global};
 

@@ -4,9 +4,9 @@ ghost use Rattle.racp_reference.specs.Outcomes.{IsOutcome};
 
 use crate::choice::cheapest;
 use crate::prices::most_units;
-use racp_check::Plan;
 use racp_cpm::{early, first_late, longest, root};
 use racp_model::Network;
+use racp_plan::Plan;
 use racp_prices::{Order, due_times};
 use std::alloc::{AllocError, Global};
 
