@@ -38,12 +38,15 @@ words_for word number = word ++ decimal number ++ codes " "
 -- the forms of the lines of so many resources or jobs, from this one on
 abbrev pub forms_for : List ℕ → ℕ → ℕ → List Form
 forms_for word number zero = []
-forms_for word number (suc count) = record { words = words_for word number; most = most_number } ∷ forms_for word (number + 1) count
+forms_for word number (suc count) =
+    record { words = words_for word number; most = most_number } ∷ forms_for word (number + 1) count
 
 -- the forms of the lines of a plan of so many resources and jobs, in order; after them comes the line `end`
 abbrev pub forms : ℕ → ℕ → List Form
 forms resources jobs =
-    record { words = codes "deadline "; most = most_number } ∷ (record { words = codes "critical "; most = most_number } ∷ (record { words = codes "cost "; most = most_cost }
+    record { words = codes "deadline "; most = most_number }
+    ∷ (record { words = codes "critical "; most = most_number }
+    ∷ (record { words = codes "cost "; most = most_cost }
     ∷ (forms_for (codes "capacity ") 1 resources ++ forms_for (codes "start ") 1 jobs)))
 
 -- whether a zero stands first, and not alone
@@ -64,7 +67,8 @@ pub record BeginsWithLine (words : List ℕ) (number : ℕ) (text rest : List �
 -- what is wrong with the first line of a text, which is to be of this form
 abbrev pub IsWrong : Form → List ℕ → TextFaultKind → Type 0
 IsWrong form text Syntax = (number : ℕ) (rest : List ℕ) → BeginsWithLine form.words number text rest → ⊥
-IsWrong form text Range = (number : ℕ) × (rest : List ℕ) × BeginsWithLine form.words number text rest × (form.most < number)
+IsWrong form text Range =
+    (number : ℕ) × (rest : List ℕ) × BeginsWithLine form.words number text rest × (form.most < number)
 IsWrong form text Memory = ⊥
 
 -- the last line, whose number is n, is wrong or missing, or something stands after it, from the next line on
@@ -79,7 +83,8 @@ abbrev pub IsFirstFault : List Form → ℕ → List ℕ → TextFault → Type 
 IsFirstFault [] n text fault = IsWrongEnd n text fault
 IsFirstFault (form ∷ forms) n text fault =
     ((fault.line ≡ n) × IsWrong form text fault.kind)
-    ⊎ ((number : ℕ) × (rest : List ℕ) × BeginsWithLine form.words number text rest × (number ≤ form.most) × IsFirstFault forms (n + 1) rest fault)
+    ⊎ ((number : ℕ) × (rest : List ℕ) × BeginsWithLine form.words number text rest × (number ≤ form.most) ×
+    IsFirstFault forms (n + 1) rest fault)
 
 -- what a text is read as for a network: the plan whose text it is, or the first fault
 abbrev pub IsPlanReading : Project → List ℕ → Result Plan TextFault → Type 0
@@ -90,4 +95,5 @@ IsPlanReading network text (Err fault) = IsFirstFault (forms network.resources (
 abbrev pub IsPlanReadingOrMemory : Project → List ℕ → Result Plan TextFault → Type 0
 IsPlanReadingOrMemory network text (Ok plan) = IsPlanReading network text (Ok plan)
 IsPlanReadingOrMemory network text (Err fault) =
-    IsPlanReading network text (Err fault) ⊎ ((plan : Plan) × IsPlanReading network text (Ok plan) × (fault ≡ out_of_memory))
+    IsPlanReading network text (Err fault)
+    ⊎ ((plan : Plan) × IsPlanReading network text (Ok plan) × (fault ≡ out_of_memory))

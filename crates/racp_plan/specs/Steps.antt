@@ -20,7 +20,8 @@ number_line words number = line (words ++ decimal number)
 -- a line for each number, the first of them of this resource or job
 abbrev pub number_lines : List ℕ → ℕ → List ℕ → List ℕ
 number_lines word place [] = []
-number_lines word place (number ∷ numbers) = number_line (words_for word place) number ++ number_lines word (place + 1) numbers
+number_lines word place (number ∷ numbers) =
+    number_line (words_for word place) number ++ number_lines word (place + 1) numbers
 
 -- the bytes behind a reference, if there is one
 abbrev pub contents : Option (Bor (List ℕ)) → Option (List ℕ)
@@ -36,7 +37,10 @@ pub record Rest : Type 0 where
 abbrev pub next_line : Rest → Result (List ℕ × Rest) TextFault
 next_line rest =
     if list_any is_line_feed rest.bytes
-    then Ok (before_first is_line_feed rest.bytes, record { line = rest.line + 1; bytes = after_first is_line_feed rest.bytes })
+    then Ok (
+      before_first is_line_feed rest.bytes,
+      record { line = rest.line + 1; bytes = after_first is_line_feed rest.bytes },
+    )
     else refused Syntax rest.line
 
 -- what stands after these words, or none where the line begins with others
@@ -58,7 +62,8 @@ next_number words most rest = do
   number ← number_on rest.line most (after_words words line.0)
   Ok (number, line.1)
 
--- the numbers on the next lines, one for each of so many resources or jobs from this one on, and what is left after them
+-- the numbers on the next lines, one for each of so many resources or jobs from this one on, and what is left after
+-- them
 unfoldable pub next_numbers : List ℕ → ℕ → ℕ → Rest → Result (List ℕ × Rest) TextFault
 next_numbers word number zero rest = Ok ([], rest)
 next_numbers word number (suc count) rest = do
@@ -85,7 +90,13 @@ reading resources jobs text = do
   capacities ← next_numbers (codes "capacity ") 1 resources cost.1
   starts ← next_numbers (codes "start ") 1 jobs capacities.1
   end ← last_line starts.1
-  Ok (record { deadline = deadline.0; critical = critical.0; cost = cost.0; capacities = capacities.0; starts = starts.0 })
+  Ok (record {
+    deadline = deadline.0;
+    critical = critical.0;
+    cost = cost.0;
+    capacities = capacities.0;
+    starts = starts.0;
+  })
 
 -- reading answers this, unless it answers a plan and memory ran out
 abbrev pub GivesOrMemory : Result Plan TextFault → Result Plan TextFault → Type 0

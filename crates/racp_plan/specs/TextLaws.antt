@@ -22,17 +22,22 @@ OneTextOnePlan = (a b : Plan) → IsWithin64Bits a → IsWithin64Bits b → plan
 -- for a network within the limits, each text is read as something
 abbrev pub TextIsRead : Type 0
 TextIsRead =
-    (network : Project) (text : List ℕ) → IsWithinLimits network.resources network.jobs → (x : Result Plan TextFault) × IsPlanReading network text x
+    (network : Project) (text : List ℕ) → IsWithinLimits network.resources network.jobs →
+    (x : Result Plan TextFault) × IsPlanReading network text x
 
 -- and as one thing only
 abbrev pub ReadingIsOne : Type 0
 ReadingIsOne =
-    (network : Project) (text : List ℕ) (x y : Result Plan TextFault) → IsWithinLimits network.resources network.jobs → IsPlanReading network text x → IsPlanReading network text y → x ≡ y
+    (network : Project) (text : List ℕ) (x y : Result Plan TextFault) →
+    IsWithinLimits network.resources network.jobs →
+    IsPlanReading network text x → IsPlanReading network text y → x ≡ y
 
 -- a written plan is read as itself and as nothing else
 abbrev pub WrittenIsRead : Type 0
 WrittenIsRead =
-    (network : Project) (plan : Plan) (x : Result Plan TextFault) → IsWithinLimits network.resources network.jobs → IsReadable network plan → IsPlanReading network (plan_text plan) x → x ≡ Ok plan
+    (network : Project) (plan : Plan) (x : Result Plan TextFault) →
+    IsWithinLimits network.resources network.jobs → IsReadable network plan →
+    IsPlanReading network (plan_text plan) x → x ≡ Ok plan
 
 -- a fault of a text is that of a line: of one of those that a plan has, or of the next
 abbrev pub FaultHasLine : Type 0

@@ -26,7 +26,8 @@ capacity_line resource capacity = line (codes "capacity " ++ decimal resource ++
 -- a line for each capacity, the first of them of this resource
 abbrev pub capacity_lines : ℕ → List ℕ → List ℕ
 capacity_lines resource [] = []
-capacity_lines resource (capacity ∷ capacities) = capacity_line resource capacity ++ capacity_lines (resource + 1) capacities
+capacity_lines resource (capacity ∷ capacities) =
+    capacity_line resource capacity ++ capacity_lines (resource + 1) capacities
 
 -- `start j s`
 unfoldable pub start_line : ℕ → ℕ → List ℕ
@@ -41,4 +42,5 @@ start_lines job (start ∷ starts) = start_line job start ++ start_lines (job + 
 -- last line
 unfoldable pub plan_text : Plan → List ℕ
 plan_text plan =
-    deadline_line plan.deadline ++ critical_line plan.critical ++ cost_line plan.cost ++ capacity_lines 1 plan.capacities ++ start_lines 1 plan.starts ++ line (codes "end")
+    deadline_line plan.deadline ++ critical_line plan.critical ++ cost_line plan.cost
+    ++ capacity_lines 1 plan.capacities ++ start_lines 1 plan.starts ++ line (codes "end")

@@ -65,7 +65,8 @@ fn push_line(
     owner: usize,
     number: u32,
 ) -> Result<(), AllocError>
-    ensures { OnOk result (text.new.items ≡ text.old.items ++ number_line (words_for (word.now ++ codes " ") owner) number) }
+    ensures { OnOk result
+        (text.new.items ≡ text.old.items ++ number_line (words_for (word.now ++ codes " ") owner) number) }
 {
     text.extend_from_slice(format!(in alloc; "{word} {owner} {number}\n")?.as_bytes())
 }

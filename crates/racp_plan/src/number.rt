@@ -37,8 +37,8 @@ fn are_digits_of(digits: &[u8], wanted: u32) -> bool
     }
 }
 
-/// The number that digits stand for, or the greatest of 64 bits where it is greater; `None` where they are no number, or
-/// begin with a zero that is not all of them.
+/// The number that digits stand for, or the greatest of 64 bits where it is greater; `None` where they are no number,
+/// or begin with a zero that is not all of them.
 pub(crate) fn plain_number(digits: &[u8]) -> Option<u64>
     ensures { IsCapped is_decimal digits.now result }
 {

@@ -11,14 +11,14 @@ use std::alloc::Global;
 /// The greatest cost that a text may say.
 const MOST_COST: u64 = 1_000_000_000_000_000;
 
-/// The plan of a text, for a network: with a capacity for each resource and a start for each job. The text is exactly as
-/// `write_plan` makes it; the deadline, the critical length, the capacities and the starts are at most 10,000,000, and the
-/// cost at most 1,000,000,000,000,000.
+/// The plan of a text, for a network: with a capacity for each resource and a start for each job. The text is exactly
+/// as `write_plan` makes it; the deadline, the critical length, the capacities and the starts are at most 10,000,000,
+/// and the cost at most 1,000,000,000,000,000.
 ///
 /// # Errors
 ///
-/// The first line that is wrong: `Syntax`, where it is missing or not of its form, or something stands after the line `end`;
-/// `Range`, where its number is too great. `Memory`, at line 0, where no line is wrong and memory was refused.
+/// The first line that is wrong: `Syntax`, where it is missing or not of its form, or something stands after the line
+/// `end`; `Range`, where its number is too great. `Memory`, at line 0, where no line is wrong and memory was refused.
 pub fn read_plan(alloc: Global, bytes: &[u8], net: &Network) -> Result<Plan, TextFault>
     ensures { IsPlanReadingOrMemory net.now bytes.now result }
 {

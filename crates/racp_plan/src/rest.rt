@@ -80,8 +80,8 @@ impl<'a> Rest<'a> {
         Ok(number_on(line_number, MOST_NUMBER, digits)? as u32)
     }
 
-    /// Takes so many lines off, which are to be those of the resources or jobs from 1 on. Answers their numbers, or `None` where
-    /// memory ran out.
+    /// Takes so many lines off, which are to be those of the resources or jobs from 1 on. Answers their numbers, or
+    /// `None` where memory ran out.
     pub(crate) fn next_numbers(
         &mut self,
         alloc: Global,
@@ -124,7 +124,8 @@ fn after_words_for<'a>(line: &'a [u8], word: &str, number: u32) -> Option<&'a [u
     after_number(after_words(line, word)?, number)
 }
 
-/// The number of a line of which this stands after its words, where it is at most `most`; `line` is the number of the line.
+/// The number of a line of which this stands after its words, where it is at most `most`; `line` is the number of the
+/// line.
 fn number_on(line: usize, most: u64, digits: Option<&[u8]>) -> Result<u64, TextFault>
     requires { most < 18446744073709551615 }
     ensures number { result ≡ number_on line most (contents digits.entry) }

@@ -5,8 +5,8 @@ use crate::lines::{head_lines, push_capacities, push_starts};
 use crate::plan::Plan;
 use std::alloc::{AllocError, Global};
 
-/// The text of a plan, in ASCII: the deadline, the critical length, the cost, the capacity of each resource and the start of
-/// each job, both numbered from 1, and the line `end`.
+/// The text of a plan, in ASCII: the deadline, the critical length, the cost, the capacity of each resource and the
+/// start of each job, both numbered from 1, and the line `end`.
 ///
 /// # Errors
 ///

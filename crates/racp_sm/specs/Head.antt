@@ -40,7 +40,9 @@ entry names (line ∷ more) = if has_key names line then Some (value_word line) 
 abbrev pub number_within : SmFaultKind → ℕ → ℕ → Word → Result ℕ SmFault
 number_within kind low high word =
     if is_number word.bytes
-    then (if nat_le low (value word.bytes) && nat_le (value word.bytes) high then Ok (value word.bytes) else refused kind word.line)
+    then (if nat_le low (value word.bytes) && nat_le (value word.bytes) high
+    then Ok (value word.bytes)
+    else refused kind word.line)
     else refused BadNumber word.line
 
 -- the number of an entry that has to be there

@@ -15,4 +15,5 @@ TextIsRead = (text : List ℕ) → (x : Result Project SmFault) × IsReading tex
 -- the project that a text says is within the limits, and its pairs name its jobs
 abbrev pub ReadWithinLimits : Type 0
 ReadWithinLimits =
-    (text : List ℕ) (project : Project) → reading text ≡ Ok project → IsWithinLimits project.resources project.jobs × AreNumbers (length project.jobs) project.arcs
+    (text : List ℕ) (project : Project) → reading text ≡ Ok project →
+    IsWithinLimits project.resources project.jobs × AreNumbers (length project.jobs) project.arcs

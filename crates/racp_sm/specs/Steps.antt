@@ -18,7 +18,8 @@ use Rattle.racp_sm.specs.declared.part.Mark.TheVariants.{Title, End}
 -- the first line is taken off, or there is none
 abbrev pub TakesPiece : List ℕ → Option (Bor (List ℕ) × Bor (List ℕ)) → Type 0
 TakesPiece text (Some parts) =
-    (line_pieces (slice_split is_line_feed text) ≡ parts.0.now ∷ line_pieces (slice_split is_line_feed parts.1.now)) × (length parts.1.now < length text)
+    (line_pieces (slice_split is_line_feed text) ≡ parts.0.now ∷ line_pieces (slice_split is_line_feed parts.1.now)) ×
+    (length parts.1.now < length text)
 TakesPiece text None = line_pieces (slice_split is_line_feed text) ≡ []
 
 -- the first word is taken off, or there is none
@@ -61,7 +62,9 @@ words_in_part Requests = words_between_rules
 
 -- the first line is taken off, unless it has the mark or there is none
 abbrev pub TakesBefore : (Line → Bool) → List Line → Option Line → List Line → Type 0
-TakesBefore mark old (Some line) new = (before_first mark old ≡ line ∷ before_first mark new) × (from_first mark old ≡ from_first mark new) × (old ≡ line ∷ new)
+TakesBefore mark old (Some line) new =
+    (before_first mark old ≡ line ∷ before_first mark new) × (from_first mark old ≡ from_first mark new) ×
+    (old ≡ line ∷ new)
 TakesBefore mark old None new = (before_first mark old ≡ []) × (from_first mark old ≡ new) × (new ≡ old)
 
 -- the stream of a part: the number of its title line, the words still to come, and the lines after the part
@@ -82,7 +85,7 @@ stream_of part title words lines = record {
 abbrev pub IsSameStream : Words → Words → Type 0
 IsSameStream old new = (new.title ≡ old.title) × (new.after ≡ old.after)
 
--- the same for a whole stream
+-- reading a whole stream answers a thing, which is kept like this
 abbrev pub GivesAll : {X Y : Type 0} → (X → Y → Type 0) → Result X SmFault → Result Y SmFault → Type 0
 GivesAll {X} {Y} keeps (Ok x) read = (y : Y) × (read ≡ Ok y) × keeps x y
 GivesAll keeps (Err fault) read = read ≡ Err fault

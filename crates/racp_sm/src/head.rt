@@ -143,7 +143,8 @@ fn note_value<'a>(
     line: usize,
     value: &'a [u8],
 )
-    ensures { kept.new ≡ kept_entry kept.old (begins_with (words_in key.now) (texts names.now)) (record { line = line; bytes = value.now }) }
+    ensures { kept.new ≡ kept_entry kept.old (begins_with (words_in key.now) (texts names.now))
+        (record { line = line; bytes = value.now }) }
 {
     if kept.is_none() && after_words(key, names).is_some() {
         *kept = Some(Word::new(line, value));

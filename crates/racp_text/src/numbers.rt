@@ -3,8 +3,8 @@ ghost use Rattle.std.specs.List.{list_all};
 ghost use Rattle.std.specs.Char.{is_ascii_digit};
 ghost use Rattle.racp_text.specs.Numbers.{IsCapped, is_number, value};
 
-/// The number that a word stands for, or the greatest of 64 bits where it is greater; `None` where the word is no number, that is,
-/// not of decimal digits alone, one or more. Zeros may stand in front.
+/// The number that a word stands for, or the greatest of 64 bits where it is greater; `None` where the word is no
+/// number, that is, not of decimal digits alone, one or more. Zeros may stand in front.
 pub fn number(word: &[u8]) -> Option<u64>
     ensures { IsCapped is_number word.now result }
 {
