@@ -8,7 +8,7 @@ use Rattle.racp_model.specs.Path.{IsFirstLate}
 use Rattle.racp_model.specs.Terms.{Terms, release_of, due_of, IsWithinCeilings}
 use Rattle.racp_model.proofs.lemmas.Lists.{below_suc}
 use Rattle.racp_model.proofs.lemmas.Inserting.{cases_arcs}
-use Rattle.racp_check.specs.declared.plan.Plan.{Plan}
+use Rattle.racp_plan.specs.declared.plan.Plan.{Plan}
 use Rattle.racp_check.specs.declared.plan_fault.PlanFault.{PlanFault}
 use Rattle.racp_check.specs.declared.plan_fault.PlanFault.TheVariants.{Cost, Late, Order, Over, Ceiling, Early}
 use Rattle.racp_check.specs.PlanFaults.{HasRightCost, IsFitting, IsFirstBroken, IsFirstOver, IsFirstAbove, IsFirstEarly, IsChecked, fault_number}

@@ -3,7 +3,7 @@ use Rattle.std.specs.Prelude.{◌≡◌, ◌↔◌, ⊤, Result, Ok}
 use Rattle.racp_model.specs.Project.{Project}
 use Rattle.racp_model.specs.Terms.{Terms}
 use Rattle.racp_model.specs.Plan.{IsPlan}
-use Rattle.racp_check.specs.declared.plan.Plan.{Plan}
+use Rattle.racp_plan.specs.declared.plan.Plan.{Plan}
 use Rattle.racp_check.specs.declared.plan_fault.PlanFault.{PlanFault}
 use Rattle.racp_check.specs.PlanFaults.{HasRightCost, IsFitting, IsChecked}
 

@@ -1,10 +1,4 @@
-pub mod Texts
-pub mod TextFaults
-pub mod PlanReading
-pub mod Steps
-pub mod TextLaws
 pub mod PlanFaults
 pub mod PlanTests
 pub mod CheckLaws
-pub mod Plans
 pub mod Openings

@@ -5,7 +5,7 @@ use Rattle.racp_model.specs.Schedule.{usage, KeepsPrecedence, EndsBy, IsWithinCa
 use Rattle.racp_model.specs.Path.{IsFirstLate}
 use Rattle.racp_model.specs.Terms.{Terms, release_of, due_of, cost, IsWithinCeilings}
 use Rattle.racp_model.specs.Plan.{FitsTerms}
-use Rattle.racp_check.specs.declared.plan.Plan.{Plan}
+use Rattle.racp_plan.specs.declared.plan.Plan.{Plan}
 use Rattle.racp_check.specs.declared.plan_fault.PlanFault.{PlanFault}
 use Rattle.racp_check.specs.declared.plan_fault.PlanFault.TheVariants.{Cost, Late, Order, Over, Ceiling, Early}
 
@@ -13,8 +13,8 @@ use Rattle.racp_check.specs.declared.plan_fault.PlanFault.TheVariants.{Cost, Lat
 abbrev pub HasRightCost : Terms → Plan → Type 0
 HasRightCost terms plan = plan.cost ≡ cost terms plan.capacities
 
--- nothing is wrong with the plan: its cost is right, and its starts fit its capacities on the order's terms and within the
--- ceilings
+-- nothing is wrong with the plan: its cost is right, and its starts fit its capacities on the order's terms and within
+-- the ceilings
 pub record IsFitting (p : Project) (terms : Terms) (plan : Plan) : Type 0 where
   pub cost : HasRightCost terms plan
   pub fits : FitsTerms p terms plan.capacities plan.starts
@@ -25,9 +25,11 @@ pub record IsFitting (p : Project) (terms : Terms) (plan : Plan) : Type 0 where
 pub record IsFirstBroken (p : Project) (starts : List ℕ) (i j : ℕ) : Type 0 where
   pub pair : Precedes p i j
   pub broken : slice_index starts j < slice_index starts i + duration p i
-  pub first : (a b : ℕ) → Precedes p a b → IsArcBefore (a, b) (i, j) → slice_index starts a + duration p a ≤ slice_index starts b
+  pub first : (a b : ℕ) → Precedes p a b → IsArcBefore (a, b) (i, j) →
+      slice_index starts a + duration p a ≤ slice_index starts b
 
--- the resource at place k is the first that is used above its capacity at time t, and t is the first time at which one is
+-- the resource at place k is the first that is used above its capacity at time t, and t is the first time at which one
+-- is
 pub record IsFirstOver (p : Project) (capacities starts : List ℕ) (k t : ℕ) : Type 0 where
   pub resource : k < p.resources
   pub over : slice_index capacities k < usage p starts k t
@@ -50,7 +52,8 @@ pub record IsFirstEarly (p : Project) (release : ℕ → ℕ) (starts : List ℕ
   pub early : slice_index starts i < release i
   pub first : (j : ℕ) → j < i → release j ≤ slice_index starts j
 
--- what the check of a plan answers: that nothing is wrong, or the first fault, by number, where the tests before it hold
+-- what the check of a plan answers: that nothing is wrong, or the first fault, by number, where the tests before it
+-- hold
 abbrev pub IsChecked : Project → Terms → Plan → Result ⊤ PlanFault → Type 0
 IsChecked p terms plan (Ok _) = IsFitting p terms plan
 IsChecked p terms plan (Err Cost) = HasRightCost terms plan → ⊥

@@ -17,15 +17,16 @@ IsOverAtAnswer p capacities starts t (Some resource) =
     ((q : ℕ) → q < k → usage p starts q t ≤ slice_index capacities q)
 IsOverAtAnswer p capacities starts t None = (q : ℕ) → q < p.resources → usage p starts q t ≤ slice_index capacities q
 
--- the number of the first resource that is used above its capacity at the first time at which one is, with that time, or
--- none where the capacities are kept
+-- the number of the first resource that is used above its capacity at the first time at which one is, with that time,
+-- or none where the capacities are kept
 abbrev pub IsOverAnswer : Project → List ℕ → List ℕ → Option (ℕ × ℕ) → Type 0
 IsOverAnswer p capacities starts (Some over) = (k : ℕ) × (number k ≡ over.0) × IsFirstOver p capacities starts k over.1
 IsOverAnswer p capacities starts None = IsWithinCapacities p capacities starts
 
 -- the number of the first resource of which the capacity is above its ceiling, or none where none is
 abbrev pub IsAboveAnswer : Project → Terms → List ℕ → Option ℕ → Type 0
-IsAboveAnswer p terms capacities (Some resource) = (k : ℕ) × (number k ≡ resource) × IsFirstAboveCeiling p terms capacities k
+IsAboveAnswer p terms capacities (Some resource) =
+    (k : ℕ) × (number k ≡ resource) × IsFirstAboveCeiling p terms capacities k
 IsAboveAnswer p terms capacities None = IsWithinCeilings terms capacities
 
 -- the number of the first job that starts before its release time, or none where none does

@@ -1,18 +1,18 @@
-ghost use Rattle.std.specs.Prelude.{◌≡◌, ◌<◌, ◌≤◌, ◌↔◌, length, IsTrue, MatchOption};
+ghost use Rattle.std.specs.Prelude.{◌≡◌, ◌<◌, ◌↔◌, length, IsTrue, MatchOption};
 ghost use Rattle.racp_model.specs.Terms.{AreTermsOf, release_of, due_of};
 ghost use Rattle.racp_cpm.specs.Ends.{IsFirstLateAnswer};
 ghost use Rattle.racp_check.specs.PlanFaults.{IsChecked};
 ghost use Rattle.racp_check.specs.PlanTests.{IsBrokenAnswer, IsOverAtAnswer, IsOverAnswer, IsAboveAnswer, IsFirstEarlyAnswer};
 
-use crate::plan::Plan;
 use crate::plan_fault::PlanFault;
 use racp_model::{Network, usage_at};
+use racp_plan::Plan;
 use racp_prices::{Order, cost_of};
 use std::cmp::min;
 
-/// Whether a plan has the right cost, and its starts fit its capacities on the terms of the order: its deadline, owned units,
-/// ceilings, release and due times. The deadline and the critical length that the plan itself names are not looked at.
-/// Takes no memory.
+/// Whether a plan has the right cost, and its starts fit its capacities on the terms of the order: its deadline, owned
+/// units, ceilings, release and due times. The deadline and the critical length that the plan itself names are not
+/// looked at. Takes no memory.
 ///
 /// # Errors
 ///
@@ -61,7 +61,8 @@ fn first_late(net: &Network, order: &Order, starts: &[u32]) -> Option<u32>
     None
 }
 
-/// The numbers of the first two jobs of which the second starts before the first has ended, although it is to come after it.
+/// The numbers of the first two jobs of which the second starts before the first has ended, although it is to come
+/// after it.
 fn first_broken(net: &Network, starts: &[u32]) -> Option<(u32, u32)>
     requires { length starts.now ≡ length net.now.jobs }
     ensures { IsBrokenAnswer net.now starts.now result }

@@ -13,12 +13,12 @@ pub enum PlanFault {
     /// This job ends after its due time or after the deadline, and none with a smaller number does.
     #[error("job {0} ends too late")]
     Late(u32),
-    /// The second job starts before the first has ended, although it is to come after it. Of such pairs it is the least, by
-    /// the first job and then by the second.
+    /// The second job starts before the first has ended, although it is to come after it. Of such pairs it is the
+    /// least, by the first job and then by the second.
     #[error("job {1} starts before job {0} has ended")]
     Order(u32, u32),
-    /// The jobs use more of this resource than its capacity at this time, the second number. It is the least such time, and
-    /// of the resources with too great a usage then the least.
+    /// The jobs use more of this resource than its capacity at this time, the second number. It is the least such time,
+    /// and of the resources with too great a usage then the least.
     #[error("resource {0} is used above its capacity at time {1}")]
     Over(u32, u32),
     /// The capacity of this resource is above its ceiling, and that of none with a smaller number is.

@@ -5,7 +5,7 @@ use Rattle.racp_model.specs.Project.{Project}
 use Rattle.racp_model.specs.Path.{IsEarly, IsCriticalLength}
 use Rattle.racp_model.proofs.lemmas.Zeros.{zeros}
 use Rattle.racp_sm.specs.Reading.{IsReading, IsReadingOrMemory}
-use Rattle.racp_sm.specs.declared.fault.SmFault.{SmFault}
+use Rattle.racp_sm.specs.Faults.{SmFault}
 use Rattle.racp_sm.specs.declared.fault.SmFaultKind.TheVariants.{Memory}
 use Rattle.racp_cli.specs.Texts.{early_text, memory_line}
 use Rattle.racp_cli.specs.Answers.{Early, Refused, OutOfMemory, IsEarlyText, IsCpmAnswer}

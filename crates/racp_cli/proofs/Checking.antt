@@ -2,8 +2,8 @@
 use Rattle.std.proofs.Common.{ℕ, List, Err, inl, inr, ap, sym, subst}
 use Rattle.racp_model.specs.Project.{Project}
 use Rattle.racp_model.specs.Terms.{Terms}
-use Rattle.racp_check.specs.PlanReading.{IsPlanReadingOrMemory}
-use Rattle.racp_check.specs.declared.text_fault.TextFault.{TextFault}
+use Rattle.racp_plan.specs.PlanReading.{IsPlanReadingOrMemory}
+use Rattle.racp_plan.specs.TextFaults.{TextFault}
 use Rattle.racp_lexfix.specs.Printing.{AreTextsOf}
 use Rattle.racp_cli.specs.Checks.{IsCheck}
 use Rattle.racp_cli.specs.Responses.{IsOfPlanText}

@@ -2,7 +2,7 @@
 use Rattle.std.proofs.Common.{ℕ, List, length, Ok, Err, refl, sym, inl, inr}
 use Rattle.racp_model.specs.Project.{Project}
 use Rattle.racp_sm.specs.Reading.{IsReading, IsReadingOrMemory}
-use Rattle.racp_sm.specs.declared.fault.SmFault.{SmFault}
+use Rattle.racp_sm.specs.Faults.{SmFault}
 use Rattle.racp_prices.specs.Orders.{IsOrderOrMemory}
 use Rattle.racp_prices.specs.declared.fault.OrderFault.{OrderFault}
 use Rattle.racp_cli.specs.Texts.{memory_line}

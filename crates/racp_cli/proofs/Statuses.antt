@@ -1,10 +1,10 @@
 -- The text that `plan` writes tells its status, by its first letter.
 use Rattle.std.proofs.Common.{◌≡◌, ◌==◌, inl, inr, ℕ, List, get_or, if◌then◌else◌, refl, sym, ap, ◌∙◌}
-use Rattle.racp_check.specs.Texts.{line, deadline_line, plan_text}
+use Rattle.racp_plan.specs.Texts.{line, deadline_line, plan_text}
 use Rattle.racp_lexfix.specs.Texts.{impossible_line, due_line, ceiling_line, answer_text, answer_status}
 use Rattle.racp_lexfix.specs.declared.answer.Answer.{Answer}
 use Rattle.racp_lexfix.specs.declared.answer.Answer.TheVariants.{Plan as ThePlan, Impossible, Due, Ceiling}
-use Rattle.racp_sm.specs.declared.fault.SmFault.{SmFault}
+use Rattle.racp_sm.specs.Faults.{SmFault}
 use Rattle.racp_prices.specs.declared.fault.OrderFault.{OrderFault}
 use Rattle.racp_cli.specs.Texts.{refusal_line, order_refusal_line, memory_line}
 use Rattle.racp_cli.specs.Plans.{IsPlanAnswer}

@@ -3,13 +3,13 @@ use Rattle.std.proofs.Common.{◌≡◌, ℕ, ◌-◌, ◌^◌, ◌<◌, List, [
 use Rattle.std.specs.Fmt.{decimal}
 use Rattle.std.proofs.lemmas.List.{append_cancel_left}
 use Rattle.std.specs.Char.{digit_value}
-use Rattle.racp_sm.specs.Faults.{fault_number, fault_name, fault_at}
-use Rattle.racp_sm.specs.declared.fault.SmFault.{SmFault}
+use Rattle.racp_text.specs.Faults.{fault_at}
+use Rattle.racp_sm.specs.Faults.{fault_number, fault_name, SmFault}
 use Rattle.racp_sm.specs.declared.fault.SmFaultKind.{SmFaultKind}
 use Rattle.racp_sm.specs.declared.fault.SmFaultKind.TheVariants.{NoJobs, NoRenewable, ManyProjects, OtherResources, NoPrecedence, NoRequests, BadNumber, Limit, BadRow, NotSingleMode, BadSuccessor, TooFew, TooMany, Cycle, Memory}
-use Rattle.racp_check.specs.Texts.{line, critical_line, start_lines}
-use Rattle.racp_check.proofs.lemmas.Numbers.{same_number}
-use Rattle.racp_check.proofs.lemmas.StartLines.{same_starts}
+use Rattle.racp_plan.specs.Texts.{line, critical_line, start_lines}
+use Rattle.racp_plan.proofs.lemmas.Numbers.{same_number}
+use Rattle.racp_plan.proofs.lemmas.StartLines.{same_starts}
 use Rattle.racp_cli.specs.Texts.{early_text, refusal_line, memory_line}
 use Rattle.racp_cli.specs.Answers.{CpmOutcome, Early, Refused, OutOfMemory, cpm_text}
 use Rattle.racp_cli.specs.Laws.{IsWithin64Bits}

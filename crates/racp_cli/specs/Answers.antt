@@ -3,7 +3,7 @@ use Rattle.std.specs.Prelude.{◌≡◌, ℕ, List, Ok, Err}
 use Rattle.racp_model.specs.Project.{Project}
 use Rattle.racp_model.specs.Path.{IsEarly, IsCriticalLength}
 use Rattle.racp_sm.specs.Reading.{IsReading}
-use Rattle.racp_sm.specs.declared.fault.SmFault.{SmFault}
+use Rattle.racp_sm.specs.Faults.{SmFault}
 use Rattle.racp_cli.specs.Texts.{early_text, refusal_line, memory_line}
 
 -- the critical length and the early starts; the fault of the text; or that memory ran out

@@ -5,9 +5,9 @@ use Rattle.racp_model.specs.Path.{IsCriticalLength}
 use Rattle.racp_model.specs.Terms.{Terms, release_of}
 use Rattle.racp_sm.specs.Reading.{IsReading}
 use Rattle.racp_prices.specs.Orders.{IsOrder}
-use Rattle.racp_check.specs.PlanReading.{IsPlanReading}
+use Rattle.racp_plan.specs.PlanReading.{IsPlanReading}
 use Rattle.racp_check.specs.PlanFaults.{IsChecked}
-use Rattle.racp_check.specs.declared.plan.Plan.{Plan}
+use Rattle.racp_plan.specs.declared.plan.Plan.{Plan}
 use Rattle.racp_lexfix.specs.Printing.{AreTextsOf}
 use Rattle.racp_cli.specs.Texts.{refusal_line, order_refusal_line, plan_refusal_line, memory_line, ok_line, head_line, plan_fault_line}
 use Rattle.racp_cli.specs.declared.check_fault.CheckFault.{CheckFault}

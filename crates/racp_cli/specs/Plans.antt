@@ -2,7 +2,7 @@
 use Rattle.std.specs.Prelude.{◌≡◌, ◌⊎◌, ℕ, List, length, Ok, Err}
 use Rattle.racp_model.specs.Project.{Project}
 use Rattle.racp_sm.specs.Reading.{IsReading}
-use Rattle.racp_sm.specs.declared.fault.SmFault.{SmFault}
+use Rattle.racp_sm.specs.Faults.{SmFault}
 use Rattle.racp_prices.specs.Orders.{IsOrder}
 use Rattle.racp_prices.specs.declared.fault.OrderFault.{OrderFault}
 use Rattle.racp_lexfix.specs.Printing.{IsPrinted}

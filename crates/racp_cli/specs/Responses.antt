@@ -3,12 +3,12 @@
 use Rattle.std.specs.Prelude.{◌≡◌, ◌≢◌, ◌⊎◌, ℕ, List, Result, Ok, Err, Vec}
 use Rattle.std.specs.declared.alloc.AllocError.{AllocError}
 use Rattle.std.specs.declared.alloc.Global.{Global}
-use Rattle.racp_sm.specs.declared.fault.SmFault.{SmFault}
+use Rattle.racp_sm.specs.Faults.{SmFault}
 use Rattle.racp_sm.specs.declared.fault.SmFaultKind.TheVariants as network
 use Rattle.racp_prices.specs.declared.fault.OrderFault.{OrderFault}
 use Rattle.racp_prices.specs.declared.fault.OrderFault.TheVariants as order
-use Rattle.racp_check.specs.declared.text_fault.TextFault.{TextFault}
-use Rattle.racp_check.specs.declared.text_fault.TextFaultKind.TheVariants as plan
+use Rattle.racp_plan.specs.TextFaults.{TextFault}
+use Rattle.racp_plan.specs.declared.text_fault.TextFaultKind.TheVariants as plan
 use Rattle.racp_cli.specs.Texts.{refusal_line, order_refusal_line, memory_line}
 use Rattle.racp_cli.specs.declared.check_fault.CheckFault.{CheckFault}
 use Rattle.racp_cli.specs.declared.check_fault.CheckFault.TheVariants.{Network, Order, PlanText, OutOfMemory}

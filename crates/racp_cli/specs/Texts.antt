@@ -1,13 +1,11 @@
 -- The lines that are written, in ASCII. Each ends with a line feed; numbers are decimal, without leading zeros.
 use Rattle.std.specs.Prelude.{ℕ, List, ◌++◌, codes}
 use Rattle.std.specs.Fmt.{decimal}
-use Rattle.racp_sm.specs.Faults.{fault_number, fault_name}
-use Rattle.racp_sm.specs.declared.fault.SmFault.{SmFault}
+use Rattle.racp_sm.specs.Faults.{fault_number, fault_name, SmFault}
 use Rattle.racp_prices.specs.Faults.{fault_number as order_fault_number, fault_name as order_fault_name}
 use Rattle.racp_prices.specs.declared.fault.OrderFault.{OrderFault}
-use Rattle.racp_check.specs.Texts.{line, critical_line, start_lines}
-use Rattle.racp_check.specs.TextFaults.{fault_number as text_fault_number, fault_name as text_fault_name}
-use Rattle.racp_check.specs.declared.text_fault.TextFault.{TextFault}
+use Rattle.racp_plan.specs.Texts.{line, critical_line, start_lines}
+use Rattle.racp_plan.specs.TextFaults.{fault_number as text_fault_number, fault_name as text_fault_name, TextFault}
 use Rattle.racp_check.specs.declared.plan_fault.PlanFault.{PlanFault}
 use Rattle.racp_check.specs.declared.plan_fault.PlanFault.TheVariants.{Cost, Late, Order, Over, Ceiling, Early}
 

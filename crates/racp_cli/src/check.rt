@@ -11,9 +11,10 @@ use crate::lines::{order_refused_line, plan_fault_line, plan_refused_line, refus
 use crate::respond::respond;
 use crate::status::{CHECK_FAILED, DONE, OUT_OF_MEMORY, REFUSED};
 use crate::streams::read_whole;
-use racp_check::{Plan, check_plan, read_plan};
+use racp_check::check_plan;
 use racp_cpm::longest;
 use racp_model::Network;
+use racp_plan::{Plan, read_plan};
 use racp_prices::{Order, read_order};
 use racp_sm::read_sm;
 use std::alloc::{AllocError, Global};

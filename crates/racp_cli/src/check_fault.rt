@@ -1,4 +1,5 @@
-use racp_check::{PlanFault, TextFault, TextFaultKind};
+use racp_check::PlanFault;
+use racp_plan::{TextFault, TextFaultKind};
 use racp_prices::OrderFault;
 use racp_sm::{SmFault, SmFaultKind};
 use std::alloc::AllocError;

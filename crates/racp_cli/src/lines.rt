@@ -2,11 +2,12 @@
 
 ghost use Rattle.std.specs.Prelude.{◌≡◌, ◌++◌, IfOk, codes};
 ghost use Rattle.std.specs.Fmt.{decimal};
-ghost use Rattle.racp_check.specs.Texts.{line};
+ghost use Rattle.racp_plan.specs.Texts.{line};
 ghost use Rattle.racp_cli.specs.Texts.{early_text, order_refusal_line, plan_fault_line, plan_refusal_line, refusal_line};
 
-use racp_check::lines::push_starts;
-use racp_check::{PlanFault, TextFault};
+use racp_check::PlanFault;
+use racp_plan::TextFault;
+use racp_plan::lines::push_starts;
 use racp_prices::OrderFault;
 use racp_sm::SmFault;
 use std::alloc::{AllocError, Global};

@@ -10,8 +10,8 @@ use Rattle.racp_model.specs.Terms.{Terms, release_of, due_of}
 use Rattle.racp_model.specs.Plan.{IsTooLong, IsTooLateAt, IsOverCeilings}
 use Rattle.racp_model.proofs.lemmas.Arcs.{precedes_in}
 use Rattle.racp_model.proofs.lemmas.Orders.{plan_unique}
-use Rattle.racp_check.specs.declared.plan.Plan.{Plan}
-use Rattle.racp_check.specs.Plans.{IsPlanOf}
+use Rattle.racp_plan.specs.declared.plan.Plan.{Plan}
+use Rattle.racp_plan.specs.Plans.{IsPlanOf}
 use Rattle.racp_lexfix.specs.declared.answer.Answer.TheVariants.{Plan as ThePlan, Impossible, Due, Ceiling}
 use Rattle.racp_lexfix.specs.Laws.{AnswerIsOne}
 

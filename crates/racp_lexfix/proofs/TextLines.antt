@@ -1,7 +1,7 @@
 -- Lines in the pieces in which they are written.
 use Rattle.std.proofs.Common.{◌≡◌, ℕ, ◌++◌, append_assoc, codes}
 use Rattle.std.specs.Fmt.{decimal}
-use Rattle.racp_check.specs.Texts.{line}
+use Rattle.racp_plan.specs.Texts.{line}
 use Rattle.racp_lexfix.specs.Texts.{impossible_line, due_line}
 
 pub impossible_line_pieces : (critical deadline : ℕ) → codes "impossible critical " ++ (decimal critical ++ (codes " deadline " ++ (decimal deadline ++ codes "\n"))) ≡ impossible_line critical deadline

@@ -4,7 +4,7 @@ use Rattle.racp_model.specs.Project.{Project, number, duration, request}
 use Rattle.racp_model.specs.Terms.{Terms, IsBefore}
 use Rattle.racp_model.specs.Plan.{IsLeast, IsEnough, IsTooLong, IsTooLateAt, IsOverCeilings}
 use Rattle.racp_bounds.specs.Sharp.{pair_count}
-use Rattle.racp_check.specs.Plans.{IsPlanOf}
+use Rattle.racp_plan.specs.Plans.{IsPlanOf}
 use Rattle.racp_lexfix.specs.declared.answer.Answer.{Answer}
 use Rattle.racp_lexfix.specs.declared.answer.Answer.TheVariants.{Plan as ThePlan, Impossible, Due, Ceiling}
 use Rattle.racp_lexfix.specs.declared.answer.PlanStop.{PlanStop}

@@ -1,7 +1,7 @@
 -- The text of an answer, in ASCII: that of the plan, or a line that says why there is none. Numbers are decimal, without leading zeros.
 use Rattle.std.specs.Prelude.{ℕ, List, ◌++◌, codes}
 use Rattle.std.specs.Fmt.{decimal}
-use Rattle.racp_check.specs.Texts.{line, plan_text}
+use Rattle.racp_plan.specs.Texts.{line, plan_text}
 use Rattle.racp_lexfix.specs.declared.answer.Answer.{Answer}
 use Rattle.racp_lexfix.specs.declared.answer.Answer.TheVariants.{Plan as ThePlan, Impossible, Due, Ceiling}
 

@@ -1,8 +1,8 @@
 ghost use Rattle.std.specs.Prelude.{◌≡◌};
 ghost use Rattle.racp_lexfix.specs.Stages.{given_up, stopped_at};
 
-use racp_check::Plan;
 use racp_model::Capacities;
+use racp_plan::Plan;
 use racp_questions::AskStop;
 use std::alloc::AllocError;
 use thiserror::Error;

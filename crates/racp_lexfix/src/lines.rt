@@ -4,7 +4,7 @@ ghost use Rattle.std.specs.Prelude.{◌≡◌, IfOk};
 ghost use Rattle.racp_lexfix.specs.Texts.{answer_text, impossible_line, due_line};
 
 use crate::answer::Answer;
-use racp_check::write_plan;
+use racp_plan::write_plan;
 use std::alloc::{AllocError, Global};
 
 /// The text of an answer on the terms of an order with this deadline.

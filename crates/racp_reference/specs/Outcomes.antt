@@ -4,7 +4,7 @@ use Rattle.racp_model.specs.Project.{Project, number}
 use Rattle.racp_model.specs.Terms.{Terms, IsLexBefore}
 use Rattle.racp_model.specs.Plan.{IsLeast, IsTooLong, IsTooLateAt, IsOverCeilings}
 use Rattle.racp_model.specs.Window.{Bounds, Answers, IsNo}
-use Rattle.racp_check.specs.Plans.{IsPlanOf}
+use Rattle.racp_plan.specs.Plans.{IsPlanOf}
 use Rattle.racp_reference.specs.declared.plan.Outcome.{Outcome}
 use Rattle.racp_reference.specs.declared.plan.Outcome.TheVariants.{Plan as ThePlan, TooLong, TooLate, OverCeilings}
 

@@ -3,8 +3,9 @@ ghost use Rattle.racp_model.specs.Terms.{AreTermsOf};
 ghost use Rattle.racp_reference.specs.Outcomes.{IsOutcome};
 
 use crate::choice::cheapest;
-use racp_check::{Opening, Plan, opening_of};
+use racp_check::{Opening, opening_of};
 use racp_model::Network;
+use racp_plan::Plan;
 use racp_prices::{Order, most_units};
 use std::alloc::{AllocError, Global};
 

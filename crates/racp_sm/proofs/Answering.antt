@@ -7,9 +7,9 @@ use Rattle.racp_model.specs.Made.{IsSameProject}
 use Rattle.racp_model.specs.Laws.{RankingOrRing, RelationIsNetwork, AcyclicHasNetwork}
 use Rattle.racp_model.proofs.lemmas.Relations.{composed}
 use Rattle.racp_sm.specs.Reading.{IsReading, reading}
-use Rattle.racp_sm.specs.Faults.{fault_at}
+use Rattle.racp_text.specs.Faults.{fault_at}
 use Rattle.racp_sm.specs.Laws.{ReadingIsOne, TextIsRead}
-use Rattle.racp_sm.specs.declared.fault.SmFault.{SmFault}
+use Rattle.racp_sm.specs.Faults.{SmFault}
 use Rattle.racp_sm.specs.declared.fault.SmFaultKind.TheVariants.{Cycle}
 use Rattle.racp_model.proofs.lemmas.Results.{IsFault, same_ok}
 use Rattle.racp_sm.proofs.Limits.{IsWithin, reading_ok}

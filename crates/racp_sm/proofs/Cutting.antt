@@ -1,19 +1,11 @@
 -- Cutting lists at the first element of a kind: pieces, lines and words.
 use Rattle.std.proofs.Common.{◌≡◌, refl, sym, ◌∙◌, ap, ℕ, zero, suc, ◌+◌, ◌<◌, inl, inr, Bool, false, List, [], ◌∷◌, length, length-drop, arith, subst, nat_lt, ◌==◌}
-use Rattle.std.specs.Prelude.{Some, None, position, filter, not}
-use Rattle.std.specs.List.{position_or_len, before_first, after_first, slice_split, onto_first}
-use Rattle.std.proofs.lemmas.Bool.{cases_Bool, false≢true, ltb-false, lt-ltb, le-ltb, ne_eqb, cond-true, cond-false}
-use Rattle.std.proofs.lemmas.Option.{none-some}
-use Rattle.std.proofs.lemmas.List.Sums.{prefix_len-le-length}
+use Rattle.std.specs.Prelude.{filter}
+use Rattle.std.specs.List.{position_or_len, after_first, slice_split, onto_first}
+use Rattle.std.proofs.lemmas.Bool.{cases_Bool, false≢true, lt-ltb, le-ltb, ne_eqb, cond-true, cond-false}
 use Rattle.std.proofs.lemmas.List.Splits.{slice_split_first}
-use Rattle.racp_sm.specs.Lines.{is_blank, is_line_feed, line_pieces, words_in}
-
--- where no place is found, no element passes
-pub not_found : {X : Type 0} (test : X → Bool) (xs : List X) → position test xs ≡ None → position_or_len test xs ≡ length xs
-not_found test xs e = elim (cases_Bool (nat_lt (position_or_len test xs) (length xs))) [
-  | inl t ↦ absurd (none-some (position_or_len test xs) (sym e ∙ cond-true _ (Some (position_or_len test xs)) None t))
-  | inr f ↦ omega (arith, prefix_len-le-length (λ x. not (test x)) xs, ltb-false (position_or_len test xs) (length xs) f)
-]
+use Rattle.racp_text.specs.Cuts.{AreParts, is_line_feed}
+use Rattle.racp_sm.specs.Lines.{is_blank, line_pieces, words_in}
 
 -- a list without such an element is one piece
 pub one_piece : {X : Type 0} (test : X → Bool) (xs : List X) → position_or_len test xs ≡ length xs → slice_split test xs ≡ xs ∷ []
@@ -39,10 +31,6 @@ line_before test piece bytes =
 pub some_length : (n : ℕ) → false ≡ (n == 0) → 0 < n
 some_length zero e = absurd (false≢true e)
 some_length (suc n) e = omega arith
-
--- what a cut says of its two parts
-abbrev pub AreParts : (ℕ → Bool) → List ℕ → List ℕ → List ℕ → Type 0
-AreParts test bytes front back = (position_or_len test bytes < length bytes) × (front ≡ before_first test bytes) × (back ≡ after_first test bytes)
 
 -- the pieces of what was cut
 pub cut_pieces : (test : ℕ → Bool) (bytes front back : List ℕ) → AreParts test bytes front back → slice_split test bytes ≡ front ∷ slice_split test back

@@ -1,7 +1,6 @@
 mod Cutting
 mod Naming
 mod Noting
-mod Digits
 mod Repeats
 mod Sections
 mod Limits

@@ -8,13 +8,15 @@ use Rattle.racp_model.specs.Project.{Activity, Project, IsJobWithinLimits, IsWit
 use Rattle.racp_model.specs.Made.{IsMade}
 use Rattle.racp_model.specs.declared.fault.NetFault.{NetFault}
 use Rattle.racp_model.specs.declared.fault.NetFault.TheVariants as NetFaults
-use Rattle.racp_sm.specs.Lines.{Line, Word, is_number, value, has_words, lines_of}
+use Rattle.racp_text.specs.Numbers.{is_number, value}
+use Rattle.racp_sm.specs.Lines.{Line, Word, has_words, lines_of}
 use Rattle.racp_sm.specs.Head.{Entries, Counts, number_within, required, optional, counts_of, entries_of}
 use Rattle.racp_sm.specs.Parts.{next_number, next_numbers, nothing_left, successor_row, successor_rows, request_row, request_rows, arcs_of, jobs_of}
-use Rattle.racp_sm.specs.Steps.{GivesAll, Keeps}
+use Rattle.racp_text.specs.Kept.{Keeps}
+use Rattle.racp_sm.specs.Steps.{GivesAll}
 use Rattle.racp_sm.specs.Reading.{precedence_part, requests_part, reading, from_first, precedence_title, requests_title}
 use Rattle.racp_model.proofs.lemmas.Results.{IsFault, bind_ok, same_ok}
-use Rattle.racp_sm.specs.declared.fault.SmFault.{SmFault}
+use Rattle.racp_sm.specs.Faults.{SmFault}
 use Rattle.racp_sm.specs.declared.fault.SmFaultKind.{SmFaultKind}
 use Rattle.racp_sm.specs.declared.fault.SmFaultKind.TheVariants.{NoJobs, NoRenewable, ManyProjects, OtherResources, BadRow, NotSingleMode, BadSuccessor, Limit}
 

@@ -4,7 +4,7 @@ use Rattle.std.specs.Prelude.{Option, Some, None, not, ◌&&◌}
 use Rattle.std.proofs.lemmas.Bool.{true≢false, and_left, cond-true, cond-false}
 use Rattle.std.specs.Option.{is_some}
 use Rattle.std.specs.List.{before_first, after_first, position_or_len, list_any}
-use Rattle.racp_sm.proofs.Cutting.{AreParts}
+use Rattle.racp_text.specs.Cuts.{AreParts}
 use Rattle.racp_sm.specs.Lines.{Line, Word, words_in}
 use Rattle.racp_sm.specs.Head.{Entries, is_colon, begins_with, first_or_empty, entries_of, entry, has_key, value_word, projects_key, jobs_key, renewable_key, nonrenewable_key, doubly_constrained_key}
 use Rattle.racp_sm.specs.Reading.{from_first}

@@ -1,12 +1,14 @@
 -- Reading rows one after another: what was read, and what is left to read.
-use Rattle.std.proofs.Common.{◌≡◌, refl, sym, ◌∙◌, ap, ℕ, suc, ◌+◌, ◌-◌, ◌<◌, ◌≤◌, List, [], ◌∷◌, ◌++◌, arith, Ok, Err, append_assoc, append-nil, subst}
+use Rattle.std.proofs.Common.{◌≡◌, refl, sym, ◌∙◌, ap, ℕ, ◌+◌, ◌-◌, ◌<◌, ◌≤◌, List, [], ◌∷◌, ◌++◌, Ok, Err, append_assoc, append-nil, subst}
 use Rattle.std.specs.Prelude.{Option, Result}
 use Rattle.racp_model.specs.Project.{Activity}
 use Rattle.racp_sm.specs.Lines.{Word}
 use Rattle.racp_sm.specs.Parts.{next_number, next_numbers, successor_row, successor_rows, request_row, request_rows}
-use Rattle.racp_sm.specs.Steps.{Words, IsSameStream, Keeps, KeepsMore, with_each}
+use Rattle.racp_text.specs.Kept.{Keeps, KeepsMore}
+use Rattle.racp_text.proofs.lemmas.Rows.{with_front, bind-front, one_more, all_more, no_more}
+use Rattle.racp_sm.specs.Steps.{Words, IsSameStream, with_each}
 use Rattle.racp_model.specs.Steps.{◌>>=◌}
-use Rattle.racp_sm.specs.declared.fault.SmFault.{SmFault}
+use Rattle.racp_sm.specs.Faults.{SmFault}
 use Rattle.racp_sm.specs.declared.fault.SmFaultKind.{SmFaultKind}
 use Rattle.racp_sm.specs.declared.fault.SmFaultKind.TheVariants.{BadSuccessor}
 
@@ -14,52 +16,9 @@ use Rattle.racp_sm.specs.declared.fault.SmFaultKind.TheVariants.{BadSuccessor}
 abbrev pub Read : Type 0 → Type 0
 Read X = Result (List X × List Word) SmFault
 
--- these things before those that are read
-abbrev pub with_front : {X : Type 0} → List X → Read X → Read X
-with_front front (Ok read) = Ok (front ++ read.0, read.1)
-with_front front (Err fault) = Err fault
-
-pub front-none : {X : Type 0} (r : Read X) → with_front [] r ≡ r
-front-none (Ok read) = refl
-front-none (Err fault) = refl
-
-pub front-twice : {X : Type 0} (xs ys : List X) (r : Read X) → with_front xs (with_front ys r) ≡ with_front (xs ++ ys) r
-front-twice xs ys (Ok read) = ap (λ zs. Ok (zs, read.1)) (sym (append_assoc xs ys read.0))
-front-twice xs ys (Err fault) = refl
-
--- k things or rows were read from a stream, are kept like this, and reading goes on: whole is what reading all gives, left k
--- what is still to be read
-pub record IsReadingOn {K X : Type 0} (keeps : K → List X → Type 0) (whole : Read X) (left : ℕ → List Word → Read X) (start now : Words) (k : ℕ) (kept : K) : Type 0 where
-  pub things : List X
-  pub are_kept : keeps kept things
-  pub read : whole ≡ with_front things (left k now.words)
-  pub same : IsSameStream start now
-
-pub reading_start : {K X : Type 0} (keeps : K → List X → Type 0) (whole : Read X) (left : ℕ → List Word → Read X) (start : Words) (kept : K) → keeps kept [] → whole ≡ left 0 start.words →
-    IsReadingOn keeps whole left start start 0 kept
-reading_start keeps whole left start kept none e = record { things = []; are_kept = none; read = e ∙ sym (front-none (left 0 start.words)); same = (refl, refl) }
-
--- one step
-pub reading_step : {K X : Type 0} (keeps : K → List X → Type 0) (whole : Read X) (left : ℕ → List Word → Read X) (start now new : Words) (k : ℕ) (kept grown : K) (more : List X) →
-    IsReadingOn keeps whole left start now k kept → IsSameStream now new → left k now.words ≡ with_front more (left (k + 1) new.words) →
-    ((things : List X) → keeps kept things → keeps grown (things ++ more)) → IsReadingOn keeps whole left start new (k + 1) grown
-reading_step keeps whole left start now new k kept grown more h same e grows = record {
-  things = h.things ++ more;
-  are_kept = grows h.things h.are_kept;
-  read = h.read ∙ (ap (with_front h.things) e ∙ front-twice h.things more (left (k + 1) new.words));
-  same = (same.0 ∙ h.same.0, same.1 ∙ h.same.1);
-}
-
--- a fault on the way
-pub reading_fault : {K X : Type 0} (keeps : K → List X → Type 0) (whole : Read X) (left : ℕ → List Word → Read X) (start now : Words) (k : ℕ) (kept : K) (fault : SmFault) →
-    IsReadingOn keeps whole left start now k kept → left k now.words ≡ Err fault → whole ≡ Err fault
-reading_fault keeps whole left start now k kept fault h e = h.read ∙ ap (with_front h.things) e
-
--- nothing is left
-pub reading_end : {K X : Type 0} (keeps : K → List X → Type 0) (whole : Read X) (left : ℕ → List Word → Read X) (start now : Words) (k : ℕ) (kept : K) →
-    IsReadingOn keeps whole left start now k kept → left k now.words ≡ Ok ([], now.words) → (things : List X) × (whole ≡ Ok (things, now.words)) × keeps kept things
-reading_end keeps whole left start now k kept h e =
-    (h.things, h.read ∙ (ap (with_front h.things) e ∙ ap (λ zs. Ok (zs, now.words)) (append-nil h.things)), h.are_kept)
+-- a stream is the same after two steps
+pub same_twice : (start now new : Words) → IsSameStream start now → IsSameStream now new → IsSameStream start new
+same_twice start now new h g = (g.0 ∙ h.0, g.1 ∙ h.1)
 
 -- a list that nothing was added to, and one that was added to twice
 pub more_none : {X Y : Type 0} (view : X → List Y) (list : Option X) → KeepsMore view list list []
@@ -71,21 +30,6 @@ more_twice view old kept new more rest h g ys is = subst (Keeps view new) (appen
 -- what is read at the title that a stream has now is read at the one that it had
 pub at_title : {A : Type 0} (F : ℕ → A) {r : A} {title now : ℕ} → now ≡ title → F now ≡ r → F title ≡ r
 at_title F same e = ap F (sym same) ∙ e
-
--- one more of a count
-pub one_more : (total k : ℕ) → k < total → total - k ≡ suc (total - (k + 1))
-one_more total k l = omega (arith, l)
-
-pub all_more : (total : ℕ) → total ≡ total - 0
-all_more total = omega arith
-
-pub no_more : (total k : ℕ) → total ≤ k → total - k ≡ 0
-no_more total k l = omega (arith, l)
-
--- what is read after these things
-pub bind-front : {X : Type 0} (xs : List X) (r : Read X) → (r >>= (λ others. Ok (xs ++ others.0, others.1))) ≡ with_front xs r
-bind-front xs (Ok read) = refl
-bind-front xs (Err fault) = refl
 
 -- numbers that are left
 abbrev pub numbers_left : ℕ → SmFaultKind → ℕ → ℕ → ℕ → ℕ → List Word → Read ℕ

@@ -8,8 +8,7 @@ use Rattle.racp_sm.specs.Reading.{precedence_part, requests_part}
 use Rattle.racp_sm.specs.Steps.{Words, stream_of, part_stream, map_ok}
 use Rattle.racp_model.specs.Steps.{◌>>=◌}
 use Rattle.racp_model.proofs.lemmas.Results.{IsFault}
-use Rattle.racp_sm.specs.Faults.{out_of_memory}
-use Rattle.racp_sm.specs.declared.fault.SmFault.{SmFault}
+use Rattle.racp_sm.specs.Faults.{out_of_memory, SmFault}
 use Rattle.racp_sm.specs.declared.fault.SmFaultKind.TheVariants.{NoPrecedence, NoRequests}
 use Rattle.racp_sm.specs.declared.part.Part.TheVariants.{Precedence, Requests}
 

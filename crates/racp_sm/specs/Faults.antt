@@ -1,8 +1,13 @@
 -- The faults of a network text: their numbers and names.
-use Rattle.std.specs.Prelude.{ℕ, List, Result, Err, codes}
-use Rattle.racp_sm.specs.declared.fault.SmFault.{SmFault}
+use Rattle.std.specs.Prelude.{ℕ, List, codes}
+use Rattle.racp_text.specs.Faults.{fault_at}
+use Rattle.racp_text.specs.declared.fault.LineFault.{LineFault}
 use Rattle.racp_sm.specs.declared.fault.SmFaultKind.{SmFaultKind}
 use Rattle.racp_sm.specs.declared.fault.SmFaultKind.TheVariants.{NoJobs, NoRenewable, ManyProjects, OtherResources, NoPrecedence, NoRequests, BadNumber, Limit, BadRow, NotSingleMode, BadSuccessor, TooFew, TooMany, Cycle, Memory}
+
+-- the fault of a text: its kind, and the line
+abbrev pub SmFault : Type 0
+SmFault = LineFault SmFaultKind
 
 -- the number and the name of each
 abbrev pub fault_entry : SmFaultKind → ℕ × List ℕ
@@ -30,11 +35,4 @@ fault_name kind = (fault_entry kind).1
 
 -- lack of memory is at no line
 abbrev pub out_of_memory : SmFault
-out_of_memory = record { kind = Memory; line = 0 }
-
--- the fault of this kind at this line
-abbrev pub fault_at : SmFaultKind → ℕ → SmFault
-fault_at kind line = record { kind = kind; line = line }
-
-abbrev pub refused : {A : Type 0} → SmFaultKind → ℕ → Result A SmFault
-refused kind line = Err (fault_at kind line)
+out_of_memory = fault_at Memory 0

@@ -1,10 +1,11 @@
 -- The head of a network text: how many jobs and resources there are.
 use Rattle.std.specs.Prelude.{ℕ, ◌==◌, ◌&&◌, Bool, true, false, List, [], ◌∷◌, Option, Some, None, Result, Ok, nat_le, if◌then◌else◌, codes}
 use Rattle.std.specs.List.{before_first, after_first, list_any}
-use Rattle.racp_sm.specs.Lines.{Line, Word, words_in, is_word, is_number, value}
+use Rattle.racp_text.specs.Numbers.{is_number, value}
+use Rattle.racp_sm.specs.Lines.{Line, Word, words_in, is_word}
 use Rattle.racp_model.specs.Steps.{◌>>=◌}
-use Rattle.racp_sm.specs.Faults.{refused}
-use Rattle.racp_sm.specs.declared.fault.SmFault.{SmFault}
+use Rattle.racp_text.specs.Faults.{refused}
+use Rattle.racp_sm.specs.Faults.{SmFault}
 use Rattle.racp_sm.specs.declared.fault.SmFaultKind.{SmFaultKind}
 use Rattle.racp_sm.specs.declared.fault.SmFaultKind.TheVariants.{NoJobs, NoRenewable, ManyProjects, OtherResources, BadNumber, Limit}
 
@@ -39,7 +40,9 @@ entry names (line ∷ more) = if has_key names line then Some (value_word line) 
 abbrev pub number_within : SmFaultKind → ℕ → ℕ → Word → Result ℕ SmFault
 number_within kind low high word =
     if is_number word.bytes
-    then (if nat_le low (value word.bytes) && nat_le (value word.bytes) high then Ok (value word.bytes) else refused kind word.line)
+    then (if nat_le low (value word.bytes) && nat_le (value word.bytes) high
+    then Ok (value word.bytes)
+    else refused kind word.line)
     else refused BadNumber word.line
 
 -- the number of an entry that has to be there

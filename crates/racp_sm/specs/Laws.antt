@@ -1,9 +1,8 @@
 -- Laws of what texts are read as. Each is the contract of a public function.
-use Rattle.std.specs.Prelude.{◌≡◌, ℕ, ◌+◌, ◌*◌, ◌≤◌, ◌++◌, List, [], ◌∷◌, length, Result, Ok}
+use Rattle.std.specs.Prelude.{◌≡◌, ℕ, List, length, Result, Ok}
 use Rattle.racp_model.specs.Project.{Project, IsWithinLimits, AreNumbers}
-use Rattle.racp_sm.specs.Lines.{value}
 use Rattle.racp_sm.specs.Reading.{IsReading, reading}
-use Rattle.racp_sm.specs.declared.fault.SmFault.{SmFault}
+use Rattle.racp_sm.specs.Faults.{SmFault}
 
 -- a text is read as at most one thing
 abbrev pub ReadingIsOne : Type 0
@@ -16,9 +15,5 @@ TextIsRead = (text : List ℕ) → (x : Result Project SmFault) × IsReading tex
 -- the project that a text says is within the limits, and its pairs name its jobs
 abbrev pub ReadWithinLimits : Type 0
 ReadWithinLimits =
-    (text : List ℕ) (project : Project) → reading text ≡ Ok project → IsWithinLimits project.resources project.jobs × AreNumbers (length project.jobs) project.arcs
-
--- numbers are decimal: one more digit makes ten times as much and the digit, and zeros in front change nothing
-abbrev pub NumbersAreDecimal : Type 0
-NumbersAreDecimal =
-    (digits : List ℕ) (digit : ℕ) → digit ≤ 9 → (value (digits ++ (48 + digit) ∷ []) ≡ value digits * 10 + digit) × (value (48 ∷ digits) ≡ value digits)
+    (text : List ℕ) (project : Project) → reading text ≡ Ok project →
+    IsWithinLimits project.resources project.jobs × AreNumbers (length project.jobs) project.arcs

@@ -1,9 +1,9 @@
--- The lines, words and numbers of a text.
-use Rattle.std.specs.Prelude.{ℕ, ◌+◌, ◌==◌, ◌||◌, ◌&&◌, not, Bool, List, [], ◌∷◌, length, map, filter, nat_lt, nat_le, bytes_eq, if◌then◌else◌}
-use Rattle.std.specs.List.{slice_split, before_first, list_all}
+-- The lines and words of a text.
+use Rattle.std.specs.Prelude.{ℕ, ◌+◌, ◌==◌, ◌||◌, Bool, List, [], ◌∷◌, length, map, filter, nat_lt, bytes_eq, if◌then◌else◌}
+use Rattle.std.specs.List.{slice_split, before_first}
 use Rattle.std.specs.Str.Lines.{strip_carriage_return}
-use Rattle.std.specs.Str.Parse.{digits_value}
 use lib.Pointwise.{pointwise}
+use Rattle.racp_text.specs.Cuts.{is_line_feed}
 
 -- a line: its number, from 1, and its bytes without its end
 pub record Line : Type 0 where
@@ -15,12 +15,9 @@ pub record Word : Type 0 where
   pub line : ℕ
   pub bytes : List ℕ
 
--- the bytes that end a text, end a line and separate words
+-- the bytes that end a text and separate words
 abbrev pub is_end : ℕ → Bool
 is_end b = b == 26
-
-abbrev pub is_line_feed : ℕ → Bool
-is_line_feed b = b == 10
 
 abbrev pub is_blank : ℕ → Bool
 is_blank b = (b == 32) || (b == 9)
@@ -55,15 +52,3 @@ is_word = bytes_eq
 -- whether a line's words are exactly these
 abbrev pub has_words : List (List ℕ) → Line → Bool
 has_words names line = pointwise is_word (words_in line.bytes) names
-
--- the decimal digits
-abbrev pub is_digit : ℕ → Bool
-is_digit b = nat_le 48 b && nat_le b 57
-
--- a number is a word of digits, one or more
-abbrev pub is_number : List ℕ → Bool
-is_number bytes = not (length bytes == 0) && list_all is_digit bytes
-
--- the number that the digits stand for
-abbrev pub value : List ℕ → ℕ
-value digits = digits_value 10 digits

@@ -1,16 +1,17 @@
 -- The two parts of a network text, each a stream of words: the precedence relation, and the durations and requests.
 use Rattle.std.specs.Prelude.{ℕ, zero, suc, ◌+◌, List, [], ◌∷◌, ◌++◌, map, Result, Ok, Err, if◌then◌else◌}
 use Rattle.racp_model.specs.Project.{Activity}
-use Rattle.racp_sm.specs.Lines.{Word, is_number}
+use Rattle.racp_text.specs.Numbers.{is_number}
+use Rattle.racp_sm.specs.Lines.{Word}
 use Rattle.racp_sm.specs.Head.{number_within}
 use Rattle.racp_model.specs.Steps.{◌>>=◌}
-use Rattle.racp_sm.specs.Faults.{fault_at, refused}
-use Rattle.racp_sm.specs.declared.fault.SmFault.{SmFault}
+use Rattle.racp_text.specs.Faults.{fault_at, refused}
+use Rattle.racp_sm.specs.Faults.{SmFault}
 use Rattle.racp_sm.specs.declared.fault.SmFaultKind.{SmFaultKind}
 use Rattle.racp_sm.specs.declared.fault.SmFaultKind.TheVariants.{BadNumber, Limit, BadRow, NotSingleMode, BadSuccessor, TooFew, TooMany}
 
--- the number at the front of a stream, from low to high, and the words after it; a stream that has ended is too short, at
--- the title of its part
+-- the number at the front of a stream, from low to high, and the words after it; a stream that has ended is too short,
+-- at the title of its part
 abbrev pub next_number : ℕ → SmFaultKind → ℕ → ℕ → List Word → Result (ℕ × List Word) SmFault
 next_number title kind low high [] = refused TooFew title
 next_number title kind low high (word ∷ words) = do
@@ -34,8 +35,8 @@ abbrev pub nothing_left : List Word → Result (List Word) SmFault
 nothing_left [] = Ok []
 nothing_left (word ∷ words) = Err (left_over word)
 
--- the row of one of n jobs in the precedence part, and the words after it: its number, the number of its modes, how many
--- successors it has, and these; its pairs are those of the job with each
+-- the row of one of n jobs in the precedence part, and the words after it: its number, the number of its modes, how
+-- many successors it has, and these; its pairs are those of the job with each
 unfoldable pub successor_row : ℕ → ℕ → ℕ → List Word → Result (List (ℕ × ℕ) × List Word) SmFault
 successor_row title n job words = do
   number ← next_number title BadRow job job words
@@ -52,8 +53,8 @@ successor_rows title n job (suc count) words = do
   others ← successor_rows title n (job + 1) count row.1
   Ok (row.0 ++ others.0, others.1)
 
--- the row of a job in the requests part, and the words after it: its number, its mode, its duration, and what it requests
--- of each resource
+-- the row of a job in the requests part, and the words after it: its number, its mode, its duration, and what it
+-- requests of each resource
 unfoldable pub request_row : ℕ → ℕ → ℕ → List Word → Result (Activity × List Word) SmFault
 request_row title resources job words = do
   number ← next_number title BadRow job job words

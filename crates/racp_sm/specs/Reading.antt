@@ -1,4 +1,5 @@
--- What a network text is read as (a profile of the single-mode .sm files of the PSPLIB library, Kolisch and Sprecher 1997).
+-- What a network text is read as (a profile of the single-mode .sm files of the PSPLIB library, Kolisch and Sprecher
+-- 1997).
 use Rattle.std.specs.Prelude.{◌≡◌, ◌⊎◌, ℕ, ◌==◌, ◌||◌, Bool, false, List, [], ◌∷◌, drop, flat_map, Result, Ok, Err, if◌then◌else◌, codes}
 use Rattle.std.specs.List.{list_all, before_first, position_or_len}
 use Rattle.racp_model.specs.Project.{Activity, Project, IsSound}
@@ -8,8 +9,8 @@ use Rattle.racp_sm.specs.Lines.{Line, Word, lines_of, words_in, words_of, has_wo
 use Rattle.racp_sm.specs.Head.{entries_of, counts_of}
 use Rattle.racp_sm.specs.Parts.{arcs_of, jobs_of}
 use Rattle.racp_model.specs.Steps.{◌>>=◌}
-use Rattle.racp_sm.specs.Faults.{refused, fault_at, out_of_memory}
-use Rattle.racp_sm.specs.declared.fault.SmFault.{SmFault}
+use Rattle.racp_text.specs.Faults.{refused, fault_at}
+use Rattle.racp_sm.specs.Faults.{out_of_memory, SmFault}
 use Rattle.racp_sm.specs.declared.fault.SmFaultKind.TheVariants.{NoPrecedence, NoRequests, Cycle}
 
 -- the title lines
@@ -49,7 +50,8 @@ is_rule line = is_one_of_dashes (words_in line.bytes)
 abbrev pub words_between_rules : Line → List Word
 words_between_rules line = if is_rule line then [] else words_of line
 
--- the precedence part of n jobs, from its title on: its pairs, and the lines after it; the line after the title is a heading
+-- the precedence part of n jobs, from its title on: its pairs, and the lines after it; the line after the title is a
+-- heading
 unfoldable pub precedence_part : ℕ → List Line → Result (List (ℕ × ℕ) × List Line) SmFault
 precedence_part n [] = refused NoPrecedence 0
 precedence_part n (title ∷ lines) = do
@@ -60,7 +62,8 @@ precedence_part n (title ∷ lines) = do
 unfoldable pub requests_part : ℕ → ℕ → List Line → Result (List Activity) SmFault
 requests_part resources n [] = refused NoRequests 0
 requests_part resources n (title ∷ lines) =
-    jobs_of title.number resources n (flat_map words_between_rules (before_first (ends_part availabilities_title) (drop 1 lines)))
+    jobs_of title.number resources n
+    (flat_map words_between_rules (before_first (ends_part availabilities_title) (drop 1 lines)))
 
 -- what the text says: a project, or the first fault
 unfoldable pub reading : List ℕ → Result Project SmFault
@@ -70,11 +73,14 @@ reading text = do
   jobs ← requests_part counts.resources counts.jobs (from_first (has_words requests_title) arcs.1)
   Ok (record { resources = counts.resources; jobs = jobs; arcs = arcs.0 })
 
--- what a text is read as: the network of what it says, where no job waits for itself, or the first fault, a ring being the last
+-- what a text is read as: the network of what it says, where no job waits for itself, or the first fault, a ring being
+-- the last
 abbrev pub IsReading : List ℕ → Result Project SmFault → Type 0
-IsReading text (Ok network) = (project : Project) × (reading text ≡ Ok project) × IsSameProject project network × IsSound network
+IsReading text (Ok network) =
+    (project : Project) × (reading text ≡ Ok project) × IsSameProject project network × IsSound network
 IsReading text (Err fault) =
-    (reading text ≡ Err fault) ⊎ ((project : Project) × (reading text ≡ Ok project) × HasRing project × (fault ≡ fault_at Cycle 0))
+    (reading text ≡ Err fault)
+    ⊎ ((project : Project) × (reading text ≡ Ok project) × HasRing project × (fault ≡ fault_at Cycle 0))
 
 -- the same, unless the text says a project and memory ran out
 abbrev pub IsReadingOrMemory : List ℕ → Result Project SmFault → Type 0

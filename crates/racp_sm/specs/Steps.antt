@@ -1,27 +1,25 @@
 -- What the steps of reading answer: private words, over lists.
-use Rattle.std.specs.Prelude.{◌≡◌, ℕ, ◌<◌, ◌++◌, Bool, true, false, List, [], ◌∷◌, length, min, map, drop, flat_map, Option, Some, None, Result, Ok, Err, if◌then◌else◌}
-use Rattle.std.specs.List.{before_first, after_first, position_or_len, slice_split}
+use Rattle.std.specs.Prelude.{◌≡◌, ℕ, ◌<◌, ◌++◌, Bool, false, List, [], ◌∷◌, length, map, drop, flat_map, Option, Some, None, Result, Ok, Err, if◌then◌else◌}
+use Rattle.std.specs.List.{before_first, slice_split}
 use denote.Ref.{Bor}
-use Rattle.racp_sm.specs.Lines.{Line, Word, is_line_feed, line_pieces, words_in, words_of, has_words, is_number, value}
+use Rattle.racp_text.specs.Cuts.{is_line_feed}
+use Rattle.racp_text.specs.Numbers.{value}
+use Rattle.racp_sm.specs.Lines.{Line, Word, line_pieces, words_in, words_of, has_words}
 use Rattle.racp_sm.specs.Head.{Entries, begins_with, has_key, value_word, projects_key, jobs_key, renewable_key, nonrenewable_key, doubly_constrained_key}
 use Rattle.racp_sm.specs.Reading.{precedence_title, requests_title, availabilities_title, from_first, ends_part, words_between_rules}
-use Rattle.racp_sm.specs.Faults.{fault_at}
-use Rattle.racp_sm.specs.declared.fault.SmFault.{SmFault}
+use Rattle.racp_text.specs.Faults.{fault_at}
+use Rattle.racp_sm.specs.Faults.{SmFault}
 use Rattle.racp_sm.specs.declared.fault.SmFaultKind.{SmFaultKind}
 use Rattle.racp_sm.specs.declared.part.Part.{Part}
 use Rattle.racp_sm.specs.declared.part.Part.TheVariants.{Precedence, Requests}
 use Rattle.racp_sm.specs.declared.part.Mark.{Mark}
 use Rattle.racp_sm.specs.declared.part.Mark.TheVariants.{Title, End}
 
--- what stands before the first byte that passes the test, and what after it, or none where no byte does
-abbrev pub IsCut : (ℕ → Bool) → List ℕ → Option (Bor (List ℕ) × Bor (List ℕ)) → Type 0
-IsCut test bytes (Some parts) = (position_or_len test bytes < length bytes) × (parts.0.now ≡ before_first test bytes) × (parts.1.now ≡ after_first test bytes)
-IsCut test bytes None = position_or_len test bytes ≡ length bytes
-
 -- the first line is taken off, or there is none
 abbrev pub TakesPiece : List ℕ → Option (Bor (List ℕ) × Bor (List ℕ)) → Type 0
 TakesPiece text (Some parts) =
-    (line_pieces (slice_split is_line_feed text) ≡ parts.0.now ∷ line_pieces (slice_split is_line_feed parts.1.now)) × (length parts.1.now < length text)
+    (line_pieces (slice_split is_line_feed text) ≡ parts.0.now ∷ line_pieces (slice_split is_line_feed parts.1.now)) ×
+    (length parts.1.now < length text)
 TakesPiece text None = line_pieces (slice_split is_line_feed text) ≡ []
 
 -- the first word is taken off, or there is none
@@ -42,11 +40,6 @@ TakesWords names bytes None = begins_with (words_in bytes) names ≡ false
 abbrev pub Takes : {X : Type 0} → List X → Option X → List X → Type 0
 Takes old (Some x) new = old ≡ x ∷ new
 Takes old None new = (old ≡ []) × (new ≡ [])
-
--- the number that a word stands for, or 2^32 - 1 where it is greater; none where the word is no number
-abbrev pub IsCapped : List ℕ → Option ℕ → Type 0
-IsCapped bytes (Some number) = (is_number bytes ≡ true) × (number ≡ min (value bytes) 4294967295)
-IsCapped bytes None = is_number bytes ≡ false
 
 -- the title of a part, and of the one after it
 abbrev pub title_of : Part → List (List ℕ)
@@ -69,7 +62,9 @@ words_in_part Requests = words_between_rules
 
 -- the first line is taken off, unless it has the mark or there is none
 abbrev pub TakesBefore : (Line → Bool) → List Line → Option Line → List Line → Type 0
-TakesBefore mark old (Some line) new = (before_first mark old ≡ line ∷ before_first mark new) × (from_first mark old ≡ from_first mark new) × (old ≡ line ∷ new)
+TakesBefore mark old (Some line) new =
+    (before_first mark old ≡ line ∷ before_first mark new) × (from_first mark old ≡ from_first mark new) ×
+    (old ≡ line ∷ new)
 TakesBefore mark old None new = (before_first mark old ≡ []) × (from_first mark old ≡ new) × (new ≡ old)
 
 -- the stream of a part: the number of its title line, the words still to come, and the lines after the part
@@ -90,26 +85,7 @@ stream_of part title words lines = record {
 abbrev pub IsSameStream : Words → Words → Type 0
 IsSameStream old new = (new.title ≡ old.title) × (new.after ≡ old.after)
 
--- a result, with the words that are left
-abbrev pub with_rest : {X Y : Type 0} → (X → Y) → Result X SmFault → List Word → Result (Y × List Word) SmFault
-with_rest view (Ok x) rest = Ok (view x, rest)
-with_rest view (Err fault) rest = Err fault
-
--- where a thing is kept, it is this one; it is kept unless memory ran out
-abbrev pub Keeps : {X Y : Type 0} → (X → Y) → Option X → Y → Type 0
-Keeps view (Some x) y = view x ≡ y
-Keeps view None y = Unit {0}
-
--- where the new list is kept, it is the old one and more things after it
-abbrev pub KeepsMore : {X Y : Type 0} → (X → List Y) → Option X → Option X → List Y → Type 0
-KeepsMore {X} {Y} view old new more = (ys : List Y) → Keeps view old ys → Keeps view new (ys ++ more)
-
--- reading answers a thing, which is kept like this, and the words that are left
-abbrev pub Gives : {X Y : Type 0} → (X → Y → Type 0) → Result X SmFault → List Word → Result (Y × List Word) SmFault → Type 0
-Gives {X} {Y} keeps (Ok x) rest read = (y : Y) × (read ≡ Ok (y, rest)) × keeps x y
-Gives keeps (Err fault) rest read = read ≡ Err fault
-
--- the same for a whole stream
+-- reading a whole stream answers a thing, which is kept like this
 abbrev pub GivesAll : {X Y : Type 0} → (X → Y → Type 0) → Result X SmFault → Result Y SmFault → Type 0
 GivesAll {X} {Y} keeps (Ok x) read = (y : Y) × (read ≡ Ok y) × keeps x y
 GivesAll keeps (Err fault) read = read ≡ Err fault

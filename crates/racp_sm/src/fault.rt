@@ -1,6 +1,7 @@
 ghost use Rattle.std.specs.Prelude.{◌≡◌};
-ghost use Rattle.racp_sm.specs.Faults.{fault_at, fault_name, fault_number};
+ghost use Rattle.racp_sm.specs.Faults.{fault_name, fault_number};
 
+use racp_text::LineFault;
 use thiserror::Error;
 
 /// Why a text is no network: the first rule that it breaks, in the order in which the text is read.
@@ -54,23 +55,7 @@ pub enum SmFaultKind {
 }
 
 /// Why a text was not read, and the number of the line, from 1, where that shows; 0 where it is no one line.
-#[derive(Debug, Clone, Copy, PartialEq, Eq, Drop, Error)]
-#[error("line {line}: {kind}")]
-pub struct SmFault {
-    /// What is wrong.
-    pub kind: SmFaultKind,
-    /// The number of the line, from 1, or 0.
-    pub line: usize,
-}
-
-impl SmFault {
-    /// A fault of this kind at this line.
-    pub(crate) fn at(kind: SmFaultKind, line: usize) -> Self
-        ensures { result ≡ fault_at kind line }
-    {
-        SmFault { kind, line }
-    }
-}
+pub type SmFault = LineFault<SmFaultKind>;
 
 impl SmFaultKind {
     /// The fault's number, from 1 to 15.

@@ -7,12 +7,13 @@ ghost use Rattle.racp_sm.specs.Steps.{after_line, has_mark, kept_entry, texts};
 ghost use Rattle.racp_sm.specs.declared.part.Part.TheVariants.{Precedence};
 ghost use Rattle.racp_sm.specs.declared.part.Mark.TheVariants.{Title};
 
-use crate::cut::{after_words, cut_at, first_word};
+use crate::cut::{after_words, first_word};
 use crate::fault::{SmFault, SmFaultKind};
 use crate::line::{Line, Lines};
 use crate::part::{Mark, Part};
 use crate::word::Word;
 use racp_model::limits::{MOST_JOBS, MOST_RESOURCES};
+use racp_text::cut_at;
 use std::marker::Model;
 
 /// How many jobs and resources there are.
@@ -142,7 +143,8 @@ fn note_value<'a>(
     line: usize,
     value: &'a [u8],
 )
-    ensures { kept.new ≡ kept_entry kept.old (begins_with (words_in key.now) (texts names.now)) (record { line = line; bytes = value.now }) }
+    ensures { kept.new ≡ kept_entry kept.old (begins_with (words_in key.now) (texts names.now))
+        (record { line = line; bytes = value.now }) }
 {
     if kept.is_none() && after_words(key, names).is_some() {
         *kept = Some(Word::new(line, value));
@@ -151,7 +153,6 @@ fn note_value<'a>(
 
 /// The number, from 1 to `most`, of an entry that has to be there.
 fn required(entry: &Option<Word>, most: u32, missing: SmFaultKind) -> Result<u32, SmFault>
-    requires { most < 4294967295 }
     ensures number { result ≡ required missing 1 most entry.now }
     ensures most { IfOk result (λ n. n ≤ most) }
 {
@@ -163,7 +164,6 @@ fn required(entry: &Option<Word>, most: u32, missing: SmFaultKind) -> Result<u32
 
 /// Tests that an entry is this number where it is there.
 fn optional(entry: &Option<Word>, wanted: u32, other: SmFaultKind) -> Result<u32, SmFault>
-    requires { wanted < 4294967295 }
     ensures { result ≡ optional other wanted entry.now }
 {
     match entry {

@@ -5,9 +5,10 @@ ghost use Rattle.racp_sm.specs.Lines.{words_of, words_in, lines_of, has_words};
 ghost use Rattle.racp_sm.specs.Reading.{has_star, is_rule, from_first};
 ghost use Rattle.racp_sm.specs.Steps.{Takes, TakesPiece, TakesBefore, has_mark, texts};
 
-use crate::cut::{are_words, cut_at, first_word};
+use crate::cut::{are_words, first_word};
 use crate::part::Mark;
 use crate::word::Words;
+use racp_text::cut_at;
 use std::marker::Model;
 
 /// The byte that ends a text.
@@ -98,11 +99,12 @@ pub(crate) struct Lines<'a> {
 impl<'a> Model for Lines<'a> {
     ghost use Rattle.std.specs.Prelude.{List, length, ◌+◌, ◌<◌, ◌^◌};
     ghost use Rattle.std.specs.List.{slice_split};
+    ghost use Rattle.racp_text.specs.Cuts.{is_line_feed};
     ghost use Rattle.racp_sm.specs.Lines as lines;
 
     ghost Value = { List lines.Line };
 
-    ghost view = { λ text. lines.numbered text.number (lines.line_pieces (slice_split lines.is_line_feed text.rest.now)) };
+    ghost view = { λ text. lines.numbered text.number (lines.line_pieces (slice_split is_line_feed text.rest.now)) };
 
     ghost invariant = { λ text. text.number + length text.rest.now < 2 ^ 64 };
 }

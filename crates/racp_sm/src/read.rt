@@ -1,6 +1,7 @@
 ghost use Rattle.racp_sm.specs.Reading.{IsReadingOrMemory, precedence_part, reading, requests_part};
 ghost use Rattle.std.specs.Prelude.{◌≡◌, ◌≤◌};
-ghost use Rattle.racp_sm.specs.Steps.{GivesAll, Keeps, part_stream};
+ghost use Rattle.racp_text.specs.Kept.{Keeps};
+ghost use Rattle.racp_sm.specs.Steps.{GivesAll, part_stream};
 
 use crate::fault::{SmFault, SmFaultKind};
 use crate::head::{Counts, Head};
@@ -23,9 +24,9 @@ struct ProjectParts {
 ///
 /// # Errors
 ///
-/// The first rule that the text breaks, with the number of its line, from 1, or 0 where it is no one line: the head is read
-/// first, then the precedence part and the requests part, word by word, and a ring of the precedence relation is found last.
-/// `Memory`, at line 0, where no rule of these parts is broken and memory was refused.
+/// The first rule that the text breaks, with the number of its line, from 1, or 0 where it is no one line: the head is
+/// read first, then the precedence part and the requests part, word by word, and a ring of the precedence relation is
+/// found last. `Memory`, at line 0, where no rule of these parts is broken and memory was refused.
 pub fn read_sm(alloc: Global, bytes: &[u8]) -> Result<Network, SmFault>
     ensures { IsReadingOrMemory bytes.now result }
 {
@@ -44,7 +45,9 @@ pub fn read_sm(alloc: Global, bytes: &[u8]) -> Result<Network, SmFault>
 /// What the text says, before its precedence relation is tested for rings, or `None` where memory was refused for it.
 #[tactic(auto, unfolding(crate::specs::Reading::reading))]
 fn read_project(alloc: Global, bytes: &[u8]) -> Result<Option<ProjectParts>, SmFault>
-    ensures { GivesAll (Keeps (λ parts. record { resources = parts.resources; jobs = parts.jobs.items; arcs = parts.arcs.items })) result (reading bytes.now) }
+    ensures { GivesAll
+        (Keeps (λ parts. record { resources = parts.resources; jobs = parts.jobs.items; arcs = parts.arcs.items }))
+        result (reading bytes.now) }
 {
     let mut lines = Lines::new(bytes);
     let Counts {
@@ -65,15 +68,16 @@ fn read_project(alloc: Global, bytes: &[u8]) -> Result<Option<ProjectParts>, SmF
     }
 }
 
-/// The pairs of the precedence part of so many jobs, or `None` where memory was refused for them, and the lines after the part.
-/// Its title is the first of these lines.
+/// The pairs of the precedence part of so many jobs, or `None` where memory was refused for them, and the lines after
+/// the part. Its title is the first of these lines.
 fn read_precedence<'a>(
     alloc: Global,
     lines: Lines<'a>,
     count: u32,
 ) -> Result<(Option<Vec<(u32, u32)>>, Lines<'a>), SmFault>
     requires { count ≤ 512 }
-    ensures { GivesAll (λ part read. Keeps (λ arcs. arcs.items) part.0 read.0 × (part.1 ≡ read.1)) result (precedence_part count lines.entry) }
+    ensures { GivesAll (λ part read. Keeps (λ arcs. arcs.items) part.0 read.0 × (part.1 ≡ read.1)) result
+        (precedence_part count lines.entry) }
 {
     let mut words = part_words(Part::Precedence, SmFaultKind::NoPrecedence, lines)?;
     let arcs = read_arcs(alloc, &mut words, count)?;

@@ -1,15 +1,18 @@
-//! The rows of the two parts. What is read is kept in lists. Where memory is refused for a list, it is kept no longer, and
-//! reading goes on: so a fault of the text is found however little memory there is.
+//! The rows of the two parts. What is read is kept in lists. Where memory is refused for a list, it is kept no longer,
+//! and reading goes on: so a fault of the text is found however little memory there is.
 
-ghost use Rattle.std.specs.Prelude.{◌≤◌, [], ◌∷◌};
+ghost use Rattle.std.specs.Prelude.{◌≤◌};
 ghost use Rattle.racp_sm.specs.Parts.{next_numbers, successor_row, request_row, successor_rows, request_rows};
 ghost use Rattle.racp_sm.specs.declared.fault.SmFaultKind.TheVariants.{BadSuccessor, Limit};
-ghost use Rattle.racp_sm.specs.Steps.{Gives, IsSameStream, Keeps, KeepsMore, with_each};
+ghost use Rattle.racp_text.specs.Kept.{Keeps, KeepsMore};
+ghost use Rattle.racp_text.specs.Reading.{Gives};
+ghost use Rattle.racp_sm.specs.Steps.{IsSameStream, with_each};
 
 use crate::fault::{SmFault, SmFaultKind};
 use crate::stream::Stream;
 use racp_model::Job;
 use racp_model::limits::{MOST_DURATION, MOST_REQUEST};
+use racp_text::with_item;
 use std::alloc::Global;
 
 /// The most successors that a row may name, repeated ones among them.
@@ -22,7 +25,8 @@ pub(crate) fn read_arcs(
     jobs: u32,
 ) -> Result<Option<Vec<(u32, u32)>>, SmFault>
     requires { jobs ≤ 512 }
-    ensures read { Gives (Keeps (λ arcs. arcs.items)) result words.new.words (successor_rows words.old.title jobs 1 jobs words.old.words) }
+    ensures read { Gives (Keeps (λ arcs. arcs.items)) result words.new.words
+        (successor_rows words.old.title jobs 1 jobs words.old.words) }
     ensures same { IsSameStream words.old words.new }
 {
     let mut arcs = Some(Vec::new(alloc));
@@ -42,7 +46,8 @@ fn read_successor_row(
 ) -> Result<Option<Vec<(u32, u32)>>, SmFault>
     requires jobs { jobs ≤ 512 }
     requires job { job ≤ 512 }
-    ensures read { Gives (KeepsMore (λ arcs. arcs.items) arcs) result words.new.words (successor_row words.old.title jobs job words.old.words) }
+    ensures read { Gives (KeepsMore (λ arcs. arcs.items) arcs) result words.new.words
+        (successor_row words.old.title jobs job words.old.words) }
     ensures same { IsSameStream words.old words.new }
 {
     words.next_number(SmFaultKind::BadRow, job, job)?;
@@ -60,7 +65,8 @@ fn read_successors(
     count: u32,
 ) -> Result<Option<Vec<(u32, u32)>>, SmFault>
     requires { jobs ≤ 512 }
-    ensures read { Gives (KeepsMore (λ arcs. arcs.items) arcs) result words.new.words (with_each job (next_numbers words.old.title BadSuccessor 1 jobs count words.old.words)) }
+    ensures read { Gives (KeepsMore (λ arcs. arcs.items) arcs) result words.new.words
+        (with_each job (next_numbers words.old.title BadSuccessor 1 jobs count words.old.words)) }
     ensures same { IsSameStream words.old words.new }
 {
     let mut kept = arcs;
@@ -79,7 +85,8 @@ pub(crate) fn read_jobs(
     count: u32,
 ) -> Result<Option<Vec<Job>>, SmFault>
     requires { count ≤ 512 }
-    ensures read { Gives (Keeps (λ jobs. jobs.items)) result words.new.words (request_rows words.old.title resources 1 count words.old.words) }
+    ensures read { Gives (Keeps (λ jobs. jobs.items)) result words.new.words
+        (request_rows words.old.title resources 1 count words.old.words) }
     ensures same { IsSameStream words.old words.new }
 {
     let mut jobs = Some(Vec::new(alloc));
@@ -99,7 +106,8 @@ fn read_job(
     job: u32,
 ) -> Result<Option<Job>, SmFault>
     requires { job ≤ 512 }
-    ensures read { Gives (Keeps (λ x. x)) result words.new.words (request_row words.old.title resources job words.old.words) }
+    ensures read { Gives (Keeps (λ x. x)) result words.new.words
+        (request_row words.old.title resources job words.old.words) }
     ensures same { IsSameStream words.old words.new }
 {
     words.next_number(SmFaultKind::BadRow, job, job)?;
@@ -117,7 +125,8 @@ fn read_requests(
     words: &mut Stream,
     resources: u32,
 ) -> Result<Option<Vec<u32>>, SmFault>
-    ensures read { Gives (Keeps (λ requests. requests.items)) result words.new.words (next_numbers words.old.title Limit 0 10000 resources words.old.words) }
+    ensures read { Gives (Keeps (λ requests. requests.items)) result words.new.words
+        (next_numbers words.old.title Limit 0 10000 resources words.old.words) }
     ensures same { IsSameStream words.old words.new }
 {
     let mut requests = Some(Vec::new(alloc));
@@ -126,15 +135,4 @@ fn read_requests(
         requests = with_item(requests, Some(request));
     }
     Ok(requests)
-}
-
-/// Adds an item to a list that is kept. The list is kept no longer where the item was not kept, or memory is refused for it.
-fn with_item<T: Drop>(list: Option<Vec<T>>, item: Option<T>) -> Option<Vec<T>>
-    ensures { (x : T) → Keeps (λ x. x) item x → KeepsMore (λ list. list.items) list result (x ∷ []) }
-{
-    let mut list = list?;
-    match list.push(item?) {
-        Ok(()) => Some(list),
-        Err(_) => None,
-    }
 }

@@ -1,6 +1,7 @@
 ghost use Rattle.std.specs.Prelude.{◌≡◌, ◌<◌, []};
 ghost use Rattle.racp_sm.specs.Parts.{next_number, nothing_left};
-ghost use Rattle.racp_sm.specs.Steps.{Takes, IsSameStream, map_ok, stream_of, with_rest};
+ghost use Rattle.racp_text.specs.Reading.{with_rest};
+ghost use Rattle.racp_sm.specs.Steps.{Takes, IsSameStream, map_ok, stream_of};
 
 use crate::fault::{SmFault, SmFaultKind};
 use crate::line::Lines;
@@ -8,8 +9,8 @@ use crate::part::{Mark, Part};
 use crate::word::{Word, Words};
 use std::marker::Model;
 
-/// The words of a part that are still to come, through all its lines. Contracts see them with the number of the part's title
-/// line and the lines after the part.
+/// The words of a part that are still to come, through all its lines. Contracts see them with the number of the part's
+/// title line and the lines after the part.
 #[derive(Drop)]
 pub(crate) struct Stream<'a> {
     part: Part,
@@ -59,16 +60,16 @@ impl<'a> Stream<'a> {
     ///
     /// # Errors
     ///
-    /// `TooFew` where there is none, at the part's title; `BadNumber` where the word is no number, and this kind of fault where it
-    /// is another one, at the word's line.
+    /// `TooFew` where there is none, at the part's title; `BadNumber` where the word is no number, and this kind of
+    /// fault where it is another one, at the word's line.
     pub(crate) fn next_number(
         &mut self,
         kind: SmFaultKind,
         low: u32,
         high: u32,
     ) -> Result<u32, SmFault>
-        requires { high < 4294967295 }
-        ensures number { with_rest (λ x. x) result self.new.words ≡ next_number self.old.title kind low high self.old.words }
+        ensures number { with_rest (λ x. x) result self.new.words
+            ≡ next_number self.old.title kind low high self.old.words }
         ensures same { IsSameStream self.old self.new }
     {
         match self.next_word() {

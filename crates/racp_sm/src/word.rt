@@ -1,12 +1,12 @@
-ghost use Rattle.std.specs.Prelude.{◌≡◌, ◌<◌, ◌≤◌, IfOk, min, true};
-ghost use Rattle.std.specs.List.{list_all};
-ghost use Rattle.racp_sm.specs.Lines.{is_digit, is_number, value, words_of};
+ghost use Rattle.std.specs.Prelude.{◌≡◌, ◌<◌, ◌≤◌, IfOk};
+ghost use Rattle.racp_sm.specs.Lines.{words_of};
 ghost use Rattle.racp_sm.specs.Head.{number_within};
 ghost use Rattle.racp_sm.specs.Parts.{left_over};
-ghost use Rattle.racp_sm.specs.Steps.{IsCapped, Takes};
+ghost use Rattle.racp_sm.specs.Steps.{Takes};
 
 use crate::cut::first_word;
 use crate::fault::{SmFault, SmFaultKind};
+use racp_text::number;
 use std::marker::Model;
 
 /// A word of a text, and the number of its line, from 1. Contracts see the `Word` of specs/Lines.
@@ -43,12 +43,11 @@ impl<'a> Word<'a> {
         low: u32,
         high: u32,
     ) -> Result<u32, SmFault>
-        requires { high < 4294967295 }
         ensures number { result ≡ number_within kind low high self.now }
         ensures most { IfOk result (λ n. n ≤ high) }
     {
         match number(self.bytes) {
-            Some(number) if low <= number && number <= high => Ok(number),
+            Some(number) if low as u64 <= number && number <= high as u64 => Ok(number as u32),
             Some(_) => Err(self.fault(kind)),
             None => Err(self.fault(SmFaultKind::BadNumber)),
         }
@@ -107,43 +106,4 @@ impl<'a> Words<'a> {
         self.rest = rest;
         Some(Word::new(self.line, bytes))
     }
-}
-
-/// The number that a word stands for, or the greatest of 32 bits where it is greater; `None` where the word is no number.
-fn number(word: &[u8]) -> Option<u32>
-    ensures { IsCapped word.now result }
-{
-    if is_number(word) {
-        Some(value(word))
-    } else {
-        None
-    }
-}
-
-/// Whether a word is made of decimal digits, one or more.
-fn is_number(word: &[u8]) -> bool
-    ensures { result ≡ is_number word.now }
-{
-    !word.is_empty() && are_digits(word)
-}
-
-/// Whether there are decimal digits alone.
-fn are_digits(bytes: &[u8]) -> bool
-    ensures { result ≡ list_all is_digit bytes.now }
-{
-    bytes.iter().all(|digit| digit.is_ascii_digit())
-}
-
-/// The number that digits stand for, or the greatest of 32 bits where it is greater.
-fn value(digits: &[u8]) -> u32
-    requires { list_all is_digit digits.now ≡ true }
-    ensures { result ≡ min (value digits.now) 4294967295 }
-{
-    let mut number = 0u32;
-    for digit in digits {
-        number = number
-            .saturating_mul(10)
-            .saturating_add((*digit - b'0') as u32);
-    }
-    number
 }

@@ -2,9 +2,9 @@
 
 ghost use Rattle.std.specs.Prelude.{◌≡◌};
 
-use racp_check::Plan;
 use racp_lexfix::{Alone, Answer, plan};
 use racp_model::{NetFault, Network, OfNetwork};
+use racp_plan::Plan;
 use racp_prices::Order;
 use racp_reference::{Outcome, decide_by_definition, plan_by_definition};
 use racp_samples::{

@@ -1,7 +1,8 @@
 //! What plan texts are read as and written from, and the check of a plan.
 
-use racp_check::{Plan, PlanFault, TextFaultKind, check_plan, read_plan, write_plan};
+use racp_check::{PlanFault, check_plan};
 use racp_model::{Capacities, Network, Starts};
+use racp_plan::{Plan, TextFaultKind, read_plan, write_plan};
 use racp_prices::{Order, read_order};
 use racp_samples::texts::{LATER, ORDER, PLAN, TWO};
 use racp_samples::{SampleFault, crossed, parallel};

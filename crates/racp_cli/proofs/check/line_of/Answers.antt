@@ -1,5 +1,5 @@
 use Rattle.std.proofs.Common.{rules}
-use Rattle.racp_check.specs.Texts.{line}
+use Rattle.racp_plan.specs.Texts.{line}
 use Rattle.racp_cli.specs.Texts.{ok_line, memory_line, head_line}
 use Rattle.racp_cli.proofs.check.line_of.Goals as goal
 

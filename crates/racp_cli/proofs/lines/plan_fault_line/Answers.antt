@@ -1,5 +1,5 @@
 use Rattle.std.proofs.Common.{rules}
-use Rattle.racp_check.specs.Texts.{line}
+use Rattle.racp_plan.specs.Texts.{line}
 use Rattle.racp_cli.specs.Texts.{plan_fault_line}
 use Rattle.racp_cli.proofs.lines.plan_fault_line.Goals as goal
 

@@ -1,6 +1,6 @@
 use Rattle.std.proofs.Common.{codes, refl}
 use Rattle.std.proofs.lemmas.Result.{err_from_is_err_and}
-use Rattle.racp_check.specs.Texts.{line}
+use Rattle.racp_plan.specs.Texts.{line}
 use Rattle.racp_cli.specs.Texts.{memory_line}
 use Rattle.racp_cli.proofs.respond.respond.Goals as goal
 

@@ -1,5 +1,5 @@
 use Rattle.std.proofs.Common.{rules}
-use Rattle.racp_check.specs.Texts.{line}
+use Rattle.racp_plan.specs.Texts.{line}
 use Rattle.racp_lexfix.specs.Texts.{ceiling_line}
 use Rattle.racp_lexfix.proofs.lines.answer_lines.Goals as goal
 

@@ -1,6 +1,6 @@
 use Rattle.std.proofs.Common.{◌∙◌, sym}
 use Rattle.racp_sm.specs.Lines.{is_blank}
-use Rattle.racp_sm.proofs.Cutting.{not_found}
+use Rattle.racp_text.proofs.lemmas.Cuts.{not_found}
 use Rattle.racp_sm.proofs.cut.cut_at_blank.Goals as goal
 
 pub returns-in_err-end : goal.returns-in_err-end

@@ -1,5 +1,5 @@
 use Rattle.racp_sm.proofs.Cutting.{first_line, only_line, back-shorter, some_length}
-use Rattle.racp_sm.specs.Lines.{is_line_feed}
+use Rattle.racp_text.specs.Cuts.{is_line_feed}
 use Rattle.racp_sm.proofs.line.first_piece.Goals as goal
 
 pub returns-in-Some : goal.returns-in-Some

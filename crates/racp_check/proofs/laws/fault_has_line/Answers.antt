@@ -1,5 +1,0 @@
-use Rattle.racp_check.proofs.Adequate.{fault_has_line}
-use Rattle.racp_check.proofs.laws.fault_has_line.Goals as goal
-
-pub returns : goal.returns
-returns c = fault_has_line

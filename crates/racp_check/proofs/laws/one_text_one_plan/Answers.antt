@@ -1,5 +1,0 @@
-use Rattle.racp_check.proofs.Telling.{same_plan}
-use Rattle.racp_check.proofs.laws.one_text_one_plan.Goals as goal
-
-pub returns : goal.returns
-returns c = same_plan

@@ -1,5 +1,0 @@
-use Rattle.racp_check.proofs.Adequate.{one_reading}
-use Rattle.racp_check.proofs.laws.reading_is_one.Goals as goal
-
-pub returns : goal.returns
-returns c = one_reading

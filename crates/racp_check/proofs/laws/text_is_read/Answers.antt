@@ -1,5 +1,0 @@
-use Rattle.racp_check.proofs.Adequate.{text_read}
-use Rattle.racp_check.proofs.laws.text_is_read.Goals as goal
-
-pub returns : goal.returns
-returns c = text_read

@@ -1,5 +1,0 @@
-use Rattle.racp_check.proofs.Adequate.{written_reading}
-use Rattle.racp_check.proofs.laws.written_is_read.Goals as goal
-
-pub returns : goal.returns
-returns c = written_reading

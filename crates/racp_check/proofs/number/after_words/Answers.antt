@@ -1,7 +1,0 @@
-use Rattle.std.proofs.Common.{ap, ◌∙◌}
-use Rattle.racp_check.specs.Steps.{after_words}
-use Rattle.racp_check.proofs.Fronts.{stripped}
-use Rattle.racp_check.proofs.number.after_words.Goals as goal
-
-pub returns : goal.returns
-returns c = stripped c.as_bytes.result.now c.args.line.now c.strip_prefix.result c.strip_prefix.ensures.cases ∙ ap (λ words. after_words words c.args.line.now) c.as_bytes.ensures.value

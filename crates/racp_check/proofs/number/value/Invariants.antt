@@ -1,7 +1,0 @@
-use Rattle.std.proofs.Common.{◌≡◌, take}
-use Rattle.std.specs.Prelude.{min}
-use Rattle.racp_check.specs.PlanReading.{value}
-use Rattle.racp_check.proofs.number.value.Given as goal
-
-abbrev pub invariant-loop-digit : goal.invariant-loop-digit
-invariant-loop-digit l = l.number ≡ min (value (take l.digit-index l.digits)) 18446744073709551615

@@ -1,0 +1,6 @@
+pub mod Texts
+pub mod TextFaults
+pub mod PlanReading
+pub mod Steps
+pub mod TextLaws
+pub mod Plans

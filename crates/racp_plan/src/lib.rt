@@ -1,0 +1,48 @@
+//! Plans of a project: what one says, and how it is written as a text and read again.
+//!
+//! Jobs and resources are numbered from 1; their places in lists count from 0. Times are whole time units from 0 on.
+//!
+//! A plan says how many units there are of each resource and when each job starts; beside them stand the deadline, the
+//! critical length and the cost. One plan has one text, and no two plans share a text. The text of examples/a4.plan,
+//! for the five jobs of examples/a.sm:
+//!
+//! ```text
+//! deadline 4
+//! critical 3
+//! cost 30
+//! capacity 1 3
+//! start 1 0
+//! start 2 0
+//! start 3 0
+//! start 4 2
+//! start 5 4
+//! end
+//! ```
+//!
+//! `write_plan` makes this text of its plan, and `read_plan` reads it as the plan. A text with `cost 030` is refused:
+//! `Syntax` at line 3; with `cost 9000000000000000` it is `Range` there.
+//!
+//! `read_plan` goes through the text line by line, and compares each line with the words that it has to begin with.
+//! Nothing is kept but the capacities and the starts, and where there is no room for these, reading goes on without
+//! them: so a wrong line is found first, and lack of memory last. Its definition is not a parser: a text is read as the
+//! plan whose text it is, and else as its first line that is wrong.
+//!
+//! Proved: `write_plan` gives exactly the text of the plan. `read_plan` answers for every byte text the plan whose text
+//! it is, where its numbers are in range, or exactly the first line that is wrong; `Memory` only where no line is. In
+//! `laws`: no two plans share a text; each text is read as something, and as one thing only; a written plan is read as
+//! itself. Whether a plan can be carried out is not looked at here: racp_check does.
+#![tactic(auto)]
+
+pub mod laws;
+pub mod lines;
+mod number;
+mod plan;
+mod read;
+mod rest;
+mod text_fault;
+mod write;
+
+pub use plan::Plan;
+pub use read::read_plan;
+pub use text_fault::{TextFault, TextFaultKind};
+pub use write::write_plan;

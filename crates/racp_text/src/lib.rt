@@ -1,0 +1,34 @@
+//! What the readers of texts share: bytes cut at a byte, numbers in decimal, lists that are kept while there is memory,
+//! and the fault of a text, which is of some kind and shows at some line.
+//!
+//! The texts of networks and of plans have lines and numbers, and are refused at the first rule that they break. What
+//! this crate has is the same in both; what a line has to say, and which faults there are, is not.
+//!
+//! `cut_at(b"cost 30\ndeadline 4", b'\n')` answers `cost 30` and `deadline 4`; where no such byte stands it answers
+//! `None`. `number(b"030")` answers 30, `number(b"3a")` and `number(b"")` answer `None`, and a number above
+//! 18,446,744,073,709,551,615 is answered as that one, so that each limit below it tells a greater number from one
+//! within it. `LineFault::at(kind, 3)` is written `line 3: ` and then the kind.
+//!
+//! Bytes are cut in place: both parts are slices of what was cut. A number is added up digit by digit, and stays at the
+//! greatest one of 64 bits where it would be greater. Where memory is refused for a list, `with_item` keeps it no
+//! longer, and whoever reads goes on without it: so a fault of the text is found first, and lack of memory last. Such
+//! readers have contracts by steps of a definition over lists, and the lemmas in proofs/lemmas join the steps of a loop
+//! to the whole.
+//!
+//! Proved: `cut_at` answers what stands before the first such byte and what stands after it, or `None` exactly where
+//! there is none; `number` answers exactly what the digits stand for, or the greatest number of 64 bits where that is
+//! less, and `None` exactly where the word is empty or has another byte than a digit; what `with_item` keeps is the old
+//! list with the item behind it. In `laws`: numbers are decimal, and zeros in front change nothing. Not promised: that
+//! a list is kept where there is memory.
+#![tactic(auto)]
+
+mod cut;
+mod fault;
+mod kept;
+pub mod laws;
+mod numbers;
+
+pub use cut::cut_at;
+pub use fault::LineFault;
+pub use kept::with_item;
+pub use numbers::number;
