@@ -28,7 +28,8 @@ cpm_status OutOfMemory = 6
 -- run out at any text
 abbrev pub IsCpm : List ℕ → CpmOutcome → Type 0
 IsCpm input (Early critical starts) =
-    (network : Project) × IsReading input (Ok network) × IsCriticalLength network (λ _. 0) critical × IsEarly network (λ _. 0) starts
+    (network : Project) × IsReading input (Ok network) × IsCriticalLength network (λ _. 0) critical ×
+    IsEarly network (λ _. 0) starts
 IsCpm input (Refused fault) = IsReading input (Err fault)
 IsCpm input OutOfMemory = Unit {0}
 
@@ -42,4 +43,5 @@ pub record IsCpmAnswer (input : List ℕ) (status : ℕ) (text : List ℕ) : Typ
 -- the text of the critical length and the early starts of a network
 abbrev pub IsEarlyText : Project → List ℕ → Type 0
 IsEarlyText network text =
-    (critical : ℕ) × (starts : List ℕ) × IsCriticalLength network (λ _. 0) critical × IsEarly network (λ _. 0) starts × (text ≡ early_text critical starts)
+    (critical : ℕ) × (starts : List ℕ) × IsCriticalLength network (λ _. 0) critical × IsEarly network (λ _. 0) starts ×
+    (text ≡ early_text critical starts)

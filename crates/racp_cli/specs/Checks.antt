@@ -36,7 +36,8 @@ IsCheck net order text (Err (PlanText fault)) =
     (network : Project) × (terms : Terms) × AreTextsOf net order network terms × IsPlanReading network text (Err fault)
 IsCheck net order text (Err OutOfMemory) = Unit {0}
 IsCheck net order text (Err Head) =
-    (network : Project) × (terms : Terms) × (plan : Plan) × AreRead net order text network terms plan × (HasRightHead network terms plan → ⊥)
+    (network : Project) × (terms : Terms) × (plan : Plan) × AreRead net order text network terms plan ×
+    (HasRightHead network terms plan → ⊥)
 IsCheck net order text (Err (Wrong fault)) =
     (network : Project) × (terms : Terms) × (plan : Plan) × AreRead net order text network terms plan ×
     HasRightHead network terms plan × IsChecked network terms plan (Err fault)

@@ -16,4 +16,5 @@ OneTextOneAnswer = (a b : CpmOutcome) → IsWithin64Bits a → IsWithin64Bits b 
 -- no text that `plan` writes goes with two statuses
 abbrev pub OneTextOneStatus : Type 0
 OneTextOneStatus =
-    (net order other_net other_order text : List ℕ) (a b : ℕ) → IsPlanAnswer net order a text → IsPlanAnswer other_net other_order b text → a ≡ b
+    (net order other_net other_order text : List ℕ) (a b : ℕ) → IsPlanAnswer net order a text →
+    IsPlanAnswer other_net other_order b text → a ≡ b

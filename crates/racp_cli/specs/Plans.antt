@@ -10,12 +10,14 @@ use Rattle.racp_cli.specs.Texts.{refusal_line, order_refusal_line, memory_line}
 
 -- the network text is refused
 abbrev pub IsNetworkLine : List ℕ → ℕ → List ℕ → Type 0
-IsNetworkLine net status text = (fault : SmFault) × IsReading net (Err fault) × (status ≡ 5) × (text ≡ refusal_line fault)
+IsNetworkLine net status text = (fault : SmFault) × IsReading net (Err fault) × (status ≡ 5) ×
+    (text ≡ refusal_line fault)
 
 -- it is read as a network, and the order text is refused
 abbrev pub IsOrderLine : List ℕ → List ℕ → ℕ → List ℕ → Type 0
 IsOrderLine net order status text =
-    (network : Project) × (fault : OrderFault) × IsReading net (Ok network) × IsOrder network.resources (length network.jobs) order (Err fault) ×
+    (network : Project) × (fault : OrderFault) × IsReading net (Ok network) ×
+    IsOrder network.resources (length network.jobs) order (Err fault) ×
     (status ≡ 5) × (text ≡ order_refusal_line fault)
 
 -- memory ran out
@@ -26,4 +28,5 @@ IsMemoryLine status text = (status ≡ 6) × (text ≡ memory_line)
 -- of them that is refused is; memory may run out at any texts
 abbrev pub IsPlanAnswer : List ℕ → List ℕ → ℕ → List ℕ → Type 0
 IsPlanAnswer net order status text =
-    IsPrinted net order text status ⊎ (IsNetworkLine net status text ⊎ (IsOrderLine net order status text ⊎ IsMemoryLine status text))
+    IsPrinted net order text status ⊎ (IsNetworkLine net status text ⊎
+    (IsOrderLine net order status text ⊎ IsMemoryLine status text))

@@ -15,13 +15,16 @@ use Rattle.racp_cli.specs.declared.check_fault.CheckFault.TheVariants.{Network, 
 
 -- the fault of a text, or that memory ran out while it was read
 abbrev pub IsOfNetwork : SmFault → CheckFault → Type 0
-IsOfNetwork error fault = ((error.kind ≡ network.Memory) × (fault ≡ OutOfMemory)) ⊎ ((error.kind ≢ network.Memory) × (fault ≡ Network error))
+IsOfNetwork error fault = ((error.kind ≡ network.Memory) × (fault ≡ OutOfMemory)) ⊎
+    ((error.kind ≢ network.Memory) × (fault ≡ Network error))
 
 abbrev pub IsOfOrder : OrderFault → CheckFault → Type 0
-IsOfOrder error fault = ((error ≡ order.Memory) × (fault ≡ OutOfMemory)) ⊎ ((error ≢ order.Memory) × (fault ≡ Order error))
+IsOfOrder error fault = ((error ≡ order.Memory) × (fault ≡ OutOfMemory)) ⊎
+    ((error ≢ order.Memory) × (fault ≡ Order error))
 
 abbrev pub IsOfPlanText : TextFault → CheckFault → Type 0
-IsOfPlanText error fault = ((error.kind ≡ plan.Memory) × (fault ≡ OutOfMemory)) ⊎ ((error.kind ≢ plan.Memory) × (fault ≡ PlanText error))
+IsOfPlanText error fault = ((error.kind ≡ plan.Memory) × (fault ≡ OutOfMemory)) ⊎
+    ((error.kind ≢ plan.Memory) × (fault ≡ PlanText error))
 
 -- the status and the line of the fault of a text, where that is not that memory ran out
 abbrev pub IsNetworkRefused : SmFault → ℕ → List ℕ → Type 0

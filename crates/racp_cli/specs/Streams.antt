@@ -46,7 +46,8 @@ IsWritten old new text (Err fault) = (fault ≡ Write) × WritesBeginning old ne
 -- what was written as an answer: its whole text, with its status, or a beginning of it where the writer failed
 abbrev pub IsAnswerWritten : (ℕ → List ℕ → Type 0) → Option (List ℕ) → Option (List ℕ) → Result ℕ StreamFault → Type 0
 IsAnswerWritten Answer old new (Ok status) = (text : List ℕ) × Answer status text × Appends old new text
-IsAnswerWritten Answer old new (Err fault) = (fault ≡ Write) × (status : ℕ) × (text : List ℕ) × Answer status text × WritesBeginning old new text
+IsAnswerWritten Answer old new (Err fault) = (fault ≡ Write) × (status : ℕ) × (text : List ℕ) × Answer status text ×
+    WritesBeginning old new text
 
 -- what a reader has before and after a run
 pub record Reader : Type 0 where
@@ -74,9 +75,12 @@ IsStopped (reader ∷ readers) fault =
 
 -- a run, from the bytes of the readers to those of the writer: all of each reader is read, one after another, and an answer to
 -- these inputs is written, or the writer fails; or reading fails, and nothing is written
-abbrev pub IsRun : (List (List ℕ) → ℕ → List ℕ → Type 0) → List Reader → Option (List ℕ) → Option (List ℕ) → Result ℕ StreamFault → Type 0
-IsRun Answer readers old new (Ok status) = (inputs : List (List ℕ)) × AreInputs readers inputs × IsAnswerWritten (Answer inputs) old new (Ok status)
-IsRun Answer readers old new (Err Write) = (inputs : List (List ℕ)) × AreInputs readers inputs × IsAnswerWritten (Answer inputs) old new (Err Write)
+abbrev pub IsRun : (List (List ℕ) → ℕ → List ℕ → Type 0) → List Reader → Option (List ℕ) → Option (List ℕ) →
+    Result ℕ StreamFault → Type 0
+IsRun Answer readers old new (Ok status) = (inputs : List (List ℕ)) × AreInputs readers inputs ×
+    IsAnswerWritten (Answer inputs) old new (Ok status)
+IsRun Answer readers old new (Err Write) = (inputs : List (List ℕ)) × AreInputs readers inputs ×
+    IsAnswerWritten (Answer inputs) old new (Err Write)
 IsRun Answer readers old new (Err fault) = IsStopped readers fault × Keeps old new
 
 -- the answers to one input

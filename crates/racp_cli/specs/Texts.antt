@@ -15,15 +15,18 @@ early_text critical starts = critical_line critical ++ start_lines 1 starts ++ l
 
 -- `refused sm N Name line L`
 unfoldable pub refusal_line : SmFault → List ℕ
-refusal_line fault = line (codes "refused sm " ++ decimal (fault_number fault.kind) ++ codes " " ++ fault_name fault.kind ++ codes " line " ++ decimal fault.line)
+refusal_line fault = line (codes "refused sm " ++ decimal (fault_number fault.kind) ++ codes " " ++
+    fault_name fault.kind ++ codes " line " ++ decimal fault.line)
 
 -- `refused order N Name`
 unfoldable pub order_refusal_line : OrderFault → List ℕ
-order_refusal_line fault = line (codes "refused order " ++ decimal (order_fault_number fault) ++ codes " " ++ order_fault_name fault)
+order_refusal_line fault = line (codes "refused order " ++ decimal (order_fault_number fault) ++ codes " " ++
+    order_fault_name fault)
 
 -- `refused plan N Name line L`
 unfoldable pub plan_refusal_line : TextFault → List ℕ
-plan_refusal_line fault = line (codes "refused plan " ++ decimal (text_fault_number fault.kind) ++ codes " " ++ text_fault_name fault.kind ++ codes " line " ++ decimal fault.line)
+plan_refusal_line fault = line (codes "refused plan " ++ decimal (text_fault_number fault.kind) ++ codes " " ++
+    text_fault_name fault.kind ++ codes " line " ++ decimal fault.line)
 
 -- what is written where memory ran out
 unfoldable pub memory_line : List ℕ

@@ -20,14 +20,15 @@ use racp_sm::read_sm;
 use std::alloc::{AllocError, Global};
 use std::io::{Read, Write};
 
-/// Reads a network text, an order text and a plan text, all of each before the next, and writes to `out` whether nothing is
-/// wrong with the plan, and else what is. Returns the status that belongs to the line that was written: 0 for `ok`, 5 where a
-/// text is refused, 6 where memory ran out, 8 where the plan has a fault.
+/// Reads a network text, an order text and a plan text, all of each before the next, and writes to `out` whether
+/// nothing is wrong with the plan, and else what is. Returns the status that belongs to the line that was written: 0
+/// for `ok`, 5 where a text is refused, 6 where memory ran out, 8 where the plan has a fault.
 ///
 /// # Errors
 ///
-/// After these nothing was written: `Read`, a read failed; `TooLong`, a reader has more than 16,777,216 bytes; `Memory`,
-/// memory for an input was refused. After `Write`, a write failed or took no byte, and what is out is a beginning of the line.
+/// After these nothing was written: `Read`, a read failed; `TooLong`, a reader has more than 16,777,216 bytes;
+/// `Memory`, memory for an input was refused. After `Write`, a write failed or took no byte, and what is out is a
+/// beginning of the line.
 pub fn check_over<N: Read, O: Read, P: Read, W: Write>(
     alloc: Global,
     net: &mut N,
@@ -35,8 +36,10 @@ pub fn check_over<N: Read, O: Read, P: Read, W: Write>(
     plan: &mut P,
     out: &mut W,
 ) -> Result<u8, StreamFault>
-    ensures { IsCheckRun (record { unread = N.remaining net.old; left = N.remaining net.new }) (record { unread = O.remaining order.old; left = O.remaining order.new })
-        (record { unread = P.remaining plan.old; left = P.remaining plan.new }) (W.contents out.old) (W.contents out.new) result }
+    ensures { IsCheckRun (record { unread = N.remaining net.old; left = N.remaining net.new })
+        (record { unread = O.remaining order.old; left = O.remaining order.new })
+        (record { unread = P.remaining plan.old; left = P.remaining plan.new }) (W.contents out.old)
+        (W.contents out.new) result }
 {
     let net = read_whole(alloc, net)?;
     let order = read_whole(alloc, order)?;

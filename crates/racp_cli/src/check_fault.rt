@@ -4,8 +4,8 @@ use racp_prices::OrderFault;
 use racp_sm::{SmFault, SmFaultKind};
 use std::alloc::AllocError;
 
-/// Why nothing says that the plan is right: a text that is refused, the first one; that memory ran out; or what is wrong
-/// with the plan.
+/// Why nothing says that the plan is right: a text that is refused, the first one; that memory ran out; or what is
+/// wrong with the plan.
 #[derive(Clone, Copy, PartialEq, Eq, Drop)]
 pub(crate) enum CheckFault {
     /// The network text is refused.

@@ -16,20 +16,22 @@ use racp_sm::read_sm;
 use std::alloc::{AllocError, Global};
 use std::io::{Read, Write};
 
-/// Reads a network text from `net`, all of it, and writes the answer to `out`: the critical length and the early starts,
-/// where each job may start at 0, or a line that says why there are none. Returns the status that belongs to what was
-/// written: 0 for the early starts, 5 where the text is refused, 6 where memory ran out.
+/// Reads a network text from `net`, all of it, and writes the answer to `out`: the critical length and the early
+/// starts, where each job may start at 0, or a line that says why there are none. Returns the status that belongs to
+/// what was written: 0 for the early starts, 5 where the text is refused, 6 where memory ran out.
 ///
 /// # Errors
 ///
-/// After these nothing was written: `Read`, a read failed; `TooLong`, there are more than 16,777,216 bytes; `Memory`, memory
-/// for the input was refused. After `Write`, a write failed or took no byte, and what is out is a beginning of the answer.
+/// After these nothing was written: `Read`, a read failed; `TooLong`, there are more than 16,777,216 bytes; `Memory`,
+/// memory for the input was refused. After `Write`, a write failed or took no byte, and what is out is a beginning of
+/// the answer.
 pub fn cpm_over<R: Read, W: Write>(
     alloc: Global,
     net: &mut R,
     out: &mut W,
 ) -> Result<u8, StreamFault>
-    ensures { IsCpmRun (record { unread = R.remaining net.old; left = R.remaining net.new }) (W.contents out.old) (W.contents out.new) result }
+    ensures { IsCpmRun (record { unread = R.remaining net.old; left = R.remaining net.new }) (W.contents out.old)
+        (W.contents out.new) result }
 {
     let input = read_whole(alloc, net)?;
     respond(answer(alloc, &input), out)

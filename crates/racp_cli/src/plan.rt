@@ -12,21 +12,23 @@ use racp_lexfix::{Refusal, plan_alone};
 use std::alloc::{AllocError, Global};
 use std::io::{Read, Write};
 
-/// Reads a network text and an order text, all of each before the next, makes the plan on the calling thread, and writes to
-/// `out` the text of the plan, or a line that says why there is none. Returns the status that belongs to what was written: 0
-/// for a plan, 3 where there is none, 5 where a text is refused, 6 where memory ran out.
+/// Reads a network text and an order text, all of each before the next, makes the plan on the calling thread, and
+/// writes to `out` the text of the plan, or a line that says why there is none. Returns the status that belongs to what
+/// was written: 0 for a plan, 3 where there is none, 5 where a text is refused, 6 where memory ran out.
 ///
 /// # Errors
 ///
-/// After these nothing was written: `Read`, a read failed; `TooLong`, a reader has more than 16,777,216 bytes; `Memory`,
-/// memory for an input was refused. After `Write`, a write failed or took no byte, and what is out is a beginning of the text.
+/// After these nothing was written: `Read`, a read failed; `TooLong`, a reader has more than 16,777,216 bytes;
+/// `Memory`, memory for an input was refused. After `Write`, a write failed or took no byte, and what is out is a
+/// beginning of the text.
 pub fn run_over<N: Read, O: Read, W: Write>(
     alloc: Global,
     net: &mut N,
     order: &mut O,
     out: &mut W,
 ) -> Result<u8, StreamFault>
-    ensures { IsPlanRun (record { unread = N.remaining net.old; left = N.remaining net.new }) (record { unread = O.remaining order.old; left = O.remaining order.new })
+    ensures { IsPlanRun (record { unread = N.remaining net.old; left = N.remaining net.new })
+        (record { unread = O.remaining order.old; left = O.remaining order.new })
         (W.contents out.old) (W.contents out.new) result }
 {
     let net = read_whole(alloc, net)?;

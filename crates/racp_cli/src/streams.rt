@@ -38,7 +38,8 @@ fn read_piece<R: Read>(
 ) -> Result<bool, StreamFault>
     requires { 0 < length buffer.old }
     ensures bytes { All (λ byte. byte < 256) input.new.items }
-    ensures piece { IsPieceRead (R.remaining reader.old) (R.remaining reader.new) (length buffer.old) input.old.items input.new.items result }
+    ensures piece { IsPieceRead (R.remaining reader.old) (R.remaining reader.new) (length buffer.old) input.old.items
+        input.new.items result }
 {
     let Ok(count) = reader.read(buffer) else {
         return Err(StreamFault::Read);

@@ -21,7 +21,8 @@ CriticalIsGreatestFinish =
 -- with one deadline for all jobs there is no root window exactly where the critical length exceeds it
 abbrev pub NoRootIsTooLong : Type 0
 NoRootIsTooLong =
-    (p : Project) (release : ℕ → ℕ) (critical deadline : ℕ) (answer : Option Bounds) → IsSound p → IsCriticalLength p release critical →
+    (p : Project) (release : ℕ → ℕ) (critical deadline : ℕ) (answer : Option Bounds) → IsSound p →
+    IsCriticalLength p release critical →
     IsRootAnswer p release (λ _. deadline) answer → (answer ≡ None) ↔ (deadline < critical)
 
 -- there is no root window exactly where no starts keep precedence and are in time

@@ -5,7 +5,8 @@ use Rattle.racp_model.specs.Schedule.{KeepsPrecedence}
 
 -- each start is its due time less the duration; or one would be below 0
 abbrev pub TakesDurations : Project → List ℕ → List ℕ → Bool → Type 0
-TakesDurations p due starts true = (length starts ≡ length due) × ((i : ℕ) → i < length p.jobs → slice_index starts i + duration p i ≡ slice_index due i)
+TakesDurations p due starts true = (length starts ≡ length due) ×
+    ((i : ℕ) → i < length p.jobs → slice_index starts i + duration p i ≡ slice_index due i)
 TakesDurations p due starts false = (i : ℕ) × (i < length p.jobs) × (slice_index due i < duration p i)
 
 -- no start is above its upper bound
@@ -17,7 +18,8 @@ pub record AreGreatestWithin (p : Project) (upper starts : List ℕ) : Type 0 wh
   pub places : length starts ≡ length upper
   pub below : IsAtMost p upper starts
   pub precedence : KeepsPrecedence p starts
-  pub greatest : (others : List ℕ) → IsAtMost p upper others → KeepsPrecedence p others → (i : ℕ) → i < length p.jobs → slice_index others i ≤ slice_index starts i
+  pub greatest : (others : List ℕ) → IsAtMost p upper others → KeepsPrecedence p others → (i : ℕ) → i < length p.jobs →
+      slice_index others i ≤ slice_index starts i
 
 -- what lowering upper bounds along the relation answers: the greatest starts within them that keep precedence, or that
 -- there are none

@@ -6,8 +6,8 @@ use racp_model::{Network, Starts};
 use std::alloc::{AllocError, Global};
 use std::cmp::max;
 
-/// The early starts, in time units: the least starts at or above the lower bounds that keep precedence. `lower` has a bound
-/// for each job, by place from 0, of at most 20,000,000.
+/// The early starts, in time units: the least starts at or above the lower bounds that keep precedence. `lower` has a
+/// bound for each job, by place from 0, of at most 20,000,000.
 ///
 /// # Errors
 ///
@@ -22,8 +22,8 @@ pub fn early(alloc: Global, net: &Network, lower: &[u32]) -> Result<Starts, Allo
     Ok(Starts::new(starts))
 }
 
-/// Turns lower bounds into the early starts above them, in place: raises each start to the end of the jobs before it, in one
-/// sweep. There is a bound for each job, by place from 0, of at most 20,000,000 time units. Takes no memory.
+/// Turns lower bounds into the early starts above them, in place: raises each start to the end of the jobs before it,
+/// in one sweep. There is a bound for each job, by place from 0, of at most 20,000,000 time units. Takes no memory.
 pub fn settle_early(net: &Network, starts: &mut [u32])
     requires places { length starts.old ≡ length net.now.jobs }
     requires small { All (λ x. x ≤ 20000000) starts.old }
@@ -37,8 +37,9 @@ pub fn settle_early(net: &Network, starts: &mut [u32])
     }
 }
 
-/// The critical length, in time units: the greatest sum, over the chains of the precedence relation, of the release time of
-/// the first job and the durations of all. `release` has a time for each job, by place from 0, of at most 20,000,000.
+/// The critical length, in time units: the greatest sum, over the chains of the precedence relation, of the release
+/// time of the first job and the durations of all. `release` has a time for each job, by place from 0, of at most
+/// 20,000,000.
 ///
 /// # Errors
 ///
@@ -52,12 +53,13 @@ pub fn longest(alloc: Global, net: &Network, release: &[u32]) -> Result<u64, All
     Ok(last_end(net, &starts))
 }
 
-/// The greatest finish of a job, in time units. Of early starts it is the critical length. There is a start for each job, by place
-/// from 0. Takes no memory.
+/// The greatest finish of a job, in time units. Of early starts it is the critical length. There is a start for each
+/// job, by place from 0. Takes no memory.
 pub fn last_end(net: &Network, starts: &Starts) -> u64
     requires { length starts.now ≡ length net.now.jobs }
     ensures last { IsLastEnd net.now starts.now result }
-    ensures critical { (release : ℕ → ℕ) → IsEarly net.now release starts.now → IsCriticalLength net.now release result }
+    ensures critical { (release : ℕ → ℕ) → IsEarly net.now release starts.now →
+        IsCriticalLength net.now release result }
 {
     let count = net.job_count();
     let starts = starts.as_slice();

@@ -26,7 +26,8 @@ pub fn late(alloc: Global, net: &Network, due: &[u32]) -> Result<Option<Starts>,
 /// Turns due times into late starts, and says whether there are any.
 fn settle_late(net: &Network, starts: &mut [u32]) -> bool
     requires { length starts.old ≡ length net.now.jobs }
-    ensures { MatchBool result (IsLate net.now (slice_index starts.old) starts.new) (IsTooTight net.now (slice_index starts.old)) }
+    ensures { MatchBool result (IsLate net.now (slice_index starts.old) starts.new)
+        (IsTooTight net.now (slice_index starts.old)) }
 {
     take_durations(net, starts) && lower(net, starts)
 }
@@ -46,7 +47,8 @@ fn take_durations(net: &Network, starts: &mut [u32]) -> bool
     true
 }
 
-/// Lowers each start to leave room before the jobs after it, in one sweep from the end, and says whether that can be done.
+/// Lowers each start to leave room before the jobs after it, in one sweep from the end, and says whether that can be
+/// done.
 fn lower(net: &Network, starts: &mut [u32]) -> bool
     requires { length starts.old ≡ length net.now.jobs }
     ensures { IsLowered net.now starts.old starts.new result }

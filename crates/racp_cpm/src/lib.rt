@@ -30,10 +30,10 @@
 //! Proved: `early` and `settle_early` give the least starts at or above the lower bounds that keep precedence; `late`
 //! the greatest that keep precedence and end by the due times, or `None` exactly where there are none; `longest` the
 //! length of some chain, and none is longer; `last_end` the greatest finish; `root` the root window, or `None` exactly
-//! where the early finish of some job exceeds its due time; `first_late` the first job that ends late. In `laws`: of the
-//! starts that keep precedence, those in time are those in the root window; there is no root window exactly where no
-//! starts keep precedence and are in time; with one deadline for all jobs, that is where the critical length exceeds it.
-//! Not proved: that memory is not refused without need.
+//! where the early finish of some job exceeds its due time; `first_late` the first job that ends late. In `laws`: of
+//! the starts that keep precedence, those in time are those in the root window; there is no root window exactly where
+//! no starts keep precedence and are in time; with one deadline for all jobs, that is where the critical length exceeds
+//! it. Not proved: that memory is not refused without need.
 #![tactic(auto)]
 
 mod earliest;

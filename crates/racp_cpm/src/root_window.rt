@@ -8,9 +8,9 @@ use crate::latest::late;
 use racp_model::{Network, Starts, Window};
 use std::alloc::{AllocError, Global};
 
-/// The root window, in time units: from the early starts at or above the release times to the late starts by the due times.
-/// `None` where the early finish of some job exceeds its due time. Both lists have a time for each job, by place from 0, of
-/// at most 10,000,000.
+/// The root window, in time units: from the early starts at or above the release times to the late starts by the due
+/// times. `None` where the early finish of some job exceeds its due time. Both lists have a time for each job, by place
+/// from 0, of at most 10,000,000.
 ///
 /// # Errors
 ///
@@ -34,8 +34,8 @@ pub fn root(
     Ok(Some(window_above(alloc, net, lower, due)?))
 }
 
-/// The window from starts that keep precedence and end by the due times, in time units, to the late starts by these. There is a
-/// due time for each job, by place from 0, of at most 10,000,000.
+/// The window from starts that keep precedence and end by the due times, in time units, to the late starts by these.
+/// There is a due time for each job, by place from 0, of at most 10,000,000.
 ///
 /// # Errors
 ///
@@ -59,8 +59,8 @@ pub fn window_above(
     }
 }
 
-/// The number, from 1, of the first job that ends after its due time, or `None` where each ends by it. `due` has a time for
-/// each job, by place from 0. Takes no memory.
+/// The number, from 1, of the first job that ends after its due time, or `None` where each ends by it. `due` has a time
+/// for each job, by place from 0. Takes no memory.
 pub fn first_late(net: &Network, starts: &Starts, due: &[u32]) -> Option<u32>
     requires starts { length starts.now ≡ length net.now.jobs }
     requires due { length due.now ≡ length net.now.jobs }

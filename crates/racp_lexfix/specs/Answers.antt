@@ -24,14 +24,18 @@ ceiling_series terms = if is_some terms.ceilings then 1 else 0
 -- capacities that are told where planning stops, by how many series were answered, and by what the asker told. None that are enough
 -- stand before them; no job that runs requests more; of each resource that was sharpened there are at least as many units as in some
 -- that are enough. Where the vectors of the box were asked they are what the asker told, if it told any; after that they are the plan's
-pub record IsStoppedAt (p : Project) (terms : Terms) (answered : ℕ) (told : Option (List ℕ)) (capacities : List ℕ) : Type 0 where
+pub record IsStoppedAt (p : Project) (terms : Terms) (answered : ℕ) (told : Option (List ℕ)) (capacities : List ℕ)
+    : Type 0 where
   pub places : length capacities ≡ p.resources
   pub none : (enough : List ℕ) → IsEnough p terms enough → IsBefore terms enough capacities → ⊥
-  pub requests : (i k : ℕ) → i < length p.jobs → k < p.resources → 0 < duration p i → request p i k ≤ slice_index capacities k
+  pub requests : (i k : ℕ) → i < length p.jobs → k < p.resources → 0 < duration p i →
+      request p i k ≤ slice_index capacities k
   pub sharpened : (k : ℕ) → k < p.resources → ceiling_series terms + k < answered →
       (enough : List ℕ) × IsEnough p terms enough × (slice_index enough k ≤ slice_index capacities k)
-  pub in_box : answered ≡ ceiling_series terms + p.resources + pair_count p.resources → IfSome told (λ reached. capacities ≡ reached)
-  pub after_box : ceiling_series terms + p.resources + pair_count p.resources < answered → IsLeast (IsBefore terms) (IsEnough p terms) capacities
+  pub in_box : answered ≡ ceiling_series terms + p.resources + pair_count p.resources →
+      IfSome told (λ reached. capacities ≡ reached)
+  pub after_box : ceiling_series terms + p.resources + pair_count p.resources < answered →
+      IsLeast (IsBefore terms) (IsEnough p terms) capacities
 
 -- why a plan is not known, of an asker that may stop, or want a thread, or neither: where it stops, such capacities are told
 abbrev pub IsPlanStop : (List ℕ → Type 0) → (may_stop may_want_thread : Type 0) → PlanStop → Type 0

@@ -30,7 +30,8 @@ IsLeastStart p capacities window j = IsLeast ◌<◌ (IsStartOf p capacities win
 -- starts that are greater at some place before n, and the same at the places before it
 abbrev pub IsAfterFront : ℕ → List ℕ → List ℕ → Type 0
 IsAfterFront n front starts =
-    (k : ℕ) × (k < n) × ((q : ℕ) → q < k → slice_index front q ≡ slice_index starts q) × (slice_index front k < slice_index starts k)
+    (k : ℕ) × (k < n) × ((q : ℕ) → q < k → slice_index front q ≡ slice_index starts q) ×
+    (slice_index front k < slice_index starts k)
 
 -- the jobs before place n are fixed in a window of the root window: what answers lies in it, or comes later
 pub record IsFixedBefore (p : Project) (capacities : List ℕ) (root : Bounds) (n : ℕ) (window : Bounds) : Type 0 where
@@ -38,4 +39,5 @@ pub record IsFixedBefore (p : Project) (capacities : List ℕ) (root : Bounds) (
   pub yes : IsYes p capacities window
   pub inside : (starts : List ℕ) → LiesIn p window starts → LiesIn p root starts
   pub fixed : (i : ℕ) → i < n → slice_index window.lower i ≡ slice_index window.upper i
-  pub others : (starts : List ℕ) → Answers p capacities root starts → LiesIn p window starts ⊎ IsAfterFront n window.lower starts
+  pub others : (starts : List ℕ) → Answers p capacities root starts → LiesIn p window starts ⊎
+      IsAfterFront n window.lower starts

@@ -14,7 +14,8 @@ AnswerIsOne = (p : Project) (terms : Terms) (a b : Answer) → IsSound p → IsA
 
 -- an order for a network has an answer
 abbrev pub AnswerExists : Type 0
-AnswerExists = (p : Project) (terms : Terms) → IsSound p → AreTermsOf p terms → (answer : Answer) × IsAnswer p terms answer
+AnswerExists = (p : Project) (terms : Terms) → IsSound p → AreTermsOf p terms → (answer : Answer) ×
+    IsAnswer p terms answer
 
 -- the answer is one of the reasons and no plan
 abbrev pub IsNoPlan : Answer → Type 0
@@ -38,7 +39,8 @@ ImpossibleIsNoPlan =
 abbrev pub ImpossibleIsByLength : Type 0
 ImpossibleIsByLength =
     (p : Project) (terms : Terms) (critical : ℕ) (answer : Answer) → IsSound p → IsPlain p terms →
-    IsCriticalLength p (release_of terms) critical → IsAnswer p terms answer → IsNoPlan answer ↔ (terms.deadline < critical)
+    IsCriticalLength p (release_of terms) critical → IsAnswer p terms answer →
+    IsNoPlan answer ↔ (terms.deadline < critical)
 
 -- on plain terms there is a plan exactly where the critical length does not exceed the deadline
 abbrev pub PlanIsByLength : Type 0

@@ -32,7 +32,8 @@ abbrev pub IsPrinting : List ℕ → List ℕ → Result Printed Refusal → Typ
 IsPrinting net order (Ok printed) = IsPrinted net order printed.text.items printed.status
 IsPrinting net order (Err (Sm fault)) = IsReadingOrMemory net (Err fault)
 IsPrinting net order (Err (Order fault)) =
-    (network : Project) × IsReading net (Ok network) × IsOrderOrMemory network.resources (length network.jobs) order (Err fault)
+    (network : Project) × IsReading net (Ok network) × IsOrderOrMemory network.resources (length network.jobs) order
+    (Err fault)
 IsPrinting net order (Err (Stop Memory)) = ⊤
 IsPrinting net order (Err (Stop (Stopped not_before))) = ⊥
 IsPrinting net order (Err (Stop NoThread)) = ⊥

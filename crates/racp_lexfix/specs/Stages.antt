@@ -28,11 +28,13 @@ pub record AreFloorsAndRoofs (p : Project) (terms : Terms) (root : Bounds) (floo
 
 -- these, after a series for the ceilings, where there are such; or none where no capacities are enough
 abbrev pub IsBounded : Project → Terms → Bounds → (answered : ℕ) → Option (List ℕ × List ℕ) → Type 0
-IsBounded p terms root answered (Some ends) = AreFloorsAndRoofs p terms root ends.0 ends.1 × (answered ≡ ceiling_series terms)
+IsBounded p terms root answered (Some ends) = AreFloorsAndRoofs p terms root ends.0 ends.1 ×
+    (answered ≡ ceiling_series terms)
 IsBounded p terms root answered None = HasNoEnough p terms
 
 -- floors that are sharpened, and pairs that they refute, from some first floors on
-pub record AreSharpFloorsAndRoofs (p : Project) (terms : Terms) (root : Bounds) (sharp : Sharp) (roofs : List ℕ) : Type 0 where
+pub record AreSharpFloorsAndRoofs (p : Project) (terms : Terms) (root : Bounds) (sharp : Sharp) (roofs : List ℕ)
+    : Type 0 where
   pub first : List ℕ
   pub ends : AreFloorsAndRoofs p terms root first roofs
   pub sharp_are : IsSharp p root first roofs sharp
@@ -44,7 +46,8 @@ pub record IsNotAfterEnough (p : Project) (terms : Terms) (capacities : List ℕ
 
 -- capacities that are told where the vectors of the box are asked: none that are enough stand before them, they are at or above these
 -- floors, and they are what the asker told, if it told any
-pub record IsStoppedInBox (p : Project) (terms : Terms) (floors : List ℕ) (told : Option (List ℕ)) (capacities : List ℕ) : Type 0 where
+pub record IsStoppedInBox (p : Project) (terms : Terms) (floors : List ℕ) (told : Option (List ℕ))
+    (capacities : List ℕ) : Type 0 where
   pub none : IsNotAfterEnough p terms capacities
   pub above : (k : ℕ) → k < p.resources → slice_index floors k ≤ slice_index capacities k
   pub as_told : IfSome told (λ reached. capacities ≡ reached)

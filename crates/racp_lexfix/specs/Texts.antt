@@ -7,7 +7,8 @@ use Rattle.racp_lexfix.specs.declared.answer.Answer.TheVariants.{Plan as ThePlan
 
 -- `impossible critical C deadline T`
 unfoldable pub impossible_line : ℕ → ℕ → List ℕ
-impossible_line critical deadline = line (codes "impossible critical " ++ decimal critical ++ codes " deadline " ++ decimal deadline)
+impossible_line critical deadline = line (codes "impossible critical " ++ decimal critical ++ codes " deadline " ++
+    decimal deadline)
 
 -- `impossible due j`
 unfoldable pub due_line : ℕ → List ℕ

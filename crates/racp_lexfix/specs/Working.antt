@@ -26,7 +26,8 @@ pub record IsAtWork (m : Machine) (piece : SearchPiece) : Type 0 where
 
 -- the next question is asked, and the one piece of it taken; or no more question is to come, and the answer is known
 abbrev pub IsNextPiece : Project → Machine → Option SearchPiece → Machine → Type 0
-IsNextPiece p old (Some piece) new = IsAtWork new piece × IsFormed p piece.question × (length new.to_come < length old.to_come)
+IsNextPiece p old (Some piece) new = IsAtWork new piece × IsFormed p piece.question ×
+    (length new.to_come < length old.to_come)
 IsNextPiece p old None new = IsSettled new
 
 -- the finding of the last asked question is in: the question is done, or the answer is known

@@ -12,9 +12,9 @@ use racp_questions::{AskStop, Asker, First, Series};
 use racp_search::{Finding, Never, Piece, explore};
 use std::alloc::{AllocError, Global};
 
-/// Answers series of questions about the network that `N` names, on the calling thread. What was refuted is kept, and serves all
-/// series that it is asked. It neither stops nor wants a thread. It counts the series that it has answered, and answers no more
-/// than 2^64 - 1 of them: a further one ends as where memory is refused.
+/// Answers series of questions about the network that `N` names, on the calling thread. What was refuted is kept, and
+/// serves all series that it is asked. It neither stops nor wants a thread. It counts the series that it has answered,
+/// and answers no more than 2^64 - 1 of them: a further one ends as where memory is refused.
 #[derive(Drop)]
 pub struct Alone<N: OfNetwork> {
     alloc: Global,

@@ -10,8 +10,8 @@ use thiserror::Error;
 /// The plan of an order, or why there is none: the first of the reasons that holds, in this order.
 #[derive(Drop)]
 pub enum Answer {
-    /// The plan: the cheapest capacities under which the project ends in time, of those that cost the same the lexicographically
-    /// least, and under them the lexicographically least start vector.
+    /// The plan: the cheapest capacities under which the project ends in time, of those that cost the same the
+    /// lexicographically least, and under them the lexicographically least start vector.
     Plan(Plan),
     /// The critical length, in time units, exceeds the deadline.
     Impossible {
@@ -30,8 +30,8 @@ pub enum Answer {
 /// Why a plan is not known.
 #[derive(Debug, Drop, Error)]
 pub enum PlanStop {
-    /// The search was stopped. No capacities that are enough stand before these: the floors so far, those that the asker reached,
-    /// or the plan's own.
+    /// The search was stopped. No capacities that are enough stand before these: the floors so far, those that the
+    /// asker reached, or the plan's own.
     #[error("the search was stopped")]
     Stopped {
         /// How many units there are of each resource, by place from 0.

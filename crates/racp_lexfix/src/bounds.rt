@@ -18,8 +18,8 @@ use racp_prices::{Order, most_units};
 use racp_questions::{AskStop, Asker, First};
 use std::alloc::{AllocError, Global};
 
-/// The floors, and the roofs cut to the ceilings; or none where no capacities within the ceilings are enough. That is asked where
-/// there are ceilings and no floor is above its roof.
+/// The floors, and the roofs cut to the ceilings; or none where no capacities within the ceilings are enough. That is
+/// asked where there are ceilings and no floor is above its roof.
 ///
 /// # Errors
 ///
@@ -37,7 +37,8 @@ pub(crate) fn floors_and_roofs<A: Asker>(
     ensures network { A.network asker.new ≡ A.network asker.old }
     ensures bounded { IfOk result (IsBounded net.now order.now root.now (A.answered asker.new - A.answered asker.old)) }
     ensures no_fewer { A.answered asker.old ≤ A.answered asker.new }
-    ensures stop { IfErr result (IsPlanStop (IsStoppedAt net.now order.now (A.answered asker.new - A.answered asker.old) (A.told asker.new))
+    ensures stop { IfErr result (IsPlanStop (IsStoppedAt net.now order.now
+        (A.answered asker.new - A.answered asker.old) (A.told asker.new))
         (A.may_stop asker.new) (A.may_want_thread asker.new)) }
 {
     let floors = lowest_units(alloc, net, order, root)?;

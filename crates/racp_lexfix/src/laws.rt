@@ -21,15 +21,16 @@ pub fn impossible_is_no_plan()
     ensures { ImpossibleIsNoPlan }
 {}
 
-/// Without ceilings and due times before the deadline, an answer is no plan exactly where the critical length exceeds the deadline.
+/// Without ceilings and due times before the deadline, an answer is no plan exactly where the critical length exceeds
+/// the deadline.
 pub fn impossible_is_by_length()
     ensures { ImpossibleIsByLength }
 {
     critical_is_greatest_finish();
 }
 
-/// Without ceilings and due times before the deadline, there is a plan exactly where the critical length does not exceed the
-/// deadline.
+/// Without ceilings and due times before the deadline, there is a plan exactly where the critical length does not
+/// exceed the deadline.
 pub fn plan_is_by_length()
     ensures { PlanIsByLength }
 {

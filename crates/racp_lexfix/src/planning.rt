@@ -20,9 +20,10 @@ use racp_prices::{Order, cost_of};
 use racp_questions::{Asker, First};
 use std::alloc::{AllocError, Global};
 
-/// The plan of an order, or why there is none. Questions go to the asker, which is about this network: first whether the ceilings
-/// admit, where there are such, then to sharpen the floors, then for each capacity vector of the box in the order of vectors, up
-/// to the first yes, then for the starts of each job. The order has an entry for each resource and each job of the network.
+/// The plan of an order, or why there is none. Questions go to the asker, which is about this network: first whether
+/// the ceilings admit, where there are such, then to sharpen the floors, then for each capacity vector of the box in
+/// the order of vectors, up to the first yes, then for the starts of each job. The order has an entry for each resource
+/// and each job of the network.
 ///
 /// # Errors
 ///
@@ -37,7 +38,8 @@ pub fn plan<A: Asker>(
     requires terms { AreTermsOf net.now order.now }
     ensures network { A.network asker.new ≡ A.network asker.old }
     ensures answer { IfOk result (IsAnswer net.now order.now) }
-    ensures stop { IfErr result (IsPlanStop (IsStoppedAt net.now order.now (A.answered asker.new - A.answered asker.old) (A.told asker.new))
+    ensures stop { IfErr result (IsPlanStop (IsStoppedAt net.now order.now
+        (A.answered asker.new - A.answered asker.old) (A.told asker.new))
         (A.may_stop asker.new) (A.may_want_thread asker.new)) }
 {
     let (critical, root) = match opening_of(alloc, net, order)? {
@@ -70,7 +72,8 @@ fn chosen<A: Asker>(
     requires root { IsRootWindow net.now (release_of order.now) (due_of order.now) root.now }
     ensures network { A.network asker.new ≡ A.network asker.old }
     ensures chosen { IfOk result (IsChosen net.now order.now) }
-    ensures stop { IfErr result (IsPlanStop (IsStoppedAt net.now order.now (A.answered asker.new - A.answered asker.old) (A.told asker.new))
+    ensures stop { IfErr result (IsPlanStop (IsStoppedAt net.now order.now
+        (A.answered asker.new - A.answered asker.old) (A.told asker.new))
         (A.may_stop asker.new) (A.may_want_thread asker.new)) }
 {
     let Some((floors, roofs)) = floors_and_roofs(alloc, net, order, root, asker)? else {
@@ -87,8 +90,8 @@ fn chosen<A: Asker>(
     }
 }
 
-/// The first capacities of all that are enough: those of the first question of the box that is a yes. They are the peaks of the
-/// starts that were found, since these peaks are enough too, and no others that are stand before them.
+/// The first capacities of all that are enough: those of the first question of the box that is a yes. They are the
+/// peaks of the starts that were found, since these peaks are enough too, and no others that are stand before them.
 fn cheapest<A: Asker>(
     alloc: Global,
     net: &Network,

@@ -90,8 +90,8 @@ impl From<AllocError> for Refusal {
     }
 }
 
-/// The answer to the texts of a network and an order, made on the calling thread: the text of the plan, or the line that says why
-/// there is none.
+/// The answer to the texts of a network and an order, made on the calling thread: the text of the plan, or the line
+/// that says why there is none.
 ///
 /// # Errors
 ///

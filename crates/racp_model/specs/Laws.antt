@@ -20,25 +20,29 @@ VectorsAreOrdered = (terms : Terms) (a b : List ℕ) → IsBefore terms a b ⊎ 
 -- a vector stands before another exactly where it costs less, or costs the same and is lexicographically less
 abbrev pub BeforeIsByCost : Type 0
 BeforeIsByCost =
-    (terms : Terms) (a b : List ℕ) → IsBefore terms a b ↔ ((cost terms a < cost terms b) ⊎ ((cost terms a ≡ cost terms b) × IsLexBefore a b))
+    (terms : Terms) (a b : List ℕ) → IsBefore terms a b ↔
+    ((cost terms a < cost terms b) ⊎ ((cost terms a ≡ cost terms b) × IsLexBefore a b))
 
 -- of two vectors of one length, the first is lexicographically less exactly where it has the lesser number at some place
 -- and the same numbers before it
 abbrev pub LexIsByFirstPlace : Type 0
 LexIsByFirstPlace =
     (a b : List ℕ) → length a ≡ length b →
-    IsLexBefore a b ↔ ((k : ℕ) × (k < length a) × ((q : ℕ) → q < k → slice_index a q ≡ slice_index b q) × (slice_index a k < slice_index b k))
+    IsLexBefore a b ↔ ((k : ℕ) × (k < length a) × ((q : ℕ) → q < k → slice_index a q ≡ slice_index b q) ×
+    (slice_index a k < slice_index b k))
 
 -- a job uses its request while it is active, and nothing while it is not
 abbrev pub UseIsByActivity : Type 0
 UseIsByActivity =
     (p : Project) (starts : List ℕ) (k t i : ℕ) →
-    (IsActive p starts t i → use_of p starts k t i ≡ request p i k) × ((IsActive p starts t i → ⊥) → use_of p starts k t i ≡ 0)
+    (IsActive p starts t i → use_of p starts k t i ≡ request p i k) ×
+    ((IsActive p starts t i → ⊥) → use_of p starts k t i ≡ 0)
 
 -- what fits some capacities fits greater ones, so a vector at or above one that admits admits
 abbrev pub AboveAdmits : Type 0
 AboveAdmits =
-    (p : Project) (release due : ℕ → ℕ) (a b : List ℕ) → ((k : ℕ) → k < p.resources → slice_index a k ≤ slice_index b k) →
+    (p : Project) (release due : ℕ → ℕ) (a b : List ℕ) →
+    ((k : ℕ) → k < p.resources → slice_index a k ≤ slice_index b k) →
     Admits p release due a → Admits p release due b
 
 -- a vector cut to the roofs
@@ -47,7 +51,8 @@ IsCutToRoofs p whole cut = (k : ℕ) → k < p.resources → slice_index cut k �
 
 -- a vector that is cut to the roofs fits the same schedules, so it admits where it did
 abbrev pub CutFitsTheSame : Type 0
-CutFitsTheSame = (p : Project) (whole cut starts : List ℕ) → IsCutToRoofs p whole cut → Fits p whole starts ↔ Fits p cut starts
+CutFitsTheSame = (p : Project) (whole cut starts : List ℕ) → IsCutToRoofs p whole cut →
+    Fits p whole starts ↔ Fits p cut starts
 
 abbrev pub CutAdmits : Type 0
 CutAdmits =
@@ -72,5 +77,6 @@ RelationIsNetwork = (p q : Project) → IsSound p → IsSound q → IsSameProjec
 -- a project without a ring that keeps the limits and whose pairs name its jobs has a network of the same relation
 abbrev pub AcyclicHasNetwork : Type 0
 AcyclicHasNetwork =
-    (given : Project) → IsWithinLimits given.resources given.jobs → AreNumbers (length given.jobs) given.arcs → IsAcyclic given →
+    (given : Project) → IsWithinLimits given.resources given.jobs → AreNumbers (length given.jobs) given.arcs →
+    IsAcyclic given →
     (made : Project) × IsSameProject given made × IsSound made

@@ -17,5 +17,7 @@ abbrev pub IsMade : Project → Result Project NetFault → Type 0
 IsMade given (Ok made) = IsSameProject given made × IsSound made
 IsMade given (Err Limit) = IsWithinLimits given.resources given.jobs → ⊥
 IsMade given (Err BadJob) = IsWithinLimits given.resources given.jobs × (AreNumbers (length given.jobs) given.arcs → ⊥)
-IsMade given (Err Cycle) = IsWithinLimits given.resources given.jobs × AreNumbers (length given.jobs) given.arcs × HasRing given
-IsMade given (Err Memory) = IsWithinLimits given.resources given.jobs × AreNumbers (length given.jobs) given.arcs × IsAcyclic given
+IsMade given (Err Cycle) = IsWithinLimits given.resources given.jobs × AreNumbers (length given.jobs) given.arcs ×
+    HasRing given
+IsMade given (Err Memory) = IsWithinLimits given.resources given.jobs × AreNumbers (length given.jobs) given.arcs ×
+    IsAcyclic given

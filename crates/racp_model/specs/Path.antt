@@ -12,14 +12,16 @@ pub record IsEarly (p : Project) (lower : ℕ → ℕ) (early : List ℕ) : Type
   pub places : length early ≡ length p.jobs
   pub above : IsAtLeast p lower early
   pub precedence : KeepsPrecedence p early
-  pub least : (starts : List ℕ) → IsAtLeast p lower starts → KeepsPrecedence p starts → (i : ℕ) → i < length p.jobs → slice_index early i ≤ slice_index starts i
+  pub least : (starts : List ℕ) → IsAtLeast p lower starts → KeepsPrecedence p starts → (i : ℕ) → i < length p.jobs →
+      slice_index early i ≤ slice_index starts i
 
 -- the late starts: ending by the due times, keeping precedence, and in each place the greatest that are both
 pub record IsLate (p : Project) (due : ℕ → ℕ) (late : List ℕ) : Type 0 where
   pub places : length late ≡ length p.jobs
   pub ends : EndsBy p due late
   pub precedence : KeepsPrecedence p late
-  pub greatest : (starts : List ℕ) → EndsBy p due starts → KeepsPrecedence p starts → (i : ℕ) → i < length p.jobs → slice_index starts i ≤ slice_index late i
+  pub greatest : (starts : List ℕ) → EndsBy p due starts → KeepsPrecedence p starts → (i : ℕ) → i < length p.jobs →
+      slice_index starts i ≤ slice_index late i
 
 -- no starts keep precedence and end by the due times
 abbrev pub IsTooTight : Project → (ℕ → ℕ) → Type 0

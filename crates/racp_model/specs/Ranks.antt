@@ -68,12 +68,14 @@ pub record ArePairsOf (arcs pairs : List (ℕ × ℕ)) : Type 0 where
 -- the pairs by places, by rising rank of the first
 pub record AreByRank (arcs : List (ℕ × ℕ)) (rank : List ℕ) (pairs : List (ℕ × ℕ)) : Type 0 where
   pub same : ArePairsOf arcs pairs
-  pub sorted : (a b : ℕ) → a ≤ b → b < length pairs → slice_index rank (slice_index_or pairs a (0, 0)).0 ≤ slice_index rank (slice_index_or pairs b (0, 0)).0
+  pub sorted : (a b : ℕ) → a ≤ b → b < length pairs → slice_index rank (slice_index_or pairs a (0, 0)).0 ≤
+      slice_index rank (slice_index_or pairs b (0, 0)).0
 
 -- the pairs by places, in an order in which every pair into a job comes before every pair out of it
 pub record AreInOrder (arcs pairs : List (ℕ × ℕ)) : Type 0 where
   pub same : ArePairsOf arcs pairs
-  pub forward : (a b : ℕ) → a ≤ b → b < length pairs → (slice_index_or pairs a (0, 0)).0 ≢ (slice_index_or pairs b (0, 0)).1
+  pub forward : (a b : ℕ) → a ≤ b → b < length pairs → (slice_index_or pairs a (0, 0)).0 ≢
+      (slice_index_or pairs b (0, 0)).1
 
 -- what putting the pairs in order answers
 abbrev pub IsOrdered : List (ℕ × ℕ) → Result (Vec (ℕ × ℕ) Global) NetFault → Type 0

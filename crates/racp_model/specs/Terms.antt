@@ -41,11 +41,13 @@ due_of terms i = min (slice_index terms.due i) terms.deadline
 
 -- what the units cost: each that is not owned already costs its price
 abbrev pub cost : Terms → List ℕ → ℕ
-cost terms capacities = sum_below (length terms.prices) (λ k. slice_index terms.prices k * (slice_index capacities k - slice_index terms.owned k))
+cost terms capacities = sum_below (length terms.prices)
+    (λ k. slice_index terms.prices k * (slice_index capacities k - slice_index terms.owned k))
 
 -- no capacity is above its ceiling, where there are ceilings
 abbrev pub IsWithinCeilings : Terms → List ℕ → Type 0
-IsWithinCeilings terms capacities = IfSome terms.ceilings (λ ceilings. (k : ℕ) → k < length capacities → slice_index capacities k ≤ slice_index ceilings k)
+IsWithinCeilings terms capacities = IfSome terms.ceilings
+    (λ ceilings. (k : ℕ) → k < length capacities → slice_index capacities k ≤ slice_index ceilings k)
 
 -- lists of numbers in lexicographic order, from the first place on
 abbrev pub lex_cmp : List ℕ → List ℕ → Ordering

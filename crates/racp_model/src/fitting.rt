@@ -7,7 +7,8 @@ use crate::starts::Starts;
 use crate::usage::usage_at;
 
 /// Whether the starts are a schedule that ends by the deadline and never uses more than the capacities (Möhring 1984).
-/// There is a capacity for each resource and a start for each job, by place; the deadline is in time units, and any may be asked. Takes no memory.
+/// There is a capacity for each resource and a start for each job, by place; the deadline is in time units, and any may
+/// be asked. Takes no memory.
 pub fn fits(net: &Network, capacities: &Capacities, starts: &Starts, deadline: u64) -> bool
     requires capacities { length capacities.now ≡ net.now.resources }
     requires starts { length starts.now ≡ length net.now.jobs }
@@ -50,8 +51,8 @@ fn keeps_capacities(net: &Network, capacities: &[u32], starts: &[u32]) -> bool
     (0..net.resource_count()).all(|k| keeps_capacity(net, starts, k, capacities[k]))
 }
 
-/// Whether the jobs never use more than the capacity of one resource. A usage is greatest where some job starts, so only
-/// these times are looked at.
+/// Whether the jobs never use more than the capacity of one resource. A usage is greatest where some job starts, so
+/// only these times are looked at.
 fn keeps_capacity(net: &Network, starts: &[u32], k: usize, capacity: u32) -> bool
     requires starts { length starts.now ≡ length net.now.jobs }
     requires resource { k < net.now.resources }

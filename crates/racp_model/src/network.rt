@@ -10,8 +10,9 @@ use crate::topology::{are_numbers, sorted, topological};
 use std::alloc::Global;
 use std::marker::Model;
 
-/// A project network (activity on node): jobs that run for a time and request renewable resources, and precedence between
-/// them, from finish to start with lag 0. It is within its limits, and no job waits for itself. Contracts see a `Project`.
+/// A project network (activity on node): jobs that run for a time and request renewable resources, and precedence
+/// between them, from finish to start with lag 0. It is within its limits, and no job waits for itself. Contracts see a
+/// `Project`.
 #[derive(Drop)]
 pub struct Network {
     resources: usize,
@@ -28,7 +29,12 @@ impl Model for Network {
 
     ghost view = { λ net. record { resources = net.resources; jobs = net.jobs.items; arcs = net.arcs.items } };
 
-    ghost invariant = { λ net. let p : Project = record { resources = net.resources; jobs = net.jobs.items; arcs = net.arcs.items } in
+    ghost invariant = { λ net. let p : Project = record {
+      resources = net.resources;
+      jobs = net.jobs.items;
+      arcs =
+          net.arcs.items;
+    } in
         IsSound p × IsTopological p net.topological.items };
 }
 
@@ -39,8 +45,8 @@ impl Network {
     /// # Errors
     ///
     /// The first of these that holds: `Limit`, where there are not 1 to 16 resources and 1 to 512 jobs, or a job has
-    /// another number of requests than there are resources, or a duration or a request is above 10,000; `BadJob`, where a
-    /// pair names no job; `Cycle`, where a job would have to wait for itself; `Memory`, where memory was refused.
+    /// another number of requests than there are resources, or a duration or a request is above 10,000; `BadJob`, where
+    /// a pair names no job; `Cycle`, where a job would have to wait for itself; `Memory`, where memory was refused.
     pub fn new(
         alloc: Global,
         resources: usize,
@@ -108,8 +114,8 @@ impl Network {
         &self.arcs
     }
 
-    /// The same relation as pairs of places, from 0, in topological order: every pair into a job comes before every pair out
-    /// of it. So one sweep over them settles early starts, and one from the end late starts.
+    /// The same relation as pairs of places, from 0, in topological order: every pair into a job comes before every
+    /// pair out of it. So one sweep over them settles early starts, and one from the end late starts.
     pub fn topological_arcs(&self) -> &[(u32, u32)]
         ensures order { IsTopological self.now result.now }
         ensures sound { IsSound self.now }

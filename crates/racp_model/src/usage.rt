@@ -9,8 +9,8 @@ use crate::starts::Starts;
 use std::alloc::{AllocError, Global};
 use std::cmp::max;
 
-/// The peak of each resource, by place from 0: the most units of it that all jobs together use at a time. So the starts keep these
-/// capacities, and none that are less for some resource. There is a start for each job, by place.
+/// The peak of each resource, by place from 0: the most units of it that all jobs together use at a time. So the starts
+/// keep these capacities, and none that are less for some resource. There is a start for each job, by place.
 ///
 /// # Errors
 ///
@@ -39,8 +39,8 @@ fn peak(net: &Network, starts: &[u32], k: usize) -> u32
     most as u32
 }
 
-/// How many units of the resource at place `k`, from 0, all jobs together use at a time. There is a start for each job, by
-/// place; times are in time units. Takes no memory.
+/// How many units of the resource at place `k`, from 0, all jobs together use at a time. There is a start for each job,
+/// by place; times are in time units. Takes no memory.
 #[tactic(auto, using(crate::proofs::lemmas::Sums::sums))]
 pub fn usage_at(net: &Network, starts: &[u32], k: usize, time: u32) -> u64
     requires starts { length starts.now ≡ length net.now.jobs }
@@ -69,8 +69,8 @@ fn use_at(net: &Network, starts: &[u32], k: usize, time: u32, i: usize) -> u32
     }
 }
 
-/// The roof of the resource at place `k`, from 0: the sum of all requests of it, in units. No schedule ever uses more. Takes no
-/// memory.
+/// The roof of the resource at place `k`, from 0: the sum of all requests of it, in units. No schedule ever uses more.
+/// Takes no memory.
 #[tactic(auto, using(crate::proofs::lemmas::Sums::requests))]
 pub fn roof_of(net: &Network, k: usize) -> u32
     requires { k < net.now.resources }

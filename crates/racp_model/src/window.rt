@@ -5,8 +5,8 @@ use crate::starts::Starts;
 use std::alloc::AllocError;
 use std::marker::Model;
 
-/// A time window for each job: a lower and an upper bound on its start, in time units. Lower bounds are at most 20,000,000,
-/// upper bounds at most 10,000,000.
+/// A time window for each job: a lower and an upper bound on its start, in time units. Lower bounds are at most
+/// 20,000,000, upper bounds at most 10,000,000.
 #[derive(Clone, Drop)]
 pub struct Window {
     lower: Starts,

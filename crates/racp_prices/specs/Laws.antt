@@ -14,7 +14,8 @@ OneReading =
 
 -- each text is read as something
 abbrev pub TextIsRead : Type 0
-TextIsRead = (resources jobs : ℕ) (text : List ℕ) → (answer : Result Terms OrderFault) × IsOrder resources jobs text answer
+TextIsRead = (resources jobs : ℕ) (text : List ℕ) → (answer : Result Terms OrderFault) ×
+    IsOrder resources jobs text answer
 
 -- the terms that a text is read as are terms of each project with so many resources and jobs, and no due time is above the
 -- deadline
@@ -26,5 +27,7 @@ ReadWithinLimits =
 -- without a version no unit is owned, there may be any number of units, and each job may run from 0 to the deadline
 abbrev pub PlainOrder : Type 0
 PlainOrder =
-    (resources jobs : ℕ) (table : Members) (terms : Terms) → get_member (codes "version") table ≡ None → order_of resources jobs table ≡ Ok terms →
-    (terms.owned ≡ replicate resources 0) × (terms.ceilings ≡ None) × (terms.release ≡ replicate jobs 0) × (terms.due ≡ replicate jobs terms.deadline)
+    (resources jobs : ℕ) (table : Members) (terms : Terms) → get_member (codes "version") table ≡ None →
+    order_of resources jobs table ≡ Ok terms →
+    (terms.owned ≡ replicate resources 0) × (terms.ceilings ≡ None) × (terms.release ≡ replicate jobs 0) ×
+    (terms.due ≡ replicate jobs terms.deadline)

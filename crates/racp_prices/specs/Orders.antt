@@ -143,13 +143,16 @@ order_in resources jobs (Some table) = order_of resources jobs table
 
 -- what a text is read as: the terms of an order, for so many resources and jobs, or the first rule that it breaks
 abbrev pub IsOrder : ℕ → ℕ → List ℕ → Result Terms OrderFault → Type 0
-IsOrder resources jobs text answer = (table : Option Members) × IsToml text table × (answer ≡ order_in resources jobs table)
+IsOrder resources jobs text answer = (table : Option Members) × IsToml text table ×
+    (answer ≡ order_in resources jobs table)
 
 -- the same, unless the text is UTF-8 and memory ran out
 abbrev pub IsOrderOrMemory : ℕ → ℕ → List ℕ → Result Terms OrderFault → Type 0
 IsOrderOrMemory resources jobs text (Ok terms) = IsOrder resources jobs text (Ok terms)
-IsOrderOrMemory resources jobs text (Err fault) = IsOrder resources jobs text (Err fault) ⊎ (IsUtf8 text × (fault ≡ Memory))
+IsOrderOrMemory resources jobs text (Err fault) = IsOrder resources jobs text (Err fault) ⊎
+    (IsUtf8 text × (fault ≡ Memory))
 
 -- the terms are those of each project with so many resources and jobs
 abbrev pub FitEachProject : ℕ → ℕ → Terms → Type 0
-FitEachProject resources jobs terms = (p : Project) → p.resources ≡ resources → length p.jobs ≡ jobs → AreTermsOf p terms
+FitEachProject resources jobs terms = (p : Project) → p.resources ≡ resources → length p.jobs ≡ jobs →
+    AreTermsOf p terms

@@ -4,7 +4,8 @@ use crate::order::Order;
 use std::alloc::{AllocError, Global};
 use std::cmp::min;
 
-/// The time by which each job has to end, by place from 0, in time units: its due time, or the deadline where that is earlier.
+/// The time by which each job has to end, by place from 0, in time units: its due time, or the deadline where that is
+/// earlier.
 ///
 /// # Errors
 ///

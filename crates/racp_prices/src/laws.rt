@@ -12,8 +12,8 @@ pub fn text_is_read()
     ensures { TextIsRead }
 {}
 
-/// The terms that a text is read as have an entry for each resource and each job, in their ranges, and no due time is above
-/// the deadline.
+/// The terms that a text is read as have an entry for each resource and each job, in their ranges, and no due time is
+/// above the deadline.
 pub fn read_within_limits()
     ensures { ReadWithinLimits }
 {}

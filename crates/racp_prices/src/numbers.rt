@@ -55,7 +55,8 @@ pub(crate) fn numbers(
 
 /// The items of an array.
 fn items(value: &Value) -> Result<&Array, OrderFault>
-    ensures { MatchResult result (λ items. array_of (view value.now) ≡ Ok (array_view items.now)) (λ fault. array_of (view value.now) ≡ Err fault) }
+    ensures { MatchResult result (λ items. array_of (view value.now) ≡ Ok (array_view items.now))
+        (λ fault. array_of (view value.now) ≡ Err fault) }
 {
     value.as_array().ok_or(OrderFault::NotWhole)
 }
@@ -68,7 +69,8 @@ pub(crate) fn optional_numbers(
     count: usize,
     most: u32,
 ) -> Result<Option<Vec<u32>>, OrderFault>
-    ensures { Gives (option_map (λ numbers. numbers.items)) result (optional_numbers count most (option_map (λ v. view v.now) value.entry)) }
+    ensures { Gives (option_map (λ numbers. numbers.items)) result
+        (optional_numbers count most (option_map (λ v. view v.now) value.entry)) }
 {
     match value {
         Some(value) => Ok(Some(numbers(alloc, value, count, most)?)),
@@ -78,7 +80,8 @@ pub(crate) fn optional_numbers(
 
 /// Refuses items that are not whole numbers alone.
 fn check_whole(items: &[Value]) -> Result<(), OrderFault>
-    ensures { MatchResult result (λ _. whole_items (items_view items.now) ≡ Ok (items_view items.now)) (λ fault. whole_items (items_view items.now) ≡ Err fault) }
+    ensures { MatchResult result (λ _. whole_items (items_view items.now) ≡ Ok (items_view items.now))
+        (λ fault. whole_items (items_view items.now) ≡ Err fault) }
 {
     if are_whole(items) {
         Ok(())
@@ -89,7 +92,8 @@ fn check_whole(items: &[Value]) -> Result<(), OrderFault>
 
 /// Refuses another number of items.
 fn check_count(items: &[Value], count: usize) -> Result<(), OrderFault>
-    ensures { MatchResult result (λ _. counted_items count (items_view items.now) ≡ Ok (items_view items.now)) (λ fault. counted_items count (items_view items.now) ≡ Err fault) }
+    ensures { MatchResult result (λ _. counted_items count (items_view items.now) ≡ Ok (items_view items.now))
+        (λ fault. counted_items count (items_view items.now) ≡ Err fault) }
 {
     if items.len() == count {
         Ok(())

@@ -30,7 +30,15 @@ impl Model for Order {
 
     ghost Value = { Terms };
 
-    ghost view = { λ o. record { deadline = o.deadline; prices = o.prices.items; owned = o.owned.items; ceilings = option_map (λ c. c.items) o.ceilings; release = o.release.items; due = o.due.items } };
+    ghost view = { λ o. record {
+      deadline = o.deadline;
+      prices = o.prices.items;
+      owned = o.owned.items;
+      ceilings =
+          option_map (λ c. c.items) o.ceilings;
+      release = o.release.items;
+      due = o.due.items;
+    } };
 }
 
 impl Order {

@@ -16,15 +16,15 @@ use toml::{Table, Value};
 
 /// Reads the order of a TOML text, for a network of so many resources and jobs.
 ///
-/// Without the key `version` the text has `deadline` and `prices` alone: no unit is owned, there may be any number of units,
-/// and each job may run from 0 to the deadline. With `version = 2` it may have `owned`, `ceiling`, `release` and `due` too.
-/// A due time above the deadline is read as the deadline.
+/// Without the key `version` the text has `deadline` and `prices` alone: no unit is owned, there may be any number of
+/// units, and each job may run from 0 to the deadline. With `version = 2` it may have `owned`, `ceiling`, `release` and
+/// `due` too. A due time above the deadline is read as the deadline.
 ///
 /// # Errors
 ///
-/// The first rule that the text breaks: `NotToml`; for the version `NotWhole` or `Version`; `Missing`; `Unknown`; and then
-/// for the deadline, the prices, the owned units, the ceilings, the release and the due times, in this order, `NotWhole`,
-/// `Count` and `Range`. `Memory` where the text is UTF-8 and memory was refused.
+/// The first rule that the text breaks: `NotToml`; for the version `NotWhole` or `Version`; `Missing`; `Unknown`; and
+/// then for the deadline, the prices, the owned units, the ceilings, the release and the due times, in this order,
+/// `NotWhole`, `Count` and `Range`. `Memory` where the text is UTF-8 and memory was refused.
 pub fn read_order(
     alloc: Global,
     text: &[u8],
@@ -93,14 +93,16 @@ fn value<'a>(table: &'a Table, key: &str) -> Option<&'a Value>
 
 /// What a table has at a key that has to be there.
 fn required<'a>(table: &'a Table, key: &str) -> Result<&'a Value, OrderFault>
-    ensures { MatchResult result (λ v. required (get_member key.now (table_view table.now)) ≡ Ok (view v.now)) (λ fault. required (get_member key.now (table_view table.now)) ≡ Err fault) }
+    ensures { MatchResult result (λ v. required (get_member key.now (table_view table.now)) ≡ Ok (view v.now))
+        (λ fault. required (get_member key.now (table_view table.now)) ≡ Err fault) }
 {
     value(table, key).ok_or(OrderFault::Missing)
 }
 
 /// Refuses a table with a key that an order of this version does not have.
 fn check_keys(version: Version, table: &Table) -> Result<(), OrderFault>
-    ensures { MatchResult result (λ _. known_keys version (table_view table.now) ≡ Ok (table_view table.now)) (λ fault. known_keys version (table_view table.now) ≡ Err fault) }
+    ensures { MatchResult result (λ _. known_keys version (table_view table.now) ≡ Ok (table_view table.now))
+        (λ fault. known_keys version (table_view table.now) ≡ Err fault) }
 {
     if has_known_keys(version, table) {
         Ok(())
@@ -111,7 +113,8 @@ fn check_keys(version: Version, table: &Table) -> Result<(), OrderFault>
 
 /// Whether an order of this version may have all keys of a table.
 fn has_known_keys(version: Version, table: &Table) -> bool
-    ensures { IsTrue result ↔ All (λ key. IsTrue (list_any (bytes_eq (string_bytes key)) (keys_of version))) (keys table.now) }
+    ensures { IsTrue result ↔ All (λ key. IsTrue (list_any (bytes_eq (string_bytes key)) (keys_of version)))
+        (keys table.now) }
 {
     table.keys().all(|key| version.has_key(key))
 }
@@ -123,7 +126,8 @@ fn or_all(
     count: usize,
     number: u32,
 ) -> Result<Vec<u32>, AllocError>
-    ensures { IfOk result (λ all. all.items ≡ unwrap_or (option_map (λ numbers. numbers.items) numbers) (replicate count number)) }
+    ensures { IfOk result (λ all. all.items ≡ unwrap_or (option_map (λ numbers. numbers.items) numbers)
+        (replicate count number)) }
 {
     match numbers {
         Some(numbers) => Ok(numbers),

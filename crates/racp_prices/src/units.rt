@@ -7,8 +7,8 @@ use racp_model::{Capacities, Network, roof_of};
 use std::alloc::{AllocError, Global};
 use std::cmp::min;
 
-/// The most units of each resource, by place from 0, that a plan can have: the roof, the sum of all requests, or the ceiling
-/// where that is less.
+/// The most units of each resource, by place from 0, that a plan can have: the roof, the sum of all requests, or the
+/// ceiling where that is less.
 ///
 /// # Errors
 ///

@@ -31,4 +31,5 @@ cheaper_of (Some best) (Some other) = if nat_lt other.cost best.cost then Some o
 -- the choice of the first of the candidates, by cost and then lexicographically, or none where there is no candidate
 abbrev pub IsCheapest : Project → Terms → Bounds → List ℕ → Option Choice → Type 0
 IsCheapest p terms window most None = (capacities : List ℕ) → IsCandidate p window most capacities → ⊥
-IsCheapest p terms window most (Some choice) = IsLeast (IsBefore terms) (IsCandidate p window most) choice.capacities × IsChoice p terms window choice
+IsCheapest p terms window most (Some choice) = IsLeast (IsBefore terms) (IsCandidate p window most) choice.capacities ×
+    IsChoice p terms window choice

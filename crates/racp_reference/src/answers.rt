@@ -7,8 +7,9 @@ use racp_cpm::last_end;
 use racp_model::{Capacities, Network, Question, Starts, Window, fits};
 use std::alloc::{AllocError, Global};
 
-/// The lexicographically least starts that answer the question, or `None` where none do. The capacities have an entry for
-/// each resource, the bounds of the window one for each job. All start vectors in the window are looked at, one by one.
+/// The lexicographically least starts that answer the question, or `None` where none do. The capacities have an entry
+/// for each resource, the bounds of the window one for each job. All start vectors in the window are looked at, one by
+/// one.
 ///
 /// # Errors
 ///
@@ -26,7 +27,8 @@ pub fn decide_by_definition(
     first_answer(alloc, net, &question.capacities, &question.window)
 }
 
-/// The lexicographically least starts in the window that keep precedence and the capacities, or `None` where there are none.
+/// The lexicographically least starts in the window that keep precedence and the capacities, or `None` where there are
+/// none.
 ///
 /// # Errors
 ///

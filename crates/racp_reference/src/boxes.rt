@@ -14,7 +14,8 @@ pub(crate) fn is_box(lower: &[u32], upper: &[u32]) -> bool
 /// The vector of the box that comes next, or `None` after the last.
 pub(crate) fn next_in(lower: &[u32], upper: &[u32], mut vector: Vec<u32>) -> Option<Vec<u32>>
     requires { IsInBox lower.now upper.now vector.items }
-    ensures { MatchOption result (IsLast lower.now upper.now vector.items) (λ next. IsNext lower.now upper.now vector.items next.items) }
+    ensures { MatchOption result (IsLast lower.now upper.now vector.items)
+        (λ next. IsNext lower.now upper.now vector.items next.items) }
 {
     for i in (0..vector.len()).rev() {
         if vector[i] < upper[i] {

@@ -20,8 +20,8 @@ pub(crate) struct Choice {
     pub starts: Starts,
 }
 
-/// The cheapest capacities up to these most units under which some starts in the window fit, of those that cost the same
-/// the lexicographically least. All capacity vectors from 0 units on are looked at, one by one.
+/// The cheapest capacities up to these most units under which some starts in the window fit, of those that cost the
+/// same the lexicographically least. All capacity vectors from 0 units on are looked at, one by one.
 pub(crate) fn cheapest(
     alloc: Global,
     net: &Network,

@@ -12,8 +12,8 @@ use std::alloc::{AllocError, Global};
 /// The plan of an order, or why there is none: the first of the reasons that holds, in this order.
 #[derive(Drop)]
 pub enum Outcome {
-    /// The plan: the cheapest capacities under which the project ends in time, of those that cost the same the lexicographically
-    /// least, and under them the lexicographically least start vector.
+    /// The plan: the cheapest capacities under which the project ends in time, of those that cost the same the
+    /// lexicographically least, and under them the lexicographically least start vector.
     Plan(Plan),
     /// The critical length, in time units, exceeds the deadline.
     TooLong {
@@ -29,8 +29,8 @@ pub enum Outcome {
     OverCeilings,
 }
 
-/// The plan of an order by its definition. All capacity vectors are looked at, and for each the start vectors in the root
-/// window.
+/// The plan of an order by its definition. All capacity vectors are looked at, and for each the start vectors in the
+/// root window.
 ///
 /// # Errors
 ///

@@ -20,7 +20,8 @@ plan = with_rule (with_rule (new_app (codes "plan")) (file_rule (codes "NET"))) 
 
 -- `check NET ORDER PLAN`
 abbrev pub check : App
-check = with_rule (with_rule (with_rule (new_app (codes "check")) (file_rule (codes "NET"))) (file_rule (codes "ORDER"))) (file_rule (codes "PLAN"))
+check = with_rule (with_rule (with_rule (new_app (codes "check")) (file_rule (codes "NET")))
+    (file_rule (codes "ORDER"))) (file_rule (codes "PLAN"))
 
 -- a program that tells its version
 abbrev pub with_version : App → App
@@ -28,7 +29,8 @@ with_version a = record a { top = record a.top { has_version = true } }
 
 -- `racp [cpm [NET] | plan NET ORDER | check NET ORDER PLAN]`
 unfoldable pub racp : App
-racp = with_subcommand (with_subcommand (with_subcommand (with_version (new_app (codes "racp"))) cpm.top) plan.top) check.top
+racp = with_subcommand (with_subcommand (with_subcommand (with_version (new_app (codes "racp"))) cpm.top) plan.top)
+    check.top
 
 -- standard input where no word names a file, or `-` does; else the file of this path
 abbrev pub IsSource : Option Text → Source → Type 0
@@ -47,7 +49,8 @@ IsRequested None (Check files) = ⊥
 IsRequested (Some command) (Cpm network) =
     (command.0 ≢ codes "plan") × (command.0 ≢ codes "check") × IsSource (first_of (codes "NET") command.1) network
 IsRequested (Some command) (Plan files) =
-    (command.0 ≡ codes "plan") × (files.net.now ≡ path_at (codes "NET") command.1) × (files.order.now ≡ path_at (codes "ORDER") command.1)
+    (command.0 ≡ codes "plan") × (files.net.now ≡ path_at (codes "NET") command.1) ×
+    (files.order.now ≡ path_at (codes "ORDER") command.1)
 IsRequested (Some command) (Check files) =
     (command.0 ≡ codes "check") × (files.net.now ≡ path_at (codes "NET") command.1) ×
     (files.order.now ≡ path_at (codes "ORDER") command.1) × (files.plan.now ≡ path_at (codes "PLAN") command.1)
@@ -79,7 +82,8 @@ IsPath (first ∷ rest) = first ≢ 45
 
 -- After the program's name come `plan` and these two paths.
 abbrev pub IsPlanLine : List Text → Text → Text → Type 0
-IsPlanLine words net order = (name : Text) × IsPath net × IsPath order × (words ≡ name ∷ codes "plan" ∷ net ∷ order ∷ [])
+IsPlanLine words net order = (name : Text) × IsPath net × IsPath order ×
+    (words ≡ name ∷ codes "plan" ∷ net ∷ order ∷ [])
 
 -- `plan` of the files with these paths
 abbrev pub AsksForPlan : Text → Text → Request → Type 0
@@ -90,10 +94,12 @@ AsksForPlan net order (Check files) = ⊥
 -- After the program's name come `check` and these three paths.
 abbrev pub IsCheckLine : List Text → Text → Text → Text → Type 0
 IsCheckLine words net order plan_path =
-    (name : Text) × IsPath net × IsPath order × IsPath plan_path × (words ≡ name ∷ codes "check" ∷ net ∷ order ∷ plan_path ∷ [])
+    (name : Text) × IsPath net × IsPath order × IsPath plan_path ×
+    (words ≡ name ∷ codes "check" ∷ net ∷ order ∷ plan_path ∷ [])
 
 -- `check` of the files with these paths
 abbrev pub AsksForCheck : Text → Text → Text → Request → Type 0
 AsksForCheck net order plan_path (Cpm network) = ⊥
 AsksForCheck net order plan_path (Plan files) = ⊥
-AsksForCheck net order plan_path (Check files) = (files.net.now ≡ net) × (files.order.now ≡ order) × (files.plan.now ≡ plan_path)
+AsksForCheck net order plan_path (Check files) = (files.net.now ≡ net) × (files.order.now ≡ order) ×
+    (files.plan.now ≡ plan_path)

@@ -65,7 +65,8 @@ fn request_named<'a>(name: &str, words: &ArgMatches<'a>) -> Request<'a>
 
 /// The command that the words name, and its own words.
 fn entered<'a, 'm>(matches: &'m ArgMatches<'a>) -> Option<(&'a str, &'m ArgMatches<'a>)>
-    ensures { option_map (λ command. (command.0.now, rows_of (found_of command.1.now))) result ≡ subcommand_rows_of matches.now }
+    ensures { option_map (λ command. (command.0.now, rows_of (found_of command.1.now))) result ≡
+        subcommand_rows_of matches.now }
 {
     matches.subcommand()
 }
