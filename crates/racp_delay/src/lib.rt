@@ -10,7 +10,7 @@
 //! are raised to that end.
 //!
 //! The five jobs of examples/a.sm with 2 units and the starts 0, 0, 0, 0, 3. At time 0 the jobs 2, 3 and 4 are active,
-//! and request 2 + 1 + 1 = 4 units:
+//! and need 2 + 1 + 1 = 4 units:
 //!
 //! ```text
 //! go      stay    can run at once    the jobs that go start at or after

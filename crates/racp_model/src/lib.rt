@@ -7,7 +7,7 @@
 //! each job. The problem, the usage of a resource at a time, and capacities that admit a schedule are after Möhring
 //! (1984). `specs/` has the definitions that the contracts of all crates cite, from a project to the plan of an order.
 //!
-//! Five jobs with one resource: 2, 3 and 4 come after 1 and before 5. They run for 3, 2 and 2 time units and request 2,
+//! Five jobs with one resource: 2, 3 and 4 come after 1 and before 5. They run for 3, 2 and 2 time units and need 2,
 //! 1 and 1 units; 1 and 5 have duration 0. With the starts 0, 0, 0, 2, 4 this is used:
 //!
 //! ```text
