@@ -61,7 +61,7 @@ impl<N: OfNetwork> Node<N> {
         Node::reusing(net, question, early, Vec::new(alloc), time)
     }
 
-    /// The node of a question, the early starts of its window and a time. The memory of `room` is used again, for the ends.
+    /// The node of a question, the early starts of its window and a time. The memory of `row` is used again, for the ends.
     ///
     /// # Errors
     ///
@@ -70,7 +70,7 @@ impl<N: OfNetwork> Node<N> {
         net: &Network,
         question: Question,
         early: Starts,
-        room: Vec<u32>,
+        row: Vec<u32>,
         time: u32,
     ) -> Result<Self, AllocError>
         requires named { net.now ≡ N.network }
@@ -84,7 +84,7 @@ impl<N: OfNetwork> Node<N> {
         ensures time { IfOk result (λ node. node.time ≡ time) }
     {
         prove!(question.window.lower().len() == net.job_count());
-        let ends = ends_of(room, net, early.as_slice())?;
+        let ends = ends_of(row, net, early.as_slice())?;
         let started = started_before(early.as_slice(), time);
         let key = hash_of(&started);
         Ok(Node {

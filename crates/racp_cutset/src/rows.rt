@@ -82,13 +82,13 @@ pub(crate) fn started_before(early: &[u32], time: u32) -> JobSet
     started
 }
 
-/// When each job ends in early starts, in the memory of `room`.
+/// When each job ends in early starts, in the memory of `row`.
 ///
 /// # Errors
 ///
 /// Memory was refused.
 pub(crate) fn ends_of(
-    mut room: Vec<u32>,
+    mut row: Vec<u32>,
     net: &Network,
     early: &[u32],
 ) -> Result<Vec<u32>, AllocError>
@@ -96,10 +96,10 @@ pub(crate) fn ends_of(
     requires small { (i : ℕ) → i < length net.now.jobs → slice_index early.now i ≤ 25120000 }
     ensures { IfOk result (λ ends. AreEnds net.now early.now ends.items) }
 {
-    room.clear();
-    room.extend_from_slice(early)?;
-    add_durations(net, &mut room);
-    Ok(room)
+    row.clear();
+    row.extend_from_slice(early)?;
+    add_durations(net, &mut row);
+    Ok(row)
 }
 
 /// Adds each job's duration.

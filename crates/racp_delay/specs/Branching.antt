@@ -19,7 +19,7 @@ pub record IsFirstExcess (p : Project) (capacities starts : List ℕ) (t : ℕ) 
   pub exceeds : (k : ℕ) × (k < p.resources) × (slice_index capacities k < usage p starts k t)
 
 -- the first conflict of the starts: that time, and the jobs that are active then
-pub record IsClash (p : Project) (capacities starts : List ℕ) (t : ℕ) (active : List ℕ) : Type 0 where
+pub record IsConflict (p : Project) (capacities starts : List ℕ) (t : ℕ) (active : List ℕ) : Type 0 where
   pub first : IsFirstExcess p capacities starts t
   pub set : IsActiveSet p starts t active
 
@@ -48,5 +48,5 @@ pub record IsChild (p : Project) (early : List ℕ) (window : Bounds) (gone kept
 
 -- what looking for a conflict answers: the first one, or that the usage never exceeds the capacities
 abbrev pub IsConflictAnswer : Project → List ℕ → List ℕ → Option Clash → Type 0
-IsConflictAnswer p capacities starts (Some clash) = IsClash p capacities starts clash.time clash.active
+IsConflictAnswer p capacities starts (Some conflict) = IsConflict p capacities starts conflict.time conflict.active
 IsConflictAnswer p capacities starts None = IsWithinCapacities p capacities starts

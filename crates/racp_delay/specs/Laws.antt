@@ -6,7 +6,7 @@ use Rattle.racp_model.specs.Schedule.{usage, sum_below}
 use Rattle.racp_model.specs.Path.{IsEarly}
 use Rattle.racp_model.specs.Window.{Bounds, LiesIn, Answers, IsInside, WindowsCover}
 use Rattle.racp_delay.specs.Alternatives.{Splits, load, IsMinimalDelayingAlternative, AreAlternatives}
-use Rattle.racp_delay.specs.Branching.{IsActiveSet, IsClash, IsChild}
+use Rattle.racp_delay.specs.Branching.{IsActiveSet, IsConflict, IsChild}
 
 -- starts in the child window of some minimal alternative other than the whole active set
 pub record LiesInSomeChild (p : Project) (capacities early active : List ℕ) (window : Bounds) (starts : List ℕ) : Type 0 where
@@ -22,7 +22,7 @@ pub record LiesInSomeChild (p : Project) (capacities early active : List ℕ) (w
 abbrev pub BranchingLosesNothing : Type 0
 BranchingLosesNothing =
     (p : Project) (capacities : List ℕ) (window : Bounds) (early : List ℕ) (t : ℕ) (active starts : List ℕ) →
-    IsEarly p (slice_index window.lower) early → IsClash p capacities early t active → Answers p capacities window starts →
+    IsEarly p (slice_index window.lower) early → IsConflict p capacities early t active → Answers p capacities window starts →
     LiesInSomeChild p capacities early active window starts
 
 -- among some windows is a child for each minimal alternative other than the whole active set
@@ -35,7 +35,7 @@ HaveChildren p capacities early active window children =
 abbrev pub ChildrenCover : Type 0
 ChildrenCover =
     (p : Project) (capacities : List ℕ) (window : Bounds) (early : List ℕ) (t : ℕ) (active : List ℕ) (children : List Bounds) →
-    IsEarly p (slice_index window.lower) early → IsClash p capacities early t active →
+    IsEarly p (slice_index window.lower) early → IsConflict p capacities early t active →
     HaveChildren p capacities early active window children → WindowsCover p capacities window children
 
 -- a child lies inside its window
@@ -52,7 +52,7 @@ lower_sum p window = sum_below (length p.jobs) (slice_index window.lower)
 abbrev pub ChildIsHigher : Type 0
 ChildIsHigher =
     (p : Project) (capacities : List ℕ) (window : Bounds) (early : List ℕ) (t : ℕ) (active gone kept : List ℕ) (child : Bounds) →
-    IsEarly p (slice_index window.lower) early → IsClash p capacities early t active → Splits active gone kept →
+    IsEarly p (slice_index window.lower) early → IsConflict p capacities early t active → Splits active gone kept →
     IsMinimalDelayingAlternative p capacities active gone → IsChild p early window gone kept child →
     lower_sum p window < lower_sum p child
 
@@ -80,7 +80,7 @@ SubsetsGo =
 -- starts have at most one first conflict
 abbrev pub ConflictIsOne : Type 0
 ConflictIsOne =
-    (p : Project) (capacities starts : List ℕ) (t u : ℕ) (a b : List ℕ) → IsClash p capacities starts t a → IsClash p capacities starts u b → (t ≡ u) × (a ≡ b)
+    (p : Project) (capacities starts : List ℕ) (t u : ℕ) (a b : List ℕ) → IsConflict p capacities starts t a → IsConflict p capacities starts u b → (t ≡ u) × (a ≡ b)
 
 -- there is at most one list of alternatives
 abbrev pub AlternativesAreOneList : Type 0

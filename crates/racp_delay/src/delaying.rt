@@ -45,25 +45,25 @@ fn some_could_stay(net: &Network, capacities: &[u32], loads: &Loads, jobs: &[u32
 }
 
 /// Adds, in lexicographic order, the alternatives in which the jobs of `gone` go and those that load `kept` stay, where the
-/// jobs of `rest` may go or stay. `left` are the loads of the kept and the rest together. Nothing is looked for where the kept
-/// exceed the capacities by themselves, or where one of the gone could stay with all the others.
+/// jobs of `undecided` may go or stay. `left` are the loads of the kept and the undecided together. Nothing is looked for where
+/// the kept exceed the capacities by themselves, or where one of the gone could stay with all the others.
 fn add(
     net: &Network,
     capacities: &[u32],
     kept: &Loads,
     left: &Loads,
     gone: &mut Vec<u32>,
-    rest: &[u32],
+    undecided: &[u32],
     lists: &mut Vec<SmallVec<u32, 8>>,
 ) -> Result<(), AllocError>
     requires capacities { length capacities.now ≡ net.now.resources }
     requires gone { All (IsNumber (length net.now.jobs)) gone.old.items }
-    requires rest { All (IsNumber (length net.now.jobs)) rest.now }
-    requires rises { IsStrictlyIncreasing rest.now }
-    requires left { (k : ℕ) → k < net.now.resources → slice_index left.now k ≡ with_load net.now (slice_index kept.now) rest.now k }
+    requires undecided { All (IsNumber (length net.now.jobs)) undecided.now }
+    requires rises { IsStrictlyIncreasing undecided.now }
+    requires left { (k : ℕ) → k < net.now.resources → slice_index left.now k ≡ with_load net.now (slice_index kept.now) undecided.now k }
     requires small { (k : ℕ) → k < net.now.resources → slice_index left.now k ≤ 5120000 }
     ensures gone { IfOk result (λ _. gone.new.items ≡ gone.old.items) }
-    ensures added { IfOk result (λ _. AreAdded net.now capacities.now (slice_index kept.now) gone.old.items rest.now (job_lists lists.old.items) (job_lists lists.new.items)) }
+    ensures added { IfOk result (λ _. AreAdded net.now capacities.now (slice_index kept.now) gone.old.items undecided.now (job_lists lists.old.items) (job_lists lists.new.items)) }
 {
     if !are_within(net, capacities, kept) || some_could_stay(net, capacities, left, gone) {
         return Ok(());
@@ -73,7 +73,7 @@ fn add(
         lists.push(alternative)?;
         return Ok(());
     }
-    if let Some((job, others)) = rest.split_first() {
+    if let Some((job, others)) = undecided.split_first() {
         gone.push(*job)?;
         let less = without(net, left, *job);
         add(net, capacities, kept, &less, gone, others, lists)?;
@@ -95,14 +95,14 @@ pub fn alternatives(
     alloc: Global,
     net: &Network,
     capacities: &Capacities,
-    clash: &Clash,
+    conflict: &Clash,
 ) -> Result<Vec<SmallVec<u32, 8>>, AllocError>
     requires capacities { length capacities.now ≡ net.now.resources }
-    requires active { All (IsNumber (length net.now.jobs)) clash.now.active }
-    ensures { IfOk result (λ lists. AreAlternatives net.now capacities.now clash.now.active (job_lists lists.items)) }
+    requires active { All (IsNumber (length net.now.jobs)) conflict.now.active }
+    ensures { IfOk result (λ lists. AreAlternatives net.now capacities.now conflict.now.active (job_lists lists.items)) }
 {
     let mut found = DelayingAlternatives::new(alloc);
-    found.find(net, capacities, clash)?;
+    found.find(net, capacities, conflict)?;
     Ok(found.into_lists())
 }
 
@@ -145,15 +145,15 @@ impl DelayingAlternatives {
         &mut self,
         net: &Network,
         capacities: &Capacities,
-        clash: &Clash,
+        conflict: &Clash,
     ) -> Result<(), AllocError>
         requires capacities { length capacities.now ≡ net.now.resources }
-        requires active { All (IsNumber (length net.now.jobs)) clash.now.active }
-        ensures { OnOk result (AreAlternatives net.now capacities.now clash.now.active self.new) }
+        requires active { All (IsNumber (length net.now.jobs)) conflict.now.active }
+        ensures { OnOk result (AreAlternatives net.now capacities.now conflict.now.active self.new) }
     {
         self.gone.clear();
         self.lists.clear();
-        let loads = load_of(net, &clash.active, &mut self.active)?;
+        let loads = load_of(net, &conflict.active, &mut self.active)?;
         add(
             net,
             capacities.as_slice(),

@@ -51,7 +51,7 @@ pub record IsFrameOf (p : Project) (capacities : List ℕ) (window : Bounds) (fr
   pub covers : WindowsCover p capacities window frame.children
   pub parts : (child : Bounds) → Contains frame.children child → IsPartOf p window child
   pub higher : (child : Bounds) → Contains frame.children child → IsHigher p window child
-  pub room : lower_sum p window ≤ length p.jobs * 10000000
+  pub small : lower_sum p window ≤ length p.jobs * 10000000
   pub few : length frame.children < 2 ^ 64
 
 -- a bound on the number of nodes in a window, by how far the sum of its lower bounds can rise

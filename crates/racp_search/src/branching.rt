@@ -1,7 +1,7 @@
 ghost use Rattle.std.specs.Prelude.{◌≡◌, ◌≢◌, ℕ, ◌<◌, ◌≤◌, [], All, IfOk, length, slice_index};
 ghost use Rattle.racp_model.specs.Project.{IsNumber};
 ghost use Rattle.racp_delay.specs.Alternatives.{IsMinimalDelayingAlternative};
-ghost use Rattle.racp_delay.specs.Branching.{IsClash};
+ghost use Rattle.racp_delay.specs.Branching.{IsConflict};
 ghost use Rattle.racp_search.specs.Children.{AreChildren, IsChildAnswer, IsPutOff, IsRaised};
 
 use crate::subject::Subject;
@@ -23,7 +23,7 @@ pub(crate) fn children<N: OfNetwork>(
     requires lower { length window.now.lower ≡ length N.network.jobs }
     requires early { length early.now ≡ length N.network.jobs }
     requires small { (i : ℕ) → i < length N.network.jobs → slice_index early.now i ≤ 10000000 }
-    requires conflict { IsClash N.network subject.now.capacities early.now conflict.now.time conflict.now.active }
+    requires conflict { IsConflict N.network subject.now.capacities early.now conflict.now.time conflict.now.active }
     ensures { IfOk result (λ windows. AreChildren N.network subject.now.capacities early.now conflict.now.active window.now windows.items) }
 {
     let found = &mut workspace.found;
@@ -53,7 +53,7 @@ fn child<N: OfNetwork>(
     requires lower { length window.now.lower ≡ length N.network.jobs }
     requires early { length early.now ≡ length N.network.jobs }
     requires small { (i : ℕ) → i < length N.network.jobs → slice_index early.now i ≤ 10000000 }
-    requires conflict { IsClash N.network subject.now.capacities early.now conflict.now.time conflict.now.active }
+    requires conflict { IsConflict N.network subject.now.capacities early.now conflict.now.time conflict.now.active }
     requires minimal { IsMinimalDelayingAlternative N.network subject.now.capacities conflict.now.active gone.now }
     ensures { IfOk result (IsChildAnswer N.network early.now conflict.now.active window.now gone.now) }
 {
