@@ -18,8 +18,8 @@ pub(crate) fn is_at_least(high: &[u32], low: &[u32]) -> bool
     (0..high.len()).all(|i| low[i] <= high[i])
 }
 
-/// Whether each bound is at most the time or, at the places where the early start is before the time, the end there, and at
-/// the others the lower bound.
+/// Whether each bound is at most the time or, at the places where the early start is before the time, the end there,
+/// and at the others the lower bound.
 pub(crate) fn is_sooner(
     bounds: &[u32],
     early: &[u32],
@@ -30,7 +30,8 @@ pub(crate) fn is_sooner(
     requires bounds { length bounds.now ≡ length early.now }
     requires ends { length ends.now ≡ length early.now }
     requires lower { length lower.now ≡ length early.now }
-    ensures { IsTrue result ↔ (IsSoonerBefore early.now time bounds.now time ends.now × IsSoonerFrom early.now time bounds.now time lower.now) }
+    ensures { IsTrue result ↔ (IsSoonerBefore early.now time bounds.now time ends.now ×
+        IsSoonerFrom early.now time bounds.now time lower.now) }
 {
     (0..early.len()).all(|i| {
         bounds[i] <= time || bounds[i] <= (if early[i] < time { ends[i] } else { lower[i] })

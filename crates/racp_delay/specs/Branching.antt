@@ -1,5 +1,5 @@
--- Conflicts, and the child windows that put an alternative off (Demeulemeester and Herroelen 1992). Lists of jobs hold job
--- numbers, from 1.
+-- Conflicts, and the child windows that put an alternative off (Demeulemeester and Herroelen 1992). Lists of jobs hold
+-- job numbers, from 1.
 use Rattle.std.specs.Prelude.{◌≡◌, ◌↔◌, ℕ, ◌+◌, ◌<◌, ◌≤◌, List, [], length, slice_index, Contains, max, Option, Some, None}
 use Rattle.std.specs.List.Sorted.{IsStrictlyIncreasing}
 use Rattle.racp_model.specs.Project.{Project, duration, number, IsNumber}
@@ -37,13 +37,15 @@ abbrev pub IsFirstEndAnswer : Project → List ℕ → List ℕ → Option ℕ �
 IsFirstEndAnswer p starts jobs (Some end) = IsFirstEnd p starts jobs end
 IsFirstEndAnswer p starts jobs None = jobs ≡ []
 
--- the child window of a window: the lower bounds of the jobs that go are raised to the first end, in the early starts, of
--- the jobs that stay; the other bounds are those of the window
+-- the child window of a window: the lower bounds of the jobs that go are raised to the first end, in the early starts,
+-- of the jobs that stay; the other bounds are those of the window
 pub record IsChild (p : Project) (early : List ℕ) (window : Bounds) (gone kept : List ℕ) (child : Bounds) : Type 0 where
   pub end : ℕ
   pub first : IsFirstEnd p early kept end
-  pub raised : (i : ℕ) → i < length p.jobs → Contains gone (number i) → slice_index child.lower i ≡ max (slice_index window.lower i) end
-  pub same : (i : ℕ) → i < length p.jobs → (Contains gone (number i) → ⊥) → slice_index child.lower i ≡ slice_index window.lower i
+  pub raised : (i : ℕ) → i < length p.jobs → Contains gone (number i) →
+      slice_index child.lower i ≡ max (slice_index window.lower i) end
+  pub same : (i : ℕ) → i < length p.jobs → (Contains gone (number i) → ⊥) →
+      slice_index child.lower i ≡ slice_index window.lower i
   pub upper : child.upper ≡ window.upper
 
 -- what looking for a conflict answers: the first one, or that the usage never exceeds the capacities

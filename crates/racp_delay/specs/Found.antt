@@ -1,5 +1,5 @@
--- Contracts of private functions: those that search for minimal delaying alternatives. Of the active jobs some are chosen to
--- go, some are kept, of which only the loads are known, and the others are undecided.
+-- Contracts of private functions: those that search for minimal delaying alternatives. Of the active jobs some are
+-- chosen to go, some are kept, of which only the loads are known, and the others are undecided.
 use Rattle.std.specs.Prelude.{◌≡◌, ℕ, ◌+◌, ◌<◌, ◌≤◌, List, [], ◌∷◌, ◌++◌, length, slice_index, Contains, AllPairs, min, Option, Some, None}
 use Rattle.racp_model.specs.Project.{Project, request}
 use Rattle.racp_model.specs.Terms.{IsLexBefore}
@@ -11,7 +11,8 @@ AreWithin p capacities loads = (k : ℕ) → k < p.resources → loads k ≤ sli
 
 -- one job more could run with these loads
 abbrev pub OneMoreRuns : Project → List ℕ → (ℕ → ℕ) → ℕ → Type 0
-OneMoreRuns p capacities loads job = (k : ℕ) → k < p.resources → loads k + request p (place job) k ≤ slice_index capacities k
+OneMoreRuns p capacities loads job = (k : ℕ) → k < p.resources →
+    loads k + request p (place job) k ≤ slice_index capacities k
 
 -- some of these jobs could run with these loads
 abbrev pub SomeMoreRuns : Project → List ℕ → (ℕ → ℕ) → List ℕ → Type 0
@@ -32,9 +33,13 @@ pub record IsTight (p : Project) (capacities : List ℕ) (kept : ℕ → ℕ) (g
   pub tight : Each (λ job. OneMoreRuns p capacities (with_load p kept stay) job → ⊥) gone
 
 -- all alternatives in which the chosen go and the kept stay, each once, in lexicographic order
-pub record AreFound (p : Project) (capacities : List ℕ) (kept : ℕ → ℕ) (chosen undecided : List ℕ) (lists : List (List ℕ)) : Type 0 where
-  pub all : (gone stay : List ℕ) → Splits undecided gone stay → IsTight p capacities kept (chosen ++ gone) stay → Contains lists (chosen ++ gone)
-  pub only : (list : List ℕ) → Contains lists list → (gone : List ℕ) × (stay : List ℕ) × Splits undecided gone stay × (list ≡ chosen ++ gone) × IsTight p capacities kept (chosen ++ gone) stay
+pub record AreFound (p : Project) (capacities : List ℕ) (kept : ℕ → ℕ) (chosen undecided : List ℕ)
+    (lists : List (List ℕ)) : Type 0 where
+  pub all : (gone stay : List ℕ) → Splits undecided gone stay → IsTight p capacities kept (chosen ++ gone) stay →
+      Contains lists (chosen ++ gone)
+  pub only : (list : List ℕ) → Contains lists list →
+      (gone : List ℕ) × (stay : List ℕ) × Splits undecided gone stay × (list ≡ chosen ++ gone) ×
+      IsTight p capacities kept (chosen ++ gone) stay
   pub in_order : AllPairs IsLexBefore lists
 
 -- these, added at the end of a list

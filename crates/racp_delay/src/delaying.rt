@@ -44,9 +44,10 @@ fn some_could_stay(net: &Network, capacities: &[u32], loads: &Loads, jobs: &[u32
         .any(|job| could_stay(net, capacities, loads, *job))
 }
 
-/// Adds, in lexicographic order, the alternatives in which the jobs of `gone` go and those that load `kept` stay, where the
-/// jobs of `undecided` may go or stay. `left` are the loads of the kept and the undecided together. Nothing is looked for where
-/// the kept exceed the capacities by themselves, or where one of the gone could stay with all the others.
+/// Adds, in lexicographic order, the alternatives in which the jobs of `gone` go and those that load `kept` stay, where
+/// the jobs of `undecided` may go or stay. `left` are the loads of the kept and the undecided together. Nothing is
+/// looked for where the kept exceed the capacities by themselves, or where one of the gone could stay with all the
+/// others.
 fn add(
     net: &Network,
     capacities: &[u32],
@@ -60,10 +61,12 @@ fn add(
     requires gone { All (IsNumber (length net.now.jobs)) gone.old.items }
     requires undecided { All (IsNumber (length net.now.jobs)) undecided.now }
     requires rises { IsStrictlyIncreasing undecided.now }
-    requires left { (k : ℕ) → k < net.now.resources → slice_index left.now k ≡ with_load net.now (slice_index kept.now) undecided.now k }
+    requires left { (k : ℕ) → k < net.now.resources →
+        slice_index left.now k ≡ with_load net.now (slice_index kept.now) undecided.now k }
     requires small { (k : ℕ) → k < net.now.resources → slice_index left.now k ≤ 5120000 }
     ensures gone { IfOk result (λ _. gone.new.items ≡ gone.old.items) }
-    ensures added { IfOk result (λ _. AreAdded net.now capacities.now (slice_index kept.now) gone.old.items undecided.now (job_lists lists.old.items) (job_lists lists.new.items)) }
+    ensures added { IfOk result (λ _. AreAdded net.now capacities.now
+        (slice_index kept.now) gone.old.items undecided.now (job_lists lists.old.items) (job_lists lists.new.items)) }
 {
     if !are_within(net, capacities, kept) || some_could_stay(net, capacities, left, gone) {
         return Ok(());
@@ -84,9 +87,10 @@ fn add(
     Ok(())
 }
 
-/// All minimal delaying alternatives of the active jobs of a conflict, each once: the lists of job numbers, from 1 and rising,
-/// of those that may go so that the others can run at once, and of which none can stay with these (Demeulemeester and Herroelen
-/// 1992). The lists stand in lexicographic order. There is a capacity for each resource, by place from 0.
+/// All minimal delaying alternatives of the active jobs of a conflict, each once: the lists of job numbers, from 1 and
+/// rising, of those that may go so that the others can run at once, and of which none can stay with these
+/// (Demeulemeester and Herroelen 1992). The lists stand in lexicographic order. There is a capacity for each resource,
+/// by place from 0.
 ///
 /// # Errors
 ///
@@ -99,15 +103,16 @@ pub fn alternatives(
 ) -> Result<Vec<SmallVec<u32, 8>>, AllocError>
     requires capacities { length capacities.now ≡ net.now.resources }
     requires active { All (IsNumber (length net.now.jobs)) conflict.now.active }
-    ensures { IfOk result (λ lists. AreAlternatives net.now capacities.now conflict.now.active (job_lists lists.items)) }
+    ensures { IfOk result (λ lists. AreAlternatives net.now capacities.now conflict.now.active
+        (job_lists lists.items)) }
 {
     let mut found = DelayingAlternatives::new(alloc);
     found.find(net, capacities, conflict)?;
     Ok(found.into_lists())
 }
 
-/// The alternatives of the conflict that was looked at last, in memory that is used again from one conflict to the next.
-/// Contracts see the list of them.
+/// The alternatives of the conflict that was looked at last, in memory that is used again from one conflict to the
+/// next. Contracts see the list of them.
 #[derive(Drop)]
 pub struct DelayingAlternatives {
     active: Vec<u32>,
@@ -197,8 +202,9 @@ fn load_of(net: &Network, jobs: &JobSet, list: &mut Vec<u32>) -> Result<Loads, A
     Ok(loads)
 }
 
-/// When the first of the active jobs of a conflict ends that do not go, in time units, or `None` where all go. `gone` are the
-/// numbers, from 1, of those that go. In the child window of the alternative their lower bounds are raised to this time.
+/// When the first of the active jobs of a conflict ends that do not go, in time units, or `None` where all go. `gone`
+/// are the numbers, from 1, of those that go. In the child window of the alternative their lower bounds are raised to
+/// this time.
 pub fn first_end(net: &Network, starts: &Starts, active: &JobSet, gone: &[u32]) -> Option<u64>
     requires starts { length starts.now ≡ length net.now.jobs }
     requires active { All (IsNumber (length net.now.jobs)) active.now }

@@ -12,7 +12,8 @@ pub(crate) type Loads = [u32; MOST_RESOURCES];
 pub(crate) fn with(net: &Network, loads: &Loads, job: u32) -> Loads
     requires job { IsNumber (length net.now.jobs) job }
     requires small { (k : ℕ) → k < net.now.resources → slice_index loads.now k ≤ 5120000 }
-    ensures sums { (k : ℕ) → k < net.now.resources → slice_index result k ≡ slice_index loads.now k + request net.now (place job) k }
+    ensures sums { (k : ℕ) → k < net.now.resources →
+        slice_index result k ≡ slice_index loads.now k + request net.now (place job) k }
     ensures sound { IsSound net.now }
 {
     let mut sums = *loads;
@@ -26,7 +27,8 @@ pub(crate) fn with(net: &Network, loads: &Loads, job: u32) -> Loads
 pub(crate) fn without(net: &Network, loads: &Loads, job: u32) -> Loads
     requires job { IsNumber (length net.now.jobs) job }
     requires within { (k : ℕ) → k < net.now.resources → request net.now (place job) k ≤ slice_index loads.now k }
-    ensures { (k : ℕ) → k < net.now.resources → slice_index result k + request net.now (place job) k ≡ slice_index loads.now k }
+    ensures { (k : ℕ) → k < net.now.resources →
+        slice_index result k + request net.now (place job) k ≡ slice_index loads.now k }
 {
     let mut sums = *loads;
     for k in 0..net.resource_count() {

@@ -10,7 +10,8 @@ use Rattle.racp_search.specs.declared.glance.Glance.{Glance}
 use Rattle.racp_search.specs.declared.glance.Glance.TheVariants.{Refuted, Found, Conflict}
 
 -- the early starts of a window, none above its upper bound, have their first conflict here
-pub record HasConflict (p : Project) (capacities : List ℕ) (window : Bounds) (starts : List ℕ) (conflict : Clash) : Type 0 where
+pub record HasConflict (p : Project) (capacities : List ℕ) (window : Bounds) (starts : List ℕ)
+    (conflict : Clash) : Type 0 where
   pub early : IsEarly p (slice_index window.lower) starts
   pub below : (i : ℕ) → i < length p.jobs → slice_index starts i ≤ slice_index window.upper i
   pub small : (i : ℕ) → i < length p.jobs → slice_index starts i ≤ 10000000

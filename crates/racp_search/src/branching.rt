@@ -10,9 +10,9 @@ use racp_delay::{Clash, first_end, laws};
 use racp_model::{OfNetwork, Starts, Window};
 use std::alloc::AllocError;
 
-/// The child windows of a window at the first conflict of its early starts, which are at most 10,000,000: one for each minimal
-/// delaying alternative other than the whole active set, in the order of the alternatives. In it the lower bounds of the jobs
-/// that go are raised to the first end of a job that stays (Demeulemeester and Herroelen 1992).
+/// The child windows of a window at the first conflict of its early starts, which are at most 10,000,000: one for each
+/// minimal delaying alternative other than the whole active set, in the order of the alternatives. In it the lower
+/// bounds of the jobs that go are raised to the first end of a job that stays (Demeulemeester and Herroelen 1992).
 pub(crate) fn children<N: OfNetwork>(
     workspace: &mut Workspace,
     subject: &Subject<N>,
@@ -24,7 +24,8 @@ pub(crate) fn children<N: OfNetwork>(
     requires early { length early.now ≡ length N.network.jobs }
     requires small { (i : ℕ) → i < length N.network.jobs → slice_index early.now i ≤ 10000000 }
     requires conflict { IsConflict N.network subject.now.capacities early.now conflict.now.time conflict.now.active }
-    ensures { IfOk result (λ windows. AreChildren N.network subject.now.capacities early.now conflict.now.active window.now windows.items) }
+    ensures { IfOk result (λ windows. AreChildren N.network subject.now.capacities early.now conflict.now.active
+        window.now windows.items) }
 {
     let found = &mut workspace.found;
     found.find(subject.network(), subject.capacities(), conflict)?;
