@@ -3,6 +3,7 @@
 ghost use Rattle.std.specs.Prelude.{◌≡◌, ◌↔◌, ℕ, ◌<◌, ◌≤◌, IsTrue, IfOk, length, slice_index};
 ghost use Rattle.racp_model.specs.Project.{IsSound};
 ghost use Rattle.racp_model.specs.Path.{IsEarly};
+ghost use Rattle.racp_delay.specs.Limits.{most_early};
 ghost use Rattle.racp_cutset.specs.Covering.{AreEnds, AreStartedBefore};
 ghost use Rattle.racp_cutset.specs.Rows.{IsAtLeastRow, IsSoonerBefore, IsSoonerFrom, IsSoonerRow, AreBounds};
 
@@ -94,7 +95,7 @@ pub(crate) fn ends_of(
     early: &[u32],
 ) -> Result<Vec<u32>, AllocError>
     requires places { length early.now ≡ length net.now.jobs }
-    requires small { (i : ℕ) → i < length net.now.jobs → slice_index early.now i ≤ 25120000 }
+    requires small { (i : ℕ) → i < length net.now.jobs → slice_index early.now i ≤ most_early }
     ensures { IfOk result (λ ends. AreEnds net.now early.now ends.items) }
 {
     row.clear();
@@ -106,7 +107,7 @@ pub(crate) fn ends_of(
 /// Adds each job's duration.
 fn add_durations(net: &Network, times: &mut [u32])
     requires places { length times.old ≡ length net.now.jobs }
-    requires small { (i : ℕ) → i < length net.now.jobs → slice_index times.old i ≤ 25120000 }
+    requires small { (i : ℕ) → i < length net.now.jobs → slice_index times.old i ≤ most_early }
     ensures { AreEnds net.now times.old times.new }
 {
     for i in 0..net.job_count() {

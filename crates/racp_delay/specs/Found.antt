@@ -4,6 +4,7 @@ use Rattle.std.specs.Prelude.{◌≡◌, ℕ, ◌+◌, ◌<◌, ◌≤◌, List,
 use Rattle.racp_model.specs.Project.{Project, request}
 use Rattle.racp_model.specs.Terms.{IsLexBefore}
 use Rattle.racp_delay.specs.Alternatives.{place, Splits, load}
+use Rattle.racp_delay.specs.Limits.{most_load}
 
 -- loads that fit the capacities
 abbrev pub AreWithin : Project → List ℕ → (ℕ → ℕ) → Type 0
@@ -50,7 +51,7 @@ AreAdded p capacities kept chosen undecided old new =
 -- what some jobs request together of each resource, each small
 pub record AreLoads (p : Project) (jobs loads : List ℕ) : Type 0 where
   pub sums : (k : ℕ) → k < p.resources → slice_index loads k ≡ load p k jobs
-  pub small : (k : ℕ) → k < p.resources → slice_index loads k ≤ 5120000
+  pub small : (k : ℕ) → k < p.resources → slice_index loads k ≤ most_load
 
 -- the earlier of a time that may be known and another time
 abbrev pub IsEarlier : Option ℕ → ℕ → Option ℕ → Type 0

@@ -1,6 +1,7 @@
 ghost use Rattle.std.specs.Prelude.{◌≡◌, ◌↔◌, ℕ, ◌+◌, ◌<◌, ◌≤◌, IsTrue, All, length, take, slice_index};
 ghost use Rattle.racp_model.specs.Project.{IsNumber, IsSound, duration};
 ghost use Rattle.racp_delay.specs.Branching.{IsActiveSet, IsConflictAnswer};
+ghost use Rattle.racp_delay.specs.Limits.{most_load};
 ghost use Rattle.racp_delay.specs.Sweeps.{AreEvents, AreFirstLoads, AreTaken, Exceeds, IsExcessAnswer, event_load};
 
 use crate::job_set::JobSet;
@@ -136,7 +137,7 @@ fn ended_by(net: &Network, by_end: &[Event], ended: Ended, time: u64) -> Ended
     requires within { ended.count ≤ length by_end.now }
     requires sums { AreFirstLoads net.now by_end.now ended.count ended.loads }
     requires numbers { All (λ event. IsNumber (length net.now.jobs) event.1) by_end.now }
-    requires small { (m k : ℕ) → k < net.now.resources → event_load net.now k (take m by_end.now) ≤ 5120000 }
+    requires small { (m k : ℕ) → k < net.now.resources → event_load net.now k (take m by_end.now) ≤ most_load }
     ensures { AreTaken net.now by_end.now ended.count time result.count result.loads }
 {
     let mut count = ended.count;

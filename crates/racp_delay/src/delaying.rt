@@ -2,6 +2,7 @@ ghost use Rattle.std.specs.Prelude.{◌≡◌, ◌↔◌, ℕ, ◌+◌, ◌*◌,
 ghost use Rattle.std.specs.List.Sorted.{IsStrictlyIncreasing};
 ghost use Rattle.racp_model.specs.Project.{request, IsNumber, IsSound};
 ghost use Rattle.racp_delay.specs.Alternatives.{place, AreAlternatives, Splits, job_lists};
+ghost use Rattle.racp_delay.specs.Limits.{most_load};
 ghost use Rattle.racp_delay.specs.Found.{AreWithin, OneMoreRuns, SomeMoreRuns, with_load, AreAdded, AreLoads, IsEarlier};
 ghost use Rattle.racp_delay.specs.Branching.{IsFirstEndAnswer};
 ghost use Rattle.racp_delay.specs.JobSets.{AreJobs};
@@ -63,7 +64,7 @@ fn add(
     requires rises { IsStrictlyIncreasing undecided.now }
     requires left { (k : ℕ) → k < net.now.resources →
         slice_index left.now k ≡ with_load net.now (slice_index kept.now) undecided.now k }
-    requires small { (k : ℕ) → k < net.now.resources → slice_index left.now k ≤ 5120000 }
+    requires small { (k : ℕ) → k < net.now.resources → slice_index left.now k ≤ most_load }
     ensures gone { IfOk result (λ _. gone.new.items ≡ gone.old.items) }
     ensures added { IfOk result (λ _. AreAdded net.now capacities.now
         (slice_index kept.now) gone.old.items undecided.now (job_lists lists.old.items) (job_lists lists.new.items)) }

@@ -1,6 +1,7 @@
 ghost use Rattle.std.specs.Prelude.{◌≡◌, ℕ, ◌+◌, ◌<◌, ◌≤◌, length, slice_index};
 ghost use Rattle.racp_model.specs.Project.{request, IsNumber, IsSound};
 ghost use Rattle.racp_delay.specs.Alternatives.{place};
+ghost use Rattle.racp_delay.specs.Limits.{most_load};
 
 use racp_model::Network;
 use racp_model::limits::MOST_RESOURCES;
@@ -11,7 +12,7 @@ pub(crate) type Loads = [u32; MOST_RESOURCES];
 /// The loads with one job more.
 pub(crate) fn with(net: &Network, loads: &Loads, job: u32) -> Loads
     requires job { IsNumber (length net.now.jobs) job }
-    requires small { (k : ℕ) → k < net.now.resources → slice_index loads.now k ≤ 5120000 }
+    requires small { (k : ℕ) → k < net.now.resources → slice_index loads.now k ≤ most_load }
     ensures sums { (k : ℕ) → k < net.now.resources →
         slice_index result k ≡ slice_index loads.now k + request net.now (place job) k }
     ensures sound { IsSound net.now }

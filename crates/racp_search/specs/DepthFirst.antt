@@ -5,6 +5,7 @@ use Rattle.racp_model.specs.Project.{Project}
 use Rattle.racp_model.specs.Window.{Bounds, WindowsCover, IsInside}
 use Rattle.racp_model.specs.Formed.{HasBounds}
 use Rattle.racp_delay.specs.Laws.{lower_sum}
+use Rattle.racp_delay.specs.Limits.{most_start}
 use Rattle.racp_cutset.specs.Covering.{SearchNode}
 
 -- a node, and the child windows of it that are still to be searched
@@ -56,12 +57,12 @@ pub record IsFrameOf (p : Project) (capacities : List ℕ) (window : Bounds) (fr
   pub covers : WindowsCover p capacities window frame.children
   pub parts : (child : Bounds) → Contains frame.children child → IsPartOf p window child
   pub higher : (child : Bounds) → Contains frame.children child → IsHigher p window child
-  pub small : lower_sum p window ≤ length p.jobs * 10000000
+  pub small : lower_sum p window ≤ length p.jobs * most_start
   pub few : length frame.children < 2 ^ 64
 
 -- a bound on the number of nodes in a window, by how far the sum of its lower bounds can rise
 unfoldable pub weight : Project → Bounds → ℕ
-weight p window = (2 ^ 64) ^ ((length p.jobs * 10000000 + 1) - lower_sum p window)
+weight p window = (2 ^ 64) ^ ((length p.jobs * most_start + 1) - lower_sum p window)
 
 -- a bound on the number of nodes in some windows
 unfoldable pub weights : Project → List Bounds → ℕ

@@ -4,6 +4,7 @@ use Rattle.racp_model.specs.Project.{Project}
 use Rattle.racp_model.specs.Path.{IsEarly}
 use Rattle.racp_model.specs.Window.{Bounds, Answers, IsNo}
 use Rattle.racp_delay.specs.Branching.{IsConflict}
+use Rattle.racp_delay.specs.Limits.{most_start}
 use Rattle.racp_delay.specs.declared.conflicts.Clash.{Clash}
 use Rattle.racp_search.specs.DepthFirst.{SearchFrame, IsFrameOf}
 use Rattle.racp_search.specs.declared.glance.Glance.{Glance}
@@ -14,7 +15,7 @@ pub record HasConflict (p : Project) (capacities : List ℕ) (window : Bounds) (
     (conflict : Clash) : Type 0 where
   pub early : IsEarly p (slice_index window.lower) starts
   pub below : (i : ℕ) → i < length p.jobs → slice_index starts i ≤ slice_index window.upper i
-  pub small : (i : ℕ) → i < length p.jobs → slice_index starts i ≤ 10000000
+  pub small : (i : ℕ) → i < length p.jobs → slice_index starts i ≤ most_start
   pub first : IsConflict p capacities starts conflict.time conflict.active
 
 -- what they say of the window

@@ -2,6 +2,7 @@ ghost use Rattle.std.specs.Prelude.{◌≡◌, ◌≢◌, ℕ, ◌<◌, ◌≤�
 ghost use Rattle.racp_model.specs.Project.{IsNumber};
 ghost use Rattle.racp_delay.specs.Alternatives.{IsMinimalDelayingAlternative};
 ghost use Rattle.racp_delay.specs.Branching.{IsConflict};
+ghost use Rattle.racp_delay.specs.Limits.{most_bound, most_start};
 ghost use Rattle.racp_search.specs.Children.{AreChildren, IsChildAnswer, IsPutOff, IsRaised};
 
 use crate::subject::Subject;
@@ -22,7 +23,7 @@ pub(crate) fn children<N: OfNetwork>(
 ) -> Result<Vec<Window>, AllocError>
     requires lower { length window.now.lower ≡ length N.network.jobs }
     requires early { length early.now ≡ length N.network.jobs }
-    requires small { (i : ℕ) → i < length N.network.jobs → slice_index early.now i ≤ 10000000 }
+    requires small { (i : ℕ) → i < length N.network.jobs → slice_index early.now i ≤ most_start }
     requires conflict { IsConflict N.network subject.now.capacities early.now conflict.now.time conflict.now.active }
     ensures { IfOk result (λ windows. AreChildren N.network subject.now.capacities early.now conflict.now.active
         window.now windows.items) }
@@ -53,7 +54,7 @@ fn child<N: OfNetwork>(
 ) -> Result<Option<Window>, AllocError>
     requires lower { length window.now.lower ≡ length N.network.jobs }
     requires early { length early.now ≡ length N.network.jobs }
-    requires small { (i : ℕ) → i < length N.network.jobs → slice_index early.now i ≤ 10000000 }
+    requires small { (i : ℕ) → i < length N.network.jobs → slice_index early.now i ≤ most_start }
     requires conflict { IsConflict N.network subject.now.capacities early.now conflict.now.time conflict.now.active }
     requires minimal { IsMinimalDelayingAlternative N.network subject.now.capacities conflict.now.active gone.now }
     ensures { IfOk result (IsChildAnswer N.network early.now conflict.now.active window.now gone.now) }
@@ -69,7 +70,7 @@ fn child<N: OfNetwork>(
 /// The window with the lower bounds of these jobs raised to a time.
 fn put_off(spare: &mut Spare, window: &Window, gone: &[u32], end: u32) -> Result<Window, AllocError>
     requires gone { All (IsNumber (length window.now.lower)) gone.now }
-    requires end { end ≤ 20000000 }
+    requires end { end ≤ most_bound }
     ensures { IfOk result (IsPutOff window.now gone.now end) }
 {
     let mut lower = spare.row_of(window.lower())?;
