@@ -1,5 +1,5 @@
--- When the refutation of one node of the search refutes another: cutsets (Demeulemeester and Herroelen 1992), changed in that
--- the capacities and the bounds of the windows are compared too, and only refuted nodes are recorded.
+-- When the refutation of one node of the search refutes another: cutsets (Demeulemeester and Herroelen 1992), changed
+-- in that the capacities and the bounds of the windows are compared too, and only refuted nodes are recorded.
 use Rattle.std.specs.Prelude.{◌≡◌, ◌↔◌, ℕ, ◌+◌, ◌<◌, ◌≤◌, max, List, length, slice_index, Contains}
 use Rattle.std.specs.List.Sorted.{IsStrictlyIncreasing}
 use Rattle.racp_model.specs.Project.{Project, IsNumber, duration}
@@ -74,4 +74,5 @@ pub record AreEnds (p : Project) (early ends : List ℕ) : Type 0 where
 -- the numbers of the jobs that start before a time, rising
 pub record AreStartedBefore (early : List ℕ) (time : ℕ) (started : List ℕ) : Type 0 where
   pub rises : IsStrictlyIncreasing started
-  pub members : (job : ℕ) → Contains started job ↔ (IsNumber (length early) job × (slice_index early (place job) < time))
+  pub members : (job : ℕ) → Contains started job ↔
+      (IsNumber (length early) job × (slice_index early (place job) < time))

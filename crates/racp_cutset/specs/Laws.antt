@@ -6,12 +6,13 @@ use Rattle.racp_model.specs.Schedule.{KeepsPrecedence, usage}
 use Rattle.racp_model.specs.Window.{LiesIn, Answers, IsYes, IsNo}
 use Rattle.racp_cutset.specs.Covering.{SearchNode, IsNode, IsStarted, Covers}
 
--- a job starts in the built starts where it starts in the node's early starts, if it is started; but where it starts in the
--- given ones, if it is not started, or if it runs past the node's time and is given a start after the second time
+-- a job starts in the built starts where it starts in the node's early starts, if it is started; but where it starts in
+-- the given ones, if it is not started, or if it runs past the node's time and is given a start after the second time
 unfoldable pub built_start : Project → SearchNode → ℕ → List ℕ → ℕ → ℕ
 built_start p v second given i =
     if nat_lt (slice_index v.early i) v.time
-    then (if nat_lt v.time (slice_index v.early i + duration p i) && nat_lt second (slice_index given i) then slice_index given i else slice_index v.early i)
+    then (if nat_lt v.time (slice_index v.early i + duration p i) && nat_lt second (slice_index given i)
+    then slice_index given i else slice_index v.early i)
     else slice_index given i
 
 -- the start vector that is built from the early starts of a node and given starts
@@ -21,17 +22,21 @@ built_starts p v second given = map (built_start p v second given) (range_with_l
 -- a start vector takes a job's start from the node's early starts, or from the given ones, by the rule above
 pub record IsBuilt (p : Project) (v : SearchNode) (second : ℕ) (given built : List ℕ) : Type 0 where
   pub places : length built ≡ length p.jobs
-  pub over : (i : ℕ) → i < length p.jobs → IsStarted v i → slice_index v.early i + duration p i ≤ v.time → slice_index built i ≡ slice_index v.early i
-  pub before : (i : ℕ) → i < length p.jobs → IsStarted v i → slice_index given i ≤ second → slice_index built i ≡ slice_index v.early i
-  pub runs : (i : ℕ) → i < length p.jobs → IsStarted v i → v.time < slice_index v.early i + duration p i → second < slice_index given i → slice_index built i ≡ slice_index given i
+  pub over : (i : ℕ) → i < length p.jobs → IsStarted v i → slice_index v.early i + duration p i ≤ v.time →
+      slice_index built i ≡ slice_index v.early i
+  pub before : (i : ℕ) → i < length p.jobs → IsStarted v i → slice_index given i ≤ second →
+      slice_index built i ≡ slice_index v.early i
+  pub runs : (i : ℕ) → i < length p.jobs → IsStarted v i → v.time < slice_index v.early i + duration p i →
+      second < slice_index given i → slice_index built i ≡ slice_index given i
   pub others : (i : ℕ) → i < length p.jobs → v.time ≤ slice_index v.early i → slice_index built i ≡ slice_index given i
 
 -- the start vector that is built takes each job's start by these rules, which name exactly one for each job
 abbrev pub StartsAreBuilt : Type 0
-StartsAreBuilt = (p : Project) (v : SearchNode) (second : ℕ) (given : List ℕ) → IsBuilt p v second given (built_starts p v second given)
+StartsAreBuilt = (p : Project) (v : SearchNode) (second : ℕ) (given : List ℕ) →
+    IsBuilt p v second given (built_starts p v second given)
 
--- something holds of the start vector that is built where one node covers another and the given starts answer the other's
--- question
+-- something holds of the start vector that is built where one node covers another and the given starts answer the
+-- other's question
 abbrev pub HoldsOfBuilt : (Project → SearchNode → SearchNode → List ℕ → Type 0) → Type 0
 HoldsOfBuilt Holds =
     (p : Project) (v w : SearchNode) (given : List ℕ) → IsSound p → IsNode p v → IsNode p w → Covers p v w →

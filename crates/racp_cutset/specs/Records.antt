@@ -6,7 +6,8 @@ use Rattle.racp_cutset.specs.Covering.{SearchNode, IsNode, IsStarted, AreStarted
 
 -- the early start of a started job, the lower bound of another
 unfoldable pub settled_bound : SearchNode → ℕ → ℕ
-settled_bound v i = if nat_lt (slice_index v.early i) v.time then slice_index v.early i else slice_index v.window.lower i
+settled_bound v i =
+    if nat_lt (slice_index v.early i) v.time then slice_index v.early i else slice_index v.window.lower i
 
 -- the node with these lower bounds: it has the same early starts
 abbrev pub settled : Project → SearchNode → SearchNode
@@ -17,8 +18,8 @@ settled p v = record {
   time = v.time;
 }
 
--- rows that tell such a node: its capacities and upper bounds, for each job the end if it is started, and the lower bound if
--- not, the set of the started jobs, and the time
+-- rows that tell such a node: its capacities and upper bounds, for each job the end if it is started, and the lower
+-- bound if not, the set of the started jobs, and the time
 pub record IsPacked (p : Project) (capacities upper bounds started : List ℕ) (time : ℕ) (v : SearchNode) : Type 0 where
   pub node : IsNode p v
   pub of_resources : v.capacities ≡ capacities
@@ -28,7 +29,8 @@ pub record IsPacked (p : Project) (capacities upper bounds started : List ℕ) (
   pub jobs : AreStartedBefore v.early v.time started
   pub ends : (i : ℕ) → i < length p.jobs → IsStarted v i → slice_index bounds i ≡ slice_index v.early i + duration p i
   pub starts : (i : ℕ) → i < length p.jobs → IsStarted v i → slice_index v.window.lower i ≡ slice_index v.early i
-  pub lower : (i : ℕ) → i < length p.jobs → v.time ≤ slice_index v.early i → slice_index bounds i ≡ slice_index v.window.lower i
+  pub lower : (i : ℕ) → i < length p.jobs → v.time ≤ slice_index v.early i →
+      slice_index bounds i ≡ slice_index v.window.lower i
 
 -- the node that rows tell: there is one at most
 abbrev pub Told : Project → List ℕ → List ℕ → List ℕ → List ℕ → ℕ → Type 0

@@ -14,8 +14,8 @@ use std::marker::Model;
 /// How many records with the same started jobs are looked at; where there are more, the oldest are forgotten.
 const MOST_PLACES: usize = 64;
 
-/// How many places of the board, behind those of the records that are still to be read, are looked at. A place stays empty
-/// where the push to it was refused.
+/// How many places of the board, behind those of the records that are still to be read, are looked at. A place stays
+/// empty where the push to it was refused.
 const EMPTY_PLACES: usize = 8;
 
 /// Where a record stands: on the board, or among those that the thread keeps, by place from 0.
@@ -37,8 +37,8 @@ struct Reading {
     records: usize,
 }
 
-/// One thread's own part of the records: the records that it made and has not given away, and an index of these and of what it
-/// has read of the board. Contracts see the list of the records that it keeps.
+/// One thread's own part of the records: the records that it made and has not given away, and an index of these and of
+/// what it has read of the board. Contracts see the list of the records that it keeps.
 #[derive(Drop)]
 pub struct Local<N: OfNetwork> {
     alloc: Global,
@@ -125,8 +125,9 @@ impl<N: OfNetwork> Local<N> {
         None
     }
 
-    /// A record that covers the node, whose question is then a no; of those that are kept and of the board, whose new records
-    /// are read first. `None` says nothing: which records are found is not promised. The kept records stay as they are.
+    /// A record that covers the node, whose question is then a no; of those that are kept and of the board, whose new
+    /// records are read first. `None` says nothing: which records are found is not promised. The kept records stay as
+    /// they are.
     pub fn find<'a>(&'a mut self, board: &'a Board<N>, node: &Node<N>) -> Option<&'a Nogood<N>>
         ensures* kept { sem 𝓛 (EndsAsLent (the_row N.row N.OfNetwork) self.entry self.old) }
         ensures covers { IfSome result (λ found. Covers N.network found.now node.now) }
@@ -145,8 +146,8 @@ impl<N: OfNetwork> Local<N> {
     }
 }
 
-/// Enters the records of the board that were not read, and answers how far it has been read. Places that are empty are read past
-/// where a record stands behind them.
+/// Enters the records of the board that were not read, and answers how far it has been read. Places that are empty are
+/// read past where a record stands behind them.
 fn read_from<N: OfNetwork>(
     reading: Reading,
     alloc: Global,

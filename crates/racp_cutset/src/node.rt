@@ -29,10 +29,17 @@ impl<N: OfNetwork> Model for Node<N> {
 
     ghost Value = { SearchNode };
 
-    ghost view = { λ n. record { capacities = n.question.capacities; window = n.question.window; early = n.early; time = n.time } };
+    ghost view = { λ n. record {
+      capacities = n.question.capacities;
+      window = n.question.window;
+      early = n.early;
+      time = n.time;
+    } };
 
-    ghost invariant = { λ n. let v : SearchNode = record { capacities = n.question.capacities; window = n.question.window; early = n.early; time = n.time } in
-        IsSound N.network × IsNode N.network v × AreEnds N.network v.early n.ends.items × AreStartedBefore v.early v.time n.started };
+    ghost invariant = { λ n. let v : SearchNode =
+        record { capacities = n.question.capacities; window = n.question.window; early = n.early; time = n.time } in
+        IsSound N.network × IsNode N.network v × AreEnds N.network v.early n.ends.items ×
+        AreStartedBefore v.early v.time n.started };
 }
 
 impl<N: OfNetwork> Node<N> {
@@ -61,7 +68,8 @@ impl<N: OfNetwork> Node<N> {
         Node::reusing(net, question, early, Vec::new(alloc), time)
     }
 
-    /// The node of a question, the early starts of its window and a time. The memory of `room` is used again, for the ends.
+    /// The node of a question, the early starts of its window and a time. The memory of `row` is used again, for the
+    /// ends.
     ///
     /// # Errors
     ///
@@ -70,7 +78,7 @@ impl<N: OfNetwork> Node<N> {
         net: &Network,
         question: Question,
         early: Starts,
-        room: Vec<u32>,
+        row: Vec<u32>,
         time: u32,
     ) -> Result<Self, AllocError>
         requires named { net.now ≡ N.network }
@@ -84,7 +92,7 @@ impl<N: OfNetwork> Node<N> {
         ensures time { IfOk result (λ node. node.time ≡ time) }
     {
         prove!(question.window.lower().len() == net.job_count());
-        let ends = ends_of(room, net, early.as_slice())?;
+        let ends = ends_of(row, net, early.as_slice())?;
         let started = started_before(early.as_slice(), time);
         let key = hash_of(&started);
         Ok(Node {

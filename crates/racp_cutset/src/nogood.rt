@@ -11,9 +11,10 @@ use racp_delay::JobSet;
 use racp_model::{Capacities, OfNetwork, Question, Starts};
 use std::marker::{Model, PhantomData};
 
-/// The record of a refuted node: its question is a no, its early starts keep the capacities before its time, and the jobs that
-/// start before its time keep their upper bounds. It holds one number for each job: the end of a started job, the lower bound
-/// of another. Contracts see the `SearchNode`, with the early starts of its started jobs as their lower bounds.
+/// The record of a refuted node: its question is a no, its early starts keep the capacities before its time, and the
+/// jobs that start before its time keep their upper bounds. It holds one number for each job: the end of a started job,
+/// the lower bound of another. Contracts see the `SearchNode`, with the early starts of its started jobs as their lower
+/// bounds.
 #[derive(Drop)]
 pub struct Nogood<N: OfNetwork> {
     capacities: Capacities,
@@ -35,7 +36,9 @@ impl<N: OfNetwork> Model for Nogood<N> {
 
     ghost view = { λ n. n.told.0 };
 
-    ghost invariant = { λ n. IsSound N.network × IsPacked N.network n.capacities n.upper n.bounds.items n.started n.time n.told.0 × IsRefutedNode N.network n.told.0 };
+    ghost invariant = { λ n. IsSound N.network ×
+        IsPacked N.network n.capacities n.upper n.bounds.items n.started n.time n.told.0 ×
+        IsRefutedNode N.network n.told.0 };
 }
 
 impl<N: OfNetwork> Nogood<N> {
@@ -50,8 +53,8 @@ impl<N: OfNetwork> Nogood<N> {
         nogood
     }
 
-    /// The record of a refuted node, and the two rows that it does not need: the lower bounds and the early starts. Takes no
-    /// memory.
+    /// The record of a refuted node, and the two rows that it does not need: the lower bounds and the early starts.
+    /// Takes no memory.
     pub fn of_reusing(node: Node<N>) -> (Self, Starts, Starts)
         requires fits { FitsBeforeTime N.network node }
         requires refuted { IsNo N.network node.capacities node.window }
@@ -119,11 +122,12 @@ impl<N: OfNetwork> Nogood<N> {
         self.time <= node.time && self.started == node.started
     }
 
-    /// Whether each started job ends no later than in a node, or by the node's time, and each other job may start as early, or
-    /// at the node's time.
+    /// Whether each started job ends no later than in a node, or by the node's time, and each other job may start as
+    /// early, or at the node's time.
     fn is_sooner_than(&self, node: &Node<N>) -> bool
         requires { HasCutsetOf N.network self.now node.now }
-        ensures { IsTrue result ↔ (EndsNoLater N.network self.now node.now × MayStartAsEarly N.network self.now node.now) }
+        ensures { IsTrue result ↔ (EndsNoLater N.network self.now node.now ×
+            MayStartAsEarly N.network self.now node.now) }
     {
         let early = node.early.as_slice();
         let lower = node.question.window.lower();
@@ -159,7 +163,8 @@ impl<N: OfNetwork> Nogood<N> {
     /// Whether each job ends no later, or may start as early, than in the node of another record, or does by its time.
     fn is_sooner_than_record(&self, other: &Nogood<N>) -> bool
         requires { HasCutsetOf N.network self.now other.now }
-        ensures { IsTrue result ↔ (EndsNoLater N.network self.now other.now × MayStartAsEarly N.network self.now other.now) }
+        ensures { IsTrue result ↔ (EndsNoLater N.network self.now other.now ×
+            MayStartAsEarly N.network self.now other.now) }
     {
         is_sooner_row(&self.bounds, other.time, &other.bounds)
     }

@@ -3,6 +3,7 @@
 ghost use Rattle.std.specs.Prelude.{◌≡◌, ◌↔◌, ℕ, ◌<◌, ◌≤◌, IsTrue, IfOk, length, slice_index};
 ghost use Rattle.racp_model.specs.Project.{IsSound};
 ghost use Rattle.racp_model.specs.Path.{IsEarly};
+ghost use Rattle.racp_delay.specs.Limits.{most_early};
 ghost use Rattle.racp_cutset.specs.Covering.{AreEnds, AreStartedBefore};
 ghost use Rattle.racp_cutset.specs.Rows.{IsAtLeastRow, IsSoonerBefore, IsSoonerFrom, IsSoonerRow, AreBounds};
 
@@ -18,8 +19,8 @@ pub(crate) fn is_at_least(high: &[u32], low: &[u32]) -> bool
     (0..high.len()).all(|i| low[i] <= high[i])
 }
 
-/// Whether each bound is at most the time or, at the places where the early start is before the time, the end there, and at
-/// the others the lower bound.
+/// Whether each bound is at most the time or, at the places where the early start is before the time, the end there,
+/// and at the others the lower bound.
 pub(crate) fn is_sooner(
     bounds: &[u32],
     early: &[u32],
@@ -30,7 +31,8 @@ pub(crate) fn is_sooner(
     requires bounds { length bounds.now ≡ length early.now }
     requires ends { length ends.now ≡ length early.now }
     requires lower { length lower.now ≡ length early.now }
-    ensures { IsTrue result ↔ (IsSoonerBefore early.now time bounds.now time ends.now × IsSoonerFrom early.now time bounds.now time lower.now) }
+    ensures { IsTrue result ↔ (IsSoonerBefore early.now time bounds.now time ends.now ×
+        IsSoonerFrom early.now time bounds.now time lower.now) }
 {
     (0..early.len()).all(|i| {
         bounds[i] <= time || bounds[i] <= (if early[i] < time { ends[i] } else { lower[i] })
@@ -82,30 +84,30 @@ pub(crate) fn started_before(early: &[u32], time: u32) -> JobSet
     started
 }
 
-/// When each job ends in early starts, in the memory of `room`.
+/// When each job ends in early starts, in the memory of `row`.
 ///
 /// # Errors
 ///
 /// Memory was refused.
 pub(crate) fn ends_of(
-    mut room: Vec<u32>,
+    mut row: Vec<u32>,
     net: &Network,
     early: &[u32],
 ) -> Result<Vec<u32>, AllocError>
     requires places { length early.now ≡ length net.now.jobs }
-    requires small { (i : ℕ) → i < length net.now.jobs → slice_index early.now i ≤ 25120000 }
+    requires small { (i : ℕ) → i < length net.now.jobs → slice_index early.now i ≤ most_early }
     ensures { IfOk result (λ ends. AreEnds net.now early.now ends.items) }
 {
-    room.clear();
-    room.extend_from_slice(early)?;
-    add_durations(net, &mut room);
-    Ok(room)
+    row.clear();
+    row.extend_from_slice(early)?;
+    add_durations(net, &mut row);
+    Ok(row)
 }
 
 /// Adds each job's duration.
 fn add_durations(net: &Network, times: &mut [u32])
     requires places { length times.old ≡ length net.now.jobs }
-    requires small { (i : ℕ) → i < length net.now.jobs → slice_index times.old i ≤ 25120000 }
+    requires small { (i : ℕ) → i < length net.now.jobs → slice_index times.old i ≤ most_early }
     ensures { AreEnds net.now times.old times.new }
 {
     for i in 0..net.job_count() {

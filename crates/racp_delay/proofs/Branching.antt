@@ -8,7 +8,7 @@ use Rattle.racp_model.proofs.lemmas.Usage.{use_of-idle}
 use Rattle.racp_model.proofs.lemmas.Sums.{sum_below-bound}
 use Rattle.racp_delay.specs.Alternatives.{place, Splits, CanRun, IsMinimalDelayingAlternative}
 use Rattle.racp_delay.specs.Found.{Each}
-use Rattle.racp_delay.specs.Branching.{IsClash, IsActiveSet, IsFirstEnd, IsChild, end_of}
+use Rattle.racp_delay.specs.Branching.{IsConflict, IsActiveSet, IsFirstEnd, IsChild, end_of}
 use Rattle.racp_delay.specs.Laws.{BranchingLosesNothing, ChildrenCover, ChildIsInside}
 use Rattle.racp_delay.proofs.Each.{each-map, each-both, each-member, is_member, each-members, some-each, some_not_empty, least_of, Some_of, ascends}
 use Rattle.racp_delay.proofs.Splitting.{each-kept, each-gone, some-splits, split_by, ascends-kept, stays_not_empty}
@@ -107,12 +107,12 @@ in_set p starts t active set i l x =
     (set.members (number i)).1 ((omega arith, omega arith), subst (IsActive p starts t) e x)
 
 -- some job is active at a conflict
-pub clash_active : (p : Project) (capacities starts : List ℕ) (t : ℕ) (active : List ℕ) → IsClash p capacities starts t active → active ≢ []
-clash_active p capacities starts t active clash e =
+pub conflict_active : (p : Project) (capacities starts : List ℕ) (t : ℕ) (active : List ℕ) → IsConflict p capacities starts t active → active ≢ []
+conflict_active p capacities starts t active conflict e =
     let nobody : (i : ℕ) → i < length p.jobs → IsActive p starts t i → ⊥ = λ i l a.
-    let in' : Contains [] (number i) = let P : List ℕ → Type 0 = λ x. Contains x (number i) in subst P e (in_set p starts t active clash.set i l a) in
+    let in' : Contains [] (number i) = let P : List ℕ → Type 0 = λ x. Contains x (number i) in subst P e (in_set p starts t active conflict.set i l a) in
     absurd (omega (arith, in'.1)) in
-    absurd (omega (arith, clash.first.exceeds.2, usage-none p starts clash.first.exceeds.0 t nobody))
+    absurd (omega (arith, conflict.first.exceeds.2, usage-none p starts conflict.first.exceeds.0 t nobody))
 
 -- starts in which the alternative was put off lie in the child
 pub lies_in_child : (p : Project) (early gone kept starts : List ℕ) (window child : Bounds) → IsChild p early window gone kept child → IsPutOff p early gone kept starts → LiesIn p window starts → LiesIn p child starts
@@ -133,8 +133,8 @@ lies_in_child p early gone kept starts window child c off lies = record {
 
 -- so they lie in some child
 pub loses_nothing : BranchingLosesNothing
-loses_nothing p capacities window early t active starts is_early clash answer =
-    let b = branching p capacities early t active starts clash.set (is_early.least starts answer.lies.above answer.fits.precedence) (clash_active p capacities early t active clash) answer.fits.within in
+loses_nothing p capacities window early t active starts is_early conflict answer =
+    let b = branching p capacities early t active starts conflict.set (is_early.least starts answer.lies.above answer.fits.precedence) (conflict_active p capacities early t active conflict) answer.fits.within in
     record {
       gone = b.gone;
       kept = b.kept;
@@ -146,8 +146,8 @@ loses_nothing p capacities window early t active starts is_early clash answer =
 
 -- so the children cover the window
 pub cover : ChildrenCover
-cover p capacities window early t active children is_early clash has starts answer =
-    let b = loses_nothing p capacities window early t active starts is_early clash answer in
+cover p capacities window early t active children is_early conflict has starts answer =
+    let b = loses_nothing p capacities window early t active starts is_early conflict answer in
     let child = has b.gone b.kept b.splits b.some_stay b.minimal in
     (child.0, child.1, b.lies child.0 child.2)
 

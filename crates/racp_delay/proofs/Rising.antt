@@ -6,7 +6,7 @@ use Rattle.racp_model.proofs.lemmas.Sums.{sum_below-lt}
 use Rattle.racp_model.proofs.lemmas.Relations.{member_first}
 use Rattle.racp_delay.specs.Alternatives.{place, Splits, load, IsMinimalDelayingAlternative}
 use Rattle.racp_delay.specs.Found.{Each}
-use Rattle.racp_delay.specs.Branching.{IsClash}
+use Rattle.racp_delay.specs.Branching.{IsConflict}
 use Rattle.racp_delay.specs.Laws.{ChildIsHigher}
 use Rattle.racp_delay.proofs.Each.{each-member}
 use Rattle.racp_delay.proofs.Splitting.{each-kept, each-gone, all_stay}
@@ -14,24 +14,24 @@ use Rattle.racp_delay.proofs.ActiveLoads.{IsActiveJob, each-active, load_is_usag
 use Rattle.racp_delay.proofs.Branching.{child_inside}
 
 -- some job goes
-pub some_goes : (p : Project) (capacities early : List ℕ) (t : ℕ) (active gone kept : List ℕ) → IsClash p capacities early t active → Splits active gone kept → IsMinimalDelayingAlternative p capacities active gone → gone ≢ []
-some_goes p capacities early t active gone kept clash s m e =
+pub some_goes : (p : Project) (capacities early : List ℕ) (t : ℕ) (active gone kept : List ℕ) → IsConflict p capacities early t active → Splits active gone kept → IsMinimalDelayingAlternative p capacities active gone → gone ≢ []
+some_goes p capacities early t active gone kept conflict s m e =
     let d = m.delays in
     let P : List ℕ → Type 0 = λ x. Splits active x d.0 in
     let all : d.0 ≡ active = all_stay (subst P e d.1) in
-    let k : ℕ = clash.first.exceeds.0 in
-    let fits : load p k d.0 ≤ slice_index capacities k = d.2 k clash.first.exceeds.1 in
-    omega (arith, clash.first.exceeds.2, load_is_usage p early t k active clash.set, ap (load p k) all)
+    let k : ℕ = conflict.first.exceeds.0 in
+    let fits : load p k d.0 ≤ slice_index capacities k = d.2 k conflict.first.exceeds.1 in
+    omega (arith, conflict.first.exceeds.2, load_is_usage p early t k active conflict.set, ap (load p k) all)
 
 -- the sum of a child's lower bounds is greater
 pub child_higher : ChildIsHigher
-child_higher p capacities window early t active gone kept child is_early clash s m c =
-    let runs : Each (IsActiveJob p early t) active = each-active p early t active clash.set in
+child_higher p capacities window early t active gone kept child is_early conflict s m c =
+    let runs : Each (IsActiveJob p early t) active = each-active p early t active conflict.set in
     let first = c.first.some in
     let ends : IsActiveJob p early t first.0 = each-member (IsActiveJob p early t) kept first.0 (each-kept (IsActiveJob p early t) s runs) first.1 in
     let goes_on : t < slice_index early (place first.0) + duration p (place first.0) = ends.1.runs in
     let later : t < c.end = omega (arith, first.2) in
-    at_head gone (some_goes p capacities early t active gone kept clash s m) (each-gone (IsActiveJob p early t) s runs) later c.raised
+    at_head gone (some_goes p capacities early t active gone kept conflict s m) (each-gone (IsActiveJob p early t) s runs) later c.raised
   where
     at_head : (jobs : List ℕ) → jobs ≢ [] → Each (IsActiveJob p early t) jobs → t < c.end
         → ((i : ℕ) → i < length p.jobs → Contains jobs (number i) → slice_index child.lower i ≡ max (slice_index window.lower i) c.end)

@@ -1,3 +1,3 @@
 -- Lemmas on the definitions of this crate, which the crates above may cite too. What else stands in proofs/ is about the code
 -- of this crate and its laws.
-pub mod Clashes
+pub mod Conflicts

@@ -1,5 +1,5 @@
--- Delaying alternatives: which of the jobs that are active at a conflict have to go so that the others fit the capacities
--- (Demeulemeester and Herroelen 1992). Lists of jobs hold job numbers, from 1.
+-- Delaying alternatives: which of the jobs that are active at a conflict have to go so that the others fit the
+-- capacities (Demeulemeester and Herroelen 1992). Lists of jobs hold job numbers, from 1.
 use Rattle.std.specs.Prelude.{◌≢◌, ℕ, ◌+◌, ◌-◌, ◌<◌, ◌≤◌, List, [], ◌∷◌, map, slice_index, Contains, AllPairs}
 use Rattle.smallvec.specs.SmallVec.{SmallVec}
 use Rattle.racp_model.specs.Project.{Project, request}

@@ -1,5 +1,5 @@
--- Conflicts, and the child windows that put an alternative off (Demeulemeester and Herroelen 1992). Lists of jobs hold job
--- numbers, from 1.
+-- Conflicts, and the child windows that put an alternative off (Demeulemeester and Herroelen 1992). Lists of jobs hold
+-- job numbers, from 1.
 use Rattle.std.specs.Prelude.{◌≡◌, ◌↔◌, ℕ, ◌+◌, ◌<◌, ◌≤◌, List, [], length, slice_index, Contains, max, Option, Some, None}
 use Rattle.std.specs.List.Sorted.{IsStrictlyIncreasing}
 use Rattle.racp_model.specs.Project.{Project, duration, number, IsNumber}
@@ -19,7 +19,7 @@ pub record IsFirstExcess (p : Project) (capacities starts : List ℕ) (t : ℕ) 
   pub exceeds : (k : ℕ) × (k < p.resources) × (slice_index capacities k < usage p starts k t)
 
 -- the first conflict of the starts: that time, and the jobs that are active then
-pub record IsClash (p : Project) (capacities starts : List ℕ) (t : ℕ) (active : List ℕ) : Type 0 where
+pub record IsConflict (p : Project) (capacities starts : List ℕ) (t : ℕ) (active : List ℕ) : Type 0 where
   pub first : IsFirstExcess p capacities starts t
   pub set : IsActiveSet p starts t active
 
@@ -37,16 +37,18 @@ abbrev pub IsFirstEndAnswer : Project → List ℕ → List ℕ → Option ℕ �
 IsFirstEndAnswer p starts jobs (Some end) = IsFirstEnd p starts jobs end
 IsFirstEndAnswer p starts jobs None = jobs ≡ []
 
--- the child window of a window: the lower bounds of the jobs that go are raised to the first end, in the early starts, of
--- the jobs that stay; the other bounds are those of the window
+-- the child window of a window: the lower bounds of the jobs that go are raised to the first end, in the early starts,
+-- of the jobs that stay; the other bounds are those of the window
 pub record IsChild (p : Project) (early : List ℕ) (window : Bounds) (gone kept : List ℕ) (child : Bounds) : Type 0 where
   pub end : ℕ
   pub first : IsFirstEnd p early kept end
-  pub raised : (i : ℕ) → i < length p.jobs → Contains gone (number i) → slice_index child.lower i ≡ max (slice_index window.lower i) end
-  pub same : (i : ℕ) → i < length p.jobs → (Contains gone (number i) → ⊥) → slice_index child.lower i ≡ slice_index window.lower i
+  pub raised : (i : ℕ) → i < length p.jobs → Contains gone (number i) →
+      slice_index child.lower i ≡ max (slice_index window.lower i) end
+  pub same : (i : ℕ) → i < length p.jobs → (Contains gone (number i) → ⊥) →
+      slice_index child.lower i ≡ slice_index window.lower i
   pub upper : child.upper ≡ window.upper
 
 -- what looking for a conflict answers: the first one, or that the usage never exceeds the capacities
 abbrev pub IsConflictAnswer : Project → List ℕ → List ℕ → Option Clash → Type 0
-IsConflictAnswer p capacities starts (Some clash) = IsClash p capacities starts clash.time clash.active
+IsConflictAnswer p capacities starts (Some conflict) = IsConflict p capacities starts conflict.time conflict.active
 IsConflictAnswer p capacities starts None = IsWithinCapacities p capacities starts

@@ -1,9 +1,10 @@
--- Contracts of private functions: those that search for minimal delaying alternatives. Of the active jobs some are chosen to
--- go, some are kept, of which only the loads are known, and the rest is not decided yet.
+-- Contracts of private functions: those that search for minimal delaying alternatives. Of the active jobs some are
+-- chosen to go, some are kept, of which only the loads are known, and the others are undecided.
 use Rattle.std.specs.Prelude.{◌≡◌, ℕ, ◌+◌, ◌<◌, ◌≤◌, List, [], ◌∷◌, ◌++◌, length, slice_index, Contains, AllPairs, min, Option, Some, None}
 use Rattle.racp_model.specs.Project.{Project, request}
 use Rattle.racp_model.specs.Terms.{IsLexBefore}
 use Rattle.racp_delay.specs.Alternatives.{place, Splits, load}
+use Rattle.racp_delay.specs.Limits.{most_load}
 
 -- loads that fit the capacities
 abbrev pub AreWithin : Project → List ℕ → (ℕ → ℕ) → Type 0
@@ -11,7 +12,8 @@ AreWithin p capacities loads = (k : ℕ) → k < p.resources → loads k ≤ sli
 
 -- one job more could run with these loads
 abbrev pub OneMoreRuns : Project → List ℕ → (ℕ → ℕ) → ℕ → Type 0
-OneMoreRuns p capacities loads job = (k : ℕ) → k < p.resources → loads k + request p (place job) k ≤ slice_index capacities k
+OneMoreRuns p capacities loads job = (k : ℕ) → k < p.resources →
+    loads k + request p (place job) k ≤ slice_index capacities k
 
 -- one job more has room beside these loads, of each resource that it requests
 abbrev pub HasRoom : Project → List ℕ → (ℕ → ℕ) → ℕ → Type 0
@@ -37,20 +39,24 @@ pub record IsTight (p : Project) (capacities : List ℕ) (kept : ℕ → ℕ) (g
   pub tight : Each (λ job. OneMoreRuns p capacities (with_load p kept stay) job → ⊥) gone
 
 -- all alternatives in which the chosen go and the kept stay, each once, in lexicographic order
-pub record AreFound (p : Project) (capacities : List ℕ) (kept : ℕ → ℕ) (chosen rest : List ℕ) (lists : List (List ℕ)) : Type 0 where
-  pub all : (gone stay : List ℕ) → Splits rest gone stay → IsTight p capacities kept (chosen ++ gone) stay → Contains lists (chosen ++ gone)
-  pub only : (list : List ℕ) → Contains lists list → (gone : List ℕ) × (stay : List ℕ) × Splits rest gone stay × (list ≡ chosen ++ gone) × IsTight p capacities kept (chosen ++ gone) stay
+pub record AreFound (p : Project) (capacities : List ℕ) (kept : ℕ → ℕ) (chosen undecided : List ℕ)
+    (lists : List (List ℕ)) : Type 0 where
+  pub all : (gone stay : List ℕ) → Splits undecided gone stay → IsTight p capacities kept (chosen ++ gone) stay →
+      Contains lists (chosen ++ gone)
+  pub only : (list : List ℕ) → Contains lists list →
+      (gone : List ℕ) × (stay : List ℕ) × Splits undecided gone stay × (list ≡ chosen ++ gone) ×
+      IsTight p capacities kept (chosen ++ gone) stay
   pub in_order : AllPairs IsLexBefore lists
 
 -- these, added at the end of a list
 abbrev pub AreAdded : Project → List ℕ → (ℕ → ℕ) → List ℕ → List ℕ → List (List ℕ) → List (List ℕ) → Type 0
-AreAdded p capacities kept chosen rest old new =
-    (found : List (List ℕ)) × (new ≡ old ++ found) × AreFound p capacities kept chosen rest found
+AreAdded p capacities kept chosen undecided old new =
+    (found : List (List ℕ)) × (new ≡ old ++ found) × AreFound p capacities kept chosen undecided found
 
 -- what some jobs request together of each resource, each small
 pub record AreLoads (p : Project) (jobs loads : List ℕ) : Type 0 where
   pub sums : (k : ℕ) → k < p.resources → slice_index loads k ≡ load p k jobs
-  pub small : (k : ℕ) → k < p.resources → slice_index loads k ≤ 5120000
+  pub small : (k : ℕ) → k < p.resources → slice_index loads k ≤ most_load
 
 -- the earlier of a time that may be known and another time
 abbrev pub IsEarlier : Option ℕ → ℕ → Option ℕ → Type 0

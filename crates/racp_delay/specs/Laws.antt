@@ -6,10 +6,11 @@ use Rattle.racp_model.specs.Schedule.{usage, sum_below}
 use Rattle.racp_model.specs.Path.{IsEarly}
 use Rattle.racp_model.specs.Window.{Bounds, LiesIn, Answers, IsInside, WindowsCover}
 use Rattle.racp_delay.specs.Alternatives.{Splits, load, IsMinimalDelayingAlternative, AreAlternatives}
-use Rattle.racp_delay.specs.Branching.{IsActiveSet, IsClash, IsChild}
+use Rattle.racp_delay.specs.Branching.{IsActiveSet, IsConflict, IsChild}
 
 -- starts in the child window of some minimal alternative other than the whole active set
-pub record LiesInSomeChild (p : Project) (capacities early active : List ℕ) (window : Bounds) (starts : List ℕ) : Type 0 where
+pub record LiesInSomeChild (p : Project) (capacities early active : List ℕ) (window : Bounds)
+    (starts : List ℕ) : Type 0 where
   pub gone : List ℕ
   pub kept : List ℕ
   pub splits : Splits active gone kept
@@ -17,12 +18,13 @@ pub record LiesInSomeChild (p : Project) (capacities early active : List ℕ) (w
   pub minimal : IsMinimalDelayingAlternative p capacities active gone
   pub lies : (child : Bounds) → IsChild p early window gone kept child → LiesIn p child starts
 
--- branching loses nothing: at the first conflict of a window's early starts, whatever answers in the window lies in the child
--- window of some minimal alternative other than the whole active set
+-- branching loses nothing: at the first conflict of a window's early starts, whatever answers in the window lies in the
+-- child window of some minimal alternative other than the whole active set
 abbrev pub BranchingLosesNothing : Type 0
 BranchingLosesNothing =
     (p : Project) (capacities : List ℕ) (window : Bounds) (early : List ℕ) (t : ℕ) (active starts : List ℕ) →
-    IsEarly p (slice_index window.lower) early → IsClash p capacities early t active → Answers p capacities window starts →
+    IsEarly p (slice_index window.lower) early → IsConflict p capacities early t active →
+    Answers p capacities window starts →
     LiesInSomeChild p capacities early active window starts
 
 -- among some windows is a child for each minimal alternative other than the whole active set
@@ -34,8 +36,9 @@ HaveChildren p capacities early active window children =
 -- so the children cover the window
 abbrev pub ChildrenCover : Type 0
 ChildrenCover =
-    (p : Project) (capacities : List ℕ) (window : Bounds) (early : List ℕ) (t : ℕ) (active : List ℕ) (children : List Bounds) →
-    IsEarly p (slice_index window.lower) early → IsClash p capacities early t active →
+    (p : Project) (capacities : List ℕ) (window : Bounds) (early : List ℕ) (t : ℕ) (active : List ℕ)
+    (children : List Bounds) →
+    IsEarly p (slice_index window.lower) early → IsConflict p capacities early t active →
     HaveChildren p capacities early active window children → WindowsCover p capacities window children
 
 -- a child lies inside its window
@@ -51,19 +54,22 @@ lower_sum p window = sum_below (length p.jobs) (slice_index window.lower)
 -- and the sum of its lower bounds is greater
 abbrev pub ChildIsHigher : Type 0
 ChildIsHigher =
-    (p : Project) (capacities : List ℕ) (window : Bounds) (early : List ℕ) (t : ℕ) (active gone kept : List ℕ) (child : Bounds) →
-    IsEarly p (slice_index window.lower) early → IsClash p capacities early t active → Splits active gone kept →
+    (p : Project) (capacities : List ℕ) (window : Bounds) (early : List ℕ) (t : ℕ) (active gone kept : List ℕ)
+    (child : Bounds) →
+    IsEarly p (slice_index window.lower) early → IsConflict p capacities early t active → Splits active gone kept →
     IsMinimalDelayingAlternative p capacities active gone → IsChild p early window gone kept child →
     lower_sum p window < lower_sum p child
 
 -- what the active jobs request together is what is used
 abbrev pub LoadIsUsage : Type 0
-LoadIsUsage = (p : Project) (starts : List ℕ) (t k : ℕ) (active : List ℕ) → IsActiveSet p starts t active → load p k active ≡ usage p starts k t
+LoadIsUsage = (p : Project) (starts : List ℕ) (t k : ℕ) (active : List ℕ) → IsActiveSet p starts t active →
+    load p k active ≡ usage p starts k t
 
 -- there is a child for each list of jobs that go, where some stay
 abbrev pub EachHasChild : Type 0
 EachHasChild =
-    (p : Project) (early : List ℕ) (window : Bounds) (gone kept : List ℕ) → kept ≢ [] → (child : Bounds) × IsChild p early window gone kept child
+    (p : Project) (early : List ℕ) (window : Bounds) (gone kept : List ℕ) → kept ≢ [] →
+    (child : Bounds) × IsChild p early window gone kept child
 
 -- the jobs of a rising list that stay are those that do not go
 abbrev pub OthersStay : Type 0
@@ -75,14 +81,17 @@ OthersStay =
 abbrev pub SubsetsGo : Type 0
 SubsetsGo =
     (jobs gone : List ℕ) → IsStrictlyIncreasing jobs →
-    ((kept : List ℕ) × Splits jobs gone kept) ↔ (IsStrictlyIncreasing gone × ((job : ℕ) → Contains gone job → Contains jobs job))
+    ((kept : List ℕ) × Splits jobs gone kept) ↔
+    (IsStrictlyIncreasing gone × ((job : ℕ) → Contains gone job → Contains jobs job))
 
 -- starts have at most one first conflict
 abbrev pub ConflictIsOne : Type 0
 ConflictIsOne =
-    (p : Project) (capacities starts : List ℕ) (t u : ℕ) (a b : List ℕ) → IsClash p capacities starts t a → IsClash p capacities starts u b → (t ≡ u) × (a ≡ b)
+    (p : Project) (capacities starts : List ℕ) (t u : ℕ) (a b : List ℕ) → IsConflict p capacities starts t a →
+    IsConflict p capacities starts u b → (t ≡ u) × (a ≡ b)
 
 -- there is at most one list of alternatives
 abbrev pub AlternativesAreOneList : Type 0
 AlternativesAreOneList =
-    (p : Project) (capacities active : List ℕ) (a b : List (List ℕ)) → AreAlternatives p capacities active a → AreAlternatives p capacities active b → a ≡ b
+    (p : Project) (capacities active : List ℕ) (a b : List (List ℕ)) → AreAlternatives p capacities active a →
+    AreAlternatives p capacities active b → a ≡ b

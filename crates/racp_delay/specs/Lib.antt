@@ -1,3 +1,4 @@
+pub mod Limits
 pub mod Alternatives
 pub mod Branching
 pub mod Laws

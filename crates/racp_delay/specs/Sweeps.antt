@@ -26,7 +26,8 @@ event_load p k events = sum_by (λ event. request p (place event.1) k) events
 
 -- loads of the first events
 abbrev pub AreFirstLoads : Project → List (ℕ × ℕ) → ℕ → List ℕ → Type 0
-AreFirstLoads p events count loads = (k : ℕ) → k < p.resources → slice_index loads k ≡ event_load p k (take count events)
+AreFirstLoads p events count loads = (k : ℕ) → k < p.resources →
+    slice_index loads k ≡ event_load p k (take count events)
 
 -- the first events were taken, up to some time
 pub record AreTaken (p : Project) (events : List (ℕ × ℕ)) (from : ℕ) (time count : ℕ) (loads : List ℕ) : Type 0 where
@@ -37,7 +38,8 @@ pub record AreTaken (p : Project) (events : List (ℕ × ℕ)) (from : ℕ) (tim
 
 -- some started jobs load more than the capacities and the ended jobs
 abbrev pub Exceeds : Project → List ℕ → List ℕ → List ℕ → Type 0
-Exceeds p capacities started ended = (k : ℕ) × (k < p.resources) × (slice_index capacities k + slice_index ended k < slice_index started k)
+Exceeds p capacities started ended = (k : ℕ) × (k < p.resources) ×
+    (slice_index capacities k + slice_index ended k < slice_index started k)
 
 -- what looking for the first conflict answers
 abbrev pub IsExcessAnswer : Project → List ℕ → List ℕ → Option ℕ → Type 0

@@ -1,6 +1,7 @@
 ghost use Rattle.std.specs.Prelude.{◌≡◌, ◌↔◌, ℕ, ◌+◌, ◌<◌, ◌≤◌, IsTrue, All, length, take, slice_index};
 ghost use Rattle.racp_model.specs.Project.{IsNumber, IsSound, duration};
 ghost use Rattle.racp_delay.specs.Branching.{IsActiveSet, IsConflictAnswer};
+ghost use Rattle.racp_delay.specs.Limits.{most_load};
 ghost use Rattle.racp_delay.specs.Sweeps.{AreEvents, AreFirstLoads, AreTaken, Exceeds, IsExcessAnswer, event_load};
 
 use crate::job_set::JobSet;
@@ -8,8 +9,8 @@ use crate::loads::{Loads, with};
 use racp_model::limits::{MOST_JOBS, MOST_RESOURCES};
 use racp_model::{Capacities, Network, Starts};
 
-/// A conflict of starts with capacities: the first time at which the usage of some resource exceeds its capacity, in time
-/// units, and the jobs that are active then.
+/// A conflict of starts with capacities: the first time at which the usage of some resource exceeds its capacity, in
+/// time units, and the jobs that are active then.
 #[derive(Drop)]
 pub struct Clash {
     /// The time.
@@ -18,9 +19,9 @@ pub struct Clash {
     pub active: JobSet,
 }
 
-/// The first conflict of the starts with the capacities, or `None` where the usage never exceeds them. There is a capacity for
-/// each resource and a start for each job, by place from 0; starts are in time units. Takes no memory, and about the time of
-/// sorting the starts.
+/// The first conflict of the starts with the capacities, or `None` where the usage never exceeds them. There is a
+/// capacity for each resource and a start for each job, by place from 0; starts are in time units. Takes no memory, and
+/// about the time of sorting the starts.
 pub fn conflict(net: &Network, capacities: &Capacities, starts: &Starts) -> Option<Clash>
     requires capacities { length capacities.now ≡ net.now.resources }
     requires starts { length starts.now ≡ length net.now.jobs }
@@ -73,8 +74,8 @@ fn first_excess(net: &Network, capacities: &[u32], starts: &[u32]) -> Option<u32
     sweep(net, capacities, starts, first, second)
 }
 
-/// The same, with room for the events in the order of starts and in that of ends. At each start the jobs that started so far
-/// are set against the capacities and the jobs that ended so far.
+/// The same, with room for the events in the order of starts and in that of ends. At each start the jobs that started
+/// so far are set against the capacities and the jobs that ended so far.
 fn sweep(
     net: &Network,
     capacities: &[u32],
@@ -136,7 +137,7 @@ fn ended_by(net: &Network, by_end: &[Event], ended: Ended, time: u64) -> Ended
     requires within { ended.count ≤ length by_end.now }
     requires sums { AreFirstLoads net.now by_end.now ended.count ended.loads }
     requires numbers { All (λ event. IsNumber (length net.now.jobs) event.1) by_end.now }
-    requires small { (m k : ℕ) → k < net.now.resources → event_load net.now k (take m by_end.now) ≤ 5120000 }
+    requires small { (m k : ℕ) → k < net.now.resources → event_load net.now k (take m by_end.now) ≤ most_load }
     ensures { AreTaken net.now by_end.now ended.count time result.count result.loads }
 {
     let mut count = ended.count;

@@ -3,6 +3,7 @@ ghost use Rattle.std.specs.List.Sorted.{IsStrictlyIncreasing};
 ghost use Rattle.racp_model.specs.Project.{request, IsNumber, IsSound};
 ghost use Rattle.racp_delay.specs.Alternatives.{place, AreAlternatives, Splits, job_lists};
 ghost use Rattle.racp_delay.specs.Found.{AreWithin, HasRoom, SomeHaveRoom, with_load, AreAdded, AreLoads, IsEarlier};
+ghost use Rattle.racp_delay.specs.Limits.{most_load};
 ghost use Rattle.racp_delay.specs.Branching.{IsFirstEndAnswer};
 ghost use Rattle.racp_delay.specs.JobSets.{AreJobs};
 
@@ -46,27 +47,29 @@ fn some_have_room(net: &Network, capacities: &[u32], loads: &Loads, jobs: &[u32]
         .any(|job| has_room(net, capacities, loads, *job))
 }
 
-/// Adds, in lexicographic order, the alternatives in which the jobs of `gone` go and those that load `kept` stay, where the
-/// jobs of `rest` may go or stay. `left` are the loads of the kept and the rest together. Nothing is looked for where the kept
-/// exceed the capacities by themselves, or where one of the gone has room beside all the others: it could then stay with any of
-/// them that run.
+/// Adds, in lexicographic order, the alternatives in which the jobs of `gone` go and those that load `kept` stay, where
+/// the jobs of `undecided` may go or stay. `left` are the loads of the kept and the undecided together. Nothing is
+/// looked for where the kept exceed the capacities by themselves, or where one of the gone has room beside all the
+/// others: it could then stay with any of them that run.
 fn add(
     net: &Network,
     capacities: &[u32],
     kept: &Loads,
     left: &Loads,
     gone: &mut Vec<u32>,
-    rest: &[u32],
+    undecided: &[u32],
     lists: &mut Vec<SmallVec<u32, 8>>,
 ) -> Result<(), AllocError>
     requires capacities { length capacities.now ≡ net.now.resources }
     requires gone { All (IsNumber (length net.now.jobs)) gone.old.items }
-    requires rest { All (IsNumber (length net.now.jobs)) rest.now }
-    requires rises { IsStrictlyIncreasing rest.now }
-    requires left { (k : ℕ) → k < net.now.resources → slice_index left.now k ≡ with_load net.now (slice_index kept.now) rest.now k }
-    requires small { (k : ℕ) → k < net.now.resources → slice_index left.now k ≤ 5120000 }
+    requires undecided { All (IsNumber (length net.now.jobs)) undecided.now }
+    requires rises { IsStrictlyIncreasing undecided.now }
+    requires left { (k : ℕ) → k < net.now.resources →
+        slice_index left.now k ≡ with_load net.now (slice_index kept.now) undecided.now k }
+    requires small { (k : ℕ) → k < net.now.resources → slice_index left.now k ≤ most_load }
     ensures gone { IfOk result (λ _. gone.new.items ≡ gone.old.items) }
-    ensures added { IfOk result (λ _. AreAdded net.now capacities.now (slice_index kept.now) gone.old.items rest.now (job_lists lists.old.items) (job_lists lists.new.items)) }
+    ensures added { IfOk result (λ _. AreAdded net.now capacities.now
+        (slice_index kept.now) gone.old.items undecided.now (job_lists lists.old.items) (job_lists lists.new.items)) }
 {
     if !are_within(net, capacities, kept) || some_have_room(net, capacities, left, gone) {
         return Ok(());
@@ -76,7 +79,7 @@ fn add(
         lists.push(alternative)?;
         return Ok(());
     }
-    if let Some((job, others)) = rest.split_first() {
+    if let Some((job, others)) = undecided.split_first() {
         gone.push(*job)?;
         let less = without(net, left, *job);
         add(net, capacities, kept, &less, gone, others, lists)?;
@@ -87,9 +90,10 @@ fn add(
     Ok(())
 }
 
-/// All minimal delaying alternatives of the active jobs of a conflict, each once: the lists of job numbers, from 1 and rising,
-/// of those that may go so that the others can run at once, and of which none can stay with these (Demeulemeester and Herroelen
-/// 1992). The lists stand in lexicographic order. There is a capacity for each resource, by place from 0.
+/// All minimal delaying alternatives of the active jobs of a conflict, each once: the lists of job numbers, from 1 and
+/// rising, of those that may go so that the others can run at once, and of which none can stay with these
+/// (Demeulemeester and Herroelen 1992). The lists stand in lexicographic order. There is a capacity for each resource,
+/// by place from 0.
 ///
 /// # Errors
 ///
@@ -98,19 +102,20 @@ pub fn alternatives(
     alloc: Global,
     net: &Network,
     capacities: &Capacities,
-    clash: &Clash,
+    conflict: &Clash,
 ) -> Result<Vec<SmallVec<u32, 8>>, AllocError>
     requires capacities { length capacities.now ≡ net.now.resources }
-    requires active { All (IsNumber (length net.now.jobs)) clash.now.active }
-    ensures { IfOk result (λ lists. AreAlternatives net.now capacities.now clash.now.active (job_lists lists.items)) }
+    requires active { All (IsNumber (length net.now.jobs)) conflict.now.active }
+    ensures { IfOk result (λ lists. AreAlternatives net.now capacities.now conflict.now.active
+        (job_lists lists.items)) }
 {
     let mut found = DelayingAlternatives::new(alloc);
-    found.find(net, capacities, clash)?;
+    found.find(net, capacities, conflict)?;
     Ok(found.into_lists())
 }
 
-/// The alternatives of the conflict that was looked at last, in memory that is used again from one conflict to the next.
-/// Contracts see the list of them.
+/// The alternatives of the conflict that was looked at last, in memory that is used again from one conflict to the
+/// next. Contracts see the list of them.
 #[derive(Drop)]
 pub struct DelayingAlternatives {
     active: Vec<u32>,
@@ -148,15 +153,15 @@ impl DelayingAlternatives {
         &mut self,
         net: &Network,
         capacities: &Capacities,
-        clash: &Clash,
+        conflict: &Clash,
     ) -> Result<(), AllocError>
         requires capacities { length capacities.now ≡ net.now.resources }
-        requires active { All (IsNumber (length net.now.jobs)) clash.now.active }
-        ensures { OnOk result (AreAlternatives net.now capacities.now clash.now.active self.new) }
+        requires active { All (IsNumber (length net.now.jobs)) conflict.now.active }
+        ensures { OnOk result (AreAlternatives net.now capacities.now conflict.now.active self.new) }
     {
         self.gone.clear();
         self.lists.clear();
-        let loads = load_of(net, &clash.active, &mut self.active)?;
+        let loads = load_of(net, &conflict.active, &mut self.active)?;
         add(
             net,
             capacities.as_slice(),
@@ -200,8 +205,9 @@ fn load_of(net: &Network, jobs: &JobSet, list: &mut Vec<u32>) -> Result<Loads, A
     Ok(loads)
 }
 
-/// When the first of the active jobs of a conflict ends that do not go, in time units, or `None` where all go. `gone` are the
-/// numbers, from 1, of those that go. In the child window of the alternative their lower bounds are raised to this time.
+/// When the first of the active jobs of a conflict ends that do not go, in time units, or `None` where all go. `gone`
+/// are the numbers, from 1, of those that go. In the child window of the alternative their lower bounds are raised to
+/// this time.
 pub fn first_end(net: &Network, starts: &Starts, active: &JobSet, gone: &[u32]) -> Option<u64>
     requires starts { length starts.now ≡ length net.now.jobs }
     requires active { All (IsNumber (length net.now.jobs)) active.now }

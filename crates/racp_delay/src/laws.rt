@@ -3,8 +3,8 @@
 
 ghost use Rattle.racp_delay.specs.Laws.{BranchingLosesNothing, ChildrenCover, EachHasChild, ChildIsInside, ChildIsHigher, LoadIsUsage, OthersStay, SubsetsGo, ConflictIsOne, AlternativesAreOneList};
 
-/// At the first conflict of a window's early starts, whatever answers in the window lies in the child window of some minimal
-/// alternative other than the whole active set.
+/// At the first conflict of a window's early starts, whatever answers in the window lies in the child window of some
+/// minimal alternative other than the whole active set.
 pub fn branching_loses_nothing()
     ensures { BranchingLosesNothing }
 {}

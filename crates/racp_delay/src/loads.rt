@@ -1,6 +1,7 @@
 ghost use Rattle.std.specs.Prelude.{◌≡◌, ℕ, ◌+◌, ◌<◌, ◌≤◌, length, slice_index};
 ghost use Rattle.racp_model.specs.Project.{request, IsNumber, IsSound};
 ghost use Rattle.racp_delay.specs.Alternatives.{place};
+ghost use Rattle.racp_delay.specs.Limits.{most_load};
 
 use racp_model::Network;
 use racp_model::limits::MOST_RESOURCES;
@@ -11,8 +12,9 @@ pub(crate) type Loads = [u32; MOST_RESOURCES];
 /// The loads with one job more.
 pub(crate) fn with(net: &Network, loads: &Loads, job: u32) -> Loads
     requires job { IsNumber (length net.now.jobs) job }
-    requires small { (k : ℕ) → k < net.now.resources → slice_index loads.now k ≤ 5120000 }
-    ensures sums { (k : ℕ) → k < net.now.resources → slice_index result k ≡ slice_index loads.now k + request net.now (place job) k }
+    requires small { (k : ℕ) → k < net.now.resources → slice_index loads.now k ≤ most_load }
+    ensures sums { (k : ℕ) → k < net.now.resources →
+        slice_index result k ≡ slice_index loads.now k + request net.now (place job) k }
     ensures sound { IsSound net.now }
 {
     let mut sums = *loads;
@@ -26,7 +28,8 @@ pub(crate) fn with(net: &Network, loads: &Loads, job: u32) -> Loads
 pub(crate) fn without(net: &Network, loads: &Loads, job: u32) -> Loads
     requires job { IsNumber (length net.now.jobs) job }
     requires within { (k : ℕ) → k < net.now.resources → request net.now (place job) k ≤ slice_index loads.now k }
-    ensures { (k : ℕ) → k < net.now.resources → slice_index result k + request net.now (place job) k ≡ slice_index loads.now k }
+    ensures { (k : ℕ) → k < net.now.resources →
+        slice_index result k + request net.now (place job) k ≡ slice_index loads.now k }
 {
     let mut sums = *loads;
     for k in 0..net.resource_count() {

@@ -29,12 +29,8 @@ impl Model for Network {
 
     ghost view = { λ net. record { resources = net.resources; jobs = net.jobs.items; arcs = net.arcs.items } };
 
-    ghost invariant = { λ net. let p : Project = record {
-      resources = net.resources;
-      jobs = net.jobs.items;
-      arcs =
-          net.arcs.items;
-    } in
+    ghost invariant = { λ net.
+        let p : Project = record { resources = net.resources; jobs = net.jobs.items; arcs = net.arcs.items } in
         IsSound p × IsTopological p net.topological.items };
 }
 

@@ -7,7 +7,7 @@ use Rattle.racp_model.specs.Window.{Bounds}
 use Rattle.racp_model.proofs.lemmas.Relations.{member_cases, member_first, member_later, no_member, all_members}
 use Rattle.racp_model.proofs.lemmas.Sums.{duration-small}
 use Rattle.racp_delay.specs.Alternatives.{Splits, place, job_lists, AreAlternatives, IsMinimalDelayingAlternative}
-use Rattle.racp_delay.specs.Branching.{IsClash, IsChild, IsFirstEnd}
+use Rattle.racp_delay.specs.Branching.{IsConflict, IsChild, IsFirstEnd}
 use Rattle.racp_delay.specs.Laws.{OthersStay, SubsetsGo}
 use Rattle.racp_search.specs.Children.{NoneStays, IsChildFor, AreChildrenOf, IsPutOff}
 
@@ -106,19 +106,19 @@ child_from_put_off p early active window gone end child places ends off = (
 )
 
 -- an alternative's jobs are jobs of the project
-pub gone_numbers : (p : Project) (capacities early : List ℕ) (t : ℕ) (active gone : List ℕ) (n : ℕ) → SubsetsGo → n ≡ length p.jobs → IsClash p capacities early t active → IsMinimalDelayingAlternative p capacities active gone → All (IsNumber n) gone
-gone_numbers p capacities early t active gone n law same clash minimal = all_members (IsNumber n) gone
-    (λ job c. let is = ((clash.set.members job).0 (((law active gone clash.set.rises).0 (minimal.delays.0, minimal.delays.1)).1 job c)).0 in (is.0, omega (arith, is.1, same)))
+pub gone_numbers : (p : Project) (capacities early : List ℕ) (t : ℕ) (active gone : List ℕ) (n : ℕ) → SubsetsGo → n ≡ length p.jobs → IsConflict p capacities early t active → IsMinimalDelayingAlternative p capacities active gone → All (IsNumber n) gone
+gone_numbers p capacities early t active gone n law same conflict minimal = all_members (IsNumber n) gone
+    (λ job c. let is = ((conflict.set.members job).0 (((law active gone conflict.set.rises).0 (minimal.delays.0, minimal.delays.1)).1 job c)).0 in (is.0, omega (arith, is.1, same)))
 
 -- the first end of those that stay, in equal projects
 pub same_ends : (p q : Project) (early active gone : List ℕ) (end : ℕ) → p ≡ q → ((kept : List ℕ) → Splits active gone kept → IsFirstEnd p early kept end) → (kept : List ℕ) → Splits active gone kept → IsFirstEnd q early kept end
 same_ends p q early active gone end same ends kept s = subst (λ (r : Project). IsFirstEnd r early kept end) same (ends kept s)
 
 -- the first end of those that stay is small
-pub end_small : (p : Project) (capacities early : List ℕ) (t : ℕ) (active gone kept : List ℕ) (end : ℕ) → OthersStay → IsSound p → IsClash p capacities early t active → ((i : ℕ) → i < length p.jobs → slice_index early i ≤ 10000000) →
+pub end_small : (p : Project) (capacities early : List ℕ) (t : ℕ) (active gone kept : List ℕ) (end : ℕ) → OthersStay → IsSound p → IsConflict p capacities early t active → ((i : ℕ) → i < length p.jobs → slice_index early i ≤ 10000000) →
     Splits active gone kept → IsFirstEnd p early kept end → end ≤ 10010000
-end_small p capacities early t active gone kept end law sound clash small s h =
+end_small p capacities early t active gone kept end law sound conflict small s h =
     let job : ℕ = h.some.0 in
-    let is = ((clash.set.members job).0 ((law active gone kept clash.set.rises s job).0 h.some.1).0).0 in
+    let is = ((conflict.set.members job).0 ((law active gone kept conflict.set.rises s job).0 h.some.1).0).0 in
     let inside : place job < length p.jobs = omega (arith, is.0, is.1) in
     omega (arith, h.some.2, small (place job) inside, duration-small p (place job) sound inside)

@@ -52,6 +52,6 @@ frame_of p capacities starts window conflict frame children cover inside higher 
           let found = list_of p starts active window are.lists children child are.each (member child c) in
           let minimal = are.alternatives.only found.0 found.1 in
           higher p capacities window starts t active found.0 minimal.delays.0 child has.early has.first minimal.delays.1 minimal (found.2.1 minimal.delays.0 minimal.delays.1);
-      room = sum_below-bound (length p.jobs) 10000000 (slice_index window.lower) (λ i l. omega (arith, has.early.above i l, has.small i l));
+      small = sum_below-bound (length p.jobs) 10000000 (slice_index window.lower) (λ i l. omega (arith, has.early.above i l, has.small i l));
       few = omega (arith, ap (length {A = Bounds}) is_children, few);
     }

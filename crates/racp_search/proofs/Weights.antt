@@ -55,9 +55,9 @@ unfolding weight
 frame-lighter p capacities window f is =
     let u : ℕ = length p.jobs * 10000000 in
     let m : ℕ = u - lower_sum p window in
-    let e : suc m ≡ (u + 1) - lower_sum p window = omega (arith, is.room) in
+    let e : suc m ≡ (u + 1) - lower_sum p window = omega (arith, is.small) in
     power-less (2 ^ 64) (length f.children) m ((u + 1) - lower_sum p window) (weights p f.children) is.few e
-    (weights-most p f.children ((2 ^ 64) ^ m) (λ v c. power-most (2 ^ 64) u (lower_sum p window) (lower_sum p v) m (omega arith) (is.higher v c) is.room e))
+    (weights-most p f.children ((2 ^ 64) ^ m) (λ v c. power-most (2 ^ 64) u (lower_sum p window) (lower_sum p v) m (omega arith) (is.higher v c) is.small e))
 
 -- a frame in place of its window
 pub framed-lighter : (p : Project) (capacities : List ℕ) (fs : List SearchFrame) (window : Bounds) (f : SearchFrame) → IsFrameOf p capacities window f → weights p (open_windows (fs ++ f ∷ [])) < weights p (open_windows fs ++ window ∷ [])

@@ -12,7 +12,8 @@ NoneStays active gone = (kept : List ℕ) → Splits active gone kept → kept �
 -- the child window in which these jobs are put off
 abbrev pub IsChildFor : Project → List ℕ → List ℕ → Bounds → List ℕ → Bounds → Type 0
 IsChildFor p early active window gone child =
-    (length child.lower ≡ length window.lower) × ((kept : List ℕ) → Splits active gone kept → IsChild p early window gone kept child)
+    (length child.lower ≡ length window.lower) ×
+    ((kept : List ℕ) → Splits active gone kept → IsChild p early window gone kept child)
 
 -- that child window, or none where no active job stays
 abbrev pub IsChildAnswer : Project → List ℕ → List ℕ → Bounds → List ℕ → Option Bounds → Type 0
@@ -24,10 +25,12 @@ abbrev pub AreChildrenOf : Project → List ℕ → List ℕ → Bounds → List
 AreChildrenOf p early active window [] children = children ≡ []
 AreChildrenOf p early active window (gone ∷ lists) children =
     (NoneStays active gone × AreChildrenOf p early active window lists children) ⊎
-    ((child : Bounds) × (rest : List Bounds) × (children ≡ child ∷ rest) × IsChildFor p early active window gone child × AreChildrenOf p early active window lists rest)
+    ((child : Bounds) × (rest : List Bounds) × (children ≡ child ∷ rest) × IsChildFor p early active window gone child ×
+    AreChildrenOf p early active window lists rest)
 
 -- one child window for each minimal delaying alternative where some stay, in their order
-pub record AreChildren (p : Project) (capacities early active : List ℕ) (window : Bounds) (children : List Bounds) : Type 0 where
+pub record AreChildren (p : Project) (capacities early active : List ℕ) (window : Bounds)
+    (children : List Bounds) : Type 0 where
   pub lists : List (List ℕ)
   pub alternatives : AreAlternatives p capacities active lists
   pub each : AreChildrenOf p early active window lists children

@@ -13,7 +13,8 @@ IsSpent (Some most) nodes result = IsTrue result ↔ (most ≤ nodes)
 IsSpent None nodes result = IsFalse result
 
 -- how a search of a window ended, and after how many nodes
-pub record IsEnd (p : Project) (capacities : List ℕ) (window : Bounds) (quantum : Option ℕ) (nodes : ℕ) (ended : Ended) : Type 0 where
+pub record IsEnd (p : Project) (capacities : List ℕ) (window : Bounds) (quantum : Option ℕ) (nodes : ℕ)
+    (ended : Ended) : Type 0 where
   pub is_true : IsFoundOrLeft p capacities window ended.found ended.rest.items
   pub searched : IsFalse ended.stopped → 0 < nodes
   pub stopped : IsTrue ended.stopped → (ended.found ≡ None) × (ended.rest.items ≢ [])
@@ -24,11 +25,25 @@ pub record IsEnd (p : Project) (capacities : List ℕ) (window : Bounds) (quantu
 -- the finding of a search that ended so, after so many nodes
 abbrev pub finding_after : SearchPiece → Ended → ℕ → SearchFinding
 finding_after piece ended nodes =
-    record { piece = piece; rest = Windows ended.rest; found = ended.found; nodes = nodes; stopped = ended.stopped; short = false }
+    record {
+      piece = piece;
+      rest = Windows ended.rest;
+      found = ended.found;
+      nodes = nodes;
+      stopped = ended.stopped;
+      short = false;
+    }
 
 -- a finding that leaves the whole window of the piece
 abbrev pub unsearched : SearchPiece → ℕ → Bool → SearchFinding
-unsearched piece nodes short = record { piece = piece; rest = Whole; found = None; nodes = nodes; stopped = false; short = short }
+unsearched piece nodes short = record {
+  piece = piece;
+  rest = Whole;
+  found = None;
+  nodes = nodes;
+  stopped = false;
+  short = short;
+}
 
 -- whether the quantum allows no node
 abbrev pub AllowsNone : Option ℕ → Bool → Type 0

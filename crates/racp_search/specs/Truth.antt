@@ -8,8 +8,8 @@ use Rattle.racp_delay.specs.Laws.{lower_sum}
 use Rattle.racp_search.specs.declared.finding.Rest.{Rest}
 use Rattle.racp_search.specs.declared.finding.Rest.TheVariants.{Whole, Windows}
 
--- a piece of work: its number, the seat of the worker that took it, the place of its question in the series, and the part of that
--- question that is to be searched
+-- a piece of work: its number, the seat of the worker that took it, the place of its question in the series, and the
+-- part of that question that is to be searched
 pub record SearchPiece : Type 0 where
   pub number : ℕ
   pub seat : ℕ
@@ -48,13 +48,15 @@ left_windows finding = rest_windows finding.piece.question.window finding.rest
 
 -- a true finding
 abbrev pub IsTrueFinding : Project → SearchFinding → Type 0
-IsTrueFinding p finding = IsFoundOrLeft p finding.piece.question.capacities finding.piece.question.window finding.found (left_windows finding)
+IsTrueFinding p finding = IsFoundOrLeft p finding.piece.question.capacities finding.piece.question.window finding.found
+    (left_windows finding)
 
 -- what a search of a piece tells
 pub record IsExplored (p : Project) (piece : SearchPiece) (quantum : Option ℕ) (finding : SearchFinding) : Type 0 where
   -- it is of the piece
   pub own : finding.piece ≡ piece
-  -- it searched at most as many nodes as the quantum allows, and at least one, unless none is allowed or it was kept from searching
+  -- it searched at most as many nodes as the quantum allows, and at least one, unless none is allowed or it was kept
+  -- from searching
   pub nodes : IfSome quantum (λ most. finding.nodes ≤ most)
   pub searched : quantum ≢ Some 0 → IsFalse finding.stopped → IsFalse finding.short → 0 < finding.nodes
   -- where no node is allowed, and where memory was refused, the window of the piece is left and nothing is found

@@ -1,7 +1,8 @@
 ghost use Rattle.std.specs.Prelude.{◌≡◌, ◌≢◌, ℕ, ◌<◌, ◌≤◌, [], All, IfOk, length, slice_index};
 ghost use Rattle.racp_model.specs.Project.{IsNumber};
 ghost use Rattle.racp_delay.specs.Alternatives.{IsMinimalDelayingAlternative};
-ghost use Rattle.racp_delay.specs.Branching.{IsClash};
+ghost use Rattle.racp_delay.specs.Branching.{IsConflict};
+ghost use Rattle.racp_delay.specs.Limits.{most_bound, most_start};
 ghost use Rattle.racp_search.specs.Children.{AreChildren, IsChildAnswer, IsPutOff, IsRaised};
 
 use crate::subject::Subject;
@@ -10,9 +11,9 @@ use racp_delay::{Clash, first_end, laws};
 use racp_model::{OfNetwork, Starts, Window};
 use std::alloc::AllocError;
 
-/// The child windows of a window at the first conflict of its early starts, which are at most 10,000,000: one for each minimal
-/// delaying alternative other than the whole active set, in the order of the alternatives. In it the lower bounds of the jobs
-/// that go are raised to the first end of a job that stays (Demeulemeester and Herroelen 1992).
+/// The child windows of a window at the first conflict of its early starts, which are at most 10,000,000: one for each
+/// minimal delaying alternative other than the whole active set, in the order of the alternatives. In it the lower
+/// bounds of the jobs that go are raised to the first end of a job that stays (Demeulemeester and Herroelen 1992).
 pub(crate) fn children<N: OfNetwork>(
     workspace: &mut Workspace,
     subject: &Subject<N>,
@@ -22,9 +23,10 @@ pub(crate) fn children<N: OfNetwork>(
 ) -> Result<Vec<Window>, AllocError>
     requires lower { length window.now.lower ≡ length N.network.jobs }
     requires early { length early.now ≡ length N.network.jobs }
-    requires small { (i : ℕ) → i < length N.network.jobs → slice_index early.now i ≤ 10000000 }
-    requires conflict { IsClash N.network subject.now.capacities early.now conflict.now.time conflict.now.active }
-    ensures { IfOk result (λ windows. AreChildren N.network subject.now.capacities early.now conflict.now.active window.now windows.items) }
+    requires small { (i : ℕ) → i < length N.network.jobs → slice_index early.now i ≤ most_start }
+    requires conflict { IsConflict N.network subject.now.capacities early.now conflict.now.time conflict.now.active }
+    ensures { IfOk result (λ windows. AreChildren N.network subject.now.capacities early.now conflict.now.active
+        window.now windows.items) }
 {
     let found = &mut workspace.found;
     found.find(subject.network(), subject.capacities(), conflict)?;
@@ -52,8 +54,8 @@ fn child<N: OfNetwork>(
 ) -> Result<Option<Window>, AllocError>
     requires lower { length window.now.lower ≡ length N.network.jobs }
     requires early { length early.now ≡ length N.network.jobs }
-    requires small { (i : ℕ) → i < length N.network.jobs → slice_index early.now i ≤ 10000000 }
-    requires conflict { IsClash N.network subject.now.capacities early.now conflict.now.time conflict.now.active }
+    requires small { (i : ℕ) → i < length N.network.jobs → slice_index early.now i ≤ most_start }
+    requires conflict { IsConflict N.network subject.now.capacities early.now conflict.now.time conflict.now.active }
     requires minimal { IsMinimalDelayingAlternative N.network subject.now.capacities conflict.now.active gone.now }
     ensures { IfOk result (IsChildAnswer N.network early.now conflict.now.active window.now gone.now) }
 {
@@ -68,7 +70,7 @@ fn child<N: OfNetwork>(
 /// The window with the lower bounds of these jobs raised to a time.
 fn put_off(spare: &mut Spare, window: &Window, gone: &[u32], end: u32) -> Result<Window, AllocError>
     requires gone { All (IsNumber (length window.now.lower)) gone.now }
-    requires end { end ≤ 20000000 }
+    requires end { end ≤ most_bound }
     ensures { IfOk result (IsPutOff window.now gone.now end) }
 {
     let mut lower = spare.row_of(window.lower())?;

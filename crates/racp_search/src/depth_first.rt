@@ -14,8 +14,8 @@ use racp_cutset::{Local, Nogood};
 use racp_model::{OfNetwork, Starts, Window};
 use std::alloc::{AllocError, Global};
 
-/// Searches the question's window by depth, until starts are found, nothing is left, as many nodes were entered as the quantum
-/// allows, or the search is stopped. Counts the nodes.
+/// Searches the question's window by depth, until starts are found, nothing is left, as many nodes were entered as the
+/// quantum allows, or the search is stopped. Counts the nodes.
 pub(crate) fn search<N: OfNetwork, S: Stop>(
     alloc: Global,
     subject: &Subject<N>,
@@ -63,8 +63,8 @@ fn is_spent(quantum: Option<u64>, nodes: u64) -> bool
     }
 }
 
-/// The frames on the way to the window that is searched next, the first node first, and the memory that is used again from node
-/// to node.
+/// The frames on the way to the window that is searched next, the first node first, and the memory that is used again
+/// from node to node.
 #[derive(Drop)]
 struct Stack<N: OfNetwork> {
     frames: Vec<Frame<N>>,
@@ -82,7 +82,8 @@ impl<N: OfNetwork> Stack<N> {
         }
     }
 
-    /// Enters the node of a window: answers the early starts where they answer, and takes up a frame where they have a conflict.
+    /// Enters the node of a window: answers the early starts where they answer, and takes up a frame where they have a
+    /// conflict.
     fn enter(
         &mut self,
         subject: &Subject<N>,
@@ -90,7 +91,8 @@ impl<N: OfNetwork> Stack<N> {
         local: &mut Local<N>,
     ) -> Result<Option<Starts>, AllocError>
         requires { IsSearching N.network subject.now.capacities subject.now.window self.old.frames.items (window ∷ []) }
-        ensures entered { IfOk result (IsEntered N.network subject.now.capacities subject.now.window self.old.frames.items window self.new.frames.items) }
+        ensures entered { IfOk result (IsEntered N.network subject.now.capacities subject.now.window
+            self.old.frames.items window self.new.frames.items) }
         ensures kept { local.new ≡ local.old }
     {
         let (net, capacities) = (subject.network(), subject.capacities());
@@ -113,15 +115,16 @@ impl<N: OfNetwork> Stack<N> {
         }
     }
 
-    /// The next window to be searched: the last child window of the last frame that has one. Frames that have none are taken
-    /// out, and their nodes, which are refuted, are kept as records.
+    /// The next window to be searched: the last child window of the last frame that has one. Frames that have none are
+    /// taken out, and their nodes, which are refuted, are kept as records.
     fn next_window(
         &mut self,
         subject: &Subject<N>,
         local: &mut Local<N>,
     ) -> Result<Option<Window>, AllocError>
         requires { IsSearching N.network subject.now.capacities subject.now.window self.old.frames.items [] }
-        ensures next { IfOk result (IsNextAnswer N.network subject.now.capacities subject.now.window self.old.frames.items self.new.frames.items) }
+        ensures next { IfOk result (IsNextAnswer N.network subject.now.capacities subject.now.window
+            self.old.frames.items self.new.frames.items) }
         ensures kept { StayKept local.old local.new }
     {
         while let Some(frame) = self.frames.pop() {

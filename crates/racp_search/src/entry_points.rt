@@ -14,11 +14,13 @@ use std::alloc::{AllocError, Global};
 use std::marker::Brand;
 
 /// Searches a piece: branches at the first conflict of the early starts over the minimal delaying alternatives
-/// (Demeulemeester and Herroelen 1992), by depth, until starts are found, nothing is left, as many nodes were searched as the
-/// quantum allows, or the search is stopped. `None` is no bound on the nodes. The stop is asked before each node.
+/// (Demeulemeester and Herroelen 1992), by depth, until starts are found, nothing is left, as many nodes were searched
+/// as the quantum allows, or the search is stopped. `None` is no bound on the nodes. The stop is asked before each
+/// node.
 ///
-/// A node that a record of the board or of `local` covers is skipped. A node is kept in `local`, behind the records that are there,
-/// once all of its window has been refuted. Where memory is refused the finding is short and leaves the whole window of the piece.
+/// A node that a record of the board or of `local` covers is skipped. A node is kept in `local`, behind the records
+/// that are there, once all of its window has been refuted. Where memory is refused the finding is short and leaves the
+/// whole window of the piece.
 pub fn explore<N: OfNetwork, S: Stop>(
     alloc: Global,
     net: &Network,
@@ -55,8 +57,8 @@ fn allows_none(quantum: Option<u64>) -> bool
     }
 }
 
-/// Decides a question on one thread: starts that answer it, or `None` where nothing does. There is a capacity for each resource
-/// and a bound for each job, by place from 0. Always ends.
+/// Decides a question on one thread: starts that answer it, or `None` where nothing does. There is a capacity for each
+/// resource and a bound for each job, by place from 0. Always ends.
 ///
 /// # Errors
 ///

@@ -18,9 +18,9 @@ pub enum Rest {
     Windows(Vec<Window>),
 }
 
-/// What a search of a piece found, of the network that `N` names. It is true: either the found starts answer the piece's
-/// question and nothing is left to be searched, or nothing is found, and whatever answers lies in a window of the rest.
-/// Contracts see a `SearchFinding`.
+/// What a search of a piece found, of the network that `N` names. It is true: either the found starts answer the
+/// piece's question and nothing is left to be searched, or nothing is found, and whatever answers lies in a window of
+/// the rest. Contracts see a `SearchFinding`.
 pub struct Finding<N: OfNetwork> {
     piece: Piece<N>,
     rest: Rest,
@@ -36,16 +36,25 @@ impl<N: OfNetwork> Model for Finding<N> {
 
     ghost Value = { SearchFinding };
 
-    ghost view = { λ f. record { piece = f.piece; rest = f.rest; found = f.found; nodes = f.nodes; stopped = f.stopped; short = f.short } };
+    ghost view = { λ f. record {
+      piece = f.piece;
+      rest = f.rest;
+      found = f.found;
+      nodes = f.nodes;
+      stopped = f.stopped;
+      short = f.short;
+    } };
 
-    ghost invariant = { λ f. IsFoundOrLeft N.network f.piece.question.capacities f.piece.question.window f.found (rest_windows f.piece.question.window f.rest) };
+    ghost invariant = { λ f. IsFoundOrLeft N.network f.piece.question.capacities f.piece.question.window f.found
+        (rest_windows f.piece.question.window f.rest) };
 }
 
 impl<N: OfNetwork> Finding<N> {
-    /// What a search of a piece found and left, after so many nodes; or the whole window of the piece, where memory was refused.
-    /// Takes no memory.
+    /// What a search of a piece found and left, after so many nodes; or the whole window of the piece, where memory was
+    /// refused. Takes no memory.
     pub(crate) fn after(piece: Piece<N>, end: Result<Ended, AllocError>, nodes: u64) -> Self
-        requires is_true { IfOk end (λ ended. IsFoundOrLeft N.network piece.question.capacities piece.question.window ended.found ended.rest.items) }
+        requires is_true { IfOk end (λ ended.
+            IsFoundOrLeft N.network piece.question.capacities piece.question.window ended.found ended.rest.items) }
         requires bounds { HasBounds N.network piece.question.window }
         ensures ok { IfOk end (λ ended. result ≡ finding_after piece ended nodes) }
         ensures err { IfErr end (λ _. result ≡ unsearched piece nodes true) }

@@ -12,8 +12,8 @@ use racp_model::{Capacities, OfNetwork, Question, Starts, Window};
 use std::alloc::AllocError;
 use std::marker::Model;
 
-/// A node on the way to the window that is searched next, with its child windows that are still to be searched. Contracts see a
-/// `SearchFrame`.
+/// A node on the way to the window that is searched next, with its child windows that are still to be searched.
+/// Contracts see a `SearchFrame`.
 #[derive(Drop)]
 pub(crate) struct Frame<N: OfNetwork> {
     node: Node<N>,
@@ -51,8 +51,8 @@ impl<N: OfNetwork> Frame<N> {
     }
 }
 
-/// The frame of a window's node at the first conflict of its early starts, with all child windows; or `None` where a record
-/// covers the node, so that nothing in the window answers.
+/// The frame of a window's node at the first conflict of its early starts, with all child windows; or `None` where a
+/// record covers the node, so that nothing in the window answers.
 pub(crate) fn expand<N: OfNetwork>(
     workspace: &mut Workspace,
     subject: &Subject<N>,

@@ -1,6 +1,7 @@
 ghost use Rattle.std.specs.Prelude.{◌↔◌, ℕ, ◌<◌, ◌≤◌, ◌≡◌, IsTrue, All, IfOk, length, slice_index};
 ghost use Rattle.racp_model.specs.Formed.{HasBounds};
 ghost use Rattle.racp_model.specs.Path.{IsEarly};
+ghost use Rattle.racp_delay.specs.Limits.{most_bound};
 ghost use Rattle.racp_search.specs.Glances.{IsGlance};
 
 use crate::workspace::Spare;
@@ -45,7 +46,7 @@ pub(crate) fn look_at(
 /// The early starts above lower bounds, in a row that is used again.
 fn early_in(spare: &mut Spare, net: &Network, lower: &[u32]) -> Result<Starts, AllocError>
     requires places { length lower.now ≡ length net.now.jobs }
-    requires small { All (λ x. x ≤ 20000000) lower.now }
+    requires small { All (λ x. x ≤ most_bound) lower.now }
     ensures { IfOk result (IsEarly net.now (slice_index lower.now)) }
 {
     let mut starts = spare.row_of(lower)?;

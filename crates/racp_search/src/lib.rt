@@ -11,7 +11,7 @@
 //!
 //! ```text
 //! window                early starts          what is found
-//! root                  0, 0, 0, 1, 4, 8      at time 1 the jobs 2 and 4 request 3 units
+//! root                  0, 0, 0, 1, 4, 8      at time 1 the jobs 2 and 4 need 3 units
 //!   job 4 from 4 on     0, 0, 0, 4, 7, 11     4 is above the upper bound of job 4: a no
 //!   job 2 from 4 on     0, 4, 0, 1, 4, 8      they fit: the answer
 //! ```

@@ -3,14 +3,14 @@ ghost use Rattle.std.specs.Prelude.{◌≡◌};
 use racp_model::{OfNetwork, Question};
 use std::marker::{Model, PhantomData};
 
-/// Takes back pieces that were handed out. Whoever takes a piece apart has to be named as one, so that no worker loses a piece
-/// by an oversight.
+/// Takes back pieces that were handed out. Whoever takes a piece apart has to be named as one, so that no worker loses
+/// a piece by an oversight.
 pub trait Collector {}
 
-/// A piece of work: a question to be searched about the network that `N` names, the number that it was given, from 0, the seat of
-/// the worker that took it, from 0, and the place, from 0, of the question to which it belongs in the series of questions. It
-/// cannot be dropped, so that no part of a question is lost: `explore` makes it a finding, and a collector takes it back.
-/// Contracts see a `SearchPiece`.
+/// A piece of work: a question to be searched about the network that `N` names, the number that it was given, from 0,
+/// the seat of the worker that took it, from 0, and the place, from 0, of the question to which it belongs in the
+/// series of questions. It cannot be dropped, so that no part of a question is lost: `explore` makes it a finding, and
+/// a collector takes it back. Contracts see a `SearchPiece`.
 pub struct Piece<N: OfNetwork> {
     number: u64,
     seat: usize,

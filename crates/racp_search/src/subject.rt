@@ -6,8 +6,8 @@ use racp_cutset::Board;
 use racp_model::{Capacities, Network, OfNetwork, Question, Window};
 use std::marker::Model;
 
-/// What a search is about: a question of the network that `N` names, and the records that all threads share. Contracts see the
-/// question.
+/// What a search is about: a question of the network that `N` names, and the records that all threads share. Contracts
+/// see the question.
 #[derive(Drop)]
 pub(crate) struct Subject<'a, N: OfNetwork> {
     net: &'a Network,

@@ -135,15 +135,15 @@ const CONFLICTS: [(&str, Sample, &[u32], &[u32], Option<Expected>); 11] = [
 fn are_alternatives(
     net: &Network,
     starts: &Starts,
-    clash: &Clash,
+    conflict: &Clash,
     lists: &[SmallVec<u32, 8>],
     expected: &[Alternative],
 ) -> bool
     requires starts { length starts.now ≡ length net.now.jobs }
-    requires active { All (IsNumber (length net.now.jobs)) clash.now.active }
+    requires active { All (IsNumber (length net.now.jobs)) conflict.now.active }
 {
     for (list, (gone, end)) in lists.iter().zip(expected) {
-        if list.as_slice() != *gone || first_end(net, starts, &clash.active, list) != *end {
+        if list.as_slice() != *gone || first_end(net, starts, &conflict.active, list) != *end {
             return false;
         }
     }
@@ -152,30 +152,30 @@ fn are_alternatives(
 
 /// What is found otherwise than this of a conflict. The alternatives are found thrice, the second and the third time in the
 /// same memory.
-fn clash_difference(
+fn conflict_difference(
     alloc: Global,
     net: &Network,
     capacities: &Capacities,
     starts: &Starts,
-    clash: &Clash,
+    conflict: &Clash,
     expected: Expected,
 ) -> Result<Option<&'static str>, AllocError>
     requires capacities { length capacities.now ≡ net.now.resources }
     requires starts { length starts.now ≡ length net.now.jobs }
-    requires active { All (IsNumber (length net.now.jobs)) clash.now.active }
+    requires active { All (IsNumber (length net.now.jobs)) conflict.now.active }
 {
-    let active: Vec<u32> = clash.active.iter().collect(alloc)?;
-    let lists = alternatives(alloc, net, capacities, clash)?;
+    let active: Vec<u32> = conflict.active.iter().collect(alloc)?;
+    let lists = alternatives(alloc, net, capacities, conflict)?;
     let mut found = DelayingAlternatives::new(alloc);
-    found.find(net, capacities, clash)?;
-    found.find(net, capacities, clash)?;
-    Ok(if clash.time != expected.time {
+    found.find(net, capacities, conflict)?;
+    found.find(net, capacities, conflict)?;
+    Ok(if conflict.time != expected.time {
         Some("the time")
     } else if active.as_slice() != expected.active {
         Some("the active jobs")
-    } else if !are_alternatives(net, starts, clash, &lists, expected.alternatives) {
+    } else if !are_alternatives(net, starts, conflict, &lists, expected.alternatives) {
         Some("the alternatives")
-    } else if !are_alternatives(net, starts, clash, found.lists(), expected.alternatives) {
+    } else if !are_alternatives(net, starts, conflict, found.lists(), expected.alternatives) {
         Some("the alternatives found again")
     } else {
         None
@@ -195,11 +195,11 @@ fn difference(
     }
     let capacities = Capacities::new(capacities.to_vec(alloc)?);
     let starts = Starts::new(starts.to_vec(alloc)?);
-    let Some(clash) = conflict(net, &capacities, &starts) else {
+    let Some(first) = conflict(net, &capacities, &starts) else {
         return Ok(expected.map(|_| "no conflict"));
     };
     match expected {
-        Some(expected) => clash_difference(alloc, net, &capacities, &starts, &clash, expected),
+        Some(expected) => conflict_difference(alloc, net, &capacities, &starts, &first, expected),
         None => Ok(Some("a conflict")),
     }
 }
@@ -240,10 +240,10 @@ fn finds_the_conflict_of_many_jobs(rt: HostRuntime) -> Result<(), Fail> {
         alternatives: &alternatives,
     };
     let net = wide(rt.alloc())?;
-    for (capacity, last_start, clashes) in [(129, 0, true), (130, 0, false), (129, 1, false)] {
+    for (capacity, last_start, has_conflict) in [(129, 0, true), (130, 0, false), (129, 1, false)] {
         let mut starts = [0; 130];
         starts[129] = last_start;
-        let expected = if clashes { Some(all) } else { None };
+        let expected = if has_conflict { Some(all) } else { None };
         let difference = difference(rt.alloc(), &net, &[capacity], &starts, expected)?;
         assert_eq!(rt; difference, None, "{capacity} {last_start}");
     }

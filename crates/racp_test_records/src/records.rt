@@ -46,7 +46,7 @@ fn fits_before_time<N: OfNetwork>(net: &Network, node: &Node<N>) -> bool
         }
     }
     match conflict(net, &node.question().capacities, node.early()) {
-        Some(clash) => node.time() <= clash.time,
+        Some(first) => node.time() <= first.time,
         None => true,
     }
 }

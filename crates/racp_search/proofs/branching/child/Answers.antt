@@ -1,12 +1,12 @@
 use Rattle.std.proofs.Common.{◌≤◌, length, All, arith, sym, subst}
 use Rattle.racp_model.specs.Project.{Project, IsNumber}
-use Rattle.racp_delay.proofs.lemmas.Clashes.{clash_numbers}
+use Rattle.racp_delay.proofs.lemmas.Conflicts.{conflict_numbers}
 use Rattle.racp_search.proofs.Children.{gone_numbers, same_ends, end_small, child_from_put_off}
 use Rattle.racp_search.proofs.branching.child.Goals as goal
 
 pub first_end-requires-clause-active : goal.first_end-requires-clause-active
 first_end-requires-clause-active g c =
-    let numbers : All (IsNumber (length g.N.OfNetwork.network.jobs)) c.args.conflict.now.active = clash_numbers g.N.OfNetwork.network c.args.subject.now.capacities c.args.early.now c.args.conflict.now.time c.args.conflict.now.active c.requires.conflict in
+    let numbers : All (IsNumber (length g.N.OfNetwork.network.jobs)) c.args.conflict.now.active = conflict_numbers g.N.OfNetwork.network c.args.subject.now.capacities c.args.early.now c.args.conflict.now.time c.args.conflict.now.active c.requires.conflict in
     subst (λ (p : Project). All (IsNumber (length p.jobs)) c.args.conflict.now.active) (sym c.network.ensures.named) numbers
 
 pub overflow_cast-end : goal.overflow_cast-end

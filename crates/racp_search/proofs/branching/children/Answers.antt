@@ -2,13 +2,13 @@ use Rattle.std.proofs.Common.{ℕ, List, length, All, sym, subst}
 use Rattle.racp_model.specs.Project.{Project, IsNumber}
 use Rattle.racp_delay.specs.Alternatives.{AreAlternatives}
 use Rattle.racp_search.specs.Children.{IsChildAnswer}
-use Rattle.racp_delay.proofs.lemmas.Clashes.{clash_numbers}
+use Rattle.racp_delay.proofs.lemmas.Conflicts.{conflict_numbers}
 use Rattle.racp_search.proofs.Children.{alternative_at, skip-next, child-next}
 use Rattle.racp_search.proofs.branching.children.Goals as goal
 
 pub find-requires-clause-active : goal.find-requires-clause-active
 find-requires-clause-active g c =
-    let numbers : All (IsNumber (length g.N.OfNetwork.network.jobs)) c.args.conflict.now.active = clash_numbers g.N.OfNetwork.network c.args.subject.now.capacities c.args.early.now c.args.conflict.now.time c.args.conflict.now.active c.requires.conflict in
+    let numbers : All (IsNumber (length g.N.OfNetwork.network.jobs)) c.args.conflict.now.active = conflict_numbers g.N.OfNetwork.network c.args.subject.now.capacities c.args.early.now c.args.conflict.now.time c.args.conflict.now.active c.requires.conflict in
     subst (λ (p : Project). All (IsNumber (length p.jobs)) c.args.conflict.now.active) (sym c.network.ensures.named) numbers
 
 pub child-requires-clause-minimal : goal.child-requires-clause-minimal

@@ -1,5 +1,5 @@
-use Rattle.racp_delay.proofs.lemmas.Clashes.{clash_numbers}
+use Rattle.racp_delay.proofs.lemmas.Conflicts.{conflict_numbers}
 use Rattle.racp_test_ground.proofs.conflicts.difference.Goals as goal
 
-pub clash_difference-requires-clause-active : goal.clash_difference-requires-clause-active
-clash_difference-requires-clause-active c = clash_numbers _ _ _ _ _ c.in-Some.ensures
+pub conflict_difference-requires-clause-active : goal.conflict_difference-requires-clause-active
+conflict_difference-requires-clause-active c = conflict_numbers _ _ _ _ _ c.in-Some.ensures

@@ -5,12 +5,12 @@ use Rattle.racp_model.specs.Project.{Project, IsNumber}
 use Rattle.racp_model.specs.Window.{Bounds}
 use Rattle.racp_model.proofs.lemmas.Relations.{all_members}
 use Rattle.racp_delay.specs.Alternatives.{Splits, AreAlternatives}
-use Rattle.racp_delay.specs.Branching.{IsClash, IsChild}
+use Rattle.racp_delay.specs.Branching.{IsConflict, IsChild}
 use Rattle.racp_delay.specs.Laws.{HaveChildren}
 
 -- the active jobs are jobs of the project, as `alternatives` requires
-pub clash_numbers : (p : Project) (capacities starts : List ℕ) (t : ℕ) (active : List ℕ) → IsClash p capacities starts t active → All (IsNumber (length p.jobs)) active
-clash_numbers p capacities starts t active clash = all_members (IsNumber (length p.jobs)) active (λ job c. ((clash.set.members job).0 c).0)
+pub conflict_numbers : (p : Project) (capacities starts : List ℕ) (t : ℕ) (active : List ℕ) → IsConflict p capacities starts t active → All (IsNumber (length p.jobs)) active
+conflict_numbers p capacities starts t active conflict = all_members (IsNumber (length p.jobs)) active (λ job c. ((conflict.set.members job).0 c).0)
 
 -- windows among which is a child for each list of the alternatives, where some stay, have the children that cover
 pub have_children : (p : Project) (capacities early active : List ℕ) (window : Bounds) (children : List Bounds) (lists : List (List ℕ)) → AreAlternatives p capacities active lists →
