@@ -120,7 +120,7 @@ returned_all old piece windows new h =
 
 pub answered_all : (old : Machine) (piece : SearchPiece) (starts : List ℕ) (new : Machine) → IsAnswered old piece starts new → all_questions new ≡ all_questions old
 answered_all old piece starts new h =
-    ap all_questions h.rest ∙ same_all old.asked new.asked old.to_come
+    ap all_questions h.changed ∙ same_all old.asked new.asked old.to_come
     (same_trans old.asked (slice_set old.asked piece.index h.row.0) new.asked (set_same old.asked piece.index h.row.0 h.out.0 h.row.1.0) (shut_same piece.index (slice_set old.asked piece.index h.row.0) new.asked h.row.2))
 
 -- a row is written as it was read
@@ -153,5 +153,5 @@ module _ (m now : Machine) (places more : List ℕ) (piece : SearchPiece) (at in
   yes_step = subst (λ (x : Machine). IsAnswered x piece starts (record m { asked = next; least = Some least })) same (record {
     out = place_out m piece at yes_place;
     row = (new, yes_back, yes_shut);
-    rest = rw yes_least refl;
+    changed = rw yes_least refl;
   })

@@ -22,8 +22,8 @@ pub record IsNextAsked (old new : Machine) (index : ℕ) : Type 0 where
   pub running : old.halted ≡ false
   pub unknown : old.least ≡ None
   pub next : index ≡ length old.asked
-  pub first : (question : Question) × (rest : List Question) × (old.to_come ≡ question ∷ rest) ×
-      (new ≡ record old { asked = old.asked ++ opened question ∷ []; to_come = rest })
+  pub first : (question : Question) × (later : List Question) × (old.to_come ≡ question ∷ later) ×
+      (new ≡ record old { asked = old.asked ++ opened question ∷ []; to_come = later })
 
 -- any open window of a question goes out
 abbrev pub IsSent : PieceOut → QuestionRow → QuestionRow → Type 0
@@ -87,7 +87,7 @@ pub record IsAnswered (old : Machine) (piece : SearchPiece) (starts : List ℕ) 
   pub out : IsOut old piece
   pub row : (row : QuestionRow) × IsBack (out_of piece) [] (row_at old.asked piece.index) row ×
       AreShutFrom piece.index (slice_set old.asked piece.index row) new.asked
-  pub rest : new ≡ record old {
+  pub changed : new ≡ record old {
     asked = new.asked;
     least = Some (lesser old.least (record { index = piece.index; starts = starts }));
   }
