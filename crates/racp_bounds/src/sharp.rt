@@ -16,20 +16,21 @@ use std::alloc::{AllocError, Global};
 pub struct Sharp {
     /// The sharpened floor of each resource, by place from 0, in units.
     pub floors: Capacities,
-    /// The pairs of resources, by their numbers from 1, the lesser one first and in lexicographic order, of which both cannot be
-    /// at their sharpened floors.
+    /// The pairs of resources, by their numbers from 1, the lesser one first and in lexicographic order, of which both
+    /// cannot be at their sharpened floors.
     pub pairs: Vec<(u32, u32)>,
 }
 
-/// Sharpens the floors of a project by questions about its root window. The sharpened floor of a resource is the least number of
-/// units, from its floor on, with which some starts fit when the other resources have their roofs. A pair of resources is refuted
-/// where no starts fit when both have their sharpened floors and the others their roofs. Floors and roofs are by resource, from
-/// place 0, with no floor above its roof, and some starts in the root window fit the roofs.
+/// Sharpens the floors of a project by questions about its root window. The sharpened floor of a resource is the least
+/// number of units, from its floor on, with which some starts fit when the other resources have their roofs. A pair of
+/// resources is refuted where no starts fit when both have their sharpened floors and the others their roofs. Floors
+/// and roofs are by resource, from place 0, with no floor above its roof, and some starts in the root window fit the
+/// roofs.
 ///
 /// # Errors
 ///
-/// The asker gave up, or memory was refused. The floors that were reached come back: with each series that was answered one more
-/// is sharpened, from the first resource on, and the others are the first ones.
+/// The asker gave up, or memory was refused. The floors that were reached come back: with each series that was answered
+/// one more is sharpened, from the first resource on, and the others are the first ones.
 pub fn sharpen<A: Asker>(
     alloc: Global,
     net: &Network,
@@ -46,10 +47,11 @@ pub fn sharpen<A: Asker>(
     requires admits { IsYes net.now roofs.now root.now }
     ensures network { A.network asker.new ≡ A.network asker.old }
     ensures sharp { IfOk result (IsSharp net.now root.now floors roofs.now) }
-    ensures answered { OnOk result (A.answered asker.new ≡ A.answered asker.old + net.now.resources + pair_count net.now.resources) }
+    ensures answered { OnOk result
+        (A.answered asker.new ≡ A.answered asker.old + net.now.resources + pair_count net.now.resources) }
     ensures no_fewer { A.answered asker.old ≤ A.answered asker.new }
-    ensures refusal { IfErr result (IsUnsharpened net.now root.now floors roofs.now (A.answered asker.new - A.answered asker.old)
-        (A.may_stop asker.new) (A.may_want_thread asker.new)) }
+    ensures refusal { IfErr result (IsUnsharpened net.now root.now floors roofs.now
+        (A.answered asker.new - A.answered asker.old) (A.may_stop asker.new) (A.may_want_thread asker.new)) }
 {
     let floors = raise_all(alloc, net, root, floors, roofs, asker)?;
     match refuted_pairs(alloc, net, root, &floors, roofs, asker) {
@@ -77,8 +79,8 @@ fn raise_all<A: Asker>(
     ensures sharp { IfOk result (AreSharpened net.now root.now floors roofs.now) }
     ensures answered { OnOk result (A.answered asker.new ≡ A.answered asker.old + net.now.resources) }
     ensures no_fewer { A.answered asker.old ≤ A.answered asker.new }
-    ensures refusal { IfErr result (IsUnsharpened net.now root.now floors roofs.now (A.answered asker.new - A.answered asker.old)
-        (A.may_stop asker.new) (A.may_want_thread asker.new)) }
+    ensures refusal { IfErr result (IsUnsharpened net.now root.now floors roofs.now
+        (A.answered asker.new - A.answered asker.old) (A.may_stop asker.new) (A.may_want_thread asker.new)) }
 {
     let mut reached = floors;
     for k in 0..net.resource_count() {
@@ -158,7 +160,8 @@ fn refuted_pairs<A: Asker>(
     ensures refuted { IfOk result (λ pairs. AreRefutedPairs net.now root.now floors.now roofs.now pairs.items) }
     ensures answered { OnOk result (A.answered asker.new ≡ A.answered asker.old + pair_count net.now.resources) }
     ensures no_fewer { A.answered asker.old ≤ A.answered asker.new }
-    ensures stop { IfErr result (MayGiveUp (A.may_stop asker.new × (A.answered asker.new - A.answered asker.old < pair_count net.now.resources))
+    ensures stop { IfErr result (MayGiveUp
+        (A.may_stop asker.new × (A.answered asker.new - A.answered asker.old < pair_count net.now.resources))
         (A.may_want_thread asker.new)) }
 {
     let mut pairs = Vec::new(alloc);
@@ -199,7 +202,8 @@ fn is_refuted<A: Asker>(
     requires first { pair.0 < net.now.resources }
     requires second { pair.1 < net.now.resources }
     ensures network { A.network asker.new ≡ A.network asker.old }
-    ensures refuted { IfOk result (λ refuted. IsTrue refuted ↔ IsRefutedPair net.now root.now floors.now roofs.now pair.0 pair.1) }
+    ensures refuted { IfOk result (λ refuted. IsTrue refuted ↔
+        IsRefutedPair net.now root.now floors.now roofs.now pair.0 pair.1) }
     ensures answered { OnOk result (A.answered asker.new ≡ A.answered asker.old + 1) }
     ensures unanswered { OnErr result (A.answered asker.new ≡ A.answered asker.old) }
     ensures stop { IfErr result (MayGiveUp (A.may_stop asker.new) (A.may_want_thread asker.new)) }
@@ -219,7 +223,8 @@ fn pair_capacities(
     requires first { pair.0 < length roofs.now }
     requires second { pair.1 < length roofs.now }
     requires floors { length floors.now ≡ length roofs.now }
-    ensures { IfOk result (λ capacities. capacities ≡ set (set roofs.now pair.0 (slice_index floors.now pair.0)) pair.1 (slice_index floors.now pair.1)) }
+    ensures { IfOk result (λ capacities. capacities ≡
+        set (set roofs.now pair.0 (slice_index floors.now pair.0)) pair.1 (slice_index floors.now pair.1)) }
 {
     let (k, l) = pair;
     let mut units = roofs.as_slice().to_vec(alloc)?;

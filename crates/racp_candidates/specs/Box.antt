@@ -34,7 +34,8 @@ pub record IsInBox (floors roofs : List ℕ) (pairs : List (ℕ × ℕ)) (vector
   pub above_pairs : IsAbovePairs floors pairs vector
 
 -- the questions of the box: one for each of its vectors, in the order of vectors, each with the same window
-pub record AreBoxQuestions (terms : Terms) (floors roofs : List ℕ) (pairs : List (ℕ × ℕ)) (window : Bounds) (questions : List Question) : Type 0 where
+pub record AreBoxQuestions (terms : Terms) (floors roofs : List ℕ) (pairs : List (ℕ × ℕ)) (window : Bounds)
+    (questions : List Question) : Type 0 where
   pub rising : AllPairs (λ a b. IsBefore terms a.capacities b.capacities) questions
   pub windows : All (λ question. question.window ≡ window) questions
   pub members : (vector : List ℕ) → Contains questions (question_of vector window) ↔ IsInBox floors roofs pairs vector

@@ -24,4 +24,5 @@ window_at window i start = record { lower = set window.lower i start; upper = se
 -- a question for each start of the job at place i from its lower to its upper bound
 abbrev pub start_questions : List ℕ → Bounds → ℕ → List Question
 start_questions capacities window i =
-    map (λ start. question_of capacities (window_at window i start)) (numbers_between (slice_index window.lower i) (slice_index window.upper i))
+    map (λ start. question_of capacities (window_at window i start))
+    (numbers_between (slice_index window.lower i) (slice_index window.upper i))

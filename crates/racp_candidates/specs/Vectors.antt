@@ -80,7 +80,8 @@ to_come terms floors roofs vectors = filter (is_reached terms vectors) (in_order
 -- one vector leads to another by adding units, the places after the first that is not done yet being at their floors
 pub record LeadsTo (floors start vector : List ℕ) : Type 0 where
   pub below : (k : ℕ) → k < length floors → slice_index start k ≤ slice_index vector k
-  pub at_floors : (j k : ℕ) → j < k → k < length floors → slice_index start j < slice_index vector j → slice_index start k ≡ slice_index floors k
+  pub at_floors : (j k : ℕ) → j < k → k < length floors → slice_index start j < slice_index vector j →
+      slice_index start k ≡ slice_index floors k
 
 -- a frontier: vectors, each once, that lead to each vector that they reach; what they are children of stands before all
 pub record IsFrontier (terms : Terms) (floors roofs : List ℕ) (vectors : List (List ℕ)) : Type 0 where
@@ -88,8 +89,8 @@ pub record IsFrontier (terms : Terms) (floors roofs : List ℕ) (vectors : List 
   pub once : AllPairs (λ a b. a ≢ b) vectors
   pub leads : (vector : List ℕ) → IsBetween floors roofs vector → is_reached terms vectors vector ≡ true →
       (start : List ℕ) × Contains vectors start × LeadsTo floors start vector
-  pub parents : (parent child other : List ℕ) → IsBetween floors roofs parent → Contains vectors child → IsChild floors roofs parent child →
-      Contains vectors other → IsBefore terms parent other
+  pub parents : (parent child other : List ℕ) → IsBetween floors roofs parent → Contains vectors child →
+      IsChild floors roofs parent child → Contains vectors other → IsBefore terms parent other
 
 -- whether a vector is above its floor of the resource with this number
 abbrev pub is_above : (floors vector : List ℕ) → ℕ → Bool
@@ -97,7 +98,8 @@ is_above floors vector resource = nat_lt (slice_index floors (resource - 1)) (sl
 
 -- whether of each pair it is above one floor
 unfoldable pub is_above_pairs : (floors : List ℕ) → (pairs : List (ℕ × ℕ)) → List ℕ → Bool
-is_above_pairs floors pairs vector = list_all (λ pair. is_above floors vector pair.0 || is_above floors vector pair.1) pairs
+is_above_pairs floors pairs vector =
+    list_all (λ pair. is_above floors vector pair.0 || is_above floors vector pair.1) pairs
 
 -- the vectors that no pair excludes
 unfoldable pub vectors_above : (floors : List ℕ) → (pairs : List (ℕ × ℕ)) → List (List ℕ) → List (List ℕ)
@@ -105,7 +107,8 @@ vectors_above floors pairs vectors = filter (is_above_pairs floors pairs) vector
 
 -- their questions
 unfoldable pub box_questions : (floors : List ℕ) → (pairs : List (ℕ × ℕ)) → Bounds → List (List ℕ) → List Question
-box_questions floors pairs window vectors = map (λ vector. question_of vector window) (vectors_above floors pairs vectors)
+box_questions floors pairs window vectors =
+    map (λ vector. question_of vector window) (vectors_above floors pairs vectors)
 
 -- each vector has a place for each floor
 abbrev pub HavePlaces : (floors : List ℕ) → List (List ℕ) → Type 0

@@ -61,7 +61,8 @@ pub(crate) fn enter(
 ) -> Result<(), AllocError>
     requires prices { ArePrices prices.now owned.now }
     requires units { length units.items ≡ length prices.now }
-    ensures { IfOk result (λ _. IsEntered prices.now owned.now units.items (heap_items heap.old) (heap_items heap.new)) }
+    ensures { IfOk result (λ _. IsEntered prices.now owned.now units.items
+        (heap_items heap.old) (heap_items heap.new)) }
 {
     let cost = cost_of(prices, owned, &units);
     heap.push(Reverse(Entry { cost, units }))?;

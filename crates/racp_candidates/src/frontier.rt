@@ -32,9 +32,11 @@ impl Model for Frontier {
 
     ghost Value = { List (List ℕ) };
 
-    ghost view = { λ s. to_come (terms_of s.prices.items s.owned.items) s.floors.items s.roofs.items (vectors_in (heap_items s.heap)) };
+    ghost view = { λ s. to_come (terms_of s.prices.items s.owned.items) s.floors.items s.roofs.items
+        (vectors_in (heap_items s.heap)) };
 
-    ghost invariant = { λ s. IsFrontierHeap s.prices.items s.owned.items s.floors.items s.roofs.items (heap_items s.heap) };
+    ghost invariant = { λ s. IsFrontierHeap s.prices.items s.owned.items s.floors.items s.roofs.items
+        (heap_items s.heap) };
 }
 
 impl Frontier {
@@ -66,8 +68,8 @@ impl Frontier {
         })
     }
 
-    /// Takes the first vector off, or gives `None` where none is left. The children are put in before their parent is taken
-    /// out, so that nothing changes where memory is refused.
+    /// Takes the first vector off, or gives `None` where none is left. The children are put in before their parent is
+    /// taken out, so that nothing changes where memory is refused.
     pub(crate) fn next(&mut self) -> Result<Option<Vec<u32>>, AllocError>
         ensures { IsNextVector self.old self.new result }
     {

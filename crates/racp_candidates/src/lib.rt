@@ -5,9 +5,9 @@
 //! units.
 //!
 //! A question is whether some starts in a window keep precedence and given capacities, and a series is a list of
-//! questions, given one by one (racp_questions). By the first yes of a series a planner learns the least number of units
-//! of a resource (`Singles`), the cheapest capacities (`Vectors`), the least start of a job (`Starts1`), or whether one
-//! question is a yes (`One`).
+//! questions, given one by one (racp_questions). By the first yes of a series a planner learns the least number of
+//! units of a resource (`Singles`), the cheapest capacities (`Vectors`), the least start of a job (`Starts1`), or
+//! whether one question is a yes (`One`).
 //!
 //! The box has the capacity vectors between floors and roofs that are, of each refuted pair, above the floor of one of
 //! the two resources. `Vectors` asks them in the order of vectors: by cost, of which owned units have none, and at

@@ -7,8 +7,8 @@ ghost use Rattle.racp_candidates.specs.Vectors.{is_above, is_above_pairs, vector
 use crate::frontier::Frontier;
 use std::alloc::AllocError;
 
-/// Takes off the vectors up to the first that no pair excludes, and gives that one; or `None` where none is left. Pairs name
-/// two resources by their numbers, from 1.
+/// Takes off the vectors up to the first that no pair excludes, and gives that one; or `None` where none is left. Pairs
+/// name two resources by their numbers, from 1.
 #[tactic(auto, using(crate::proofs::Above::above_skipped, crate::proofs::Above::above_taken, crate::proofs::Above::above_none, crate::proofs::Above::places_first, crate::proofs::Above::places_rest, crate::proofs::Above::shorter))]
 pub(crate) fn next_above(
     frontier: &mut Frontier,
@@ -17,7 +17,8 @@ pub(crate) fn next_above(
 ) -> Result<Option<Vec<u32>>, AllocError>
     requires pairs { AreNumbers (length floors.now) pairs.now }
     requires places { HavePlaces floors.now frontier.old }
-    ensures next { IsNextVector (vectors_above floors.now pairs.now frontier.old) (vectors_above floors.now pairs.now frontier.new) result }
+    ensures next { IsNextVector (vectors_above floors.now pairs.now frontier.old)
+        (vectors_above floors.now pairs.now frontier.new) result }
     ensures places { HavePlaces floors.now frontier.new }
 {
     while let Some(units) = frontier.next()? {

@@ -7,7 +7,8 @@ use racp_questions::Series;
 use std::alloc::{AllocError, Global};
 use std::marker::Model;
 
-/// A series of one question for each number of units of one resource. Contracts see the list of questions still to come.
+/// A series of one question for each number of units of one resource. Contracts see the list of questions still to
+/// come.
 #[derive(Drop)]
 pub struct Singles {
     alloc: Global,
@@ -26,14 +27,16 @@ impl Model for Singles {
 
     ghost Value = { List Question };
 
-    ghost view = { λ s. map (λ units. question_of (set s.roofs.items s.place units) s.window) (range_with_len s.next (s.end - s.next)) };
+    ghost view = { λ s. map (λ units. question_of (set s.roofs.items s.place units) s.window)
+        (range_with_len s.next (s.end - s.next)) };
 
     ghost invariant = { λ s. (s.place < length s.roofs.items) × (s.end ≤ 2 ^ 32) };
 }
 
 impl Singles {
-    /// One question for each number of units of the resource at this place, from 0, from its floor to its roof, in rising
-    /// order. The other resources have their roofs, and each question has this window. Copies the roofs and the window.
+    /// One question for each number of units of the resource at this place, from 0, from its floor to its roof, in
+    /// rising order. The other resources have their roofs, and each question has this window. Copies the roofs and the
+    /// window.
     ///
     /// # Errors
     ///

@@ -27,15 +27,18 @@ impl Model for Starts1 {
 
     ghost Value = { List Question };
 
-    ghost view = { λ s. map (λ start. question_of s.capacities.items (window_at (record { lower = s.lower.items; upper = s.upper.items }) s.place start)) (range_with_len s.next (s.end - s.next)) };
+    ghost view = { λ s. map (λ start. question_of s.capacities.items
+        (window_at (record { lower = s.lower.items; upper = s.upper.items }) s.place start))
+        (range_with_len s.next (s.end - s.next)) };
 
-    ghost invariant = { λ s. (s.place < length s.lower.items) × (s.place < length s.upper.items) × (s.end ≤ 10000001) × All (λ x. x ≤ 20000000) s.lower.items × All (λ x. x ≤ 10000000) s.upper.items };
+    ghost invariant = { λ s. (s.place < length s.lower.items) × (s.place < length s.upper.items) × (s.end ≤ 10000001) ×
+        All (λ x. x ≤ 20000000) s.lower.items × All (λ x. x ≤ 10000000) s.upper.items };
 }
 
 impl Starts1 {
-    /// One question for each start of the job at this place, from 0, from its lower to its upper bound in the window, in
-    /// rising order. Each question has these capacities, and the window with both bounds of the job at that start. Copies
-    /// the capacities and the window.
+    /// One question for each start of the job at this place, from 0, from its lower to its upper bound in the window,
+    /// in rising order. Each question has these capacities, and the window with both bounds of the job at that start.
+    /// Copies the capacities and the window.
     ///
     /// # Errors
     ///

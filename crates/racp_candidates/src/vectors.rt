@@ -11,9 +11,9 @@ use racp_questions::Series;
 use std::alloc::{AllocError, Global};
 use std::marker::Model;
 
-/// A series of one question for each capacity vector of a box, in the order of vectors: by cost, of which owned units have
-/// none, and at equal cost in lexicographic order. It keeps the vectors that come next, and not the box. Contracts see the
-/// list of questions still to come.
+/// A series of one question for each capacity vector of a box, in the order of vectors: by cost, of which owned units
+/// have none, and at equal cost in lexicographic order. It keeps the vectors that come next, and not the box. Contracts
+/// see the list of questions still to come.
 #[derive(Drop)]
 pub struct Vectors {
     floors: Vec<u32>,
@@ -36,9 +36,9 @@ impl Model for Vectors {
 }
 
 impl Vectors {
-    /// One question for each vector of the box of these floors, roofs and refuted pairs, each with this window. A vector of
-    /// the box is between floors and roofs, by resource, and above one floor of each pair. Pairs name two resources by their
-    /// numbers, from 1.
+    /// One question for each vector of the box of these floors, roofs and refuted pairs, each with this window. A
+    /// vector of the box is between floors and roofs, by resource, and above one floor of each pair. Pairs name two
+    /// resources by their numbers, from 1.
     ///
     /// # Errors
     ///

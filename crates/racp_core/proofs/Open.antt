@@ -5,7 +5,7 @@ use Rattle.std.proofs.lemmas.Bool.{cases_eq, cases_lt}
 use Rattle.racp_model.specs.declared.question.Question.{Question}
 use Rattle.racp_core.specs.Machine.{PieceOut, QuestionRow, KnownYes, opened, row_at, no_row, is_undecided}
 use Rattle.racp_core.specs.Steps.{IsSent, lesser, AreShutFrom}
-use Rattle.racp_core.specs.Rows.{IsAdded, IsCutAt, IsSettledAt}
+use Rattle.racp_core.specs.Rows.{IsAdded, IsCutAt, IsRemovedIfDone}
 use Rattle.racp_core.specs.Truth.{AreUndecided}
 use Rattle.racp_core.proofs.Tests.{undecided_is, undecided_if}
 use Rattle.racp_core.proofs.Answered.{before_lesser, lesser_after}
@@ -38,7 +38,7 @@ open_asked asked question places more h added i = (there, back)
 
 -- one row changes
 pub open_set : (least : Option KnownYes) (asked : List QuestionRow) (index : ℕ) (row : QuestionRow) (places more : List ℕ) → index < length asked → 0 < length (row_at asked index).ready + length (row_at asked index).out →
-    AreUndecided least asked places → IsSettledAt (slice_set asked index row) places index more → AreUndecided least (slice_set asked index row) more
+    AreUndecided least asked places → IsRemovedIfDone (slice_set asked index row) places index more → AreUndecided least (slice_set asked index row) more
 open_set least asked index row places more l busy h settled i = (there, back)
   where
     there : Contains more i → IsTrue (is_undecided least (slice_set asked index row) i)

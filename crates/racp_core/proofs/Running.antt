@@ -57,7 +57,7 @@ after_taken p old seat TakeHalted new step h = follows_same p old new step.2 h
 after_merged : (p : Project) (old : Machine) (finding : SearchFinding) (found : Option (List ℕ)) (new : Machine) → IsFoundOrLeft p finding.piece.question.capacities finding.piece.question.window found (rest_windows finding.piece.question.window finding.rest) →
     IsMerged old finding found new → IsSoundState p old → Follows p old new
 after_merged p old finding (Some starts) new is_true step h =
-    (subst (λ (m : Machine). IsSoundState p m) (sym step.rest) (sound_answered p old finding.piece starts step.row.0 new.asked step.out step.row.1 step.row.2 is_true.0 h), answered_all old finding.piece starts new step)
+    (subst (λ (m : Machine). IsSoundState p m) (sym step.changed) (sound_answered p old finding.piece starts step.row.0 new.asked step.out step.row.1 step.row.2 is_true.0 h), answered_all old finding.piece starts new step)
 after_merged p old finding None new is_true step h = after_returned p old finding.piece (rest_windows finding.piece.question.window finding.rest) new (λ b. is_true) step h
 
 after_handed : (p : Project) (old : Machine) (finding : SearchFinding) (merged : Merged) (new : Machine) → IsTrueFinding p finding → IsHanded old finding merged new → IsSoundState p old → Follows p old new

@@ -7,7 +7,7 @@ use Rattle.racp_model.specs.declared.question.Question.{Question}
 use Rattle.racp_search.specs.Truth.{SearchPiece, IsRestOf, IsFoundOrLeft}
 use Rattle.racp_core.specs.Machine.{PieceOut, QuestionRow, KnownYes, Machine, all_questions, opened, row_at, no_row, is_before}
 use Rattle.racp_core.specs.Steps.{IsOut, IsSent, IsBack, out_of, windows_before, lesser, AreShutFrom, IsReturned, IsAnswered, IsPieceTaken}
-use Rattle.racp_core.specs.Rows.{no_out, IsPlaceIn, IsAdded, IsRemoved, IsSettledAt, IsCutAt}
+use Rattle.racp_core.specs.Rows.{no_out, IsPlaceIn, IsAdded, IsRemoved, IsRemovedIfDone, IsCutAt}
 use Rattle.racp_core.specs.Truth.{IsState}
 use Rattle.racp_core.proofs.Kept.{whole_rest, out_held}
 use Rattle.racp_core.proofs.Questions.{set_same, shut_same, same_trans, same_all}
@@ -50,7 +50,7 @@ busy_there m piece (l, same, (k, within, e)) = omega (arith, within)
 
 -- a piece comes back, with what is left of its window
 pub state_back : (p : Project) (m : Machine) (places more : List ℕ) (piece : SearchPiece) (windows : List Bounds) (row : QuestionRow) → IsOut m piece → IsBack (out_of piece) (windows_before m.least piece.index windows) (row_at m.asked piece.index) row →
-    (IsTrue (is_before m.least piece.index) → IsRestOf p piece.question.capacities piece.question.window windows) → IsSettledAt (slice_set m.asked piece.index row) places piece.index more → IsState p m places →
+    (IsTrue (is_before m.least piece.index) → IsRestOf p piece.question.capacities piece.question.window windows) → IsRemovedIfDone (slice_set m.asked piece.index row) places piece.index more → IsState p m places →
     IsState p (record m { asked = slice_set m.asked piece.index row }) more
 state_back p m places more piece windows row out back rest settled h = record {
   sound = sound_back p m piece.index (out_of piece) windows row out.0 back (λ b. subst (λ (c : List ℕ). IsRestOf p c piece.question.window windows) out.1 (rest b)) h.sound;
@@ -60,10 +60,10 @@ state_back p m places more piece windows row out back rest settled h = record {
 -- so it does where the code looks at its place
 pub state_put : (p : Project) (m now : Machine) (places more : List ℕ) (piece : SearchPiece) (at index : ℕ) (opens : Bool) (windows : List Bounds) (row new : QuestionRow) → m ≡ now → index ≡ piece.index → IsPlaceIn now.asked piece at →
     opens ≡ is_before now.least index → row ≡ slice_index_or m.asked index row → IsBack (slice_index_or row.out at no_out) (if opens then windows else []) row new →
-    (IsTrue (is_before m.least piece.index) → IsRestOf p piece.question.capacities piece.question.window windows) → IsSettledAt (slice_set m.asked index new) places index more → IsState p m places → IsState p (record m { asked = slice_set m.asked index new }) more
+    (IsTrue (is_before m.least piece.index) → IsRestOf p piece.question.capacities piece.question.window windows) → IsRemovedIfDone (slice_set m.asked index new) places index more → IsState p m places → IsState p (record m { asked = slice_set m.asked index new }) more
 state_put p m now places more piece at index opens windows row new same e place is here back rest settled h =
     subst (λ (k : ℕ). IsState p (record m { asked = slice_set m.asked k new }) more) (sym e)
-    (state_back p m places more piece windows new (place_out m piece at there) moved rest (subst (λ (k : ℕ). IsSettledAt (slice_set m.asked k new) places k more) e settled) h)
+    (state_back p m places more piece windows new (place_out m piece at there) moved rest (subst (λ (k : ℕ). IsRemovedIfDone (slice_set m.asked k new) places k more) e settled) h)
   where
     there : IsPlaceIn m.asked piece at
     there = subst (λ (x : Machine). IsPlaceIn x.asked piece at) (sym same) place
@@ -94,7 +94,7 @@ pub found_answers : (p : Project) (capacities : List ℕ) (window : Bounds) (fou
 found_answers p capacities window found starts rest h e = (subst (λ (f : Option (List ℕ)). IsFoundOrLeft p capacities window f rest) e h).0
 
 -- a place of which nothing is open or out is removed
-pub settled_done : (asked : List QuestionRow) (index : ℕ) (row : QuestionRow) (old new : List ℕ) → index < length asked → row ≡ slice_index_or asked index row → length row.ready + length row.out ≡ 0 → IsRemoved old index new → IsSettledAt asked old index new
+pub settled_done : (asked : List QuestionRow) (index : ℕ) (row : QuestionRow) (old new : List ℕ) → index < length asked → row ≡ slice_index_or asked index row → length row.ready + length row.out ≡ 0 → IsRemoved old index new → IsRemovedIfDone asked old index new
 settled_done asked index row old new l here none removed i =
     let e : row ≡ row_at asked index = get_or_read asked index row l here no_row in
     let done : length (row_at asked index).ready + length (row_at asked index).out ≡ 0 = subst (λ (r : QuestionRow). length r.ready + length r.out ≡ 0) e none in
@@ -120,7 +120,7 @@ returned_all old piece windows new h =
 
 pub answered_all : (old : Machine) (piece : SearchPiece) (starts : List ℕ) (new : Machine) → IsAnswered old piece starts new → all_questions new ≡ all_questions old
 answered_all old piece starts new h =
-    ap all_questions h.rest ∙ same_all old.asked new.asked old.to_come
+    ap all_questions h.changed ∙ same_all old.asked new.asked old.to_come
     (same_trans old.asked (slice_set old.asked piece.index h.row.0) new.asked (set_same old.asked piece.index h.row.0 h.out.0 h.row.1.0) (shut_same piece.index (slice_set old.asked piece.index h.row.0) new.asked h.row.2))
 
 -- a row is written as it was read
@@ -128,8 +128,8 @@ pub state_read : (p : Project) (m : Machine) (places : List ℕ) (index : ℕ) (
 state_read p m places index row new l here same h = state_same p m places index new (same ∙ get_or_read m.asked index row l here no_row) l h
 
 -- what the code does where a piece comes back with a yes
-module _ (m now : Machine) (places more : List ℕ) (piece : SearchPiece) (at index : ℕ) (starts : List ℕ) (row new : QuestionRow) (next : List QuestionRow) (best : KnownYes) (same : m ≡ now) (e : index ≡ piece.index) (place : IsPlaceIn now.asked piece at)
-    (here : row ≡ slice_index_or m.asked index row) (back : IsBack (slice_index_or row.out at no_out) [] row new) (shutting : AreShutFrom index (slice_set m.asked index new) next) (lesser_is : best ≡ lesser m.least (record { index = index; starts = starts })) where
+module _ (m now : Machine) (places more : List ℕ) (piece : SearchPiece) (at index : ℕ) (starts : List ℕ) (row new : QuestionRow) (next : List QuestionRow) (least : KnownYes) (same : m ≡ now) (e : index ≡ piece.index) (place : IsPlaceIn now.asked piece at)
+    (here : row ≡ slice_index_or m.asked index row) (back : IsBack (slice_index_or row.out at no_out) [] row new) (shutting : AreShutFrom index (slice_set m.asked index new) next) (lesser_is : least ≡ lesser m.least (record { index = index; starts = starts })) where
   yes_place : IsPlaceIn m.asked piece at
   yes_place = subst (λ (x : Machine). IsPlaceIn x.asked piece at) (sym same) place
 
@@ -142,16 +142,16 @@ module _ (m now : Machine) (places more : List ℕ) (piece : SearchPiece) (at in
   yes_shut : AreShutFrom piece.index (slice_set m.asked piece.index new) next
   yes_shut = subst (λ (k : ℕ). AreShutFrom k (slice_set m.asked k new) next) e shutting
 
-  yes_least : best ≡ lesser m.least (record { index = piece.index; starts = starts })
+  yes_least : least ≡ lesser m.least (record { index = piece.index; starts = starts })
   yes_least = lesser_is ∙ ap (λ (k : ℕ). lesser m.least (record { index = k; starts = starts })) e
 
-  pub state_yes : (p : Project) → IsCutAt places index more → Answers p piece.question.capacities piece.question.window starts → IsState p m places → IsState p (record m { asked = next; least = Some best }) more
+  pub state_yes : (p : Project) → IsCutAt places index more → Answers p piece.question.capacities piece.question.window starts → IsState p m places → IsState p (record m { asked = next; least = Some least }) more
   state_yes p cutting answer h =
       rw yes_least (state_answered p m places more piece starts new next (place_out m piece at yes_place) yes_back yes_shut (subst (λ (k : ℕ). IsCutAt places k more) e cutting) answer h)
 
-  pub yes_step : IsAnswered now piece starts (record m { asked = next; least = Some best })
-  yes_step = subst (λ (x : Machine). IsAnswered x piece starts (record m { asked = next; least = Some best })) same (record {
+  pub yes_step : IsAnswered now piece starts (record m { asked = next; least = Some least })
+  yes_step = subst (λ (x : Machine). IsAnswered x piece starts (record m { asked = next; least = Some least })) same (record {
     out = place_out m piece at yes_place;
     row = (new, yes_back, yes_shut);
-    rest = rw yes_least refl;
+    changed = rw yes_least refl;
   })

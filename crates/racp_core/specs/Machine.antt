@@ -22,8 +22,8 @@ pub record KnownYes : Type 0 where
   pub index : ℕ
   pub starts : List ℕ
 
--- a state: the questions that were asked, those still to come, the least yes that is known, how many pieces were taken (so the
--- next number), whether the series has ended, and whether the collector was halted
+-- a state: the questions that were asked, those still to come, the least yes that is known, how many pieces were taken
+-- (so the next number), whether the series has ended, and whether the collector was halted
 pub record Machine : Type 0 where
   pub asked : List QuestionRow
   pub to_come : List Question
@@ -73,7 +73,8 @@ IsSettledBy None ended asked = IsTrue ended × AreDone asked (length asked)
 abbrev pub IsSettled : Machine → Type 0
 IsSettled m = IsSettledBy m.least m.ended m.asked
 
--- whether the asked question at a place is not decided: it stands before the least yes, and something of it is open or out
+-- whether the asked question at a place is not decided: it stands before the least yes, and something of it is open or
+-- out
 abbrev pub is_undecided : Option KnownYes → List QuestionRow → ℕ → Bool
 is_undecided least asked i = is_before least i && nat_lt 0 (length (row_at asked i).ready + length (row_at asked i).out)
 

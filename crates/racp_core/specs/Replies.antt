@@ -23,7 +23,8 @@ use Rattle.racp_core.specs.declared.replies.Outcome.TheVariants.{First as FirstO
 -- asking: the next question, of a collector that runs and knows no yes, where there is one
 abbrev pub IsAsked : Machine → Asked → Machine → Type 0
 IsAsked old (Next index) new = IsNextAsked old new index
-IsAsked old End new = (old.halted ≡ false) × (old.least ≡ None) × (old.to_come ≡ []) × (new ≡ record old { ended = true })
+IsAsked old End new = (old.halted ≡ false) × (old.least ≡ None) × (old.to_come ≡ []) ×
+    (new ≡ record old { ended = true })
 IsAsked old Enough new = (old.halted ≡ false) × (old.least ≡ None → ⊥) × (new ≡ old)
 IsAsked old AskHalted new = (old.halted ≡ true) × (new ≡ old)
 
@@ -44,7 +45,8 @@ IsTaken old seat TakeHalted new = (IsSettled old → ⊥) × (old.halted ≡ tru
 -- a finding comes in with a yes, or with what is left
 abbrev pub IsMerged : Machine → SearchFinding → Option (List ℕ) → Machine → Type 0
 IsMerged old finding (Some starts) new = IsAnswered old finding.piece starts new
-IsMerged old finding None new = IsReturned old finding.piece (rest_windows finding.piece.question.window finding.rest) new
+IsMerged old finding None new =
+    IsReturned old finding.piece (rest_windows finding.piece.question.window finding.rest) new
 
 -- handing in a finding
 abbrev pub IsHanded : Machine → SearchFinding → Merged → Machine → Type 0
@@ -74,10 +76,12 @@ IsOutcome m (FirstOutcome index starts) = IsSettled m × (m.least ≡ Some (reco
 IsOutcome m NoYesOutcome = IsSettled m × (m.least ≡ None)
 IsOutcome m (Open index) = (IsSettled m → ⊥) × IsFirstOpen m index
 
--- what an answer says of the list of all questions: the first yes; that there is none; or that each before a place is a no
+-- what an answer says of the list of all questions: the first yes; that there is none; or that each before a place is a
+-- no
 abbrev pub IsYesKnown : Project → List Question → ℕ → List ℕ → Type 0
 IsYesKnown p questions index starts =
-    IsFirstYes p questions (Some index) × Answers p (question_at questions index).capacities (question_at questions index).window starts
+    IsFirstYes p questions (Some index) ×
+    Answers p (question_at questions index).capacities (question_at questions index).window starts
 
 abbrev pub IsKnown : Project → List Question → Verdict → Type 0
 IsKnown p questions (First index starts) = IsYesKnown p questions index starts.now
@@ -89,8 +93,8 @@ IsOutcomeKnown p questions (FirstOutcome index starts) = IsYesKnown p questions 
 IsOutcomeKnown p questions NoYesOutcome = IsFirstYes p questions None
 IsOutcomeKnown p questions (Open index) = AreNoBefore p questions index
 
--- the capacities that were reached where the answer is open: those of the first open question, of the last asked where that one
--- is not asked, or none
+-- the capacities that were reached where the answer is open: those of the first open question, of the last asked where
+-- that one is not asked, or none
 abbrev pub capacities_at : List QuestionRow → ℕ → Option (List ℕ)
 capacities_at asked place = option_map (λ row. row.question.capacities) (slice_get asked (min place (length asked - 1)))
 

@@ -39,9 +39,10 @@ abbrev pub IsCutAt : List ℕ → ℕ → List ℕ → Type 0
 IsCutAt old end new = (i : ℕ) → Contains new i ↔ (Contains old i × (i < end))
 
 -- a place stays where its question has something open or out
-abbrev pub IsSettledAt : List QuestionRow → List ℕ → ℕ → List ℕ → Type 0
-IsSettledAt asked old place new =
-    (i : ℕ) → Contains new i ↔ (Contains old i × (i ≡ place → 0 < length (row_at asked place).ready + length (row_at asked place).out))
+abbrev pub IsRemovedIfDone : List QuestionRow → List ℕ → ℕ → List ℕ → Type 0
+IsRemovedIfDone asked old place new =
+    (i : ℕ) → Contains new i ↔
+    (Contains old i × (i ≡ place → 0 < length (row_at asked place).ready + length (row_at asked place).out))
 
 -- the first of some places, in order
 pub record IsFirstPlace (places : List ℕ) (place : ℕ) : Type 0 where
@@ -56,11 +57,13 @@ pub record IsFirstReady (asked : List QuestionRow) (places : List ℕ) (place : 
   pub least : (i : ℕ) → Contains places i → i < place → (row_at asked i).ready ≡ []
 
 -- the next question, if there is one, is asked
-pub record IsOpening (question : Question) (asked : List QuestionRow) (places : List ℕ) (rows : List QuestionRow) (more : List ℕ) : Type 0 where
+pub record IsOpening (question : Question) (asked : List QuestionRow) (places : List ℕ) (rows : List QuestionRow)
+    (more : List ℕ) : Type 0 where
   pub asked_next : rows ≡ asked ++ opened question ∷ []
   pub added : IsAdded places (length asked) more
 
-abbrev pub IsOpenedIf : Option Question → List QuestionRow → List ℕ → Bool → Option Question → List QuestionRow → List ℕ → Type 0
+abbrev pub IsOpenedIf : Option Question → List QuestionRow → List ℕ → Bool → Option Question → List QuestionRow →
+    List ℕ → Type 0
 IsOpenedIf (Some question) asked places true next rows more = (next ≡ None) × IsOpening question asked places rows more
 IsOpenedIf (Some question) asked places false next rows more = ⊥
 IsOpenedIf None asked places true next rows more = ⊥

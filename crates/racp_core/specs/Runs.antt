@@ -34,11 +34,12 @@ Run start (call ∷ calls) end = (next : Machine) × Step start call next × Run
 
 -- the findings that are handed in are true
 abbrev pub AreTrueFindings : Project → List Call → Type 0
-AreTrueFindings p calls = (finding : SearchFinding) (merged : Merged) → Contains calls (Hand finding merged) → IsTrueFinding p finding
+AreTrueFindings p calls = (finding : SearchFinding) (merged : Merged) → Contains calls (Hand finding merged) →
+    IsTrueFinding p finding
 
--- whatever calls a collector has had, in any order: where the findings were true and the questions had the network's form, the
--- facts hold of its state, and its questions, asked and still to come, are those of the series
+-- whatever calls a collector has had, in any order: where the findings were true and the questions had the network's
+-- form, the facts hold of its state, and its questions, asked and still to come, are those of the series
 abbrev pub RunsAreSound : Type 0
 RunsAreSound =
-    (p : Project) (questions : List Question) (calls : List Call) (m : Machine) → AreFormed p questions → AreTrueFindings p calls →
-    Run (fresh questions) calls m → IsSoundState p m × (all_questions m ≡ questions)
+    (p : Project) (questions : List Question) (calls : List Call) (m : Machine) → AreFormed p questions →
+    AreTrueFindings p calls → Run (fresh questions) calls m → IsSoundState p m × (all_questions m ≡ questions)

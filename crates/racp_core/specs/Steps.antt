@@ -22,13 +22,14 @@ pub record IsNextAsked (old new : Machine) (index : ℕ) : Type 0 where
   pub running : old.halted ≡ false
   pub unknown : old.least ≡ None
   pub next : index ≡ length old.asked
-  pub first : (question : Question) × (rest : List Question) × (old.to_come ≡ question ∷ rest) ×
-      (new ≡ record old { asked = old.asked ++ opened question ∷ []; to_come = rest })
+  pub first : (question : Question) × (later : List Question) × (old.to_come ≡ question ∷ later) ×
+      (new ≡ record old { asked = old.asked ++ opened question ∷ []; to_come = later })
 
 -- any open window of a question goes out
 abbrev pub IsSent : PieceOut → QuestionRow → QuestionRow → Type 0
 IsSent piece old new =
-    (new.question ≡ old.question) × IsPermutation old.ready (piece.window ∷ new.ready) × (new.out ≡ old.out ++ piece ∷ [])
+    (new.question ≡ old.question) × IsPermutation old.ready (piece.window ∷ new.ready) ×
+    (new.out ≡ old.out ++ piece ∷ [])
 
 -- the least question before the least yes that has an open window
 pub record IsLeastOpen (m : Machine) (index : ℕ) : Type 0 where
@@ -62,7 +63,8 @@ windows_before least i windows = if is_before least i then windows else []
 -- a piece is in without a yes, and these windows are open in its place
 pub record IsReturned (old : Machine) (piece : SearchPiece) (windows : List Bounds) (new : Machine) : Type 0 where
   pub out : IsOut old piece
-  pub row : (row : QuestionRow) × IsBack (out_of piece) (windows_before old.least piece.index windows) (row_at old.asked piece.index) row ×
+  pub row : (row : QuestionRow) × IsBack (out_of piece) (windows_before old.least piece.index windows)
+      (row_at old.asked piece.index) row ×
       (new ≡ record old { asked = slice_set old.asked piece.index row })
 
 -- the lesser of a yes and the least that was known
@@ -85,7 +87,10 @@ pub record IsAnswered (old : Machine) (piece : SearchPiece) (starts : List ℕ) 
   pub out : IsOut old piece
   pub row : (row : QuestionRow) × IsBack (out_of piece) [] (row_at old.asked piece.index) row ×
       AreShutFrom piece.index (slice_set old.asked piece.index row) new.asked
-  pub rest : new ≡ record old { asked = new.asked; least = Some (lesser old.least (record { index = piece.index; starts = starts })) }
+  pub changed : new ≡ record old {
+    asked = new.asked;
+    least = Some (lesser old.least (record { index = piece.index; starts = starts }));
+  }
 
 -- how many windows a rest lists
 abbrev pub listed : Rest → ℕ

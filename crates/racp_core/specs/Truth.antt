@@ -18,10 +18,12 @@ IsKept p row = IsRestOf p row.question.capacities row.question.window (held_wind
 abbrev pub HasAnswer : Project → List QuestionRow → Option KnownYes → Type 0
 HasAnswer p asked None = Unit {0}
 HasAnswer p asked (Some y) =
-    (y.index < length asked) × Answers p (row_at asked y.index).question.capacities (row_at asked y.index).question.window y.starts
+    (y.index < length asked) ×
+    Answers p (row_at asked y.index).question.capacities (row_at asked y.index).question.window y.starts
 
--- of each question before the least yes what is open or out covers its window and lies inside it; the least yes answers; no
--- window is open from there on; the questions have the network's form; and where the series has ended none is to come
+-- of each question before the least yes what is open or out covers its window and lies inside it; the least yes
+-- answers; no window is open from there on; the questions have the network's form; and where the series has ended none
+-- is to come
 pub record IsSoundState (p : Project) (m : Machine) : Type 0 where
   pub kept : (i : ℕ) → i < length m.asked → IsTrue (is_before m.least i) → IsKept p (row_at m.asked i)
   pub answers : HasAnswer p m.asked m.least

@@ -22,12 +22,12 @@ mod taking;
 
 /// The least yes that is known.
 #[derive(Drop)]
-struct Best {
+struct LeastYes {
     index: usize,
     starts: Starts,
 }
 
-impl Model for Best {
+impl Model for LeastYes {
     ghost use Rattle.racp_core.specs.Machine.{KnownYes};
 
     ghost Value = { KnownYes };
@@ -43,7 +43,7 @@ pub struct Core<N: OfNetwork, S: Series> {
     next: Option<Question>,
     rows: Vec<Row>,
     undecided: Undecided,
-    best: Option<Best>,
+    least: Option<LeastYes>,
     taken: u64,
     ended: bool,
     halted: bool,
@@ -57,14 +57,28 @@ impl<N: OfNetwork, S: Series> Model for Core<N, S> {
 
     ghost Value = { Machine };
 
-    ghost view = { λ c. record { asked = c.rows.items; to_come = option_to_list c.next ++ S.questions c.series; least = c.best; taken = c.taken; ended = c.ended; halted = c.halted } };
+    ghost view = { λ c. record {
+      asked = c.rows.items;
+      to_come = option_to_list c.next ++ S.questions c.series;
+      least = c.least;
+      taken = c.taken;
+      ended = c.ended;
+      halted = c.halted;
+    } };
 
-    ghost invariant = { λ c. IsState N.network (record { asked = c.rows.items; to_come = option_to_list c.next ++ S.questions c.series; least = c.best; taken = c.taken; ended = c.ended; halted = c.halted }) c.undecided };
+    ghost invariant = { λ c. IsState N.network (record {
+      asked = c.rows.items;
+      to_come = option_to_list c.next ++ S.questions c.series;
+      least = c.least;
+      taken = c.taken;
+      ended = c.ended;
+      halted = c.halted;
+    }) c.undecided };
 }
 
 impl<N: OfNetwork, S: Series> Core<N, S> {
-    /// A collector of which no question was asked. The network is the one that `N` names, and the questions have its form: a
-    /// capacity for each resource, and bounds for each job. Takes no memory.
+    /// A collector of which no question was asked. The network is the one that `N` names, and the questions have its
+    /// form: a capacity for each resource, and bounds for each job. Takes no memory.
     pub fn new(alloc: Global, net: &Network, series: S) -> Self
         requires named { net.now ≡ N.network }
         requires formed { AreFormed net.now (S.questions series) }
@@ -77,7 +91,7 @@ impl<N: OfNetwork, S: Series> Core<N, S> {
             next: None,
             rows: Vec::new(alloc),
             undecided: Undecided::new(alloc),
-            best: None,
+            least: None,
             taken: 0,
             ended: false,
             halted: false,
@@ -93,9 +107,9 @@ impl<N: OfNetwork, S: Series> Core<N, S> {
         self.halted = true;
     }
 
-    /// How many pieces were taken: the number of the next one. Who reads it sees what is true of each state of a collector: of each
-    /// question before the least yes, what is open or out covers its window and lies inside it, and the least yes answers. Takes no
-    /// memory.
+    /// How many pieces were taken: the number of the next one. Who reads it sees what is true of each state of a
+    /// collector: of each question before the least yes, what is open or out covers its window and lies inside it, and
+    /// the least yes answers. Takes no memory.
     pub fn taken(&self) -> u64
         ensures taken { result ≡ self.now.taken }
         ensures sound { IsSoundState N.network self.now }
@@ -103,8 +117,8 @@ impl<N: OfNetwork, S: Series> Core<N, S> {
         self.taken
     }
 
-    /// How many of the questions that were asked are not decided: each of them stands before the least yes that is known, and a
-    /// window of it is open or out. Takes no memory.
+    /// How many of the questions that were asked are not decided: each of them stands before the least yes that is
+    /// known, and a window of it is open or out. Takes no memory.
     pub fn undecided(&self) -> usize
         ensures { result ≡ undecided_count self.now }
     {
@@ -138,8 +152,8 @@ impl<N: OfNetwork, S: Series> Core<N, S> {
     fn is_before(&self, index: usize) -> bool
         ensures { result ≡ is_before self.now.least index }
     {
-        match &self.best {
-            Some(best) => index < best.index,
+        match &self.least {
+            Some(least) => index < least.index,
             None => true,
         }
     }

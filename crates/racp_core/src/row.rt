@@ -143,7 +143,8 @@ impl Row {
     /// Where the piece stands among those that are out.
     pub(crate) fn place_of<N: OfNetwork>(&self, piece: &Piece<N>) -> Option<usize>
         ensures some { IfSome result (IsPlace self.now piece.now) }
-        ensures none { IfNone result (piece.now.question.capacities ≡ self.now.question.capacities → Contains self.now.out (out_of piece.now) → ⊥) }
+        ensures none { IfNone result (piece.now.question.capacities ≡ self.now.question.capacities →
+            Contains self.now.out (out_of piece.now) → ⊥) }
     {
         if piece.question().capacities.as_slice() != self.question.capacities.as_slice() {
             return None;
@@ -169,7 +170,8 @@ impl Row {
         opens: bool,
     ) -> Result<(), (Finding<N>, AllocError)>
         requires { at < length self.old.out }
-        ensures ok { IfOk result (λ _. IsBack (slice_index_or self.old.out at no_out) (if opens then rest_windows finding.piece.question.window finding.rest else []) self.old self.new) }
+        ensures ok { IfOk result (λ _. IsBack (slice_index_or self.old.out at no_out)
+            (if opens then rest_windows finding.piece.question.window finding.rest else []) self.old self.new) }
         ensures err { IfErr result (λ e. (self.new ≡ self.old) × (e.0 ≡ finding) × (0 < listed finding.rest)) }
     {
         if !opens {

@@ -82,7 +82,8 @@ impl Undecided {
     /// The first place at which the question has an open window.
     pub(crate) fn first_ready(&self, rows: &[Row]) -> Option<usize>
         ensures some { IfSome result (IsFirstReady rows.now self.now) }
-        ensures none { IfNone result ((i : ℕ) → Contains self.now i → i < length rows.now → (row_at rows.now i).ready ≡ []) }
+        ensures none { IfNone result ((i : ℕ) → Contains self.now i → i < length rows.now →
+            (row_at rows.now i).ready ≡ []) }
     {
         for &place in &self.places {
             if place < rows.len() && rows[place].has_open() {

@@ -192,7 +192,7 @@ module _ (m : Machine) (piece : SearchPiece) (work : IsAtWork m piece) where
   -- its finding with a yes is in: the answer is known
   pub known : (starts : List ℕ) (new : Machine) → IsAnswered m piece starts new → IsSettled new
   known starts new answered =
-      settled_at (record { index = piece.index; starts = starts }) m.least new.least new.ended new.asked work.unknown (ap (λ (n : Machine). n.least) answered.rest)
+      settled_at (record { index = piece.index; starts = starts }) m.least new.least new.ended new.asked work.unknown (ap (λ (n : Machine). n.least) answered.changed)
       (λ i l. subst IsDone
       (sym (answered.row.2.before i l ∙ get_or-set_other m.asked piece.index i answered.row.0 no_row (λ e. omega (arith, e, l)))) (work.done i l))
 

@@ -29,13 +29,15 @@ AreNoBefore p questions n = (i : ℕ) → i < n → IsNoAt p questions i
 
 -- the first yes of a list of questions: the least index whose question is a yes, or none where each question is a no
 abbrev pub IsFirstYes : Project → List Question → Option ℕ → Type 0
-IsFirstYes p questions (Some index) = (index < length questions) × IsYesAt p questions index × AreNoBefore p questions index
+IsFirstYes p questions (Some index) = (index < length questions) × IsYesAt p questions index ×
+    AreNoBefore p questions index
 IsFirstYes p questions None = AreNoBefore p questions (length questions)
 
 -- the first yes with starts that answer its question, or that there is none
 abbrev pub IsFirst : Project → List Question → First → Type 0
 IsFirst p questions (Yes index starts) =
-    IsFirstYes p questions (Some index) × Answers p (question_at questions index).capacities (question_at questions index).window starts
+    IsFirstYes p questions (Some index) ×
+    Answers p (question_at questions index).capacities (question_at questions index).window starts
 IsFirst p questions NoYes = IsFirstYes p questions None
 
 -- where a search was stopped: at the capacities of a question before which each question is a no, or at none
@@ -57,5 +59,7 @@ IsTold p questions told Memory = ⊤
 IsTold p questions told NoThread = ⊤
 
 -- why the first yes is not known: a reason for which the asker may give up, and what it tells
-abbrev pub IsStop : Project → List Question → (told : Option (List ℕ)) → (may_stop may_want_thread : Type 0) → AskStop → Type 0
-IsStop p questions told may_stop may_want_thread stop = MayGiveUp may_stop may_want_thread stop × IsTold p questions told stop
+abbrev pub IsStop : Project → List Question → (told : Option (List ℕ)) →
+    (may_stop may_want_thread : Type 0) → AskStop → Type 0
+IsStop p questions told may_stop may_want_thread stop =
+    MayGiveUp may_stop may_want_thread stop × IsTold p questions told stop

@@ -7,4 +7,5 @@ use Rattle.racp_questions.specs.FirstYes.{IsFirstYes}
 -- a list of questions has at most one first yes
 abbrev pub FirstYesIsOne : Type 0
 FirstYesIsOne =
-    (p : Project) (questions : List Question) (a b : Option ℕ) → IsFirstYes p questions a → IsFirstYes p questions b → a ≡ b
+    (p : Project) (questions : List Question) (a b : Option ℕ) → IsFirstYes p questions a → IsFirstYes p questions b →
+    a ≡ b

@@ -38,8 +38,8 @@ impl From<AllocError> for AskStop {
     }
 }
 
-/// Finds the first yes of a series of questions about one network. Contracts see which network that is, how many series the
-/// asker has answered, what it told when it last stopped, and for which reasons it may give up.
+/// Finds the first yes of a series of questions about one network. Contracts see which network that is, how many series
+/// the asker has answered, what it told when it last stopped, and for which reasons it may give up.
 pub trait Asker {
     ghost use Rattle.std.specs.Prelude.{◌≡◌, ℕ, ◌+◌, List, Option, OnOk, OnErr, IfOk, IfErr};
     ghost use Rattle.racp_model.specs.Project.{Project};
@@ -57,13 +57,13 @@ pub trait Asker {
     ghost may_want_thread: { Self → Type 0 };
 
     /// The first yes of the series, with starts in that question's window that keep precedence and its capacities. The
-    /// network is the one that the asker is about, and the questions have its form: a capacity for each resource, and bounds
-    /// for each job.
+    /// network is the one that the asker is about, and the questions have its form: a capacity for each resource, and
+    /// bounds for each job.
     ///
     /// # Errors
     ///
-    /// The search was stopped, or no thread could be started, each only where the asker's meaning after the call says that
-    /// it may; or memory was refused. Such a series does not count as answered.
+    /// The search was stopped, or no thread could be started, each only where the asker's meaning after the call says
+    /// that it may; or memory was refused. Such a series does not count as answered.
     fn first<S: Series + Send>(&mut self, net: &Network, series: S) -> Result<First, AskStop>
         requires named { net.now ≡ network self.old }
         requires formed { AreFormed net.now (S.questions series) }

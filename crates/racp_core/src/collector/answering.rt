@@ -21,10 +21,10 @@ impl<N: OfNetwork, S: Series> Core<N, S> {
         if let Some(first_open) = self.undecided.first() {
             return Verdict::Pending { first_open };
         }
-        match &self.best {
-            Some(best) => Verdict::First {
-                index: best.index,
-                starts: &best.starts,
+        match &self.least {
+            Some(least) => Verdict::First {
+                index: least.index,
+                starts: &least.starts,
             },
             None => {
                 if self.ended {
@@ -38,8 +38,8 @@ impl<N: OfNetwork, S: Series> Core<N, S> {
         }
     }
 
-    /// The same, with the starts moved out. Where the answer is open, also the capacities that were reached: those of the first
-    /// open question, of the last asked where that one is not asked, or none. Takes no memory.
+    /// The same, with the starts moved out. Where the answer is open, also the capacities that were reached: those of
+    /// the first open question, of the last asked where that one is not asked, or none. Takes no memory.
     pub fn into_answer(self) -> (Outcome, Option<Capacities>)
         ensures answer { IsOutcome self result.0 }
         ensures known { IsOutcomeKnown N.network (all_questions self) result.0 }
@@ -47,16 +47,11 @@ impl<N: OfNetwork, S: Series> Core<N, S> {
         ensures reached { IsReached N.network (all_questions self) result.1 }
     {
         let Core {
-            alloc: _,
-            series: _series,
-            next: _next,
             rows,
             undecided,
-            best,
-            taken: _,
+            least,
             ended,
-            halted: _,
-            of: _,
+            ..
         } = self;
         if let Some(first_open) = undecided.first() {
             return (
@@ -64,11 +59,11 @@ impl<N: OfNetwork, S: Series> Core<N, S> {
                 capacities_of(rows, first_open),
             );
         }
-        match best {
-            Some(best) => (
+        match least {
+            Some(least) => (
                 Outcome::First {
-                    index: best.index,
-                    starts: best.starts,
+                    index: least.index,
+                    starts: least.starts,
                 },
                 None,
             ),

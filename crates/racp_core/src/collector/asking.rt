@@ -29,7 +29,7 @@ impl<N: OfNetwork, S: Series> Core<N, S> {
         if self.halted {
             return Ok(Asked::Halted);
         }
-        if self.best.is_some() {
+        if self.least.is_some() {
             return Ok(Asked::Enough);
         }
         fetch(&mut self.next, &mut self.series)?;
@@ -65,7 +65,8 @@ fn open(
     rows: &mut Vec<Row>,
     undecided: &mut Undecided,
 ) -> Result<bool, AllocError>
-    ensures ok { IfOk result (λ some. IsOpenedIf next.old rows.old.items undecided.old some next.new rows.new.items undecided.new) }
+    ensures ok { IfOk result (λ some. IsOpenedIf next.old rows.old.items undecided.old some
+        next.new rows.new.items undecided.new) }
     ensures next { IfErr result (λ _. next.new ≡ next.old) }
     ensures rows { IfErr result (λ _. rows.new.items ≡ rows.old.items) }
     ensures undecided { IfErr result (λ _. undecided.new ≡ undecided.old) }

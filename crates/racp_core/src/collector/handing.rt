@@ -5,10 +5,10 @@ ghost use Rattle.racp_model.specs.Window.{Answers};
 ghost use Rattle.racp_search.specs.Truth.{rest_windows};
 ghost use Rattle.racp_core.specs.Machine.{all_questions, row_at};
 ghost use Rattle.racp_core.specs.Steps.{IsOut, IsReturned, IsAnswered, AreShutFrom, lesser, listed};
-ghost use Rattle.racp_core.specs.Rows.{IsPlaceIn, IsSettledAt, IsCutAt};
+ghost use Rattle.racp_core.specs.Rows.{IsPlaceIn, IsRemovedIfDone, IsCutAt};
 ghost use Rattle.racp_core.specs.Runs.{Step, Hand, GiveBack};
 
-use super::{Best, Core};
+use super::{Core, LeastYes};
 use crate::replies::Merged;
 use crate::row::Row;
 use crate::undecided::Undecided;
@@ -18,9 +18,9 @@ use racp_search::{Finding, Piece};
 use std::alloc::AllocError;
 
 impl<N: OfNetwork, S: Series> Core<N, S> {
-    /// Takes in a finding. A yes discards the open windows of its question and of each later one; else what is left of the piece
-    /// is open again, where its question stands before each known yes. Whether the finding is true is not tested: its type keeps
-    /// that.
+    /// Takes in a finding. A yes discards the open windows of its question and of each later one; else what is left of
+    /// the piece is open again, where its question stands before each known yes. Whether the finding is true is not
+    /// tested: its type keeps that.
     ///
     /// # Errors
     ///
@@ -28,7 +28,8 @@ impl<N: OfNetwork, S: Series> Core<N, S> {
     pub fn hand(&mut self, finding: Finding<N>) -> Result<Merged, (Finding<N>, AllocError)>
         ensures step { IfOk result (λ merged. Step self.old (Hand finding merged) self.new) }
         ensures questions { all_questions self.new ≡ all_questions self.old }
-        ensures err { IfErr result (λ e. (self.new ≡ self.old) × (e.0 ≡ finding) × (finding.found ≡ None) × (0 < listed finding.rest)) }
+        ensures err { IfErr result (λ e. (self.new ≡ self.old) × (e.0 ≡ finding) × (finding.found ≡ None) ×
+            (0 < listed finding.rest)) }
     {
         let Some(at) = self.place(finding.piece()) else {
             let _ = finding.into_found();
@@ -46,8 +47,8 @@ impl<N: OfNetwork, S: Series> Core<N, S> {
         Ok(Merged::Taken)
     }
 
-    /// Takes back a piece that was not searched: its window is open again, where its question stands before each known yes. Takes
-    /// no memory.
+    /// Takes back a piece that was not searched: its window is open again, where its question stands before each known
+    /// yes. Takes no memory.
     pub fn give_back(&mut self, piece: Piece<N>) -> Merged
         ensures step { Step self.old (GiveBack piece result) self.new }
         ensures questions { all_questions self.new ≡ all_questions self.old }
@@ -81,14 +82,15 @@ impl<N: OfNetwork, S: Series> Core<N, S> {
     fn put(&mut self, at: usize, finding: Finding<N>) -> Result<(), (Finding<N>, AllocError)>
         requires place { IsPlaceIn self.old.asked finding.piece at }
         requires none { finding.found ≡ None }
-        ensures ok { IfOk result (λ _. IsReturned self.old finding.piece (rest_windows finding.piece.question.window finding.rest) self.new) }
+        ensures ok { IfOk result (λ _. IsReturned self.old finding.piece
+            (rest_windows finding.piece.question.window finding.rest) self.new) }
         ensures err { IfErr result (λ e. (self.new ≡ self.old) × (e.0 ≡ finding) × (0 < listed finding.rest)) }
     {
         let index = finding.piece().index() as usize;
         let opens = self.is_before(index);
         let row = &mut self.rows[index];
         row.put(at, finding, opens)?;
-        settle(&mut self.undecided, &self.rows, index);
+        remove_if_done(&mut self.undecided, &self.rows, index);
         Ok(())
     }
 
@@ -102,7 +104,7 @@ impl<N: OfNetwork, S: Series> Core<N, S> {
         let question = piece.into_question::<Row>();
         let row = &mut self.rows[index];
         row.put_whole(at, question.window, opens);
-        settle(&mut self.undecided, &self.rows, index);
+        remove_if_done(&mut self.undecided, &self.rows, index);
     }
 
     /// A piece is in, with a yes.
@@ -116,14 +118,14 @@ impl<N: OfNetwork, S: Series> Core<N, S> {
         row.close(at);
         shut_from(&mut self.rows, index);
         self.undecided.cut_at(index);
-        self.best = Some(better(self.best.take(), index, starts));
+        self.least = Some(lesser_yes(self.least.take(), index, starts));
     }
 }
 
 /// Takes a place away where nothing of its question is open or out.
-fn settle(undecided: &mut Undecided, rows: &[Row], index: usize)
+fn remove_if_done(undecided: &mut Undecided, rows: &[Row], index: usize)
     requires { index < length rows.now }
-    ensures { IsSettledAt rows.now undecided.old index undecided.new }
+    ensures { IsRemovedIfDone rows.now undecided.old index undecided.new }
 {
     if rows[index].is_done() {
         undecided.remove(index);
@@ -141,11 +143,11 @@ fn shut_from(rows: &mut Vec<Row>, index: usize)
 }
 
 /// The lesser of two yeses.
-fn better(best: Option<Best>, index: usize, starts: Starts) -> Best
-    ensures { result ≡ lesser best (record { index = index; starts = starts }) }
+fn lesser_yes(least: Option<LeastYes>, index: usize, starts: Starts) -> LeastYes
+    ensures { result ≡ lesser least (record { index = index; starts = starts }) }
 {
-    match best {
-        Some(best) if best.index <= index => best,
-        _ => Best { index, starts },
+    match least {
+        Some(least) if least.index <= index => least,
+        _ => LeastYes { index, starts },
     }
 }

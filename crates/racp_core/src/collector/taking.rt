@@ -13,9 +13,9 @@ use racp_search::Piece;
 use std::alloc::AllocError;
 
 impl<N: OfNetwork, S: Series> Core<N, S> {
-    /// Hands out a piece to the worker at a seat: an open window of the least undecided question that has one and stands before
-    /// each known yes. Pieces are numbered from 0 on in the order of these calls. Makes the room that the piece needs to come
-    /// back.
+    /// Hands out a piece to the worker at a seat: an open window of the least undecided question that has one and
+    /// stands before each known yes. Pieces are numbered from 0 on in the order of these calls. Makes the room that the
+    /// piece needs to come back.
     ///
     /// # Errors
     ///
