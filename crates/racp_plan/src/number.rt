@@ -1,6 +1,6 @@
 //! Numbers in decimal, and what stands after words and numbers.
 
-ghost use Rattle.std.specs.Prelude.{◌≡◌, ◌==◌, ◌<◌, ◌++◌, bytes_eq, codes};
+ghost use Rattle.std.specs.Prelude.{◌≡◌, ◌++◌, bytes_eq, codes};
 ghost use Rattle.std.specs.Fmt.{decimal};
 ghost use Rattle.racp_plan.specs.PlanReading.{has_zero_in_front, is_decimal};
 ghost use Rattle.racp_text.specs.Numbers.{IsCapped};
