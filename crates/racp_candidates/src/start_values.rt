@@ -22,6 +22,7 @@ pub struct Starts1 {
 impl Model for Starts1 {
     ghost use Rattle.std.specs.Prelude.{ℕ, ◌-◌, ◌<◌, ◌≤◌, List, length, map, set, All};
     ghost use Rattle.std.specs.List.{range_with_len};
+    ghost use Rattle.racp_model.specs.Limits.{most_bound, most_start};
     ghost use Rattle.racp_model.specs.declared.question.Question.{Question};
     ghost use Rattle.racp_candidates.specs.Questions.{question_of, window_at};
 
@@ -32,7 +33,7 @@ impl Model for Starts1 {
         (range_with_len s.next (s.end - s.next)) };
 
     ghost invariant = { λ s. (s.place < length s.lower.items) × (s.place < length s.upper.items) × (s.end ≤ 10000001) ×
-        All (λ x. x ≤ 20000000) s.lower.items × All (λ x. x ≤ 10000000) s.upper.items };
+        All (λ x. x ≤ most_bound) s.lower.items × All (λ x. x ≤ most_start) s.upper.items };
 }
 
 impl Starts1 {

@@ -1,4 +1,5 @@
 ghost use Rattle.std.specs.Prelude.{◌≡◌, ℕ, ◌+◌, ◌<◌, ◌≤◌, All, IfOk, length, slice_index};
+ghost use Rattle.racp_model.specs.Limits.{most_bound};
 ghost use Rattle.racp_model.specs.Path.{IsEarly, IsCriticalLength};
 ghost use Rattle.racp_cpm.specs.Ends.{IsLastEnd};
 
@@ -14,7 +15,7 @@ use std::cmp::max;
 /// Memory was refused.
 pub fn early(alloc: Global, net: &Network, lower: &[u32]) -> Result<Starts, AllocError>
     requires places { length lower.now ≡ length net.now.jobs }
-    requires small { All (λ x. x ≤ 20000000) lower.now }
+    requires small { All (λ x. x ≤ most_bound) lower.now }
     ensures { IfOk result (IsEarly net.now (slice_index lower.now)) }
 {
     let mut starts = Vec::from_slice(alloc, lower)?;
@@ -26,7 +27,7 @@ pub fn early(alloc: Global, net: &Network, lower: &[u32]) -> Result<Starts, Allo
 /// in one sweep. There is a bound for each job, by place from 0, of at most 20,000,000 time units. Takes no memory.
 pub fn settle_early(net: &Network, starts: &mut [u32])
     requires places { length starts.old ≡ length net.now.jobs }
-    requires small { All (λ x. x ≤ 20000000) starts.old }
+    requires small { All (λ x. x ≤ most_bound) starts.old }
     ensures { IsEarly net.now (slice_index starts.old) starts.new }
 {
     for &(i, j) in net.topological_arcs() {
@@ -46,7 +47,7 @@ pub fn settle_early(net: &Network, starts: &mut [u32])
 /// Memory was refused.
 pub fn longest(alloc: Global, net: &Network, release: &[u32]) -> Result<u64, AllocError>
     requires places { length release.now ≡ length net.now.jobs }
-    requires small { All (λ x. x ≤ 20000000) release.now }
+    requires small { All (λ x. x ≤ most_bound) release.now }
     ensures { IfOk result (IsCriticalLength net.now (slice_index release.now)) }
 {
     let starts = early(alloc, net, release)?;

@@ -1,4 +1,5 @@
 ghost use Rattle.std.specs.Prelude.{◌≡◌, ◌≤◌, All, IfOk, length, slice_index};
+ghost use Rattle.racp_model.specs.Limits.{latest_time};
 ghost use Rattle.racp_model.specs.Schedule.{KeepsPrecedence, EndsBy};
 ghost use Rattle.racp_model.specs.Path.{IsLate};
 ghost use Rattle.racp_cpm.specs.Ends.{IsRootAnswer, IsFirstLateAnswer};
@@ -22,9 +23,9 @@ pub fn root(
     due: &[u32],
 ) -> Result<Option<Window>, AllocError>
     requires release_places { length release.now ≡ length net.now.jobs }
-    requires release_small { All (λ x. x ≤ 10000000) release.now }
+    requires release_small { All (λ x. x ≤ latest_time) release.now }
     requires due_places { length due.now ≡ length net.now.jobs }
-    requires due_small { All (λ x. x ≤ 10000000) due.now }
+    requires due_small { All (λ x. x ≤ latest_time) due.now }
     ensures { IfOk result (IsRootAnswer net.now (slice_index release.now) (slice_index due.now)) }
 {
     let lower = early(alloc, net, release)?;
@@ -50,7 +51,7 @@ pub fn window_above(
     requires precedence { KeepsPrecedence net.now lower }
     requires ends { EndsBy net.now (slice_index due.now) lower }
     requires due_places { length due.now ≡ length net.now.jobs }
-    requires due_small { All (λ x. x ≤ 10000000) due.now }
+    requires due_small { All (λ x. x ≤ latest_time) due.now }
     ensures { IfOk result (λ window. (window.lower ≡ lower) × IsLate net.now (slice_index due.now) window.upper) }
 {
     match late(alloc, net, due)? {

@@ -3,7 +3,7 @@
 ghost use Rattle.std.specs.Prelude.{◌≡◌, ◌↔◌, ℕ, ◌<◌, ◌≤◌, IsTrue, IfOk, length, slice_index};
 ghost use Rattle.racp_model.specs.Project.{IsSound};
 ghost use Rattle.racp_model.specs.Path.{IsEarly};
-ghost use Rattle.racp_delay.specs.Limits.{most_early};
+ghost use Rattle.racp_model.specs.Limits.{most_early};
 ghost use Rattle.racp_cutset.specs.Covering.{AreEnds, AreStartedBefore};
 ghost use Rattle.racp_cutset.specs.Rows.{IsAtLeastRow, IsSoonerBefore, IsSoonerFrom, IsSoonerRow, AreBounds};
 

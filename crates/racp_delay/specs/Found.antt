@@ -4,7 +4,7 @@ use Rattle.std.specs.Prelude.{◌≡◌, ℕ, ◌+◌, ◌<◌, ◌≤◌, List,
 use Rattle.racp_model.specs.Project.{Project, request}
 use Rattle.racp_model.specs.Terms.{IsLexBefore}
 use Rattle.racp_delay.specs.Alternatives.{place, Splits, load}
-use Rattle.racp_delay.specs.Limits.{most_load}
+use Rattle.racp_model.specs.Limits.{most_load}
 
 -- loads that fit the capacities
 abbrev pub AreWithin : Project → List ℕ → (ℕ → ℕ) → Type 0

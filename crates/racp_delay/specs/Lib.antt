@@ -1,4 +1,3 @@
-pub mod Limits
 pub mod Alternatives
 pub mod Branching
 pub mod Laws

@@ -1,7 +1,7 @@
 ghost use Rattle.std.specs.Prelude.{◌≡◌, ◌↔◌, ℕ, ◌+◌, ◌<◌, ◌≤◌, IsTrue, All, length, take, slice_index};
 ghost use Rattle.racp_model.specs.Project.{IsNumber, IsSound, duration};
 ghost use Rattle.racp_delay.specs.Branching.{IsActiveSet, IsConflictAnswer};
-ghost use Rattle.racp_delay.specs.Limits.{most_load};
+ghost use Rattle.racp_model.specs.Limits.{most_load};
 ghost use Rattle.racp_delay.specs.Sweeps.{AreEvents, AreFirstLoads, AreTaken, Exceeds, IsExcessAnswer, event_load};
 
 use crate::job_set::JobSet;

@@ -3,7 +3,7 @@ ghost use Rattle.std.specs.List.Sorted.{IsStrictlyIncreasing};
 ghost use Rattle.racp_model.specs.Project.{request, IsNumber, IsSound};
 ghost use Rattle.racp_delay.specs.Alternatives.{place, AreAlternatives, Splits, job_lists};
 ghost use Rattle.racp_delay.specs.Found.{AreWithin, HasRoom, SomeHaveRoom, with_load, AreAdded, AreLoads, IsEarlier};
-ghost use Rattle.racp_delay.specs.Limits.{most_load};
+ghost use Rattle.racp_model.specs.Limits.{most_load};
 ghost use Rattle.racp_delay.specs.Branching.{IsFirstEndAnswer};
 ghost use Rattle.racp_delay.specs.JobSets.{AreJobs};
 

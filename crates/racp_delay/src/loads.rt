@@ -1,7 +1,7 @@
 ghost use Rattle.std.specs.Prelude.{◌≡◌, ℕ, ◌+◌, ◌<◌, ◌≤◌, length, slice_index};
 ghost use Rattle.racp_model.specs.Project.{request, IsNumber, IsSound};
 ghost use Rattle.racp_delay.specs.Alternatives.{place};
-ghost use Rattle.racp_delay.specs.Limits.{most_load};
+ghost use Rattle.racp_model.specs.Limits.{most_load};
 
 use racp_model::Network;
 use racp_model::limits::MOST_RESOURCES;

@@ -1,6 +1,7 @@
 //! The least starts: the jobs are fixed one after another at the least start with which the others can still be placed.
 
 ghost use Rattle.std.specs.Prelude.{◌≡◌, ◌+◌, ◌<◌, ◌≤◌, IfOk, IfErr, All, length, slice_index, set};
+ghost use Rattle.racp_model.specs.Limits.{most_bound, most_start};
 ghost use Rattle.racp_model.specs.Formed.{HasBounds};
 ghost use Rattle.racp_model.specs.Path.{IsEarly};
 ghost use Rattle.racp_model.specs.Plan.{IsLeast};
@@ -61,7 +62,7 @@ fn settled(net: &Network, window: Window) -> Window
 /// The early starts above these lower bounds, in their memory.
 fn early_of(net: &Network, lower: Starts) -> Starts
     requires places { length lower ≡ length net.now.jobs }
-    requires small { All (λ x. x ≤ 20000000) lower }
+    requires small { All (λ x. x ≤ most_bound) lower }
     ensures { IsEarly net.now (slice_index lower) result }
 {
     let mut list = lower.into_vec();
@@ -110,7 +111,7 @@ fn start_at(window: &Window, j: usize, index: usize) -> u32
 fn fixed(window: Window, j: usize, start: u32) -> Window
     requires lower { j < length window.lower }
     requires upper { j < length window.upper }
-    requires small { start ≤ 10000000 }
+    requires small { start ≤ most_start }
     ensures { result ≡ window_at window j start }
 {
     let (lower, upper) = window.into_bounds();

@@ -1,3 +1,4 @@
+pub mod Limits
 pub mod Project
 pub mod Schedule
 pub mod Path

@@ -1,5 +1,6 @@
 -- The terms of an order: what is paid for capacities, how many there may be, and when the jobs may run.
 use Rattle.std.specs.Prelude.{◌≡◌, ℕ, ◌-◌, ◌*◌, ◌<◌, ◌≤◌, min, List, length, slice_index, Option, IfSome, All}
+use Rattle.racp_model.specs.Limits.{latest_time, most_units}
 use Rattle.std.specs.declared.cmp.Ordering.{Ordering}
 use Rattle.std.specs.declared.cmp.Ordering.TheVariants.{Less}
 use Rattle.std.specs.Ordering.{nat_cmp, ordering_then}
@@ -19,17 +20,17 @@ pub record Terms : Type 0 where
 
 -- the terms have an entry for each resource and each job of the project, in their ranges
 pub record AreTermsOf (p : Project) (terms : Terms) : Type 0 where
-  pub deadline : terms.deadline ≤ 10000000
+  pub deadline : terms.deadline ≤ latest_time
   pub price_places : length terms.prices ≡ p.resources
   pub prices : All (λ x. x ≤ 1000000) terms.prices
   pub owned_places : length terms.owned ≡ p.resources
-  pub owned : All (λ x. x ≤ 10000000) terms.owned
+  pub owned : All (λ x. x ≤ most_units) terms.owned
   pub ceiling_places : IfSome terms.ceilings (λ ceilings. length ceilings ≡ p.resources)
-  pub ceilings : IfSome terms.ceilings (All (λ x. x ≤ 10000000))
+  pub ceilings : IfSome terms.ceilings (All (λ x. x ≤ most_units))
   pub release_places : length terms.release ≡ length p.jobs
-  pub release : All (λ x. x ≤ 10000000) terms.release
+  pub release : All (λ x. x ≤ latest_time) terms.release
   pub due_places : length terms.due ≡ length p.jobs
-  pub due : All (λ x. x ≤ 10000000) terms.due
+  pub due : All (λ x. x ≤ latest_time) terms.due
 
 -- the time from which job i may start
 abbrev pub release_of : Terms → ℕ → ℕ

@@ -1,4 +1,5 @@
 ghost use Rattle.std.specs.Prelude.{◌≡◌, ◌≤◌, All, IfOk};
+ghost use Rattle.racp_model.specs.Limits.{most_bound, most_start};
 ghost use Rattle.racp_model.specs.Window.{Bounds};
 
 use crate::starts::Starts;
@@ -15,20 +16,21 @@ pub struct Window {
 
 impl Model for Window {
     ghost use Rattle.std.specs.Prelude.{◌≤◌, All};
+    ghost use Rattle.racp_model.specs.Limits.{most_bound, most_start};
     ghost use Rattle.racp_model.specs.Window.{Bounds};
 
     ghost Value = { Bounds };
 
     ghost view = { λ window. record { lower = window.lower; upper = window.upper } };
 
-    ghost invariant = { λ window. All (λ x. x ≤ 20000000) window.lower × All (λ x. x ≤ 10000000) window.upper };
+    ghost invariant = { λ window. All (λ x. x ≤ most_bound) window.lower × All (λ x. x ≤ most_start) window.upper };
 }
 
 impl Window {
     /// The window of these bounds. Takes no memory.
     pub fn new(lower: Starts, upper: Starts) -> Self
-        requires lower { All (λ x. x ≤ 20000000) lower }
-        requires upper { All (λ x. x ≤ 10000000) upper }
+        requires lower { All (λ x. x ≤ most_bound) lower }
+        requires upper { All (λ x. x ≤ most_start) upper }
         ensures { result ≡ record { lower = lower; upper = upper } }
     {
         Window { lower, upper }
@@ -37,7 +39,7 @@ impl Window {
     /// The lower bounds, by place from 0.
     pub fn lower(&self) -> &[u32]
         ensures bounds { result.now ≡ self.now.lower }
-        ensures small { All (λ x. x ≤ 20000000) self.now.lower }
+        ensures small { All (λ x. x ≤ most_bound) self.now.lower }
     {
         self.lower.as_slice()
     }
@@ -45,7 +47,7 @@ impl Window {
     /// The upper bounds, by place from 0.
     pub fn upper(&self) -> &[u32]
         ensures bounds { result.now ≡ self.now.upper }
-        ensures small { All (λ x. x ≤ 10000000) self.now.upper }
+        ensures small { All (λ x. x ≤ most_start) self.now.upper }
     {
         self.upper.as_slice()
     }

@@ -1,6 +1,7 @@
 -- What an order text is read as: the terms of an order, or why it is none. The text is TOML; the rules are tested in the
 -- order in which they stand here.
 use Rattle.std.specs.Prelude.{◌≡◌, ◌⊎◌, ℕ, ℤ, pos, negsuc, ◌+◌, ◌==◌, ◌&&◌, Bool, true, min, List, [], ◌∷◌, length, map, replicate, Option, Some, None, Result, Ok, Err, is_some, nat_le, if◌then◌else◌, codes, IsUtf8, bytes_eq, unwrap_or}
+use Rattle.racp_model.specs.Limits.{latest_time, most_units}
 use Rattle.std.specs.List.{list_any}
 use Rattle.toml.specs.Data.{Data, integer, array, Items, no_items, item, Members, no_members, member, get_member, as_integer}
 use Rattle.toml.specs.Parse.{parse_document}
@@ -116,12 +117,12 @@ order_of resources jobs table = do
   deadline_value ← required (get_member (codes "deadline") table)
   price_values ← required (get_member (codes "prices") table)
   known ← known_keys version table
-  deadline ← number_of 10000000 deadline_value
+  deadline ← number_of latest_time deadline_value
   prices ← numbers_of resources 1000000 price_values
-  owned ← optional_numbers resources 10000000 (get_member (codes "owned") known)
-  ceilings ← optional_numbers resources 10000000 (get_member (codes "ceiling") known)
-  release ← optional_numbers jobs 10000000 (get_member (codes "release") known)
-  due ← optional_numbers jobs 10000000 (get_member (codes "due") known)
+  owned ← optional_numbers resources most_units (get_member (codes "owned") known)
+  ceilings ← optional_numbers resources most_units (get_member (codes "ceiling") known)
+  release ← optional_numbers jobs latest_time (get_member (codes "release") known)
+  due ← optional_numbers jobs latest_time (get_member (codes "due") known)
   Ok (record {
     deadline = deadline;
     prices = prices;

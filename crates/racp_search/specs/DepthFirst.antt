@@ -5,7 +5,7 @@ use Rattle.racp_model.specs.Project.{Project}
 use Rattle.racp_model.specs.Window.{Bounds, WindowsCover, IsInside}
 use Rattle.racp_model.specs.Formed.{HasBounds}
 use Rattle.racp_delay.specs.Laws.{lower_sum}
-use Rattle.racp_delay.specs.Limits.{most_start}
+use Rattle.racp_model.specs.Limits.{most_start}
 use Rattle.racp_cutset.specs.Covering.{SearchNode}
 
 -- a node, and the child windows of it that are still to be searched

@@ -4,7 +4,7 @@ use Rattle.racp_model.specs.Project.{Project}
 use Rattle.racp_model.specs.Path.{IsEarly}
 use Rattle.racp_model.specs.Window.{Bounds, Answers, IsNo}
 use Rattle.racp_delay.specs.Branching.{IsConflict}
-use Rattle.racp_delay.specs.Limits.{most_start}
+use Rattle.racp_model.specs.Limits.{most_start}
 use Rattle.racp_delay.specs.declared.conflicts.Clash.{Clash}
 use Rattle.racp_search.specs.DepthFirst.{SearchFrame, IsFrameOf}
 use Rattle.racp_search.specs.declared.glance.Glance.{Glance}

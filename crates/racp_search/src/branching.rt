@@ -2,7 +2,7 @@ ghost use Rattle.std.specs.Prelude.{◌≡◌, ◌≢◌, ℕ, ◌<◌, ◌≤�
 ghost use Rattle.racp_model.specs.Project.{IsNumber};
 ghost use Rattle.racp_delay.specs.Alternatives.{IsMinimalDelayingAlternative};
 ghost use Rattle.racp_delay.specs.Branching.{IsConflict};
-ghost use Rattle.racp_delay.specs.Limits.{most_bound, most_start};
+ghost use Rattle.racp_model.specs.Limits.{most_bound, most_start};
 ghost use Rattle.racp_search.specs.Children.{AreChildren, IsChildAnswer, IsPutOff, IsRaised};
 
 use crate::subject::Subject;

@@ -1,7 +1,7 @@
 ghost use Rattle.std.specs.Prelude.{◌↔◌, ℕ, ◌<◌, ◌≤◌, ◌≡◌, IsTrue, All, IfOk, length, slice_index};
 ghost use Rattle.racp_model.specs.Formed.{HasBounds};
 ghost use Rattle.racp_model.specs.Path.{IsEarly};
-ghost use Rattle.racp_delay.specs.Limits.{most_bound};
+ghost use Rattle.racp_model.specs.Limits.{most_bound};
 ghost use Rattle.racp_search.specs.Glances.{IsGlance};
 
 use crate::workspace::Spare;

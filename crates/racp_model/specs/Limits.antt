@@ -1,5 +1,13 @@
--- The greatest times of a search, in time units, and the greatest loads, in units of a resource.
+-- The greatest numbers that contracts name: times in time units, and units of a resource.
 use Rattle.std.specs.Prelude.{ℕ}
+
+-- the latest deadline, release and due time of an order
+abbrev pub latest_time : ℕ
+latest_time = 10000000
+
+-- the most units of a resource that are owned, or that a ceiling allows
+abbrev pub most_units : ℕ
+most_units = 10000000
 
 -- the greatest upper bound of a window, and so the greatest start that answers
 abbrev pub most_start : ℕ
