@@ -1,5 +1,5 @@
 -- Places of a list after a write, rows of the values of a function, and facts for each place below a bound.
-use Rattle.std.proofs.Common.{◌≡◌, ◌≢◌, ℕ, suc, ◌<◌, ◌⊎◌, inl, inr, List, length, slice_index, set, map, ◌++◌, ◌∷◌, [], ◌+◌, ◌≤◌, arith, ap, ◌∙◌, subst, sym, get_or-set_same, get_or-set_other}
+use Rattle.std.proofs.Common.{◌≡◌, ◌≢◌, ℕ, suc, ◌<◌, ◌⊎◌, inl, inr, List, length, slice_index, set, map, ◌++◌, ◌∷◌, [], ◌+◌, arith, ap, ◌∙◌, subst, sym, get_or-set_same, get_or-set_other}
 use Rattle.std.specs.List.{range_with_len}
 use Rattle.std.proofs.lemmas.Bool.{cases_lt}
 use Rattle.std.proofs.lemmas.List.{get_or_append_left, get_or_push}

@@ -1,4 +1,4 @@
-use Rattle.std.proofs.Common.{ℕ, ◌<◌, List, arith, subst}
+use Rattle.std.proofs.Common.{ℕ, List, arith, subst}
 use Rattle.racp_cpm.specs.Ends.{IsLastEnd}
 use Rattle.racp_cpm.proofs.Paths.{critical_is}
 use Rattle.racp_cpm.proofs.earliest.last_end.Goals as goal
