@@ -1,8 +1,7 @@
-//! Copies of lists of numbers and of windows.
+//! Copies of lists of numbers.
 
 ghost use Rattle.std.specs.Prelude.{◌≡◌, ◌<◌, length, set, IfOk};
 
-use racp_model::Window;
 use std::alloc::{AllocError, Global};
 
 /// A copy with another number at one place.
@@ -18,13 +17,6 @@ pub(crate) fn copy_with(
     let mut copy = numbers.to_vec(alloc)?;
     copy[place] = number;
     Ok(copy)
-}
-
-/// A copy of a window.
-pub(crate) fn copy_of(window: &Window) -> Result<Window, AllocError>
-    ensures { IfOk result (λ copy. copy ≡ window.now) }
-{
-    window.clone()
 }
 
 /// A copy of a list of numbers.

@@ -1,7 +1,6 @@
 ghost use Rattle.std.specs.Prelude.{◌≡◌, List, [], ◌∷◌, IfOk};
 ghost use Rattle.racp_candidates.specs.Questions.{question_of};
 
-use crate::copies::copy_of;
 use racp_model::{Capacities, Question, Window};
 use racp_questions::Series;
 use std::alloc::{AllocError, Global};
@@ -33,7 +32,7 @@ impl One {
     {
         let question = Question {
             capacities: Capacities::new(capacities.as_slice().to_vec(alloc)?),
-            window: copy_of(window)?,
+            window: window.copy()?,
         };
         Ok(One {
             question: Some(question),

@@ -1,7 +1,7 @@
 ghost use Rattle.std.specs.Prelude.{◌≡◌, ◌<◌, length, IfOk};
 ghost use Rattle.racp_candidates.specs.Questions.{single_questions};
 
-use crate::copies::{copy_of, copy_with};
+use crate::copies::copy_with;
 use racp_model::{Capacities, Question, Window};
 use racp_questions::Series;
 use std::alloc::{AllocError, Global};
@@ -61,7 +61,7 @@ impl Singles {
             place,
             next,
             end,
-            window: copy_of(window)?,
+            window: window.copy()?,
         })
     }
 }
@@ -75,7 +75,7 @@ impl Series for Singles {
             return Ok(None);
         }
         let units = copy_with(self.alloc, &self.roofs, self.place, self.next as u32)?;
-        let window = copy_of(&self.window)?;
+        let window = self.window.copy()?;
         self.next += 1;
         Ok(Some(Question {
             capacities: Capacities::new(units),

@@ -2,7 +2,7 @@ ghost use Rattle.std.specs.Prelude.{◌≡◌, length, IfOk};
 ghost use Rattle.racp_model.specs.Project.{AreNumbers};
 ghost use Rattle.racp_candidates.specs.Box.{ArePrices, AreBounds, AreBoxQuestions};
 
-use crate::copies::{copy_list, copy_of};
+use crate::copies::copy_list;
 use crate::frontier::Frontier;
 use crate::pairs::next_above;
 use racp_model::{Capacities, Question, Window};
@@ -60,7 +60,7 @@ impl Vectors {
     {
         let prices = copy_list(alloc, &order.prices)?;
         let owned = copy_list(alloc, &order.owned)?;
-        let window = copy_of(root)?;
+        let window = root.copy()?;
         let floors = floors.into_vec();
         let kept = copy_list(alloc, &floors)?;
         let frontier = Frontier::new(alloc, prices, owned, floors, roofs.into_vec())?;
@@ -78,7 +78,7 @@ impl Series for Vectors {
 
     #[tactic(auto, using(crate::proofs::Boxes::question_taken, crate::proofs::Boxes::no_question, crate::proofs::Boxes::same_questions))]
     fn next(&mut self) -> Result<Option<Question>, AllocError> {
-        let window = copy_of(&self.window)?;
+        let window = self.window.copy()?;
         let units = match next_above(&mut self.frontier, &self.floors, &self.pairs)? {
             Some(units) => units,
             None => return Ok(None),

@@ -6,7 +6,7 @@ ghost use Rattle.racp_core.specs.Machine.{IsDone};
 ghost use Rattle.racp_core.specs.Steps.{IsBack, out_of, shut, listed};
 ghost use Rattle.racp_core.specs.Rows.{IsCut, IsPlace, no_out};
 
-use racp_model::{Capacities, OfNetwork, Question, Window};
+use racp_model::{OfNetwork, Question, Window};
 use racp_search::{Collector, Finding, Piece, Rest};
 use std::alloc::{AllocError, Global};
 use std::marker::Model;
@@ -43,20 +43,6 @@ fn is_same(a: &Window, b: &Window) -> bool
     ensures { IsTrue result ↔ (a.now ≡ b.now) }
 {
     a.lower() == b.lower() && a.upper() == b.upper()
-}
-
-/// The same window.
-pub(crate) fn copy_of_window(window: &Window) -> Result<Window, AllocError>
-    ensures { IfOk result (λ copy. copy ≡ window.now) }
-{
-    window.clone()
-}
-
-/// The same capacities.
-fn copy_of_capacities(capacities: &Capacities) -> Result<Capacities, AllocError>
-    ensures { IfOk result (λ copy. copy ≡ capacities.now) }
-{
-    capacities.clone()
 }
 
 /// A question that was asked. Each piece of it that is out can come back whole without memory.
@@ -125,8 +111,8 @@ impl Row {
         ensures err { IfErr result (λ _. self.new ≡ self.old) }
     {
         self.out.reserve(1)?;
-        let capacities = copy_of_capacities(&self.question.capacities)?;
-        let copy = copy_of_window(&self.ready[self.ready.len() - 1])?;
+        let capacities = self.question.capacities.copy()?;
+        let copy = self.ready[self.ready.len() - 1].copy()?;
         let window = self.ready.take_last();
         self.out.push_reserved(Out {
             number,

@@ -8,7 +8,7 @@ ghost use Rattle.racp_core.specs.Runs.{Step, Ask};
 
 use super::Core;
 use crate::replies::Asked;
-use crate::row::{Row, copy_of_window};
+use crate::row::Row;
 use crate::undecided::Undecided;
 use racp_model::{OfNetwork, Question};
 use racp_questions::Series;
@@ -75,7 +75,7 @@ fn open(
         return Ok(false);
     };
     let mut ready = Vec::new(alloc);
-    ready.push(copy_of_window(&question.window)?)?;
+    ready.push(question.window.copy()?)?;
     rows.reserve(1)?;
     undecided.insert(rows.len())?;
     if let Some(question) = next.take() {

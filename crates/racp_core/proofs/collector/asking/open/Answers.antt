@@ -8,9 +8,9 @@ use Rattle.racp_core.proofs.collector.asking.open.Goals as goal
 pub returns-in-Some-take-clause-ok : goal.returns-in-Some-take-clause-ok
 returns-in-Some-take-clause-ok c =
     let q : c.in-Some-take.question ≡ c.in-Some.question = cc (c.in-Some.is, c.in-Some-take.is, c.take.ensures.value) in
-    let window = c.in_ok-copy_of_window.field-0 in
+    let window = c.in_ok-copy.field-0 in
     let ready : c.push.new.self.items ≡ c.in-Some.question.window ∷ [] =
-    c.in_ok-push.ensures.items ∙ (ap (λ (xs : List Bounds). xs ++ window ∷ []) c.new-ready.ensures.items ∙ ap (λ (w : Bounds). w ∷ []) c.in_ok-copy_of_window.ensures) in
+    c.in_ok-push.ensures.items ∙ (ap (λ (xs : List Bounds). xs ++ window ∷ []) c.new-ready.ensures.items ∙ ap (λ (w : Bounds). w ∷ []) c.in_ok-copy.ensures) in
     let row : c.new.result ≡ opened c.in-Some.question =
     c.new.ensures ∙ (ap (λ (ws : List Bounds). record { question = c.in-Some-take.question; ready = ws; out = [] }) ready ∙ ap (λ (x : Question). record { question = x; ready = c.in-Some.question.window ∷ []; out = [] }) q) in
     let rows : c.push_reserved.new.self.items ≡ c.args.rows.now.items ++ opened c.in-Some.question ∷ [] =
