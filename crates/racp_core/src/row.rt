@@ -6,7 +6,7 @@ ghost use Rattle.racp_core.specs.Machine.{IsDone};
 ghost use Rattle.racp_core.specs.Steps.{IsBack, out_of, shut, listed};
 ghost use Rattle.racp_core.specs.Rows.{IsCut, IsPlace, no_out};
 
-use racp_model::{OfNetwork, Question, Window};
+use racp_model::{Capacities, OfNetwork, Question, Window};
 use racp_search::{Collector, Finding, Piece, Rest};
 use std::alloc::{AllocError, Global};
 use std::marker::Model;
