@@ -223,7 +223,8 @@ fn make_room(ready: &mut Vec<Window>, out: &Vec<Out>, rest: &Rest) -> Result<(),
     requires { length ready.old.items + length out.now.items ≤ vec_capacity ready.old }
     ensures items { ready.new.items ≡ ready.old.items }
     ensures room { length ready.new.items + length out.now.items ≤ vec_capacity ready.new }
-    ensures ok { OnOk result (length ready.new.items + listed rest.now + length out.now.items ≤ vec_capacity ready.new) }
+    ensures ok { OnOk result
+        (length ready.new.items + listed rest.now + length out.now.items ≤ vec_capacity ready.new) }
     ensures err { OnErr result (0 < listed rest.now) }
 {
     match rest {

@@ -49,7 +49,8 @@ impl<N: OfNetwork, S: Series> Core<N, S> {
 
 /// Takes the next question off the series, if none is held yet.
 fn fetch<S: Series>(next: &mut Option<Question>, series: &mut S) -> Result<(), AllocError>
-    ensures same { option_to_list next.new ++ S.questions series.new ≡ option_to_list next.old ++ S.questions series.old }
+    ensures same { option_to_list next.new ++ S.questions series.new ≡
+        option_to_list next.old ++ S.questions series.old }
     ensures ended { OnOk result (next.new ≡ None → S.questions series.new ≡ []) }
 {
     if next.is_none() {
