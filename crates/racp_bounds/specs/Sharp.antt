@@ -32,7 +32,8 @@ IsRefutedPair p root floors roofs k l = IsNo p (set (set roofs k (slice_index fl
 pub record AreRefutedPairs (p : Project) (root : Bounds) (floors roofs : List ℕ) (pairs : List (ℕ × ℕ)) : Type 0 where
   pub named : AreNumbers p.resources pairs
   pub rising : AllPairs IsArcBefore pairs
-  pub members : (k l : ℕ) → Contains pairs (number k, number l) ↔ ((k < l) × (l < p.resources) × IsRefutedPair p root floors roofs k l)
+  pub members : (k l : ℕ) → Contains pairs (number k, number l) ↔
+      ((k < l) × (l < p.resources) × IsRefutedPair p root floors roofs k l)
 
 -- sharpened floors, and the pairs that they refute
 pub record IsSharp (p : Project) (root : Bounds) (floors roofs : List ℕ) (sharp : Sharp) : Type 0 where
@@ -40,7 +41,8 @@ pub record IsSharp (p : Project) (root : Bounds) (floors roofs : List ℕ) (shar
   pub refuted : AreRefutedPairs p root sharp.floors roofs sharp.pairs.items
 
 -- floors of which those before place n are sharpened, and the others are the first ones
-pub record AreSharpenedBefore (p : Project) (root : Bounds) (floors roofs : List ℕ) (n : ℕ) (reached : List ℕ) : Type 0 where
+pub record AreSharpenedBefore (p : Project) (root : Bounds) (floors roofs : List ℕ) (n : ℕ) (reached : List ℕ)
+    : Type 0 where
   pub places : length reached ≡ p.resources
   pub sharpened : (k : ℕ) → k < n → k < p.resources → IsSharpened p root floors roofs k (slice_index reached k)
   pub first : (k : ℕ) → n ≤ k → k < p.resources → slice_index reached k ≡ slice_index floors k
@@ -51,7 +53,8 @@ pair_count resources = sum_below resources (λ k. resources - (k + 1))
 
 -- why sharpening ended early, after so many series were answered: the floors that were reached, where each series sharpened one more,
 -- as long as there were any left; and that the asker may give up, or may stop before it answered a series for each resource and each pair
-pub record IsUnsharpened (p : Project) (root : Bounds) (floors roofs : List ℕ) (answered : ℕ) (may_stop may_want_thread : Type 0)
+pub record IsUnsharpened (p : Project) (root : Bounds) (floors roofs : List ℕ) (answered : ℕ)
+    (may_stop may_want_thread : Type 0)
     (refusal : List ℕ × AskStop) : Type 0 where
   pub reached : AreSharpenedBefore p root floors roofs answered refusal.0
   pub given_up : MayGiveUp (may_stop × (answered < p.resources + pair_count p.resources)) may_want_thread refusal.1

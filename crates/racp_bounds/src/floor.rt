@@ -8,10 +8,11 @@ use racp_model::{Capacities, Network, Window};
 use std::alloc::{AllocError, Global};
 use std::cmp::max;
 
-/// The floor of each resource, by place from 0: the greatest of three lower bounds on its units. They are the largest request
-/// of a job that runs for some time; the energy, the sum over the jobs of duration times request, over the deadline, rounded
-/// up; and the greatest core usage, what the jobs use at a time wherever they start in the root window. `root` is the root
-/// window of the project, with bounds for each job, and each early finish is at most the deadline, in time units.
+/// The floor of each resource, by place from 0: the greatest of three lower bounds on its units. They are the largest
+/// request of a job that runs for some time; the energy, the sum over the jobs of duration times request, over the
+/// deadline, rounded up; and the greatest core usage, what the jobs use at a time wherever they start in the root
+/// window. `root` is the root window of the project, with bounds for each job, and each early finish is at most the
+/// deadline, in time units.
 ///
 /// # Errors
 ///
@@ -91,8 +92,8 @@ fn energy_of(net: &Network, k: usize) -> u64
     sum
 }
 
-/// The greatest core usage. A core usage is greatest where the core time of some job begins, at its late start, so only these
-/// times are looked at.
+/// The greatest core usage. A core usage is greatest where the core time of some job begins, at its late start, so only
+/// these times are looked at.
 fn greatest_core_usage(net: &Network, root: &Window, k: usize) -> u32
     requires resource { k < net.now.resources }
     requires lower { length root.now.lower ≡ length net.now.jobs }
