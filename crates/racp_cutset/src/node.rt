@@ -1,4 +1,5 @@
 ghost use Rattle.std.specs.Prelude.{◌≡◌, IfOk, length, slice_index};
+ghost use Rattle.racp_model.specs.Formed.{IsFormed};
 ghost use Rattle.racp_model.specs.Path.{IsEarly};
 ghost use Rattle.racp_model.specs.Project.{IsSound};
 ghost use Rattle.racp_cutset.specs.Covering.{SearchNode, IsNode, AreEnds, AreStartedBefore};
@@ -55,9 +56,7 @@ impl<N: OfNetwork> Node<N> {
         time: u32,
     ) -> Result<Self, AllocError>
         requires named { net.now ≡ N.network }
-        requires capacities { length question.capacities ≡ net.now.resources }
-        requires lower { length question.window.lower ≡ length net.now.jobs }
-        requires upper { length question.window.upper ≡ length net.now.jobs }
+        requires formed { IsFormed net.now question }
         ensures capacities { IfOk result (λ node. node.capacities ≡ question.capacities) }
         ensures window { IfOk result (λ node. node.window ≡ question.window) }
         ensures early { IfOk result (λ node. IsEarly net.now (slice_index question.window.lower) node.early) }
@@ -82,9 +81,7 @@ impl<N: OfNetwork> Node<N> {
         time: u32,
     ) -> Result<Self, AllocError>
         requires named { net.now ≡ N.network }
-        requires capacities { length question.capacities ≡ net.now.resources }
-        requires lower { length question.window.lower ≡ length net.now.jobs }
-        requires upper { length question.window.upper ≡ length net.now.jobs }
+        requires formed { IsFormed net.now question }
         requires early { IsEarly net.now (slice_index question.window.lower) early }
         ensures capacities { IfOk result (λ node. node.capacities ≡ question.capacities) }
         ensures window { IfOk result (λ node. node.window ≡ question.window) }

@@ -6,7 +6,7 @@ use Rattle.racp_cutset.proofs.node.Node.reusing.Goals as goal
 pub ends_of-requires-clause-small : goal.ends_of-requires-clause-small
 ends_of-requires-clause-small g c =
     let small : All (λ x. x ≤ 20000000) c.args.question.window.lower = c.lower.ensures.small in
-    λ i l. omega (arith, ap (λ (xs : List ℕ). slice_index xs i) c.as_slice.ensures, early_small c.args.net.now c.args.question.window.lower c.args.early c.job_count.ensures.sound c.requires.lower small c.requires.early i l)
+    λ i l. omega (arith, ap (λ (xs : List ℕ). slice_index xs i) c.as_slice.ensures, early_small c.args.net.now c.args.question.window.lower c.args.early c.job_count.ensures.sound c.requires.formed.bounds.lower small c.requires.early i l)
 
 pub started_before-started-requires : goal.started_before-started-requires
 started_before-started-requires g c =
@@ -16,5 +16,5 @@ pub invariant_of-result : goal.invariant_of-result
 invariant_of-result g c =
     let v : SearchNode = record { capacities = c.args.question.capacities; window = c.args.question.window; early = c.args.early; time = c.args.time } in
     made c.args.net.now g.N.OfNetwork.network v c.args.question.window.lower c.as_slice.result.now c.as_slice-2.result.now c.in_ok-ends.ends.items c.started_before-started.result
-    c.requires.named c.job_count.ensures.sound c.requires.capacities c.requires.lower c.requires.upper refl c.requires.early
+    c.requires.named c.job_count.ensures.sound c.requires.formed.capacities c.requires.formed.bounds.lower c.requires.formed.bounds.upper refl c.requires.early
     c.as_slice.ensures c.in_ok-ends.ensures c.as_slice-2.ensures c.started_before-started.ensures
