@@ -1,5 +1,5 @@
 -- The collector as a machine: what it has been asked, what is still to be searched, and what it knows.
-use Rattle.std.specs.Prelude.{◌≡◌, ℕ, ◌+◌, ◌<◌, ◌&&◌, Bool, true, false, nat_lt, IsTrue, List, [], ◌∷◌, ◌++◌, length, map, slice_index_or, Option, Some, None}
+use Rattle.std.specs.Prelude.{◌≡◌, ℕ, ◌+◌, ◌<◌, ◌&&◌, Bool, true, false, nat_lt, IsTrue, List, [], ◌∷◌, ◌++◌, length, map, slice_index_or, Option, Some, None, option_to_list}
 use Rattle.std.specs.List.{filter, range_with_len}
 use Rattle.racp_model.specs.Window.{Bounds}
 use Rattle.racp_model.specs.declared.question.Question.{Question}
@@ -31,6 +31,18 @@ pub record Machine : Type 0 where
   pub taken : ℕ
   pub ended : Bool
   pub halted : Bool
+
+-- a state, by what a collector holds: the next question, where there is one, and those behind it are still to come
+abbrev pub machine_of : List QuestionRow → Option Question → List Question → Option KnownYes → ℕ → Bool → Bool → Machine
+machine_of asked next later least taken ended halted =
+    record {
+      asked = asked;
+      to_come = option_to_list next ++ later;
+      least = least;
+      taken = taken;
+      ended = ended;
+      halted = halted;
+    }
 
 -- a collector of which nothing was asked
 abbrev pub fresh : List Question → Machine

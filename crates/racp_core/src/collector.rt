@@ -52,28 +52,17 @@ pub struct Core<N: OfNetwork, S: Series> {
 
 impl<N: OfNetwork, S: Series> Model for Core<N, S> {
     ghost use Rattle.std.specs.Prelude.{◌++◌, option_to_list};
-    ghost use Rattle.racp_core.specs.Machine.{Machine};
+    ghost use Rattle.racp_core.specs.Machine.{Machine, machine_of};
     ghost use Rattle.racp_core.specs.Truth.{IsState};
 
     ghost Value = { Machine };
 
-    ghost view = { λ c. record {
-      asked = c.rows.items;
-      to_come = option_to_list c.next ++ S.questions c.series;
-      least = c.least;
-      taken = c.taken;
-      ended = c.ended;
-      halted = c.halted;
-    } };
+    ghost view = { λ c.
+        machine_of c.rows.items c.next (S.questions c.series) c.least c.taken c.ended c.halted };
 
-    ghost invariant = { λ c. IsState N.network (record {
-      asked = c.rows.items;
-      to_come = option_to_list c.next ++ S.questions c.series;
-      least = c.least;
-      taken = c.taken;
-      ended = c.ended;
-      halted = c.halted;
-    }) c.undecided };
+    ghost invariant = { λ c.
+        IsState N.network (machine_of c.rows.items c.next (S.questions c.series) c.least c.taken c.ended c.halted)
+        c.undecided };
 }
 
 impl<N: OfNetwork, S: Series> Core<N, S> {
