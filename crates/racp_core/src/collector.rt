@@ -51,7 +51,6 @@ pub struct Core<N: OfNetwork, S: Series> {
 }
 
 impl<N: OfNetwork, S: Series> Model for Core<N, S> {
-    ghost use Rattle.std.specs.Prelude.{◌++◌, option_to_list};
     ghost use Rattle.racp_core.specs.Machine.{Machine, machine_of};
     ghost use Rattle.racp_core.specs.Truth.{IsState};
 
