@@ -25,13 +25,13 @@ some_goes p capacities early t active gone kept conflict s m e =
 
 -- the sum of a child's lower bounds is greater
 pub child_higher : ChildIsHigher
-child_higher p capacities window early t active gone kept child is_early conflict s m c =
+child_higher p capacities window early t active gone kept child is_early conflict s some c =
     let runs : Each (IsActiveJob p early t) active = each-active p early t active conflict.set in
     let first = c.first.some in
     let ends : IsActiveJob p early t first.0 = each-member (IsActiveJob p early t) kept first.0 (each-kept (IsActiveJob p early t) s runs) first.1 in
     let goes_on : t < slice_index early (place first.0) + duration p (place first.0) = ends.1.runs in
     let later : t < c.end = omega (arith, first.2) in
-    at_head gone (some_goes p capacities early t active gone kept conflict s m) (each-gone (IsActiveJob p early t) s runs) later c.raised
+    at_head gone some (each-gone (IsActiveJob p early t) s runs) later c.raised
   where
     at_head : (jobs : List ℕ) → jobs ≢ [] → Each (IsActiveJob p early t) jobs → t < c.end
         → ((i : ℕ) → i < length p.jobs → Contains jobs (number i) → slice_index child.lower i ≡ max (slice_index window.lower i) c.end)

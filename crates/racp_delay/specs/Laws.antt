@@ -1,5 +1,5 @@
 -- Laws of conflicts, alternatives and child windows. Each is the contract of a public function.
-use Rattle.std.specs.Prelude.{◌≡◌, ◌≢◌, ◌↔◌, ℕ, ◌<◌, List, [], length, slice_index, Contains}
+use Rattle.std.specs.Prelude.{◌≡◌, ◌≢◌, ◌↔◌, ℕ, ◌<◌, List, [], ◌∷◌, length, slice_index, Contains}
 use Rattle.std.specs.List.Sorted.{IsStrictlyIncreasing}
 use Rattle.racp_model.specs.Project.{Project}
 use Rattle.racp_model.specs.Schedule.{usage, sum_below}
@@ -51,14 +51,29 @@ ChildIsInside =
 abbrev pub lower_sum : Project → Bounds → ℕ
 lower_sum p window = sum_below (length p.jobs) (slice_index window.lower)
 
--- and the sum of its lower bounds is greater
+-- and the sum of its lower bounds is greater, whichever active jobs go
 abbrev pub ChildIsHigher : Type 0
 ChildIsHigher =
     (p : Project) (capacities : List ℕ) (window : Bounds) (early : List ℕ) (t : ℕ) (active gone kept : List ℕ)
     (child : Bounds) →
     IsEarly p (slice_index window.lower) early → IsConflict p capacities early t active → Splits active gone kept →
-    IsMinimalDelayingAlternative p capacities active gone → IsChild p early window gone kept child →
-    lower_sum p window < lower_sum p child
+    gone ≢ [] → IsChild p early window gone kept child → lower_sum p window < lower_sum p child
+
+-- starts in the child window in which one job goes alone
+pub record LiesWhereOneGoes (p : Project) (early active : List ℕ) (window : Bounds) (starts : List ℕ) : Type 0 where
+  pub job : ℕ
+  pub kept : List ℕ
+  pub is_active : Contains active job
+  pub splits : Splits active (job ∷ []) kept
+  pub some_stay : kept ≢ []
+  pub lies : (child : Bounds) → IsChild p early window (job ∷ []) kept child → LiesIn p child starts
+
+-- the windows in which one active job alone is put off, behind the first end of the others, cover the window too
+abbrev pub EachJobAloneCovers : Type 0
+EachJobAloneCovers =
+    (p : Project) (capacities : List ℕ) (window : Bounds) (early : List ℕ) (t : ℕ) (active starts : List ℕ) →
+    IsEarly p (slice_index window.lower) early → IsConflict p capacities early t active →
+    Answers p capacities window starts → LiesWhereOneGoes p early active window starts
 
 -- what the active jobs request together is what is used
 abbrev pub LoadIsUsage : Type 0

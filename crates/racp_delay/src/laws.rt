@@ -1,7 +1,7 @@
 //! Laws of conflicts, alternatives and child windows: why branching over minimal delaying alternatives finds all schedules
 //! (Demeulemeester and Herroelen 1992). Each function does nothing; its contract is the law.
 
-ghost use Rattle.racp_delay.specs.Laws.{BranchingLosesNothing, ChildrenCover, EachHasChild, ChildIsInside, ChildIsHigher, LoadIsUsage, OthersStay, SubsetsGo, ConflictIsOne, AlternativesAreOneList};
+ghost use Rattle.racp_delay.specs.Laws.{BranchingLosesNothing, ChildrenCover, EachHasChild, ChildIsInside, ChildIsHigher, EachJobAloneCovers, LoadIsUsage, OthersStay, SubsetsGo, ConflictIsOne, AlternativesAreOneList};
 
 /// At the first conflict of a window's early starts, whatever answers in the window lies in the child window of some
 /// minimal alternative other than the whole active set.
@@ -24,9 +24,14 @@ pub fn child_is_inside()
     ensures { ChildIsInside }
 {}
 
-/// The sum of a child window's lower bounds is greater.
+/// The sum of a child window's lower bounds is greater, whichever active jobs go.
 pub fn child_is_higher()
     ensures { ChildIsHigher }
+{}
+
+/// The windows in which one active job alone is put off, behind the first end of the others, cover the window too.
+pub fn each_job_alone_covers()
+    ensures { EachJobAloneCovers }
 {}
 
 /// What the active jobs request together is what is used.
