@@ -7,7 +7,7 @@ use Rattle.racp_model.proofs.lemmas.Relations.{member_first}
 use Rattle.racp_delay.specs.Alternatives.{place, Splits, load, IsMinimalDelayingAlternative}
 use Rattle.racp_delay.specs.Found.{Each}
 use Rattle.racp_delay.specs.Branching.{IsConflict}
-use Rattle.racp_delay.specs.Laws.{ChildIsHigher}
+use Rattle.racp_delay.specs.Laws.{ChildIsHigher, SomeJobGoes}
 use Rattle.racp_delay.proofs.Each.{each-member}
 use Rattle.racp_delay.proofs.Splitting.{each-kept, each-gone, all_stay}
 use Rattle.racp_delay.proofs.ActiveLoads.{IsActiveJob, each-active, load_is_usage}
@@ -45,3 +45,6 @@ child_higher p capacities window early t active gone kept child is_early conflic
         let bound : slice_index window.lower i ≤ slice_index early i = is_early.above i within in
         let up : slice_index child.lower i ≡ max (slice_index window.lower i) c.end = f i within (member_first job jobs (number i) job_is) in
         sum_below-lt (length p.jobs) (slice_index window.lower) (slice_index child.lower) i (child_inside p early window gone kept child c).lower within (omega arith)
+
+pub some_job_goes : SomeJobGoes
+some_job_goes p capacities early t active gone conflict m = some_goes p capacities early t active gone m.delays.0 conflict m.delays.1 m

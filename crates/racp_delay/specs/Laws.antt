@@ -59,6 +59,12 @@ ChildIsHigher =
     IsEarly p (slice_index window.lower) early → IsConflict p capacities early t active → Splits active gone kept →
     gone ≢ [] → IsChild p early window gone kept child → lower_sum p window < lower_sum p child
 
+-- in a minimal alternative at a conflict some job goes
+abbrev pub SomeJobGoes : Type 0
+SomeJobGoes =
+    (p : Project) (capacities early : List ℕ) (t : ℕ) (active gone : List ℕ) → IsConflict p capacities early t active →
+    IsMinimalDelayingAlternative p capacities active gone → gone ≢ []
+
 -- starts in the child window in which one job goes alone
 pub record LiesWhereOneGoes (p : Project) (early active : List ℕ) (window : Bounds) (starts : List ℕ) : Type 0 where
   pub job : ℕ

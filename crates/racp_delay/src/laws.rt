@@ -1,7 +1,7 @@
 //! Laws of conflicts, alternatives and child windows: why branching over minimal delaying alternatives finds all schedules
 //! (Demeulemeester and Herroelen 1992). Each function does nothing; its contract is the law.
 
-ghost use Rattle.racp_delay.specs.Laws.{BranchingLosesNothing, ChildrenCover, EachHasChild, ChildIsInside, ChildIsHigher, EachJobAloneCovers, LoadIsUsage, OthersStay, SubsetsGo, ConflictIsOne, AlternativesAreOneList};
+ghost use Rattle.racp_delay.specs.Laws.{BranchingLosesNothing, ChildrenCover, EachHasChild, ChildIsInside, ChildIsHigher, SomeJobGoes, EachJobAloneCovers, LoadIsUsage, OthersStay, SubsetsGo, ConflictIsOne, AlternativesAreOneList};
 
 /// At the first conflict of a window's early starts, whatever answers in the window lies in the child window of some
 /// minimal alternative other than the whole active set.
@@ -27,6 +27,11 @@ pub fn child_is_inside()
 /// The sum of a child window's lower bounds is greater, whichever active jobs go.
 pub fn child_is_higher()
     ensures { ChildIsHigher }
+{}
+
+/// In a minimal alternative at a conflict some job goes.
+pub fn some_job_goes()
+    ensures { SomeJobGoes }
 {}
 
 /// The windows in which one active job alone is put off, behind the first end of the others, cover the window too.

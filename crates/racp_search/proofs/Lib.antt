@@ -1,7 +1,9 @@
 mod Raising
 mod Children
 mod Stacks
+mod Ranks
 mod Weights
 mod Popping
 mod Frames
 mod Entering
+mod Leaving

@@ -3,27 +3,28 @@ use Rattle.std.proofs.Common.{◌≡◌, inl, inr, ◌∙◌, ℕ, ◌≤◌, Li
 use Rattle.std.proofs.lemmas.List.{append-nil}
 use Rattle.std.proofs.lemmas.List.Elements.{Contains-append_left, Contains-append_right, Contains-append_cases}
 use Rattle.racp_model.specs.Project.{Project}
-use Rattle.racp_model.specs.Window.{Bounds, Answers, IsNo, WindowsCover, IsInside}
+use Rattle.racp_model.specs.Window.{Bounds, Answers, IsNo, IsInside}
 use Rattle.racp_model.specs.Formed.{HasBounds}
 use Rattle.racp_model.proofs.lemmas.Sums.{sum_below-mono}
 use Rattle.racp_model.proofs.lemmas.Relations.{member_cases, member_first, no_member}
 use Rattle.racp_delay.specs.Laws.{lower_sum}
 use Rattle.racp_cutset.specs.Covering.{SearchNode}
-use Rattle.racp_search.specs.DepthFirst.{SearchFrame, open_windows, IsOpenFrame, AreOpenFrames, IsPartOf, IsHigher, IsSearching, IsFrameOf}
+use Rattle.racp_search.specs.DepthFirst.{SearchFrame, Part, LiesInPart, PartsCover, parts_of, open_parts, IsOpenFrame, AreOpenFrames, IsPartOf, IsSearching, IsSearchingNext, IsFrameOf, IsTaken, IsUsedUp}
+use Rattle.racp_search.specs.DepthFirst.Part.{all_of}
 
--- the windows of a stack with one frame more
-pub open-last : (fs : List SearchFrame) (f : SearchFrame) (next : List Bounds) → open_windows (fs ++ f ∷ []) ++ next ≡ open_windows fs ++ (f.children ++ next)
-open-last [] f next = ap (λ (xs : List Bounds). xs ++ next) (append-nil f.children)
+-- the parts of a stack with one frame more
+pub open-last : (fs : List SearchFrame) (f : SearchFrame) (next : List Part) → open_parts (fs ++ f ∷ []) ++ next ≡ open_parts fs ++ (parts_of f ++ next)
+open-last [] f next = ap (λ (xs : List Part). xs ++ next) (append-nil (parts_of f))
 open-last (g ∷ fs) f next =
-    append_assoc g.children (open_windows (fs ++ f ∷ [])) next ∙ (ap (λ (xs : List Bounds). g.children ++ xs) (open-last fs f next) ∙ sym (append_assoc g.children (open_windows fs) (f.children ++ next)))
+    append_assoc (parts_of g) (open_parts (fs ++ f ∷ [])) next ∙ (ap (λ (xs : List Part). parts_of g ++ xs) (open-last fs f next) ∙ sym (append_assoc (parts_of g) (open_parts fs) (parts_of f ++ next)))
 
 -- a window that is inside another has no smaller sum of lower bounds
-pub inside-sum : (p : Project) (whole window : Bounds) → IsInside p whole window → lower_sum p whole ≤ lower_sum p window
-inside-sum p whole window h = sum_below-mono (length p.jobs) (slice_index whole.lower) (slice_index window.lower) h.lower
+pub inside-sum : (p : Project) (whole w : Bounds) → IsInside p whole w → lower_sum p whole ≤ lower_sum p w
+inside-sum p whole w h = sum_below-mono (length p.jobs) (slice_index whole.lower) (slice_index w.lower) h.lower
 
 -- a part of a part is a part
-pub part-of_part : (p : Project) (whole window part : Bounds) → IsPartOf p whole window → IsPartOf p window part → IsPartOf p whole part
-part-of_part p whole window part a b = record {
+pub part-of_part : (p : Project) (whole w part : Bounds) → IsPartOf p whole w → IsPartOf p w part → IsPartOf p whole part
+part-of_part p whole w part a b = record {
   bounds = b.bounds;
   inside = record {
     lower = λ i l. omega (arith, a.inside.lower i l, b.inside.lower i l);
@@ -32,8 +33,8 @@ part-of_part p whole window part a b = record {
 }
 
 -- what answers in a part of a window answers in the window
-pub answers-whole : (p : Project) (capacities : List ℕ) (whole window : Bounds) (starts : List ℕ) → IsPartOf p whole window → Answers p capacities window starts → Answers p capacities whole starts
-answers-whole p capacities whole window starts part h = record {
+pub answers-whole : (p : Project) (capacities : List ℕ) (whole w : Bounds) (starts : List ℕ) → IsPartOf p whole w → Answers p capacities w starts → Answers p capacities whole starts
+answers-whole p capacities whole w starts part h = record {
   lies = record {
     places = h.lies.places;
     above = λ i l. omega (arith, part.inside.lower i l, h.lies.above i l);
@@ -42,137 +43,119 @@ answers-whole p capacities whole window starts part h = record {
   fits = h.fits;
 }
 
-module _ (p : Project) (capacities : List ℕ) where
-  -- windows with more members cover too
-  pub covers-more : (whole : Bounds) (xs ys : List Bounds) → WindowsCover p capacities whole xs → ((v : Bounds) → Contains xs v → Contains ys v) → WindowsCover p capacities whole ys
-  covers-more whole xs ys h into starts answer = let v = h starts answer in (v.0, into v.0 v.1, v.2)
-
-  -- windows may be replaced by windows that cover each of them
-  pub covers-replaced : (whole : Bounds) (xs old new : List Bounds) → WindowsCover p capacities whole (xs ++ old) → ((v : Bounds) → Contains old v → WindowsCover p capacities v new) → WindowsCover p capacities whole (xs ++ new)
-  covers-replaced whole xs old new h each starts answer =
-      let v = h starts answer in
+module _ (p : Project) (capacities : List ℕ) (whole : Bounds) where
+  -- parts may be replaced by parts that cover each of them
+  pub covers-replaced : (part : Part) (xs old new : List Part) → PartsCover p capacities part (xs ++ old) → ((v : Part) → Contains old v → PartsCover p capacities v new) → PartsCover p capacities part (xs ++ new)
+  covers-replaced part xs old new h each starts lies fits =
+      let v = h starts lies fits in
       elim (Contains-append_cases xs old v.0 v.1) [
         | inl before ↦ (v.0, Contains-append_left xs new v.0 before, v.2)
         | inr next ↦
-            let w = each v.0 next starts (record { lies = v.2; fits = answer.fits }) in
+            let w = each v.0 next starts v.2 fits in
             (w.0, Contains-append_right xs new w.0 w.1, w.2)
       ]
 
-  pub frames-replaced : (fs : List SearchFrame) (old new : List Bounds) → AreOpenFrames p capacities fs old → ((v : Bounds) → Contains old v → WindowsCover p capacities v new) → AreOpenFrames p capacities fs new
+  pub frames-replaced : (fs : List SearchFrame) (old new : List Part) → AreOpenFrames p capacities whole fs old → ((v : Part) → Contains old v → PartsCover p capacities v new) → AreOpenFrames p capacities whole fs new
   frames-replaced [] old new h each = tt
   frames-replaced (f ∷ fs) old new h each =
-      (record { same = h.0.same; covers = covers-replaced f.node.window (f.children ++ open_windows fs) old new h.0.covers each }, frames-replaced fs old new h.1 each)
+      (record { same = h.0.same; inside = h.0.inside; covers = covers-replaced (all_of f.node.window) (parts_of f ++ open_parts fs) old new h.0.covers each }, frames-replaced fs old new h.1 each)
 
   -- what holds of the frames with one frame more
-  pub frames-split : (fs : List SearchFrame) (f : SearchFrame) (next : List Bounds) → AreOpenFrames p capacities (fs ++ f ∷ []) next → AreOpenFrames p capacities fs (f.children ++ next) × IsOpenFrame p capacities f (f.children ++ next)
-  frames-split [] f next h = (tt, subst (λ (xs : List Bounds). IsOpenFrame p capacities f (xs ++ next)) (append-nil f.children) h.0)
+  pub frames-split : (fs : List SearchFrame) (f : SearchFrame) (next : List Part) → AreOpenFrames p capacities whole (fs ++ f ∷ []) next → AreOpenFrames p capacities whole fs (parts_of f ++ next) × IsOpenFrame p capacities whole f (parts_of f ++ next)
+  frames-split [] f next h = (tt, subst (λ (xs : List Part). IsOpenFrame p capacities whole f (xs ++ next)) (append-nil (parts_of f)) h.0)
   frames-split (g ∷ fs) f next h =
       let e = frames-split fs f next h.1 in
-      ((subst (λ (xs : List Bounds). IsOpenFrame p capacities g xs) (open-last (g ∷ fs) f next) h.0, e.0), e.1)
+      ((subst (λ (xs : List Part). IsOpenFrame p capacities whole g xs) (open-last (g ∷ fs) f next) h.0, e.0), e.1)
 
-  pub frames-join : (fs : List SearchFrame) (f : SearchFrame) (next : List Bounds) → AreOpenFrames p capacities fs (f.children ++ next) → IsOpenFrame p capacities f (f.children ++ next) → AreOpenFrames p capacities (fs ++ f ∷ []) next
-  frames-join [] f next h is = (subst (λ (xs : List Bounds). IsOpenFrame p capacities f (xs ++ next)) (sym (append-nil f.children)) is, tt)
+  pub frames-join : (fs : List SearchFrame) (f : SearchFrame) (next : List Part) → AreOpenFrames p capacities whole fs (parts_of f ++ next) → IsOpenFrame p capacities whole f (parts_of f ++ next) → AreOpenFrames p capacities whole (fs ++ f ∷ []) next
+  frames-join [] f next h is = (subst (λ (xs : List Part). IsOpenFrame p capacities whole f (xs ++ next)) (sym (append-nil (parts_of f))) is, tt)
   frames-join (g ∷ fs) f next h is =
-      (subst (λ (xs : List Bounds). IsOpenFrame p capacities g xs) (sym (open-last (g ∷ fs) f next)) h.0, frames-join fs f next h.1 is)
+      (subst (λ (xs : List Part). IsOpenFrame p capacities whole g xs) (sym (open-last (g ∷ fs) f next)) h.0, frames-join fs f next h.1 is)
 
-  -- the state of a search with one frame more is that with its windows to be searched next
-  pub searching-join : (whole : Bounds) (fs : List SearchFrame) (f : SearchFrame) (next : List Bounds) → IsSearching p capacities whole fs (f.children ++ next) → IsOpenFrame p capacities f (f.children ++ next) →
-      ((v : Bounds) → Contains f.children v → IsHigher p whole v) → IsSearching p capacities whole (fs ++ f ∷ []) next
-  searching-join whole fs f next h is higher = record {
-    covers = subst (λ (xs : List Bounds). WindowsCover p capacities whole xs) (sym (open-last fs f next)) h.covers;
+  -- the state of a search with one frame more is that with its parts to be searched next
+  pub searching-join : (fs : List SearchFrame) (f : SearchFrame) (next : List Part) → IsSearching p capacities whole fs (parts_of f ++ next) → IsOpenFrame p capacities whole f (parts_of f ++ next) → IsSearching p capacities whole (fs ++ f ∷ []) next
+  searching-join fs f next h is = record {
+    covers = subst (λ (xs : List Part). PartsCover p capacities (all_of whole) xs) (sym (open-last fs f next)) h.covers;
     frames = frames-join fs f next h.frames is;
-    parts = λ v c. h.parts v (subst (λ (xs : List Bounds). Contains xs v) (open-last fs f next) c);
-    higher = λ v c. elim (Contains-append_cases (open_windows fs) (f.children ++ []) v (subst (λ (xs : List Bounds). Contains xs v) (open-last fs f []) (subst (λ (xs : List Bounds). Contains xs v) (sym (append-nil (open_windows (fs ++ f ∷ [])))) c))) [
-      | inl below ↦ h.higher v below
-      | inr here ↦ higher v (subst (λ (xs : List Bounds). Contains xs v) (append-nil f.children) here)
-    ];
   }
 
-  pub searching-split : (whole : Bounds) (fs : List SearchFrame) (f : SearchFrame) (next : List Bounds) → IsSearching p capacities whole (fs ++ f ∷ []) next → IsSearching p capacities whole fs (f.children ++ next)
-  searching-split whole fs f next h = record {
-    covers = subst (λ (xs : List Bounds). WindowsCover p capacities whole xs) (open-last fs f next) h.covers;
+  pub searching-split : (fs : List SearchFrame) (f : SearchFrame) (next : List Part) → IsSearching p capacities whole (fs ++ f ∷ []) next → IsSearching p capacities whole fs (parts_of f ++ next)
+  searching-split fs f next h = record {
+    covers = subst (λ (xs : List Part). PartsCover p capacities (all_of whole) xs) (open-last fs f next) h.covers;
     frames = (frames-split fs f next h.frames).0;
-    parts = λ v c. h.parts v (subst (λ (xs : List Bounds). Contains xs v) (sym (open-last fs f next)) c);
-    higher = λ v c. h.higher v (subst (λ (xs : List Bounds). Contains xs v) (append-nil (open_windows (fs ++ f ∷ []))) (subst (λ (xs : List Bounds). Contains xs v) (sym (open-last fs f [])) (Contains-append_left (open_windows fs) (f.children ++ []) v c)));
   }
 
-  -- those windows are higher
-  pub split-higher : (whole : Bounds) (fs : List SearchFrame) (f : SearchFrame) (next : List Bounds) → IsSearching p capacities whole (fs ++ f ∷ []) next → (v : Bounds) → Contains f.children v → IsHigher p whole v
-  split-higher whole fs f next h v c = h.higher v (subst (λ (xs : List Bounds). Contains xs v) (append-nil (open_windows (fs ++ f ∷ []))) (subst (λ (xs : List Bounds). Contains xs v) (sym (open-last fs f [])) (Contains-append_right (open_windows fs) (f.children ++ []) v (Contains-append_left f.children [] v c))))
+  -- the last frame is one of the question
+  pub last-open : (fs : List SearchFrame) (f : SearchFrame) (next : List Part) → IsSearching p capacities whole (fs ++ f ∷ []) next → IsOpenFrame p capacities whole f (parts_of f ++ next)
+  last-open fs f next h = (frames-split fs f next h.frames).1
 
-  -- the windows that are searched next may be replaced by parts that cover them
-  pub searching-replaced : (whole : Bounds) (fs : List SearchFrame) (old new : List Bounds) → IsSearching p capacities whole fs old → ((v : Bounds) → Contains old v → WindowsCover p capacities v new) → ((v : Bounds) → Contains new v → IsPartOf p whole v) → IsSearching p capacities whole fs new
-  searching-replaced whole fs old new h each parts = record {
-    covers = covers-replaced whole (open_windows fs) old new h.covers each;
+  -- the parts that are searched next may be replaced by parts that cover them
+  pub searching-replaced : (fs : List SearchFrame) (old new : List Part) → IsSearching p capacities whole fs old → ((v : Part) → Contains old v → PartsCover p capacities v new) → IsSearching p capacities whole fs new
+  searching-replaced fs old new h each = record {
+    covers = covers-replaced (all_of whole) (open_parts fs) old new h.covers each;
     frames = frames-replaced fs old new h.frames each;
-    parts = λ v c. elim (Contains-append_cases (open_windows fs) new v c) [ inl before ↦ h.parts v (Contains-append_left (open_windows fs) old v before) | inr here ↦ parts v here ];
-    higher = h.higher;
   }
 
   -- at the start the whole window is open
-  pub searching-start : (whole : Bounds) → HasBounds p whole → IsSearching p capacities whole [] (whole ∷ [])
-  searching-start whole bounds = record {
-    covers = λ starts answer. (whole, member_first whole [] whole refl, answer.lies);
-    frames = tt;
-    parts = λ v c. elim (member_cases whole [] v c) [
-      | inl same ↦ subst (λ (x : Bounds). IsPartOf p whole x) same (record { bounds = bounds; inside = record { lower = λ i l. omega arith; upper = λ i l. omega arith } })
-      | inr none ↦ absurd (no_member v none)
-    ];
-    higher = λ v c. absurd (no_member v c);
+  pub searching-start : HasBounds p whole → IsSearchingNext p capacities whole [] whole
+  searching-start bounds = record {
+    state = record { covers = λ starts lies fits. (all_of whole, member_first (all_of whole) [] (all_of whole) refl, lies); frames = tt };
+    part = record { bounds = bounds; inside = record { lower = λ i l. omega arith; upper = λ i l. omega arith } };
   }
 
-  -- a window that is refuted is not open any more
-  pub searching-refuted : (whole : Bounds) (fs : List SearchFrame) (window : Bounds) → IsSearching p capacities whole fs (window ∷ []) → IsNo p capacities window → IsSearching p capacities whole fs []
-  searching-refuted whole fs window h refuted =
-      searching-replaced whole fs (window ∷ []) [] h
-      (λ v c starts answer. elim (member_cases window [] v c) [
-        | inl same ↦ absurd (refuted starts (subst (λ (x : Bounds). Answers p capacities x starts) (sym same) answer))
-        | inr none ↦ absurd (no_member v none)
-      ])
-      (λ v c. absurd (no_member v c))
+  -- what covers the one part covers each of the list
+  one : (w : Bounds) (new : List Part) → PartsCover p capacities (all_of w) new → (v : Part) → Contains (all_of w ∷ []) v → PartsCover p capacities v new
+  one w new h v c = elim (member_cases (all_of w) [] v c) [
+    | inl same ↦ subst (λ (x : Part). PartsCover p capacities x new) same h
+    | inr none ↦ absurd (no_member v none)
+  ]
 
-  -- the window that is searched next is a part of the whole
-  pub next-part : (whole : Bounds) (fs : List SearchFrame) (window : Bounds) → IsSearching p capacities whole fs (window ∷ []) → IsPartOf p whole window
-  next-part whole fs window h = h.parts window (Contains-append_right (open_windows fs) (window ∷ []) window (member_first window [] window refl))
+  -- a window that is refuted is not open any more
+  pub searching-refuted : (fs : List SearchFrame) (w : Bounds) → IsSearching p capacities whole fs (all_of w ∷ []) → IsNo p capacities w → IsSearching p capacities whole fs []
+  searching-refuted fs w h refuted =
+      searching-replaced fs (all_of w ∷ []) [] h (one w [] (λ starts lies fits. absurd (refuted starts (record { lies = lies; fits = fits }))))
 
   -- a window of which a frame is made
-  pub searching-framed : (whole : Bounds) (fs : List SearchFrame) (window : Bounds) (f : SearchFrame) → IsSearching p capacities whole fs (window ∷ []) → IsFrameOf p capacities window f → IsSearching p capacities whole (fs ++ f ∷ []) []
-  searching-framed whole fs window f h is =
-      let part : IsPartOf p whole window = next-part whole fs window h in
-      let replaced : IsSearching p capacities whole fs f.children =
-      searching-replaced whole fs (window ∷ []) f.children h
-      (λ v c. elim (member_cases window [] v c) [
-        | inl same ↦ subst (λ (x : Bounds). WindowsCover p capacities x f.children) same is.covers
-        | inr none ↦ absurd (no_member v none)
-      ])
-      (λ v c. part-of_part p whole window v part (is.parts v c)) in
-      let Searching : List Bounds → Type 0 = λ xs. IsSearching p capacities whole fs xs in
-      let own : IsOpenFrame p capacities f f.children = record { same = is.same; covers = subst (λ (x : Bounds). WindowsCover p capacities x f.children) (sym is.placed) is.covers } in
-      searching-join whole fs f [] (subst Searching (sym (append-nil f.children)) replaced) (subst (λ (xs : List Bounds). IsOpenFrame p capacities f xs) (sym (append-nil f.children)) own)
-      (λ v c. omega (arith, inside-sum p whole window part.inside, is.higher v c))
+  pub searching-framed : (fs : List SearchFrame) (w : Bounds) (f : SearchFrame) → IsSearchingNext p capacities whole fs w → IsFrameOf p capacities w f → IsSearching p capacities whole (fs ++ f ∷ []) []
+  searching-framed fs w f h is =
+      let replaced : IsSearching p capacities whole fs (parts_of f) = searching-replaced fs (all_of w ∷ []) (parts_of f) h.state (one w (parts_of f) is.covers) in
+      let own : IsOpenFrame p capacities whole f (parts_of f) = record {
+        same = is.same;
+        inside = subst (λ (x : Bounds). IsPartOf p whole x) (sym is.placed) h.part;
+        covers = subst (λ (x : Bounds). PartsCover p capacities (all_of x) (parts_of f)) (sym is.placed) is.covers;
+      } in
+      searching-join fs f [] (subst (λ (xs : List Part). IsSearching p capacities whole fs xs) (sym (append-nil (parts_of f))) replaced) (subst (λ (xs : List Part). IsOpenFrame p capacities whole f xs) (sym (append-nil (parts_of f))) own)
 
-  -- a frame that has run out is refuted
-  pub frame-refuted : (whole : Bounds) (fs : List SearchFrame) (f : SearchFrame) → IsSearching p capacities whole (fs ++ f ∷ []) [] → f.children ≡ [] → IsNo p f.node.capacities f.node.window
-  frame-refuted whole fs f h none =
-      let own : IsOpenFrame p capacities f (f.children ++ []) = (frames-split fs f [] h.frames).1 in
-      let empty : IsOpenFrame p capacities f [] = subst (λ (xs : List Bounds). IsOpenFrame p capacities f xs) (append-nil f.children ∙ none) own in
-      subst (λ (xs : List ℕ). IsNo p xs f.node.window) (sym own.same)
-      (λ starts answer. no_member (empty.covers starts answer).0 (empty.covers starts answer).1)
+  -- what covers each part of a frame covers its window
+  own-covers : (fs : List SearchFrame) (f : SearchFrame) (new : List Part) → IsSearching p capacities whole (fs ++ f ∷ []) [] → ((v : Part) → Contains (parts_of f) v → PartsCover p capacities v new) → PartsCover p capacities (all_of f.node.window) new
+  own-covers fs f new h each starts lies fits =
+      let own = subst (λ (xs : List Part). PartsCover p capacities (all_of f.node.window) xs) (append-nil (parts_of f)) (last-open fs f [] h).covers starts lies fits in
+      each own.0 own.1 starts own.2 fits
+
+  -- a frame that is used up is refuted
+  pub frame-refuted : (fs : List SearchFrame) (f g : SearchFrame) → IsSearching p capacities whole (fs ++ f ∷ []) [] → IsUsedUp p capacities f g → IsNo p g.node.capacities g.node.window
+  frame-refuted fs f g h none =
+      let all : PartsCover p capacities (all_of f.node.window) [] = own-covers fs f [] h none.covers in
+      let no : IsNo p capacities f.node.window = λ starts answer. let v = all starts answer.lies answer.fits in no_member v.0 v.1 in
+      subst (λ (v : SearchNode). IsNo p v.capacities v.window) (sym none.node) (subst (λ (xs : List ℕ). IsNo p xs f.node.window) (sym (last-open fs f [] h).same) no)
 
   -- and the search goes on below it
-  pub searching-popped : (whole : Bounds) (fs : List SearchFrame) (f : SearchFrame) → IsSearching p capacities whole (fs ++ f ∷ []) [] → f.children ≡ [] → IsSearching p capacities whole fs []
-  searching-popped whole fs f h none =
-      subst (λ (xs : List Bounds). IsSearching p capacities whole fs xs) (append-nil f.children ∙ none) (searching-split whole fs f [] h)
+  pub searching-popped : (fs : List SearchFrame) (f g : SearchFrame) → IsSearching p capacities whole (fs ++ f ∷ []) [] → IsUsedUp p capacities f g → IsSearching p capacities whole fs []
+  searching-popped fs f g h none =
+      searching-replaced fs (parts_of f) [] (subst (λ (xs : List Part). IsSearching p capacities whole fs xs) (append-nil (parts_of f)) (searching-split fs f [] h)) none.covers
 
-  -- the last window of the last frame is searched next
-  pub searching-next : (whole : Bounds) (fs : List SearchFrame) (f g : SearchFrame) (window : Bounds) → IsSearching p capacities whole (fs ++ f ∷ []) [] → g.node ≡ f.node → f.children ≡ g.children ++ window ∷ [] → IsSearching p capacities whole (fs ++ g ∷ []) (window ∷ [])
-  searching-next whole fs f g window h node children =
-      let e : f.children ++ [] ≡ g.children ++ window ∷ [] = append-nil f.children ∙ children in
-      let below : IsSearching p capacities whole fs (g.children ++ window ∷ []) = subst (λ (xs : List Bounds). IsSearching p capacities whole fs xs) e (searching-split whole fs f [] h) in
-      let own : IsOpenFrame p capacities f (g.children ++ window ∷ []) = subst (λ (xs : List Bounds). IsOpenFrame p capacities f xs) e (frames-split fs f [] h.frames).1 in
-      let other : IsOpenFrame p capacities g (g.children ++ window ∷ []) = record {
-        same = ap (λ (v : SearchNode). v.capacities) node ∙ own.same;
-        covers = subst (λ (v : SearchNode). WindowsCover p capacities v.window (g.children ++ window ∷ [])) (sym node) own.covers;
+  -- a window below the last frame is searched next
+  pub searching-next : (fs : List SearchFrame) (f g : SearchFrame) (next : Bounds) → IsSearching p capacities whole (fs ++ f ∷ []) [] → IsTaken p capacities f g next → IsSearchingNext p capacities whole (fs ++ g ∷ []) next
+  searching-next fs f g next h taken =
+      let own = last-open fs f [] h in
+      let below : IsSearching p capacities whole fs (parts_of g ++ all_of next ∷ []) =
+      searching-replaced fs (parts_of f) (parts_of g ++ all_of next ∷ []) (subst (λ (xs : List Part). IsSearching p capacities whole fs xs) (append-nil (parts_of f)) (searching-split fs f [] h)) taken.covers in
+      let other : IsOpenFrame p capacities whole g (parts_of g ++ all_of next ∷ []) = record {
+        same = ap (λ (v : SearchNode). v.capacities) taken.node ∙ own.same;
+        inside = subst (λ (v : SearchNode). IsPartOf p whole v.window) (sym taken.node) own.inside;
+        covers = subst (λ (v : SearchNode). PartsCover p capacities (all_of v.window) (parts_of g ++ all_of next ∷ [])) (sym taken.node) (own-covers fs f (parts_of g ++ all_of next ∷ []) h taken.covers);
       } in
-      searching-join whole fs g (window ∷ []) below other
-      (λ v c. split-higher whole fs f [] h v (subst (λ (xs : List Bounds). Contains xs v) (sym children) (Contains-append_left g.children (window ∷ []) v c)))
+      record {
+        state = searching-join fs g (all_of next ∷ []) below other;
+        part = part-of_part p whole f.node.window next own.inside taken.below.part;
+      }

@@ -1,39 +1,32 @@
--- Contracts of private functions: the child windows of a window at a conflict. Lists of jobs hold job numbers, from 1.
-use Rattle.std.specs.Prelude.{◌≡◌, ℕ, ◌<◌, ◌⊎◌, max, List, [], ◌∷◌, length, slice_index, Contains, Option, Some, None}
+-- Contracts of private functions: the child windows of a node. Lists of jobs hold job numbers, from 1.
+use Rattle.std.specs.Prelude.{◌≡◌, ◌≢◌, ℕ, ◌<◌, max, List, [], ◌∷◌, ◌++◌, length, take, drop, slice_index, Contains, Option, Some, None}
 use Rattle.racp_model.specs.Project.{Project, number}
-use Rattle.racp_model.specs.Window.{Bounds}
-use Rattle.racp_delay.specs.Alternatives.{Splits, AreAlternatives}
+use Rattle.racp_model.specs.Window.{Bounds, LiesIn}
+use Rattle.racp_delay.specs.Alternatives.{Splits}
 use Rattle.racp_delay.specs.Branching.{IsChild}
-
--- no active job stays where these go
-abbrev pub NoneStays : List ℕ → List ℕ → Type 0
-NoneStays active gone = (kept : List ℕ) → Splits active gone kept → kept ≡ []
+use Rattle.racp_cutset.specs.Covering.{SearchNode}
+use Rattle.racp_search.specs.DepthFirst.{IsBelow}
+use Rattle.racp_search.specs.declared.child.Child.{Child}
 
 -- the child window in which these jobs are put off
-abbrev pub IsChildFor : Project → List ℕ → List ℕ → Bounds → List ℕ → Bounds → Type 0
-IsChildFor p early active window gone child =
-    (length child.lower ≡ length window.lower) ×
-    ((kept : List ℕ) → Splits active gone kept → IsChild p early window gone kept child)
+pub record IsChildFor (p : Project) (v : SearchNode) (active gone : List ℕ) (child : Bounds) : Type 0 where
+  pub below : IsBelow p v.window child
+  pub is : (kept : List ℕ) → Splits active gone kept → IsChild p v.early v.window gone kept child
 
--- that child window, or none where no active job stays
-abbrev pub IsChildAnswer : Project → List ℕ → List ℕ → Bounds → List ℕ → Option Bounds → Type 0
-IsChildAnswer p early active window gone (Some child) = IsChildFor p early active window gone child
-IsChildAnswer p early active window gone None = NoneStays active gone
+-- nothing lies in the child window in which these jobs are put off, or no active job stays
+abbrev pub IsEmptyChild : Project → SearchNode → List ℕ → List ℕ → Type 0
+IsEmptyChild p v active gone =
+    (kept : List ℕ) → Splits active gone kept → kept ≢ [] →
+    (child : Bounds) → IsChild p v.early v.window gone kept child → (starts : List ℕ) → LiesIn p child starts → ⊥
 
--- one child window for each list of jobs where some stay, in the order of the lists
-abbrev pub AreChildrenOf : Project → List ℕ → List ℕ → Bounds → List (List ℕ) → List Bounds → Type 0
-AreChildrenOf p early active window [] children = children ≡ []
-AreChildrenOf p early active window (gone ∷ lists) children =
-    (NoneStays active gone × AreChildrenOf p early active window lists children) ⊎
-    ((child : Bounds) × (rest : List Bounds) × (children ≡ child ∷ rest) × IsChildFor p early active window gone child ×
-    AreChildrenOf p early active window lists rest)
+-- that child window, or none where nothing lies in it
+abbrev pub IsChildAnswer : Project → SearchNode → List ℕ → List ℕ → Option Child → Type 0
+IsChildAnswer p v active gone (Some child) = IsChildFor p v active gone child.window
+IsChildAnswer p v active gone None = IsEmptyChild p v active gone
 
--- one child window for each minimal delaying alternative where some stay, in their order
-pub record AreChildren (p : Project) (capacities early active : List ℕ) (window : Bounds)
-    (children : List Bounds) : Type 0 where
-  pub lists : List (List ℕ)
-  pub alternatives : AreAlternatives p capacities active lists
-  pub each : AreChildrenOf p early active window lists children
+-- a child more, at some place
+abbrev pub IsInserted : List Child → Child → List Child → Type 0
+IsInserted old child new = (at : ℕ) × (new ≡ take at old ++ child ∷ drop at old)
 
 -- the times of these jobs are raised to a time, and the others stay
 pub record IsRaised (old gone : List ℕ) (end : ℕ) (new : List ℕ) : Type 0 where
@@ -45,3 +38,8 @@ pub record IsRaised (old gone : List ℕ) (end : ℕ) (new : List ℕ) : Type 0 
 pub record IsPutOff (window : Bounds) (gone : List ℕ) (end : ℕ) (child : Bounds) : Type 0 where
   pub lower : IsRaised window.lower gone end child.lower
   pub upper : child.upper ≡ window.upper
+
+-- how far the first of these jobs could still be put off from a time, or none where some would exceed its upper bound
+abbrev pub IsSlackAnswer : List ℕ → List ℕ → ℕ → Option ℕ → Type 0
+IsSlackAnswer upper gone end (Some slack) = Unit {0}
+IsSlackAnswer upper gone end None = (i : ℕ) × Contains gone (number i) × (slice_index upper i < end)

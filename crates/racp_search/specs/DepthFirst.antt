@@ -1,36 +1,72 @@
 -- Contracts of private functions: a search by depth. A stack holds the nodes on the way to the window that is searched
--- next, the first node first, each with the child windows of it that are still to be searched.
-use Rattle.std.specs.Prelude.{◌≡◌, ℕ, ◌+◌, ◌-◌, ◌*◌, ◌^◌, ◌<◌, ◌≤◌, List, [], ◌∷◌, ◌++◌, length, Contains}
+-- next, the first node first, each with the parts of its window that are still to be searched.
+use Rattle.std.specs.Prelude.{◌≡◌, ◌≢◌, ℕ, zero, suc, ◌+◌, ◌-◌, ◌*◌, ◌^◌, ◌<◌, ◌≤◌, List, [], ◌∷◌, ◌++◌, length, map, slice_index, Contains, Bool, true, false}
 use Rattle.racp_model.specs.Project.{Project}
-use Rattle.racp_model.specs.Window.{Bounds, WindowsCover, IsInside}
+use Rattle.racp_model.specs.Schedule.{Fits}
+use Rattle.racp_model.specs.Terms.{IsLexBefore}
+use Rattle.racp_model.specs.Window.{Bounds, LiesIn, IsInside}
 use Rattle.racp_model.specs.Formed.{HasBounds}
-use Rattle.racp_delay.specs.Laws.{lower_sum}
 use Rattle.racp_model.specs.Limits.{most_start}
-use Rattle.racp_cutset.specs.Covering.{SearchNode}
+use Rattle.racp_delay.specs.Alternatives.{Splits, IsMinimalDelayingAlternative}
+use Rattle.racp_delay.specs.Branching.{IsChild, IsConflict}
+use Rattle.racp_delay.specs.JobSets.{AreJobs}
+use Rattle.racp_delay.specs.Laws.{lower_sum}
+use Rattle.racp_cutset.specs.Covering.{SearchNode, IsNode, FitsBeforeTime}
+use Rattle.racp_search.specs.declared.child.Child.{Child}
 
--- a node, and the child windows of it that are still to be searched
+-- starts in the child window of a minimal alternative, other than all active jobs, that stands behind a list of jobs
+pub record LiesBehind (p : Project) (v : SearchNode) (active last starts : List ℕ) : Type 0 where
+  pub gone : List ℕ
+  pub kept : List ℕ
+  pub splits : Splits active gone kept
+  pub some_stay : kept ≢ []
+  pub minimal : IsMinimalDelayingAlternative p v.capacities active gone
+  pub behind : IsLexBefore last gone
+  pub lies : (child : Bounds) → IsChild p v.early v.window gone kept child → LiesIn p child starts
+
+-- what is still to be searched: a window; or, of the window of a node, the child windows of the alternatives of its
+-- active jobs that stand behind a list of jobs
+pub data Part : Type 0 where
+  all_of : Bounds → Part
+  behind : SearchNode → List ℕ → List ℕ → Part
+
+-- starts that lie there
+abbrev pub LiesInPart : Project → Part → List ℕ → Type 0
+LiesInPart p (all_of w) starts = LiesIn p w starts
+LiesInPart p (behind v active last) starts = LiesBehind p v active last starts
+
+-- what fits and lies in a part lies in one of some parts
+abbrev pub PartsCover : Project → List ℕ → Part → List Part → Type 0
+PartsCover p capacities part parts =
+    (starts : List ℕ) → LiesInPart p part starts → Fits p capacities starts →
+    (other : Part) × Contains parts other × LiesInPart p other starts
+
+-- the windows of some children
+abbrev pub child_windows : List Child → List Bounds
+child_windows children = map (λ (c : Child). c.window) children
+
+-- a node with the active jobs of its conflict: child windows of it that are still to be searched, the alternative that
+-- was looked at last, and whether there may be more behind it
 pub record SearchFrame : Type 0 where
   pub node : SearchNode
-  pub children : List Bounds
+  pub active : List ℕ
+  pub windows : List Bounds
+  pub last : List ℕ
+  pub more : Bool
 
--- all windows of a stack that are still to be searched
-abbrev pub open_windows : List SearchFrame → List Bounds
-open_windows [] = []
-open_windows (frame ∷ frames) = frame.children ++ open_windows frames
+-- the part behind an alternative, where there may be more
+abbrev pub part_behind : SearchNode → List ℕ → List ℕ → Bool → List Part
+part_behind v active last true = behind v active last ∷ []
+part_behind v active last false = []
 
--- the node of a frame is one of the question's capacities, and what answers in it lies in a window that is still to be
--- searched
-pub record IsOpenFrame (p : Project) (capacities : List ℕ) (frame : SearchFrame) (left : List Bounds) : Type 0 where
-  pub same : frame.node.capacities ≡ capacities
-  pub covers : WindowsCover p capacities frame.node.window left
+-- the parts of a node's window that are still to be searched
+abbrev pub parts_of : SearchFrame → List Part
+parts_of f = part_behind f.node f.active f.last f.more ++ map all_of f.windows
 
--- that holds of each frame, where its own windows, those of the frames above it and the next one are still to be
--- searched
-abbrev pub AreOpenFrames : Project → List ℕ → List SearchFrame → List Bounds → Type 0
-AreOpenFrames p capacities [] next = Unit {0}
-AreOpenFrames p capacities (frame ∷ frames) next =
-    IsOpenFrame p capacities frame ((frame.children ++ open_windows frames) ++ next) ×
-    AreOpenFrames p capacities frames next
+-- all parts of a stack that are still to be searched
+abbrev pub open_parts : List SearchFrame → List Part
+open_parts [] = []
+open_parts (frame ∷ frames) = parts_of frame ++ open_parts frames
 
 -- a window of a project that lies inside another
 pub record IsPartOf (p : Project) (whole window : Bounds) : Type 0 where
@@ -41,30 +77,104 @@ pub record IsPartOf (p : Project) (whole window : Bounds) : Type 0 where
 abbrev pub IsHigher : Project → Bounds → Bounds → Type 0
 IsHigher p whole window = lower_sum p whole < lower_sum p window
 
--- the state of a search of a window: the stack, and the windows to be searched next
-pub record IsSearching (p : Project) (capacities : List ℕ) (whole : Bounds) (stack : List SearchFrame)
-    (next : List Bounds) : Type 0 where
-  pub covers : WindowsCover p capacities whole (open_windows stack ++ next)
-  pub frames : AreOpenFrames p capacities stack next
-  pub parts : (window : Bounds) → Contains (open_windows stack ++ next) window → IsPartOf p whole window
-  pub higher : (window : Bounds) → Contains (open_windows stack) window → IsHigher p whole window
+-- a window that is searched below a node: it is inside the node's, and higher
+pub record IsBelow (p : Project) (whole window : Bounds) : Type 0 where
+  pub part : IsPartOf p whole window
+  pub higher : IsHigher p whole window
 
--- a frame that is made for a window: its child windows cover the window, and each is a part of it with higher lower
--- bounds
-pub record IsFrameOf (p : Project) (capacities : List ℕ) (window : Bounds) (frame : SearchFrame) : Type 0 where
+-- the node of a frame is one of the question's capacities, its window a part of the whole, and what answers in it lies
+-- in a part that is still to be searched
+pub record IsOpenFrame (p : Project) (capacities : List ℕ) (whole : Bounds) (frame : SearchFrame)
+    (left : List Part) : Type 0 where
   pub same : frame.node.capacities ≡ capacities
-  pub placed : frame.node.window ≡ window
-  pub covers : WindowsCover p capacities window frame.children
-  pub parts : (child : Bounds) → Contains frame.children child → IsPartOf p window child
-  pub higher : (child : Bounds) → Contains frame.children child → IsHigher p window child
-  pub small : lower_sum p window ≤ length p.jobs * most_start
-  pub few : length frame.children < 2 ^ 64
+  pub inside : IsPartOf p whole frame.node.window
+  pub covers : PartsCover p capacities (all_of frame.node.window) left
 
--- a bound on the number of nodes in a window, by how far the sum of its lower bounds can rise
-unfoldable pub weight : Project → Bounds → ℕ
-weight p window = (2 ^ 64) ^ ((length p.jobs * most_start + 1) - lower_sum p window)
+-- that holds of each frame, where its own parts, those of the frames above it and the next ones are still to be
+-- searched
+abbrev pub AreOpenFrames : Project → List ℕ → Bounds → List SearchFrame → List Part → Type 0
+AreOpenFrames p capacities whole [] next = Unit {0}
+AreOpenFrames p capacities whole (frame ∷ frames) next =
+    IsOpenFrame p capacities whole frame ((parts_of frame ++ open_parts frames) ++ next) ×
+    AreOpenFrames p capacities whole frames next
 
--- a bound on the number of nodes in some windows
-unfoldable pub weights : Project → List Bounds → ℕ
+-- the state of a search of a window: the stack, and the parts to be searched next
+pub record IsSearching (p : Project) (capacities : List ℕ) (whole : Bounds) (stack : List SearchFrame)
+    (next : List Part) : Type 0 where
+  pub covers : PartsCover p capacities (all_of whole) (open_parts stack ++ next)
+  pub frames : AreOpenFrames p capacities whole stack next
+
+-- the same, with a window to be searched next that is a part of the whole
+pub record IsSearchingNext (p : Project) (capacities : List ℕ) (whole : Bounds) (stack : List SearchFrame)
+    (next : Bounds) : Type 0 where
+  pub state : IsSearching p capacities whole stack (all_of next ∷ [])
+  pub part : IsPartOf p whole next
+
+-- the active jobs of a node at its time, where its early starts have their first conflict
+pub record HasActive (p : Project) (v : SearchNode) (active : List ℕ) : Type 0 where
+  pub node : IsNode p v
+  pub fits : FitsBeforeTime p v
+  pub conflict : IsConflict p v.capacities v.early v.time active
+  pub small : (i : ℕ) → i < length p.jobs → slice_index v.early i ≤ most_start
+
+-- what holds of each frame: its child windows are below its node, and the last alternative has job numbers that rise
+pub record IsFrame (p : Project) (f : SearchFrame) : Type 0 where
+  pub active : HasActive p f.node f.active
+  pub below : (w : Bounds) → Contains f.windows w → IsBelow p f.node.window w
+  pub last : AreJobs f.last
+
+-- the place of a list of at most n job numbers, from 1 to 512, in lexicographic order
+unfoldable pub rank : ℕ → List ℕ → ℕ
+rank zero jobs = 0
+rank (suc n) [] = 0
+rank (suc n) (job ∷ jobs) = 513 ^ n * job + rank n jobs
+
+-- a number that is greater than the place of any list
+unfoldable pub most_lists : ℕ
+most_lists = 513 ^ 512
+
+-- a bound on the number of nodes in a part, by how far the sum of its lower bounds can rise
+unfoldable pub weight : Project → Part → ℕ
+weight p (all_of w) = (most_lists + 1) ^ ((length p.jobs * most_start + 1) - lower_sum p w)
+weight p (behind v active last) =
+    (most_lists - rank 512 last) * (most_lists + 1) ^ (length p.jobs * most_start - lower_sum p v.window)
+
+-- a bound on the number of nodes in some parts
+unfoldable pub weights : Project → List Part → ℕ
 weights p [] = 0
-weights p (window ∷ windows) = weight p window + weights p windows
+weights p (part ∷ parts) = weight p part + weights p parts
+
+-- a frame that is made for a window: its parts cover the window, and weigh less
+pub record IsFrameOf (p : Project) (capacities : List ℕ) (w : Bounds) (frame : SearchFrame) : Type 0 where
+  pub same : frame.node.capacities ≡ capacities
+  pub placed : frame.node.window ≡ w
+  pub covers : PartsCover p capacities (all_of w) (parts_of frame)
+  pub lighter : weights p (parts_of frame) < weight p (all_of w)
+
+-- a window below the node of a frame that is searched next, and the frame without it
+pub record IsTaken (p : Project) (capacities : List ℕ) (old new : SearchFrame) (next : Bounds) : Type 0 where
+  pub node : new.node ≡ old.node
+  pub covers : (part : Part) → Contains (parts_of old) part → PartsCover p capacities part (parts_of new ++ all_of next ∷ [])
+  pub below : IsBelow p old.node.window next
+  pub lighter : weights p (parts_of new ++ all_of next ∷ []) ≤ weights p (parts_of old)
+
+-- nothing that is still to be searched answers
+pub record IsUsedUp (p : Project) (capacities : List ℕ) (old new : SearchFrame) : Type 0 where
+  pub node : new.node ≡ old.node
+  pub covers : (part : Part) → Contains (parts_of old) part → PartsCover p capacities part []
+
+-- windows that are left of a frame: they cover its parts, and each is below its node
+pub record IsRestOfFrame (p : Project) (capacities : List ℕ) (frame : SearchFrame) (rest : List Bounds) : Type 0 where
+  pub covers : (part : Part) → Contains (parts_of frame) part → PartsCover p capacities part (map all_of rest)
+  pub below : (w : Bounds) → Contains rest w → IsBelow p frame.node.window w
+
+-- how many lists may still be looked at
+abbrev pub steps_left : Bool → List ℕ → ℕ
+steps_left true last = most_lists - rank 512 last
+steps_left false last = 0
+
+-- more child windows of a frame were made, in place of what lies behind its last alternative
+pub record IsGoneOn (p : Project) (capacities : List ℕ) (old new : SearchFrame) : Type 0 where
+  pub node : new.node ≡ old.node
+  pub covers : (part : Part) → Contains (parts_of old) part → PartsCover p capacities part (parts_of new)
+  pub lighter : weights p (parts_of new) ≤ weights p (parts_of old)

@@ -1,29 +1,42 @@
 -- Contracts of private functions: the steps of a search by depth.
-use Rattle.std.specs.Prelude.{ℕ, ◌<◌, ◌≤◌, List, [], ◌∷◌, ◌++◌, Option, Some, None}
+use Rattle.std.specs.Prelude.{◌≢◌, ℕ, Contains, ◌<◌, ◌≤◌, List, [], ◌∷◌, ◌++◌, Option, Some, None}
 use Rattle.racp_model.specs.Project.{Project}
 use Rattle.racp_model.specs.Window.{Bounds, Answers}
-use Rattle.racp_search.specs.DepthFirst.{SearchFrame, open_windows, IsHigher, IsSearching, weights}
+use Rattle.racp_search.specs.Truth.{IsRestOf}
+use Rattle.racp_search.specs.DepthFirst.{SearchFrame, open_parts, IsHigher, IsSearching, IsSearchingNext, IsTaken, IsUsedUp, weights}
+use Rattle.racp_search.specs.DepthFirst.Part.{all_of}
+
+-- the next window below the node of a frame, or that none is left
+abbrev pub IsTakenAnswer : Project → List ℕ → SearchFrame → SearchFrame → Option Bounds → Type 0
+IsTakenAnswer p capacities old new (Some next) = IsTaken p capacities old new next
+IsTakenAnswer p capacities old new None = IsUsedUp p capacities old new
 
 -- a window is not open any more: its child windows are on the stack, or nothing in it answers
-pub record IsClosed (p : Project) (capacities : List ℕ) (whole : Bounds) (old : List SearchFrame) (window : Bounds)
+pub record IsClosed (p : Project) (capacities : List ℕ) (whole : Bounds) (old : List SearchFrame) (next : Bounds)
     (new : List SearchFrame) : Type 0 where
   pub state : IsSearching p capacities whole new []
-  pub lighter : weights p (open_windows new) < weights p (open_windows old ++ window ∷ [])
+  pub lighter : weights p (open_parts new) < weights p (open_parts old ++ all_of next ∷ [])
 
 -- what entering a window answers: starts that answer the question, or that the window is closed
 abbrev pub IsEntered : Project → List ℕ → Bounds → List SearchFrame → Bounds → List SearchFrame → Option (List ℕ) →
     Type 0
-IsEntered p capacities whole old window new (Some starts) = Answers p capacities whole starts
-IsEntered p capacities whole old window new None = IsClosed p capacities whole old window new
+IsEntered p capacities whole old next new (Some starts) = Answers p capacities whole starts
+IsEntered p capacities whole old next new None = IsClosed p capacities whole old next new
 
 -- a window that is searched next, and the stack without it
-pub record IsNext (p : Project) (capacities : List ℕ) (whole : Bounds) (old : List SearchFrame) (window : Bounds)
+pub record IsNext (p : Project) (capacities : List ℕ) (whole : Bounds) (old : List SearchFrame) (next : Bounds)
     (new : List SearchFrame) : Type 0 where
-  pub state : IsSearching p capacities whole new (window ∷ [])
-  pub higher : IsHigher p whole window
-  pub lighter : weights p (open_windows new ++ window ∷ []) ≤ weights p (open_windows old)
+  pub state : IsSearchingNext p capacities whole new next
+  pub higher : IsHigher p whole next
+  pub lighter : weights p (open_parts new ++ all_of next ∷ []) ≤ weights p (open_parts old)
 
 -- the next window, or that none is left
 abbrev pub IsNextAnswer : Project → List ℕ → Bounds → List SearchFrame → List SearchFrame → Option Bounds → Type 0
-IsNextAnswer p capacities whole old new (Some window) = IsNext p capacities whole old window new
+IsNextAnswer p capacities whole old new (Some next) = IsNext p capacities whole old next new
 IsNextAnswer p capacities whole old new None = IsSearching p capacities whole [] []
+
+-- what is left of a whole window where a window is to be searched next: as high as that one, or higher than the whole
+pub record IsLeft (p : Project) (capacities : List ℕ) (whole next : Bounds) (rest : List Bounds) : Type 0 where
+  pub left : IsRestOf p capacities whole rest
+  pub higher : IsHigher p whole next → (part : Bounds) → Contains rest part → IsHigher p whole part
+  pub some : rest ≢ []

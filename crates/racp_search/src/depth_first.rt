@@ -1,8 +1,8 @@
 ghost use Rattle.std.specs.Prelude.{◌≡◌, ◌↔◌, ◌≤◌, ◌++◌, ◌∷◌, [], IsTrue, IsFalse, IfOk, OnOk, IfSome, Contains};
 ghost use Rattle.racp_cutset.specs.Kept.{StayKept};
-ghost use Rattle.racp_search.specs.DepthFirst.{IsSearching, open_windows};
+ghost use Rattle.racp_search.specs.DepthFirst.{IsHigher, IsSearching, IsSearchingNext};
 ghost use Rattle.racp_search.specs.Ends.{IsEnd, IsSpent};
-ghost use Rattle.racp_search.specs.Steps.{IsEntered, IsNextAnswer};
+ghost use Rattle.racp_search.specs.Steps.{IsEntered, IsLeft, IsNextAnswer};
 
 use crate::ended::Ended;
 use crate::frame::{Frame, expand};
@@ -35,11 +35,11 @@ pub(crate) fn search<N: OfNetwork, S: Stop>(
     let mut window = stack.workspace.spare.window_of(subject.whole())?;
     'next: loop {
         if is_spent(quantum, *nodes) {
-            let rest = stack.into_open_windows(alloc, window)?;
+            let rest = stack.into_rest(alloc, subject, window)?;
             return Ok(Ended::left(rest, false));
         }
         if stop.asked() {
-            let rest = stack.into_open_windows(alloc, window)?;
+            let rest = stack.into_rest(alloc, subject, window)?;
             return Ok(Ended::left(rest, true));
         }
         *nodes = nodes.saturating_add(1);
@@ -90,7 +90,7 @@ impl<N: OfNetwork> Stack<N> {
         window: Window,
         local: &mut Local<N>,
     ) -> Result<Option<Starts>, AllocError>
-        requires { IsSearching N.network subject.now.capacities subject.now.window self.old.frames.items (window ∷ []) }
+        requires { IsSearchingNext N.network subject.now.capacities subject.now.window self.old.frames.items window }
         ensures entered { IfOk result (IsEntered N.network subject.now.capacities subject.now.window
             self.old.frames.items window self.new.frames.items) }
         ensures kept { local.new ≡ local.old }
@@ -104,7 +104,7 @@ impl<N: OfNetwork> Stack<N> {
             }
             Glance::Found(starts) => Ok(Some(starts)),
             Glance::Conflict(starts, first) => {
-                match expand(workspace, subject, window, starts, &first, local)? {
+                match expand(workspace, subject, window, starts, first, local)? {
                     Some(frame) => {
                         self.frames.push(frame)?;
                         Ok(None)
@@ -115,8 +115,8 @@ impl<N: OfNetwork> Stack<N> {
         }
     }
 
-    /// The next window to be searched: the last child window of the last frame that has one. Frames that have none are
-    /// taken out, and their nodes, which are refuted, are kept as records.
+    /// The next window to be searched: a child window of the last frame that has one. Frames that have none are taken
+    /// out, and their nodes, which are refuted, are kept as records.
     fn next_window(
         &mut self,
         subject: &Subject<N>,
@@ -127,35 +127,41 @@ impl<N: OfNetwork> Stack<N> {
             self.old.frames.items self.new.frames.items) }
         ensures kept { StayKept local.old local.new }
     {
-        while let Some(frame) = self.frames.pop() {
-            let (node, mut children) = frame.into_parts();
-            match children.pop() {
-                Some(window) => {
-                    self.frames.push(Frame::new(node, children))?;
-                    return Ok(Some(window));
-                }
-                None => {
-                    let (nogood, lower, early) = Nogood::of_reusing(node);
-                    local.keep(nogood);
-                    let spare = &mut self.workspace.spare;
-                    spare.give_list(children);
-                    spare.give_row(lower.into_vec());
-                    spare.give_row(early.into_vec());
-                }
+        while let Some(mut frame) = self.frames.pop() {
+            if let Some(window) = frame.next_child(&mut self.workspace, subject)? {
+                self.frames.push(frame)?;
+                return Ok(Some(window));
             }
+            let (node, children, last) = frame.into_parts();
+            let (nogood, lower, early) = Nogood::of_reusing(node);
+            local.keep(nogood);
+            let spare = &mut self.workspace.spare;
+            spare.give_list(children);
+            spare.give_row(last);
+            spare.give_row(lower.into_vec());
+            spare.give_row(early.into_vec());
         }
         Ok(None)
     }
 
-    /// A window, and those of the frames that are still to be searched.
-    fn into_open_windows(self, alloc: Global, window: Window) -> Result<Vec<Window>, AllocError>
-        ensures { IfOk result (λ rest. rest.items ≡ window ∷ open_windows self.frames.items) }
+    /// A window, and what is left of the frames.
+    fn into_rest(
+        self,
+        alloc: Global,
+        subject: &Subject<N>,
+        window: Window,
+    ) -> Result<Vec<Window>, AllocError>
+        requires { IsSearchingNext N.network subject.now.capacities subject.now.window self.frames.items window }
+        ensures { IfOk result (λ rest. IsLeft N.network subject.now.capacities subject.now.window window rest.items) }
     {
+        let Stack {
+            frames,
+            mut workspace,
+        } = self;
         let mut rest = Vec::new(alloc);
         rest.push(window)?;
-        for frame in self.frames {
-            let (_node, children) = frame.into_parts();
-            append(&mut rest, children)?;
+        for frame in frames {
+            append(&mut rest, frame.into_rest(alloc, &mut workspace, subject)?)?;
         }
         Ok(rest)
     }

@@ -1,86 +1,220 @@
-ghost use Rattle.std.specs.Prelude.{◌≡◌, IfOk};
+ghost use Rattle.std.specs.Prelude.{◌≡◌, ◌<◌, ◌≤◌, [], ◌∷◌, IfOk, IsTrue, true, length};
 ghost use Rattle.racp_model.specs.Formed.{HasBounds};
-ghost use Rattle.racp_cutset.specs.Covering.{FitsBeforeTime};
+ghost use Rattle.racp_search.specs.DepthFirst.{HasActive, IsGoneOn, IsRestOfFrame, child_windows, steps_left};
 ghost use Rattle.racp_search.specs.Glances.{HasConflict, IsExpanded};
+ghost use Rattle.racp_search.specs.Steps.{IsTakenAnswer};
 
-use crate::branching::children;
+use crate::child::{Child, child_of, insert};
 use crate::subject::Subject;
 use crate::workspace::Workspace;
 use racp_cutset::{Local, Node};
-use racp_delay::{Clash, laws};
+use racp_delay::{Clash, JobSet, laws};
 use racp_model::{Capacities, OfNetwork, Question, Starts, Window};
-use std::alloc::AllocError;
+use std::alloc::{AllocError, Global};
 use std::marker::Model;
 
-/// A node on the way to the window that is searched next, with its child windows that are still to be searched.
+/// How many child windows are made at a time, those with the most slack to be searched first.
+const MOST_CHILDREN: usize = 64;
+
+/// A node on the way to the window that is searched next, with child windows that are still to be searched, those with
+/// more slack behind. Child windows of alternatives behind the last that was looked at are made when they are wanted.
 /// Contracts see a `SearchFrame`.
 #[derive(Drop)]
 pub(crate) struct Frame<N: OfNetwork> {
     node: Node<N>,
-    children: Vec<Window>,
+    active: JobSet,
+    children: Vec<Child>,
+    last: Vec<u32>,
+    more: bool,
 }
 
 impl<N: OfNetwork> Model for Frame<N> {
-    ghost use Rattle.racp_cutset.specs.Covering.{FitsBeforeTime};
-    ghost use Rattle.racp_search.specs.DepthFirst.{SearchFrame};
+    ghost use Rattle.racp_search.specs.DepthFirst.{SearchFrame, IsFrame, child_windows};
 
     ghost Value = { SearchFrame };
 
-    ghost view = { λ f. record { node = f.node; children = f.children.items } };
+    ghost view = { λ f. record {
+      node = f.node;
+      active = f.active;
+      windows = child_windows f.children.items;
+      last = f.last.items;
+      more = f.more;
+    } };
 
-    ghost invariant = { λ f. FitsBeforeTime N.network f.node };
+    ghost invariant = { λ f. IsFrame N.network (record {
+      node = f.node;
+      active = f.active;
+      windows = child_windows f.children.items;
+      last = f.last.items;
+      more = f.more;
+    }) };
 }
 
 impl<N: OfNetwork> Frame<N> {
-    /// The frame of a node and child windows of it.
-    pub(crate) fn new(node: Node<N>, children: Vec<Window>) -> Self
-        requires { FitsBeforeTime N.network node }
-        ensures node { result.node ≡ node }
-        ensures children { result.children ≡ children.items }
+    /// The frame of a node and the active jobs of its conflict, without child windows. The two lists are empty.
+    pub(crate) fn new(node: Node<N>, active: JobSet, children: Vec<Child>, last: Vec<u32>) -> Self
+        requires active { HasActive N.network node active }
+        requires children { children.items ≡ [] }
+        requires last { last.items ≡ [] }
+        ensures { result ≡ record { node = node; active = active; windows = []; last = []; more = true } }
     {
-        Frame { node, children }
+        Frame {
+            node,
+            active,
+            children,
+            last,
+            more: true,
+        }
     }
 
-    /// The node, and the child windows that are still to be searched.
-    pub(crate) fn into_parts(self) -> (Node<N>, Vec<Window>)
+    /// The node, and the lists of which nothing is in use any more.
+    pub(crate) fn into_parts(self) -> (Node<N>, Vec<Child>, Vec<u32>)
         ensures node { result.0 ≡ self.node }
-        ensures children { result.1.items ≡ self.children }
-        ensures fits { FitsBeforeTime N.network self.node }
+        ensures active { HasActive N.network self.node self.active }
     {
-        (self.node, self.children)
+        (self.node, self.children, self.last)
+    }
+
+    /// The next child window to be searched; `None` where none is left.
+    pub(crate) fn next_child(
+        &mut self,
+        workspace: &mut Workspace,
+        subject: &Subject<N>,
+    ) -> Result<Option<Window>, AllocError>
+        requires { self.old.node.capacities ≡ subject.now.capacities }
+        ensures { IfOk result (IsTakenAnswer N.network subject.now.capacities self.old self.new) }
+    {
+        if self.children.is_empty() {
+            self.find_children(workspace, subject, MOST_CHILDREN)?;
+        }
+        match self.children.pop() {
+            Some(child) => Ok(Some(child.window)),
+            None => Ok(None),
+        }
+    }
+
+    /// Makes child windows until there are enough or none is left.
+    fn find_children(
+        &mut self,
+        workspace: &mut Workspace,
+        subject: &Subject<N>,
+        enough: usize,
+    ) -> Result<(), AllocError>
+        requires { self.old.node.capacities ≡ subject.now.capacities }
+        ensures further { IfOk result (λ _. IsGoneOn N.network subject.now.capacities self.old self.new) }
+        ensures enough { IfOk result (λ _. IsTrue self.new.more → enough ≤ length self.new.windows) }
+    {
+        while self.more && self.children.len() < enough {
+            self.find_child(workspace, subject)?;
+        }
+        Ok(())
+    }
+
+    /// Looks at the next alternative, and makes its child window where something may lie in it.
+    fn find_child(
+        &mut self,
+        workspace: &mut Workspace,
+        subject: &Subject<N>,
+    ) -> Result<(), AllocError>
+        requires same { self.old.node.capacities ≡ subject.now.capacities }
+        requires more { IsTrue self.old.more }
+        ensures further { IfOk result (λ _. IsGoneOn N.network subject.now.capacities self.old self.new) }
+        ensures fewer { IfOk result (λ _. steps_left self.new.more self.new.last < steps_left self.old.more self.old.last) }
+    {
+        let (net, capacities) = (subject.network(), subject.capacities());
+        let next = &mut workspace.next;
+        if !next.find_behind(net, capacities, &self.active, &self.last)? {
+            self.more = false;
+            return Ok(());
+        }
+        let gone = workspace.next.jobs();
+        let child = child_of(&mut workspace.spare, subject, &self.node, &self.active, gone)?;
+        self.last.clear();
+        self.last.extend_from_slice(gone)?;
+        match child {
+            Some(child) => insert(&mut self.children, child),
+            None => Ok(()),
+        }
+    }
+
+    /// The windows that are left: its child windows, where fewer than there are jobs are still to be made; else, for each active job, the window in which this job alone is put off behind the first end of the
+    /// others.
+    pub(crate) fn into_rest(
+        mut self,
+        alloc: Global,
+        workspace: &mut Workspace,
+        subject: &Subject<N>,
+    ) -> Result<Vec<Window>, AllocError>
+        requires { self.node.capacities ≡ subject.now.capacities }
+        ensures { IfOk result (λ rest. IsRestOfFrame N.network subject.now.capacities self rest.items) }
+    {
+        let jobs = subject.network().job_count();
+        let enough = self.children.len().saturating_add(jobs);
+        self.find_children(workspace, subject, enough)?;
+        if self.more {
+            return self.put_off_each(alloc, workspace, subject);
+        }
+        let mut rest = Vec::new(alloc);
+        for child in self.children {
+            rest.push(child.window)?;
+        }
+        Ok(rest)
+    }
+
+    /// For each active job the window in which it alone is put off.
+    fn put_off_each(
+        &self,
+        alloc: Global,
+        workspace: &mut Workspace,
+        subject: &Subject<N>,
+    ) -> Result<Vec<Window>, AllocError>
+        requires { self.now.node.capacities ≡ subject.now.capacities }
+        ensures { IfOk result (λ rest. IsRestOfFrame N.network subject.now.capacities self.now rest.items) }
+    {
+        laws::each_job_alone_covers();
+        laws::subsets_go();
+        let mut rest = Vec::new(alloc);
+        for job in self.active.iter() {
+            let gone = [job];
+            let spare = &mut workspace.spare;
+            if let Some(child) = child_of(spare, subject, &self.node, &self.active, &gone)? {
+                rest.push(child.window)?;
+            }
+        }
+        Ok(rest)
     }
 }
 
-/// The frame of a window's node at the first conflict of its early starts, with all child windows; or `None` where a
-/// record covers the node, so that nothing in the window answers.
+/// The frame of a window's node at the first conflict of its early starts; or `None` where a record covers the node, so
+/// that nothing in the window answers.
 pub(crate) fn expand<N: OfNetwork>(
     workspace: &mut Workspace,
     subject: &Subject<N>,
     window: Window,
     starts: Starts,
-    conflict: &Clash,
+    conflict: Clash,
     local: &mut Local<N>,
 ) -> Result<Option<Frame<N>>, AllocError>
     requires bounds { HasBounds N.network window }
-    requires conflict { HasConflict N.network subject.now.capacities window starts conflict.now }
+    requires conflict { HasConflict N.network subject.now.capacities window starts conflict }
     ensures expanded { IfOk result (IsExpanded N.network subject.now.capacities window) }
     ensures kept { local.new ≡ local.old }
 {
-    laws::children_cover();
-    laws::child_is_inside();
-    laws::child_is_higher();
+    laws::branching_loses_nothing();
+    laws::some_job_goes();
     let net = subject.network();
-    let capacities = workspace.spare.row_of(subject.capacities().as_slice())?;
+    let spare = &mut workspace.spare;
+    let capacities = spare.row_of(subject.capacities().as_slice())?;
     let question = Question {
         capacities: Capacities::new(capacities),
         window,
     };
-    let node = Node::reusing(net, question, starts, workspace.spare.row(), conflict.time)?;
+    let node = Node::reusing(net, question, starts, spare.row(), conflict.time)?;
     if local.find(subject.board(), &node).is_some() {
-        workspace.spare.give_node(node);
+        spare.give_node(node);
         return Ok(None);
     }
-    let window = &node.question().window;
-    let children = children(workspace, subject, window, node.early(), conflict)?;
-    Ok(Some(Frame::new(node, children)))
+    prove!(node.question().window.lower().len() == net.job_count());
+    let last = spare.row_of(&[])?;
+    Ok(Some(Frame::new(node, conflict.active, spare.list(), last)))
 }

@@ -37,7 +37,7 @@
 //! need. How many nodes a search takes is not promised.
 #![tactic(auto)]
 
-mod branching;
+mod child;
 mod depth_first;
 mod ended;
 mod entry_points;

@@ -2,15 +2,16 @@
 
 ghost use Rattle.std.specs.Prelude.{◌≡◌, [], IfOk};
 
+use crate::child::Child;
 use racp_cutset::Node;
-use racp_delay::DelayingAlternatives;
+use racp_delay::Alternative;
 use racp_model::{OfNetwork, Starts, Window};
 use std::alloc::{AllocError, Global};
 
-/// The memory of a search: of the alternatives of the conflict that was looked at last, and of what is not in use.
+/// The memory of a search: of the alternative that was looked at last, and of what is not in use.
 #[derive(Drop)]
 pub(crate) struct Workspace {
-    pub(crate) found: DelayingAlternatives,
+    pub(crate) next: Alternative,
     pub(crate) spare: Spare,
 }
 
@@ -18,7 +19,7 @@ impl Workspace {
     /// Takes no memory until it is used.
     pub(crate) fn new(alloc: Global) -> Self {
         Workspace {
-            found: DelayingAlternatives::new(alloc),
+            next: Alternative::new(alloc),
             spare: Spare {
                 alloc,
                 rows: Vec::new(alloc),
@@ -28,12 +29,12 @@ impl Workspace {
     }
 }
 
-/// Rows of numbers and lists of windows that are not in use. What they hold is of no use either.
+/// Rows of numbers and lists of child windows that are not in use. What they hold is of no use either.
 #[derive(Drop)]
 pub(crate) struct Spare {
     alloc: Global,
     rows: Vec<Vec<u32>>,
-    lists: Vec<Vec<Window>>,
+    lists: Vec<Vec<Child>>,
 }
 
 impl Spare {
@@ -65,8 +66,8 @@ impl Spare {
         Ok(Window::new(lower, upper))
     }
 
-    /// A list without windows.
-    pub(crate) fn list(&mut self) -> Vec<Window>
+    /// A list without child windows.
+    pub(crate) fn list(&mut self) -> Vec<Child>
         ensures { result.items ≡ [] }
     {
         match self.lists.pop() {
@@ -84,7 +85,7 @@ impl Spare {
     }
 
     /// Takes a list that is not in use any more.
-    pub(crate) fn give_list(&mut self, list: Vec<Window>) {
+    pub(crate) fn give_list(&mut self, list: Vec<Child>) {
         let _ = self.lists.push(list);
     }
 

@@ -1,7 +1,7 @@
 use Rattle.std.proofs.Common.{◌+◌, ◌-◌, ℕ, List, slice_index, take, arith, subst, sym}
 use Rattle.racp_search.proofs.Raising.{IsRaising, raising-write, raising-skip}
-use Rattle.racp_search.proofs.branching.raise.Goals as goal
-use Rattle.racp_search.proofs.branching.raise.Goals.{then-times-place, else-times-place}
+use Rattle.racp_search.proofs.child.raise.Goals as goal
+use Rattle.racp_search.proofs.child.raise.Goals.{then-times-place, else-times-place}
 
 pub loop-job-preserved : goal.loop-job-preserved
 loop-job-preserved c =
