@@ -1,5 +1,5 @@
 -- What is left of a stack when a search ends: the windows of its frames, one frame after another.
-use Rattle.std.proofs.Common.{◌≡◌, ◌≢◌, inl, inr, ◌∙◌, ℕ, ◌≤◌, ◌<◌, List, [], ◌∷◌, ◌++◌, map, Contains, arith, refl, sym, subst, ap, append_assoc}
+use Rattle.std.proofs.Common.{◌≡◌, ◌≢◌, inl, inr, ◌∙◌, ℕ, ◌≤◌, ◌<◌, List, [], ◌∷◌, ◌++◌, length, map, Contains, arith, refl, sym, subst, ap, append_assoc}
 use Rattle.std.proofs.lemmas.List.{append-nil, map-append}
 use Rattle.std.proofs.lemmas.List.Elements.{Contains-append_left, Contains-append_right, Contains-append_cases}
 use Rattle.racp_model.specs.Project.{Project}
@@ -26,6 +26,11 @@ from_map p (x ∷ ws) part starts c lies = elim (member_cases (all_of x) (map al
   | inl same ↦ (x, member_first x ws x refl, subst (λ (v : Part). LiesInPart p v starts) (sym same) lies)
   | inr there ↦ let h = from_map p ws part starts there lies in (h.0, member_later x ws h.0 h.1, h.2)
 ]
+
+-- a list without elements
+pub no-frames : (xs : List SearchFrame) → length xs ≡ 0 → xs ≡ []
+no-frames [] e = refl
+no-frames (x ∷ xs) e = absurd (omega (arith, e))
 
 module _ (p : Project) (capacities : List ℕ) (whole next : Bounds) where
   -- of some frames the windows are gathered, and the others are still open

@@ -5,5 +5,7 @@ mod Ranks
 mod Weights
 mod Popping
 mod Frames
+mod Going
 mod Entering
 mod Leaving
+mod Resting

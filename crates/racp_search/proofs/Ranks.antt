@@ -1,5 +1,5 @@
 -- The places of lists of job numbers in lexicographic order.
-use Rattle.std.proofs.Common.{◌≡◌, ℕ, zero, suc, ◌+◌, ◌*◌, ◌^◌, ◌<◌, ◌≤◌, inl, inr, List, [], ◌∷◌, length, arith, refl, subst, ap, sym, ◌∙◌}
+use Rattle.std.proofs.Common.{◌≡◌, ℕ, zero, suc, ◌+◌, ◌*◌, ◌^◌, ◌<◌, ◌≤◌, inl, inr, List, [], ◌∷◌, length, slice_index, All, arith, refl, subst, ap, sym, ◌∙◌}
 use Rattle.std.proofs.Math.Nat.{mul-le-mul_left, pow-suc}
 use Rattle.std.proofs.lemmas.Bool.{cases_lt}
 use Rattle.std.proofs.lemmas.Bool.Decides.{nat_tests}
@@ -8,7 +8,8 @@ use Rattle.std.specs.declared.cmp.Ordering.TheVariants.{Less, Equal}
 use Rattle.std.specs.Ordering.{nat_cmp, ordering_then}
 use Rattle.racp_model.specs.Project.{IsNumber}
 use Rattle.racp_model.specs.Terms.{lex_cmp, IsLexBefore}
-use Rattle.racp_search.specs.DepthFirst.{rank}
+use Rattle.racp_delay.specs.JobSets.{AreJobs}
+use Rattle.racp_search.specs.DepthFirst.{rank, most_lists}
 
 -- numbers of jobs, one by one
 abbrev pub AreNumbers : List ℕ → Type 0
@@ -60,3 +61,29 @@ rank-rises (suc n) (x ∷ xs) (y ∷ ys) few a b h = elim (cases_lt x y) [
         omega (arith, ap (λ z. 513 ^ n * z) e, rank-rises n xs ys (omega (arith, few)) a.1 b.1 rest)
   ]
 ]
+
+-- the numbers of a rising list are above their places
+above-place : (xs : List ℕ) → AreJobs xs → (k : ℕ) → k < length xs → k < slice_index xs k
+above-place xs are zero l = (are.numbers 0 0 l).0
+above-place xs are (suc k) l =
+    let e : slice_index xs (suc k) ≡ slice_index xs (k + 1) = ap (slice_index xs) (let n : suc k ≡ k + 1 = omega arith in n) in
+    omega (arith, e, above-place xs are k (omega (arith, l)), are.rises k (omega (arith, l)))
+
+-- so a set has at most 512 jobs
+pub few-jobs : (xs : List ℕ) → AreJobs xs → length xs ≤ 512
+few-jobs [] are = omega arith
+few-jobs (x ∷ xs) are =
+    let last : length xs < length (x ∷ xs) = omega arith in
+    omega (arith, above-place (x ∷ xs) are (length xs) last, (are.numbers (length xs) 0 last).1)
+
+numbers_of : (xs : List ℕ) → All (IsNumber 512) xs → AreNumbers xs
+numbers_of [] all = tt
+numbers_of (x ∷ xs) all = (all 0 0 (omega arith), numbers_of xs (λ k d l. all (suc k) d (omega (arith, l))))
+
+-- a set that stands before another has a lesser place, and there are more places
+pub place-rises : (xs ys : List ℕ) → AreJobs xs → AreJobs ys → IsLexBefore xs ys → rank 512 xs < rank 512 ys
+place-rises xs ys a b h = rank-rises 512 xs ys (few-jobs ys b) (numbers_of xs a.numbers) (numbers_of ys b.numbers) h
+
+pub place-less : (xs : List ℕ) → AreJobs xs → rank 512 xs < most_lists
+unfolding most_lists
+place-less xs a = rank-less 512 xs (numbers_of xs a.numbers)

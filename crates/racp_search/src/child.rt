@@ -1,16 +1,16 @@
-ghost use Rattle.std.specs.Prelude.{◌≡◌, ◌≢◌, ℕ, ◌<◌, ◌≤◌, [], All, IfOk, List, length, slice_index};
+ghost use Rattle.std.specs.Prelude.{◌≡◌, ◌≢◌, ℕ, ◌<◌, ◌≤◌, [], All, IfOk, MatchResult, List, length, slice_index};
 ghost use Rattle.racp_model.specs.Project.{IsNumber};
 ghost use Rattle.racp_model.specs.Limits.{most_bound};
 ghost use Rattle.racp_delay.specs.Alternatives.{Splits};
 ghost use Rattle.racp_search.specs.Children.{IsChildAnswer, IsInserted, IsPutOff, IsRaised, IsSlackAnswer};
-ghost use Rattle.racp_search.specs.DepthFirst.{HasActive};
+ghost use Rattle.racp_search.specs.DepthFirst.{HasActive, child_windows};
 
 use crate::subject::Subject;
 use crate::workspace::Spare;
 use racp_cutset::Node;
 use racp_delay::{JobSet, first_end, laws};
 use racp_model::{OfNetwork, Starts, Window};
-use std::alloc::AllocError;
+use std::alloc::{AllocError, Global};
 use std::cmp::min;
 
 /// A child window of a node: that of an alternative, in which the lower bounds of the jobs that go are raised to the
@@ -73,7 +73,8 @@ fn slack_of(upper: &[u32], gone: &[u32], end: u32) -> Option<u32>
 
 /// Puts a child among others, behind those with as much slack or less.
 pub(crate) fn insert(children: &mut Vec<Child>, child: Child) -> Result<(), AllocError>
-    ensures { IfOk result (λ _. IsInserted children.old.items child children.new.items) }
+    ensures { MatchResult result (λ _. IsInserted children.old.items child children.new.items)
+        (λ _. children.new.items ≡ children.old.items) }
 {
     let mut at = children.len();
     while 0 < at && child.slack < children[at - 1].slack {
@@ -81,6 +82,17 @@ pub(crate) fn insert(children: &mut Vec<Child>, child: Child) -> Result<(), Allo
     }
     children.insert(at, child)?;
     Ok(())
+}
+
+/// The windows of children.
+pub(crate) fn windows_of(alloc: Global, children: Vec<Child>) -> Result<Vec<Window>, AllocError>
+    ensures { IfOk result (λ windows. windows.items ≡ child_windows children.items) }
+{
+    let mut windows = Vec::new(alloc);
+    for child in children {
+        windows.push(child.window)?;
+    }
+    Ok(windows)
 }
 
 /// The window with the lower bounds of these jobs raised to a time.

@@ -4,7 +4,7 @@ ghost use Rattle.racp_search.specs.DepthFirst.{HasActive, IsGoneOn, IsRestOfFram
 ghost use Rattle.racp_search.specs.Glances.{HasConflict, IsExpanded};
 ghost use Rattle.racp_search.specs.Steps.{IsTakenAnswer};
 
-use crate::child::{Child, child_of, insert};
+use crate::child::{Child, child_of, insert, windows_of};
 use crate::subject::Subject;
 use crate::workspace::Workspace;
 use racp_cutset::{Local, Node};
@@ -84,13 +84,22 @@ impl<N: OfNetwork> Frame<N> {
         requires { self.old.node.capacities ≡ subject.now.capacities }
         ensures { IfOk result (IsTakenAnswer N.network subject.now.capacities self.old self.new) }
     {
+        let enough = self.wanted();
+        self.find_children(workspace, subject, enough)?;
+        if let Some(child) = self.children.pop() {
+            return Ok(Some(child.window));
+        }
+        Ok(None)
+    }
+
+    /// How many child windows there should be when the next one is taken: one will do where there are some.
+    fn wanted(&self) -> usize
+        ensures { 1 ≤ result }
+    {
         if self.children.is_empty() {
-            self.find_children(workspace, subject, MOST_CHILDREN)?;
+            return MOST_CHILDREN;
         }
-        match self.children.pop() {
-            Some(child) => Ok(Some(child.window)),
-            None => Ok(None),
-        }
+        1
     }
 
     /// Makes child windows until there are enough or none is left.
@@ -121,6 +130,8 @@ impl<N: OfNetwork> Frame<N> {
         ensures further { IfOk result (λ _. IsGoneOn N.network subject.now.capacities self.old self.new) }
         ensures fewer { IfOk result (λ _. steps_left self.new.more self.new.last < steps_left self.old.more self.old.last) }
     {
+        laws::each_has_child();
+        laws::subsets_go();
         let (net, capacities) = (subject.network(), subject.capacities());
         let next = &mut workspace.next;
         if !next.find_behind(net, capacities, &self.active, &self.last)? {
@@ -132,9 +143,10 @@ impl<N: OfNetwork> Frame<N> {
         self.last.clear();
         self.last.extend_from_slice(gone)?;
         match child {
-            Some(child) => insert(&mut self.children, child),
-            None => Ok(()),
+            Some(child) => insert(&mut self.children, child)?,
+            None => return Ok(()),
         }
+        Ok(())
     }
 
     /// The windows that are left: its child windows, where fewer than there are jobs are still to be made; else, for each active job, the window in which this job alone is put off behind the first end of the
@@ -154,11 +166,7 @@ impl<N: OfNetwork> Frame<N> {
         if self.more {
             return self.put_off_each(alloc, workspace, subject);
         }
-        let mut rest = Vec::new(alloc);
-        for child in self.children {
-            rest.push(child.window)?;
-        }
-        Ok(rest)
+        windows_of(alloc, self.children)
     }
 
     /// For each active job the window in which it alone is put off.
@@ -172,6 +180,8 @@ impl<N: OfNetwork> Frame<N> {
         ensures { IfOk result (λ rest. IsRestOfFrame N.network subject.now.capacities self.now rest.items) }
     {
         laws::each_job_alone_covers();
+        laws::each_has_child();
+        laws::child_is_inside();
         laws::subsets_go();
         let mut rest = Vec::new(alloc);
         for job in self.active.iter() {

@@ -1,10 +1,9 @@
 use Rattle.std.proofs.Common.{ap, arith, true, refl, sym, subst, [], ◌∙◌}
 use Rattle.std.proofs.lemmas.List.{append-nil}
 use Rattle.racp_model.specs.Window.{Bounds}
-use Rattle.racp_search.specs.DepthFirst.{open_windows}
 use Rattle.racp_search.specs.Steps.{IsNextAnswer}
 use Rattle.racp_search.specs.Ends.{IsEnd, IsSpent}
-use Rattle.racp_search.proofs.Entering.{started, none_yet, open_left, left_higher, end_nothing, some_left, spent_some, spent_there, spent_exactly, not_false, false_is_not_true}
+use Rattle.racp_search.proofs.Entering.{started, none_yet, end_nothing, spent_some, spent_there, spent_exactly, not_false, false_is_not_true}
 use Rattle.racp_search.proofs.depth_first.search.Goals as goal
 
 pub next-init : goal.next-init
@@ -20,23 +19,23 @@ pub returns-then-is_spent-clause-end : goal.returns-then-is_spent-clause-end
 returns-then-is_spent-clause-end g c =
     let spent : IsSpent c.args.quantum c.next.nodes true = subst (IsSpent c.args.quantum c.next.nodes) c.if-is_spent.true c.is_spent.ensures in
     subst (IsEnd g.N.OfNetwork.network c.args.subject.now.capacities c.args.subject.now.window c.args.quantum c.next.nodes) (sym c.left.ensures) (record {
-      is_true = open_left g.N.OfNetwork.network c.args.subject.now.capacities c.args.subject.now.window c.next.stack.frames.items c.next.window c.in_ok-rest.rest.items c.next.invariant.state c.in_ok-rest.ensures;
+      is_true = c.in_ok-rest.ensures.left;
       searched = λ a. spent_some c.args.quantum c.next.nodes spent c.requires.quantum;
       stopped = λ a. absurd (false_is_not_true a);
       spent = λ a b. spent_exactly c.args.quantum c.next.nodes spent c.next.invariant.bounded;
-      higher = λ a. left_higher g.N.OfNetwork.network c.args.subject.now.capacities c.args.subject.now.window c.next.stack.frames.items c.next.window c.in_ok-rest.rest.items c.next.invariant.state c.in_ok-rest.ensures (c.next.invariant.higher a);
+      higher = λ a. c.in_ok-rest.ensures.higher (c.next.invariant.higher a);
       all = λ a none. absurd (spent_there c.args.quantum c.next.nodes spent none);
     })
 
 pub returns-then-asked-clause-end : goal.returns-then-asked-clause-end
 returns-then-asked-clause-end g c =
     subst (IsEnd g.N.OfNetwork.network c.args.subject.now.capacities c.args.subject.now.window c.args.quantum c.next.nodes) (sym c.left-then-asked.ensures) (record {
-      is_true = open_left g.N.OfNetwork.network c.args.subject.now.capacities c.args.subject.now.window c.next.stack.frames.items c.next.window c.in_ok-rest-2.rest.items c.next.invariant.state c.in_ok-rest-2.ensures;
+      is_true = c.in_ok-rest-2.ensures.left;
       searched = λ a. absurd (not_false a);
-      stopped = λ a. (refl, some_left (open_windows c.next.stack.frames.items) c.next.window c.in_ok-rest-2.rest.items c.in_ok-rest-2.ensures);
+      stopped = λ a. (refl, c.in_ok-rest-2.ensures.some);
       spent = λ a. absurd (not_false a);
       all = λ a. absurd (not_false a);
-      higher = λ a. left_higher g.N.OfNetwork.network c.args.subject.now.capacities c.args.subject.now.window c.next.stack.frames.items c.next.window c.in_ok-rest-2.rest.items c.next.invariant.state c.in_ok-rest-2.ensures (c.next.invariant.higher a);
+      higher = λ a. c.in_ok-rest-2.ensures.higher (c.next.invariant.higher a);
     })
 
 pub returns-in-None-clause-end : goal.returns-in-None-clause-end

@@ -1,15 +1,16 @@
 use Rattle.std.proofs.Common.{◌<◌, ◌≤◌, ◌++◌, ◌∷◌, [], IfSome}
 use Rattle.racp_cutset.specs.Kept.{StayKept}
-use Rattle.racp_search.specs.DepthFirst.{IsSearching, IsHigher, open_windows, weights}
+use Rattle.racp_search.specs.DepthFirst.{IsSearchingNext, IsHigher, open_parts, weights}
+use Rattle.racp_search.specs.DepthFirst.Part.{all_of}
 use Rattle.racp_search.proofs.depth_first.search.Given as goal
 
 abbrev pub invariant-next : goal.invariant-next
 invariant-next g l = record {
-  state : IsSearching g.N.OfNetwork.network l.subject.capacities l.subject.window l.stack.frames.items (l.window ∷ []);
+  state : IsSearchingNext g.N.OfNetwork.network l.subject.capacities l.subject.window l.stack.frames.items l.window;
   higher : 0 < l.nodes → IsHigher g.N.OfNetwork.network l.subject.window l.window;
   bounded : IfSome l.quantum (λ most. l.nodes ≤ most);
   kept : StayKept l.fn.local l.local;
 }
 
 abbrev pub decreases-next : goal.decreases-next
-decreases-next g l = weights g.N.OfNetwork.network (open_windows l.stack.frames.items ++ l.window ∷ [])
+decreases-next g l = weights g.N.OfNetwork.network (open_parts l.stack.frames.items ++ all_of l.window ∷ [])

@@ -4,13 +4,12 @@ use Rattle.racp_model.specs.Window.{Answers, IsNo}
 use Rattle.racp_model.specs.Formed.{HasBounds}
 use Rattle.racp_search.specs.Glances.{IsGlance, IsExpanded}
 use Rattle.racp_search.specs.DepthFirst.{IsFrameOf}
-use Rattle.racp_search.proofs.Stacks.{answers-whole, next-part}
+use Rattle.racp_search.proofs.Stacks.{answers-whole}
 use Rattle.racp_search.proofs.Entering.{same_glance, closed-refuted, closed-framed}
 use Rattle.racp_search.proofs.depth_first.Stack.enter.Goals as goal
 
 pub look_at-requires-clause-bounds : goal.look_at-requires-clause-bounds
-look_at-requires-clause-bounds g c =
-    subst (λ (p : Project). HasBounds p c.args.window) (sym c.network-net.ensures.named) (next-part g.N.OfNetwork.network c.args.subject.now.capacities c.args.subject.now.window c.args.self.now.frames.items c.args.window c.requires).bounds
+look_at-requires-clause-bounds g c = subst (λ (p : Project). HasBounds p c.args.window) (sym c.network-net.ensures.named) c.requires.part.bounds
 
 pub returns-in-Refuted-clause-entered : goal.returns-in-Refuted-clause-entered
 returns-in-Refuted-clause-entered g c =
@@ -20,10 +19,10 @@ returns-in-Refuted-clause-entered g c =
 pub returns-in-Found-clause-entered : goal.returns-in-Found-clause-entered
 returns-in-Found-clause-entered g c =
     let answers : Answers g.N.OfNetwork.network c.args.subject.now.capacities c.args.window c.in-Found.starts = subst (IsGlance g.N.OfNetwork.network c.args.subject.now.capacities c.args.window) c.in-Found.is (same_glance c.network-net.result.now g.N.OfNetwork.network c.capacities-capacities.result.now c.args.subject.now.capacities c.args.window c.in_ok-look_at.field-0 c.network-net.ensures.named c.capacities-capacities.ensures c.in_ok-look_at.ensures) in
-    answers-whole g.N.OfNetwork.network c.args.subject.now.capacities c.args.subject.now.window c.args.window c.in-Found.starts (next-part g.N.OfNetwork.network c.args.subject.now.capacities c.args.subject.now.window c.args.self.now.frames.items c.args.window c.requires) answers
+    answers-whole g.N.OfNetwork.network c.args.subject.now.capacities c.args.subject.now.window c.args.window c.in-Found.starts c.requires.part answers
 
 pub expand-requires-clause-bounds : goal.expand-requires-clause-bounds
-expand-requires-clause-bounds g c = (next-part g.N.OfNetwork.network c.args.subject.now.capacities c.args.subject.now.window c.args.self.now.frames.items c.args.window c.requires).bounds
+expand-requires-clause-bounds g c = c.requires.part.bounds
 
 pub returns-in_ok-push-in-Some-clause-entered : goal.returns-in_ok-push-in-Some-clause-entered
 returns-in_ok-push-in-Some-clause-entered g c =

@@ -1,0 +1,232 @@
+-- A frame goes on: the next alternative is looked at, and its child window takes its place among those to be searched.
+use Rattle.std.proofs.Common.{◌≡◌, ◌≢◌, ◌⊎◌, inl, inr, ◌∙◌, ℕ, ◌+◌, ◌-◌, ◌*◌, ◌<◌, ◌≤◌, List, [], ◌∷◌, ◌++◌, length, take, drop, map, slice_index, Contains, All, true, false, Bool, arith, refl, sym, subst, ap}
+use Rattle.std.proofs.lemmas.List.{take-append-drop, length-map}
+use Rattle.std.proofs.lemmas.List.Elements.{Contains-append_left, Contains-append_right, Contains-append_cases}
+use Rattle.racp_model.specs.Project.{Project, IsNumber, IsSound}
+use Rattle.racp_model.specs.Terms.{IsLexBefore}
+use Rattle.racp_model.specs.Window.{Bounds, LiesIn}
+use Rattle.racp_model.proofs.lemmas.Relations.{member_cases, member_first, member_later, no_member}
+use Rattle.racp_model.proofs.lemmas.Sums.{sum_below-bound}
+use Rattle.racp_delay.specs.Alternatives.{Splits, IsMinimalDelayingAlternative, IsNextAlternative, IsLastAlternative, IsFollowing}
+use Rattle.racp_delay.specs.JobSets.{AreJobs}
+use Rattle.racp_delay.specs.Laws.{EachHasChild, SubsetsGo, lower_sum}
+use Rattle.racp_cutset.specs.Covering.{SearchNode}
+use Rattle.racp_search.specs.Children.{IsChildFor, IsEmptyChild, IsInserted}
+use Rattle.racp_search.specs.DepthFirst.{SearchFrame, Part, LiesInPart, LiesBehind, PartsCover, HasActive, IsFrame, IsBelow, IsGoneOn, child_windows, parts_of, rank, most_lists, steps_left, weight, weights}
+use Rattle.racp_search.specs.DepthFirst.Part.{all_of, behind}
+use Rattle.racp_search.specs.declared.child.Child.{Child}
+use Rattle.racp_search.proofs.Children.{gone_numbers}
+use Rattle.racp_search.proofs.Ranks.{place-less, place-rises}
+use Rattle.racp_delay.specs.Branching.{IsChild}
+use Rattle.racp_search.proofs.Weights.{weights-append, weights-one, child-weight, step-lighter}
+
+-- the parts that are child windows
+abbrev pub child_parts : List Child → List Part
+child_parts cs = map all_of (child_windows cs)
+
+pub child_parts-append : (xs ys : List Child) → child_parts (xs ++ ys) ≡ child_parts xs ++ child_parts ys
+child_parts-append [] ys = refl
+child_parts-append (x ∷ xs) ys = ap (λ (zs : List Part). all_of x.window ∷ zs) (child_parts-append xs ys)
+
+pub windows-append : (xs ys : List Child) → child_windows (xs ++ ys) ≡ child_windows xs ++ child_windows ys
+windows-append [] ys = refl
+windows-append (x ∷ xs) ys = ap (λ (zs : List Bounds). x.window ∷ zs) (windows-append xs ys)
+
+-- a list in two pieces
+pieces : (n : ℕ) (cs : List Child) → take n cs ++ drop n cs ≡ cs
+pieces n cs = take-append-drop n cs
+
+module _ (cs : List Child) (c : Child) (new : List Child) (h : IsInserted cs c new) where
+  -- the parts with one child more
+  parts-new : child_parts new ≡ child_parts (take h.0 cs) ++ all_of c.window ∷ child_parts (drop h.0 cs)
+  parts-new = ap child_parts h.1 ∙ child_parts-append (take h.0 cs) (c ∷ drop h.0 cs)
+
+  parts-old : child_parts cs ≡ child_parts (take h.0 cs) ++ child_parts (drop h.0 cs)
+  parts-old = ap child_parts (sym (pieces h.0 cs)) ∙ child_parts-append (take h.0 cs) (drop h.0 cs)
+
+  pub inserted-weights : (p : Project) → weights p (child_parts new) ≡ weight p (all_of c.window) + weights p (child_parts cs)
+  inserted-weights p =
+      let tail : List Part = child_parts (drop h.0 cs) in
+      omega (
+        arith,
+        ap (weights p) parts-new,
+        ap (weights p) parts-old,
+        weights-append p (child_parts (take h.0 cs)) (all_of c.window ∷ tail),
+        weights-append p (child_parts (take h.0 cs)) tail,
+        weights-append p (all_of c.window ∷ []) tail,
+        weights-one p (all_of c.window),
+      )
+
+  pub inserted-there : Contains (child_parts new) (all_of c.window)
+  inserted-there = subst (λ (xs : List Part). Contains xs (all_of c.window)) (sym parts-new)
+      (Contains-append_right (child_parts (take h.0 cs)) (all_of c.window ∷ child_parts (drop h.0 cs)) (all_of c.window) (member_first (all_of c.window) (child_parts (drop h.0 cs)) (all_of c.window) refl))
+
+  pub inserted-stays : (part : Part) → Contains (child_parts cs) part → Contains (child_parts new) part
+  inserted-stays part has = subst (λ (xs : List Part). Contains xs part) (sym parts-new)
+      (elim (Contains-append_cases (child_parts (take h.0 cs)) (child_parts (drop h.0 cs)) part (subst (λ (xs : List Part). Contains xs part) parts-old has)) [
+        | inl before ↦ Contains-append_left (child_parts (take h.0 cs)) (all_of c.window ∷ child_parts (drop h.0 cs)) part before
+        | inr after ↦ Contains-append_right (child_parts (take h.0 cs)) (all_of c.window ∷ child_parts (drop h.0 cs)) part (member_later (all_of c.window) (child_parts (drop h.0 cs)) part after)
+      ])
+
+  pub inserted-window : (w : Bounds) → Contains (child_windows new) w → (c.window ≡ w) ⊎ Contains (child_windows cs) w
+  inserted-window w has =
+      let is_new : child_windows new ≡ child_windows (take h.0 cs) ++ c.window ∷ child_windows (drop h.0 cs) = ap child_windows h.1 ∙ windows-append (take h.0 cs) (c ∷ drop h.0 cs) in
+      let is_old : child_windows cs ≡ child_windows (take h.0 cs) ++ child_windows (drop h.0 cs) = ap child_windows (sym (pieces h.0 cs)) ∙ windows-append (take h.0 cs) (drop h.0 cs) in
+      let Old : Bounds → Type 0 = λ x. Contains (child_windows cs) x in
+      elim (Contains-append_cases (child_windows (take h.0 cs)) (c.window ∷ child_windows (drop h.0 cs)) w (subst (λ (xs : List Bounds). Contains xs w) is_new has)) [
+        | inl before ↦ inr (subst (λ (xs : List Bounds). Contains xs w) (sym is_old) (Contains-append_left (child_windows (take h.0 cs)) (child_windows (drop h.0 cs)) w before))
+        | inr after ↦ elim (member_cases c.window (child_windows (drop h.0 cs)) w after) [
+          | inl same ↦ inl same
+          | inr there ↦ inr (subst (λ (xs : List Bounds). Contains xs w) (sym is_old) (Contains-append_right (child_windows (take h.0 cs)) (child_windows (drop h.0 cs)) w there))
+        ]
+      ]
+
+-- before each list of jobs stands the empty one
+pub not_first : (last : List ℕ) → IsLexBefore last [] → ⊥
+not_first [] h = absurd (cc h)
+not_first (x ∷ xs) h = absurd (cc h)
+
+-- what was found, in equal projects, capacities and lists
+pub same_following : (p q : Project) (a b active l m : List ℕ) (more : Bool) (gone : List ℕ) → p ≡ q → a ≡ b → l ≡ m → IsFollowing p a active l more gone → IsFollowing q b active m more gone
+same_following p q a b active l m more gone named same at h =
+    subst (λ (xs : List ℕ). IsFollowing q b active xs more gone) at
+    (subst (λ (xs : List ℕ). IsFollowing q xs active l more gone) same (subst (λ (r : Project). IsFollowing r a active l more gone) named h))
+
+pub is_last : (p : Project) (a active l : List ℕ) (more : Bool) (gone : List ℕ) → more ≡ false → IsFollowing p a active l more gone → IsLastAlternative p a active l
+is_last p a active l true gone e h = absurd (cc e)
+is_last p a active l false gone e h = h
+
+pub is_next : (p : Project) (a active l : List ℕ) (more : Bool) (gone : List ℕ) → more ≡ true → IsFollowing p a active l more gone → IsNextAlternative p a active l gone
+is_next p a active l true gone e h = h
+is_next p a active l false gone e h = absurd (cc e)
+
+-- a frame, by its fields
+abbrev pub frame_with : SearchNode → List ℕ → List Child → List ℕ → Bool → SearchFrame
+frame_with v active cs last more = record { node = v; active = active; windows = child_windows cs; last = last; more = more }
+
+-- the jobs of an alternative are a set
+pub gone_are_jobs : (p : Project) (v : SearchNode) (active gone : List ℕ) → IsSound p → SubsetsGo → HasActive p v active → IsMinimalDelayingAlternative p v.capacities active gone → AreJobs gone
+gone_are_jobs p v active gone sound law is minimal =
+    let numbers : All (IsNumber (length p.jobs)) gone = gone_numbers p v.capacities v.early v.time active gone minimal.delays.0 (length p.jobs) law refl is.conflict minimal.delays.1 in
+    record {
+      rises = ((law active gone is.conflict.set.rises).0 (minimal.delays.0, minimal.delays.1)).0;
+      numbers = λ k d l. let n = numbers k d l in (n.0, omega (arith, n.1, sound.limits.most_jobs));
+    }
+
+module _ (p : Project) (capacities : List ℕ) (v : SearchNode) (active last : List ℕ) (cs : List Child) (is : HasActive p v active) (jobs : AreJobs last) where
+  small : lower_sum p v.window ≤ length p.jobs * 10000000
+  small = sum_below-bound (length p.jobs) 10000000 (slice_index v.window.lower) (λ i l. omega (arith, is.node.early.above i l, is.small i l))
+
+  -- where no alternative is left
+  pub gone-none : IsLastAlternative p v.capacities active last → IsGoneOn p capacities (frame_with v active cs last true) (frame_with v active cs last false)
+  gone-none none = record {
+    node = refl;
+    covers = λ part has starts lies fits. elim (member_cases (behind v active last) (child_parts cs) part has) [
+      | inl same ↦
+          let b : LiesBehind p v active last starts = subst (λ (x : Part). LiesInPart p x starts) (sym same) lies in
+          absurd (none b.gone b.minimal b.behind)
+      | inr there ↦ (part, there, lies)
+    ];
+    lighter = omega (arith, weights-append p (behind v active last ∷ []) (child_parts cs));
+  }
+
+  -- there were lists left
+  pub some-left : 0 < steps_left true last
+  some-left = omega (arith, place-less last jobs)
+
+  module _ (gone : List ℕ) (set : AreJobs gone) (next : IsNextAlternative p v.capacities active last gone) where
+    -- fewer lists are left
+    pub fewer-left : steps_left true gone < steps_left true last
+    fewer-left = omega (arith, place-rises last gone jobs set next.behind, place-less gone set)
+
+    -- what lies behind the last alternative lies in the next one's child window or behind it
+    behind-next : (starts : List ℕ) (b : LiesBehind p v active last starts) → (b.gone ≡ gone) ⊎ LiesBehind p v active gone starts
+    behind-next starts b = elim (next.first b.gone b.minimal b.behind) [
+      | inl same ↦ inl same
+      | inr later ↦ inr (record { gone = b.gone; kept = b.kept; splits = b.splits; some_stay = b.some_stay; minimal = b.minimal; behind = later; lies = b.lies })
+    ]
+
+    -- a child window more
+    pub gone-child : (c : Child) (new : List Child) → IsChildFor p v active gone c.window → IsInserted cs c new → IsGoneOn p capacities (frame_with v active cs last true) (frame_with v active new gone true)
+    gone-child c new child inserted = record {
+      node = refl;
+      covers = λ part has starts lies fits. elim (member_cases (behind v active last) (child_parts cs) part has) [
+        | inl same ↦
+            let b : LiesBehind p v active last starts = subst (λ (x : Part). LiesInPart p x starts) (sym same) lies in
+            elim (behind-next starts b) [
+              | inl here ↦
+                  let splits : Splits active gone b.kept = subst (λ (x : List ℕ). Splits active x b.kept) here b.splits in
+                  let at = subst (λ (x : List ℕ). (w : Bounds) → IsChild p v.early v.window x b.kept w → LiesIn p w starts) here b.lies in
+                  (all_of c.window, member_later (behind v active gone) (child_parts new) (all_of c.window) (inserted-there cs c new inserted), at c.window (child.is b.kept splits))
+              | inr later ↦ (behind v active gone, member_first (behind v active gone) (child_parts new) (behind v active gone) refl, later)
+            ]
+        | inr there ↦ (part, member_later (behind v active gone) (child_parts new) part (inserted-stays cs c new inserted part there), lies)
+      ];
+      lighter = omega (
+        arith,
+        weights-append p (behind v active last ∷ []) (child_parts cs),
+        weights-append p (behind v active gone ∷ []) (child_parts new),
+        weights-one p (behind v active last),
+        weights-one p (behind v active gone),
+        inserted-weights cs c new inserted p,
+        step-lighter p v active last gone (weight p (all_of c.window)) (place-rises last gone jobs set next.behind) (place-less gone set) (child-weight p v c.window child.below.higher small),
+      );
+    }
+
+    -- nothing lies in the child window
+    pub gone-empty : EachHasChild → IsEmptyChild p v active gone → IsGoneOn p capacities (frame_with v active cs last true) (frame_with v active cs gone true)
+    gone-empty has_child none = record {
+      node = refl;
+      covers = λ part has starts lies fits. elim (member_cases (behind v active last) (child_parts cs) part has) [
+        | inl same ↦
+            let b : LiesBehind p v active last starts = subst (λ (x : Part). LiesInPart p x starts) (sym same) lies in
+            elim (behind-next starts b) [
+              | inl here ↦
+                  let splits : Splits active gone b.kept = subst (λ (x : List ℕ). Splits active x b.kept) here b.splits in
+                  let at = subst (λ (x : List ℕ). (w : Bounds) → IsChild p v.early v.window x b.kept w → LiesIn p w starts) here b.lies in
+                  let w = has_child p v.early v.window gone b.kept b.some_stay in
+                  absurd (none b.kept splits b.some_stay w.0 w.1 starts (at w.0 w.1))
+              | inr later ↦ (behind v active gone, member_first (behind v active gone) (child_parts cs) (behind v active gone) refl, later)
+            ]
+        | inr there ↦ (part, member_later (behind v active gone) (child_parts cs) part there, lies)
+      ];
+      lighter = omega (
+        arith,
+        weights-append p (behind v active last ∷ []) (child_parts cs),
+        weights-append p (behind v active gone ∷ []) (child_parts cs),
+        weights-one p (behind v active last),
+        weights-one p (behind v active gone),
+        step-lighter p v active last gone 0 (place-rises last gone jobs set next.behind) (place-less gone set) (omega arith),
+      );
+    }
+
+    -- what holds of each frame holds of the new one
+    pub frame-child : (more : Bool) (c : Child) (new : List Child) → IsFrame p (frame_with v active cs last more) → IsChildFor p v active gone c.window → IsInserted cs c new → IsFrame p (frame_with v active new gone more)
+    frame-child more c new f child inserted = record {
+      active = is;
+      below = λ w has. elim (inserted-window cs c new inserted w has) [
+        | inl same ↦ subst (λ (x : Bounds). IsBelow p v.window x) same child.below
+        | inr there ↦ f.below w there
+      ];
+      last = set;
+    }
+
+    pub frame-empty : (more : Bool) → IsFrame p (frame_with v active cs last more) → IsFrame p (frame_with v active cs gone more)
+    frame-empty more f = record { active = is; below = f.below; last = set }
+
+-- a frame goes on again and again
+pub gone-same : (p : Project) (capacities : List ℕ) (a : SearchFrame) → IsGoneOn p capacities a a
+gone-same p capacities a = record { node = refl; covers = λ part has starts lies fits. (part, has, lies); lighter = omega arith }
+
+pub gone-again : (p : Project) (capacities : List ℕ) (a b c : SearchFrame) → IsGoneOn p capacities a b → IsGoneOn p capacities b c → IsGoneOn p capacities a c
+gone-again p capacities a b c first second = record {
+  node = second.node ∙ first.node;
+  covers = λ part has starts lies fits.
+      let v = first.covers part has starts lies fits in
+      second.covers v.0 v.1 starts v.2 fits;
+  lighter = omega (arith, first.lighter, second.lighter);
+}
+
+-- as many child windows as children
+pub as-many : (cs : List Child) → length (child_windows cs) ≡ length cs
+as-many cs = length-map cs (λ (c : Child). c.window)
