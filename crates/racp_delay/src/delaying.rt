@@ -28,19 +28,23 @@ fn are_within(net: &Network, capacities: &[u32], loads: &Loads) -> bool
 fn has_room(net: &Network, capacities: &[u32], loads: &Loads, job: u32) -> bool
     requires capacities { length capacities.now ≡ net.now.resources }
     requires job { IsNumber (length net.now.jobs) job }
+    requires small { (k : ℕ) → k < net.now.resources → slice_index loads.now k ≤ most_load }
     ensures { IsTrue result ↔ HasRoom net.now capacities.now (slice_index loads.now) job }
 {
-    let place = job as usize - 1;
-    (0..net.resource_count()).all(|k| {
-        let request = net.request(place, k);
-        request == 0 || loads[k] as u64 + request as u64 <= capacities[k] as u64
-    })
+    let requests = net.requests(job as usize - 1);
+    for k in 0..requests.len() {
+        if requests[k] > 0 && loads[k] + requests[k] > capacities[k] {
+            return false;
+        }
+    }
+    true
 }
 
 /// Whether one of these jobs has room beside these loads.
 fn some_have_room(net: &Network, capacities: &[u32], loads: &Loads, jobs: &[u32]) -> bool
     requires capacities { length capacities.now ≡ net.now.resources }
     requires jobs { All (IsNumber (length net.now.jobs)) jobs.now }
+    requires small { (k : ℕ) → k < net.now.resources → slice_index loads.now k ≤ most_load }
     ensures { IsTrue result ↔ SomeHaveRoom net.now capacities.now (slice_index loads.now) jobs.now }
 {
     jobs.iter()
