@@ -43,10 +43,12 @@
 
 mod conflicts;
 mod delaying;
+mod following;
 mod job_set;
 pub mod laws;
 mod loads;
 
 pub use conflicts::{Clash, conflict};
 pub use delaying::{DelayingAlternatives, alternatives, first_end};
+pub use following::Alternative;
 pub use job_set::{JobSet, Jobs};
