@@ -26,7 +26,7 @@ branch_behind-returns-then-first-job t c =
     (λ found. IsExtended p c.args.capacities.now kept c.args.gone.now.items c.args.undecided.now IsAny found c.branch-net-then-first-job.new.gone.items)
     (λ found. IsExtended p c.args.capacities.now kept c.args.gone.now.items c.args.undecided.now (IsLexBefore c.args.last.now) found c.branch-net-then-first-job.new.gone.items)
     (λ found. any-behind_less p c.args.capacities.now kept (slice_index c.args.left.now) c.args.gone.now.items c.args.undecided.now c.args.last.now c.requires.left c.requires.over
-    c.in-Some.first.now c.in-Some-split_first.job.now c.in-Some.rest.now c.in-Some-split_first.others.now c.in-Some.ensures.cases.0 c.in-Some-split_first.ensures.cases.0 c.requires.rises c.if-first-job.true found c.branch-net-then-first-job.new.gone.items)
+    c.in-Some.first.now c.in-Some-split_first.job.now c.in-Some.rest.now c.in-Some-split_first.others.now c.in-Some.ensures.cases.0 c.in-Some-split_first.ensures.cases.0 c.requires.rises (omega (arith, c.if-first-job.true)) found c.branch-net-then-first-job.new.gone.items)
     c.branch-net-then-first-job.ensures
 
 pub branch_behind-without-less-requires-clause-within :
