@@ -8,6 +8,8 @@ mod Rising
 mod Rows
 mod Searching
 mod Adding
+mod Extending
+mod Extended
 mod JobSets
 mod Bits
 mod Loading

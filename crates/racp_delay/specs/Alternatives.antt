@@ -43,19 +43,19 @@ pub record AreAlternatives (p : Project) (capacities active : List ℕ) (lists :
 abbrev pub job_lists : List (SmallVec ℕ) → List (List ℕ)
 job_lists vectors = map (λ (v : SmallVec ℕ). v.items) vectors
 
--- the first minimal delaying alternative behind a list of jobs, in lexicographic order
+-- the first minimal delaying alternative that stands behind a list in lexicographic order
 pub record IsNextAlternative (p : Project) (capacities active last gone : List ℕ) : Type 0 where
   pub minimal : IsMinimalDelayingAlternative p capacities active gone
   pub behind : IsLexBefore last gone
   pub first : (other : List ℕ) → IsMinimalDelayingAlternative p capacities active other → IsLexBefore last other →
       (other ≡ gone) ⊎ IsLexBefore gone other
 
--- no minimal delaying alternative stands behind a list of jobs
+-- no minimal delaying alternative stands behind a list
 abbrev pub IsLastAlternative : Project → List ℕ → List ℕ → List ℕ → Type 0
 IsLastAlternative p capacities active last =
     (other : List ℕ) → IsMinimalDelayingAlternative p capacities active other → IsLexBefore last other → ⊥
 
--- whether one stands behind it, and then the first
+-- what looking for the alternative behind a list answers: there is one more, and it is the next, or there is none
 abbrev pub IsFollowing : Project → List ℕ → List ℕ → List ℕ → Bool → List ℕ → Type 0
 IsFollowing p capacities active last more gone =
     MatchBool more (IsNextAlternative p capacities active last gone) (IsLastAlternative p capacities active last)

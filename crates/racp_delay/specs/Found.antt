@@ -1,6 +1,6 @@
 -- Contracts of private functions: those that search for minimal delaying alternatives. Of the active jobs some are
 -- chosen to go, some are kept, of which only the loads are known, and the others are undecided.
-use Rattle.std.specs.Prelude.{◌≡◌, ℕ, ◌+◌, ◌<◌, ◌≤◌, List, [], ◌∷◌, ◌++◌, length, slice_index, Contains, AllPairs, min, Option, Some, None}
+use Rattle.std.specs.Prelude.{◌≡◌, ◌⊎◌, ℕ, ◌+◌, ◌<◌, ◌≤◌, Bool, MatchBool, List, [], ◌∷◌, ◌++◌, length, slice_index, Contains, AllPairs, min, Option, Some, None}
 use Rattle.racp_model.specs.Project.{Project, request}
 use Rattle.racp_model.specs.Terms.{IsLexBefore}
 use Rattle.racp_delay.specs.Alternatives.{place, Splits, load}
@@ -18,7 +18,8 @@ OneMoreRuns p capacities loads job = (k : ℕ) → k < p.resources →
 -- one job more has room beside these loads, of each resource that it requests
 abbrev pub HasRoom : Project → List ℕ → (ℕ → ℕ) → ℕ → Type 0
 HasRoom p capacities loads job =
-    (k : ℕ) → k < p.resources → 0 < request p (place job) k → loads k + request p (place job) k ≤ slice_index capacities k
+    (k : ℕ) → k < p.resources → 0 < request p (place job) k →
+    loads k + request p (place job) k ≤ slice_index capacities k
 
 -- some of these jobs have
 abbrev pub SomeHaveRoom : Project → List ℕ → (ℕ → ℕ) → List ℕ → Type 0
@@ -52,6 +53,34 @@ pub record AreFound (p : Project) (capacities : List ℕ) (kept : ℕ → ℕ) (
 abbrev pub AreAdded : Project → List ℕ → (ℕ → ℕ) → List ℕ → List ℕ → List (List ℕ) → List (List ℕ) → Type 0
 AreAdded p capacities kept chosen undecided old new =
     (found : List (List ℕ)) × (new ≡ old ++ found) × AreFound p capacities kept chosen undecided found
+
+-- jobs of the undecided that may go beside the chosen, where the others stay
+abbrev pub IsExtension : Project → List ℕ → (ℕ → ℕ) → List ℕ → List ℕ → List ℕ → Type 0
+IsExtension p capacities kept chosen undecided more =
+    (stay : List ℕ) × Splits undecided more stay × IsTight p capacities kept (chosen ++ more) stay
+
+-- the first of the extensions that are looked for
+pub record IsFirstExtension (p : Project) (capacities : List ℕ) (kept : ℕ → ℕ) (chosen undecided : List ℕ)
+    (IsWanted : List ℕ → Type 0) (more : List ℕ) : Type 0 where
+  pub extends : IsExtension p capacities kept chosen undecided more
+  pub wanted : IsWanted more
+  pub first : (other : List ℕ) → IsExtension p capacities kept chosen undecided other → IsWanted other →
+      (other ≡ more) ⊎ IsLexBefore more other
+
+-- there is none
+abbrev pub HasNoExtension : Project → List ℕ → (ℕ → ℕ) → List ℕ → List ℕ → (List ℕ → Type 0) → Type 0
+HasNoExtension p capacities kept chosen undecided IsWanted =
+    (other : List ℕ) → IsExtension p capacities kept chosen undecided other → IsWanted other → ⊥
+
+-- what extending the chosen answers: they are extended to the first, or they are as before and there is none
+abbrev pub IsExtended : Project → List ℕ → (ℕ → ℕ) → List ℕ → List ℕ → (List ℕ → Type 0) → Bool → List ℕ → Type 0
+IsExtended p capacities kept chosen undecided IsWanted found new = MatchBool found
+    ((more : List ℕ) × (new ≡ chosen ++ more) × IsFirstExtension p capacities kept chosen undecided IsWanted more)
+    ((new ≡ chosen) × HasNoExtension p capacities kept chosen undecided IsWanted)
+
+-- any list is wanted
+abbrev pub IsAny : List ℕ → Type 0
+IsAny more = Unit {0}
 
 -- what some jobs request together of each resource, each small
 pub record AreLoads (p : Project) (jobs loads : List ℕ) : Type 0 where

@@ -17,7 +17,7 @@ use std::alloc::{AllocError, Global};
 use std::marker::Model;
 
 /// Whether the loads fit the capacities.
-fn are_within(net: &Network, capacities: &[u32], loads: &Loads) -> bool
+pub(crate) fn are_within(net: &Network, capacities: &[u32], loads: &Loads) -> bool
     requires capacities { length capacities.now ≡ net.now.resources }
     ensures { IsTrue result ↔ AreWithin net.now capacities.now (slice_index loads.now) }
 {
@@ -28,19 +28,23 @@ fn are_within(net: &Network, capacities: &[u32], loads: &Loads) -> bool
 fn has_room(net: &Network, capacities: &[u32], loads: &Loads, job: u32) -> bool
     requires capacities { length capacities.now ≡ net.now.resources }
     requires job { IsNumber (length net.now.jobs) job }
+    requires small { (k : ℕ) → k < net.now.resources → slice_index loads.now k ≤ most_load }
     ensures { IsTrue result ↔ HasRoom net.now capacities.now (slice_index loads.now) job }
 {
-    let place = job as usize - 1;
-    (0..net.resource_count()).all(|k| {
-        let request = net.request(place, k);
-        request == 0 || loads[k] as u64 + request as u64 <= capacities[k] as u64
-    })
+    let requests = net.requests(job as usize - 1);
+    for k in 0..requests.len() {
+        if requests[k] > 0 && loads[k] + requests[k] > capacities[k] {
+            return false;
+        }
+    }
+    true
 }
 
 /// Whether one of these jobs has room beside these loads.
-fn some_have_room(net: &Network, capacities: &[u32], loads: &Loads, jobs: &[u32]) -> bool
+pub(crate) fn some_have_room(net: &Network, capacities: &[u32], loads: &Loads, jobs: &[u32]) -> bool
     requires capacities { length capacities.now ≡ net.now.resources }
     requires jobs { All (IsNumber (length net.now.jobs)) jobs.now }
+    requires small { (k : ℕ) → k < net.now.resources → slice_index loads.now k ≤ most_load }
     ensures { IsTrue result ↔ SomeHaveRoom net.now capacities.now (slice_index loads.now) jobs.now }
 {
     jobs.iter()
@@ -190,7 +194,11 @@ impl DelayingAlternatives {
 }
 
 /// Puts the jobs of a set into a list, in place of what was there, and sums up what they request of each resource.
-fn load_of(net: &Network, jobs: &JobSet, list: &mut Vec<u32>) -> Result<Loads, AllocError>
+pub(crate) fn load_of(
+    net: &Network,
+    jobs: &JobSet,
+    list: &mut Vec<u32>,
+) -> Result<Loads, AllocError>
     requires { All (IsNumber (length net.now.jobs)) jobs.now }
     ensures jobs { OnOk result (list.new.items ≡ jobs.now) }
     ensures loads { IfOk result (AreLoads net.now jobs.now) }

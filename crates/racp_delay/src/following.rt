@@ -1,14 +1,162 @@
-ghost use Rattle.std.specs.Prelude.{◌≡◌, All, [], IfOk, length};
+ghost use Rattle.std.specs.Prelude.{◌≡◌, ℕ, ◌<◌, ◌≤◌, [], IfOk, All, length, slice_index};
+ghost use Rattle.std.specs.List.Sorted.{IsStrictlyIncreasing};
 ghost use Rattle.racp_model.specs.Project.{IsNumber};
+ghost use Rattle.racp_model.specs.Limits.{most_load};
+ghost use Rattle.racp_model.specs.Terms.{IsLexBefore};
 ghost use Rattle.racp_delay.specs.Alternatives.{IsFollowing};
+ghost use Rattle.racp_delay.specs.Found.{AreWithin, with_load, IsAny, IsExtended};
 
+use crate::delaying::{are_within, load_of, some_have_room};
 use crate::job_set::JobSet;
+use crate::loads::{Loads, with, without};
+use racp_model::limits::MOST_RESOURCES;
 use racp_model::{Capacities, Network};
 use std::alloc::{AllocError, Global};
 use std::marker::Model;
 
-/// The minimal delaying alternative that was looked at last, in memory that is used again. Contracts see its job
-/// numbers.
+/// Extends `gone` to the first alternative, in lexicographic order, in which its jobs go and those that load `kept`
+/// stay, where the jobs of `undecided` may go or stay. `left` are the loads of the kept and the undecided together.
+/// Answers whether there is one; else `gone` is as before.
+#[cycle(extending)]
+fn extend(
+    net: &Network,
+    capacities: &[u32],
+    kept: &Loads,
+    left: &Loads,
+    gone: &mut Vec<u32>,
+    undecided: &[u32],
+) -> Result<bool, AllocError>
+    requires capacities { length capacities.now ≡ net.now.resources }
+    requires gone { All (IsNumber (length net.now.jobs)) gone.old.items }
+    requires undecided { All (IsNumber (length net.now.jobs)) undecided.now }
+    requires rises { IsStrictlyIncreasing undecided.now }
+    requires left { (k : ℕ) → k < net.now.resources →
+        slice_index left.now k ≡ with_load net.now (slice_index kept.now) undecided.now k }
+    requires small { (k : ℕ) → k < net.now.resources → slice_index left.now k ≤ most_load }
+    ensures { IfOk result (λ found. IsExtended net.now capacities.now
+        (slice_index kept.now) gone.old.items undecided.now IsAny found gone.new.items) }
+{
+    if some_have_room(net, capacities, left, gone) {
+        return Ok(false);
+    }
+    if are_within(net, capacities, left) {
+        return Ok(true);
+    }
+    branch(net, capacities, kept, left, gone, undecided)
+}
+
+/// The same, where the kept and the undecided together exceed the capacities, so that one of the undecided has to go.
+#[cycle(extending)]
+fn branch(
+    net: &Network,
+    capacities: &[u32],
+    kept: &Loads,
+    left: &Loads,
+    gone: &mut Vec<u32>,
+    undecided: &[u32],
+) -> Result<bool, AllocError>
+    requires capacities { length capacities.now ≡ net.now.resources }
+    requires gone { All (IsNumber (length net.now.jobs)) gone.old.items }
+    requires undecided { All (IsNumber (length net.now.jobs)) undecided.now }
+    requires rises { IsStrictlyIncreasing undecided.now }
+    requires left { (k : ℕ) → k < net.now.resources →
+        slice_index left.now k ≡ with_load net.now (slice_index kept.now) undecided.now k }
+    requires small { (k : ℕ) → k < net.now.resources → slice_index left.now k ≤ most_load }
+    requires over { AreWithin net.now capacities.now (slice_index left.now) → ⊥ }
+    ensures { IfOk result (λ found. IsExtended net.now capacities.now
+        (slice_index kept.now) gone.old.items undecided.now IsAny found gone.new.items) }
+{
+    let Some((job, others)) = undecided.split_first() else {
+        return Ok(false);
+    };
+    gone.push(*job)?;
+    let less = without(net, left, *job);
+    if extend(net, capacities, kept, &less, gone, others)? {
+        return Ok(true);
+    }
+    gone.pop();
+    let more = with(net, kept, *job);
+    if !are_within(net, capacities, &more) {
+        return Ok(false);
+    }
+    branch(net, capacities, &more, left, gone, others)
+}
+
+/// Extends `gone` as `extend` does, but to the first alternative whose further jobs stand behind `last`.
+#[cycle(extending_behind)]
+fn extend_behind(
+    net: &Network,
+    capacities: &[u32],
+    kept: &Loads,
+    left: &Loads,
+    gone: &mut Vec<u32>,
+    undecided: &[u32],
+    last: &[u32],
+) -> Result<bool, AllocError>
+    requires capacities { length capacities.now ≡ net.now.resources }
+    requires gone { All (IsNumber (length net.now.jobs)) gone.old.items }
+    requires undecided { All (IsNumber (length net.now.jobs)) undecided.now }
+    requires rises { IsStrictlyIncreasing undecided.now }
+    requires left { (k : ℕ) → k < net.now.resources →
+        slice_index left.now k ≡ with_load net.now (slice_index kept.now) undecided.now k }
+    requires small { (k : ℕ) → k < net.now.resources → slice_index left.now k ≤ most_load }
+    ensures { IfOk result (λ found. IsExtended net.now capacities.now
+        (slice_index kept.now) gone.old.items undecided.now (IsLexBefore last.now) found gone.new.items) }
+{
+    if some_have_room(net, capacities, left, gone) || are_within(net, capacities, left) {
+        return Ok(false);
+    }
+    branch_behind(net, capacities, kept, left, gone, undecided, last)
+}
+
+/// The same, where the kept and the undecided together exceed the capacities, so that one of the undecided has to go.
+#[cycle(extending_behind)]
+fn branch_behind(
+    net: &Network,
+    capacities: &[u32],
+    kept: &Loads,
+    left: &Loads,
+    gone: &mut Vec<u32>,
+    undecided: &[u32],
+    last: &[u32],
+) -> Result<bool, AllocError>
+    requires capacities { length capacities.now ≡ net.now.resources }
+    requires gone { All (IsNumber (length net.now.jobs)) gone.old.items }
+    requires undecided { All (IsNumber (length net.now.jobs)) undecided.now }
+    requires rises { IsStrictlyIncreasing undecided.now }
+    requires left { (k : ℕ) → k < net.now.resources →
+        slice_index left.now k ≡ with_load net.now (slice_index kept.now) undecided.now k }
+    requires small { (k : ℕ) → k < net.now.resources → slice_index left.now k ≤ most_load }
+    requires over { AreWithin net.now capacities.now (slice_index left.now) → ⊥ }
+    ensures { IfOk result (λ found. IsExtended net.now capacities.now
+        (slice_index kept.now) gone.old.items undecided.now (IsLexBefore last.now) found gone.new.items) }
+{
+    let Some((first, rest)) = last.split_first() else {
+        return branch(net, capacities, kept, left, gone, undecided);
+    };
+    let Some((job, others)) = undecided.split_first() else {
+        return Ok(false);
+    };
+    if *first < *job {
+        return branch(net, capacities, kept, left, gone, undecided);
+    }
+    if *first == *job {
+        gone.push(*job)?;
+        let less = without(net, left, *job);
+        if extend_behind(net, capacities, kept, &less, gone, others, rest)? {
+            return Ok(true);
+        }
+        gone.pop();
+    }
+    let more = with(net, kept, *job);
+    if !are_within(net, capacities, &more) {
+        return Ok(false);
+    }
+    branch_behind(net, capacities, &more, left, gone, others, last)
+}
+
+/// A minimal delaying alternative, in memory that is used again from one to the next. Contracts see the numbers of the
+/// jobs that go.
 #[derive(Drop)]
 pub struct Alternative {
     active: Vec<u32>,
@@ -20,7 +168,7 @@ impl Model for Alternative {
 
     ghost Value = { List ℕ };
 
-    ghost view = { λ a. a.gone.items };
+    ghost view = { λ alternative. alternative.gone.items };
 }
 
 impl Alternative {
@@ -34,7 +182,14 @@ impl Alternative {
         }
     }
 
-    /// Finds the first alternative behind `last`.
+    /// Finds, of the lists that `alternatives` answers for a conflict with these active jobs, the first that stands
+    /// behind `last` in lexicographic order, in place of what was found before. Answers `false` where there is none.
+    /// The empty list stands before all alternatives of a conflict, so a search starts with it and goes on with what
+    /// it found last.
+    ///
+    /// # Errors
+    ///
+    /// Memory was refused; then the alternative is any.
     pub fn find_behind(
         &mut self,
         net: &Network,
@@ -46,10 +201,20 @@ impl Alternative {
         requires active { All (IsNumber (length net.now.jobs)) active.now }
         ensures { IfOk result (λ more. IsFollowing net.now capacities.now active.now last.now more self.new) }
     {
-        Err(AllocError)
+        self.gone.clear();
+        let loads = load_of(net, active, &mut self.active)?;
+        extend_behind(
+            net,
+            capacities.as_slice(),
+            &[0; MOST_RESOURCES],
+            &loads,
+            &mut self.gone,
+            &self.active,
+            last,
+        )
     }
 
-    /// The jobs that go, by number from 1.
+    /// The numbers, from 1 and rising, of the jobs that go.
     pub fn jobs(&self) -> &[u32]
         ensures { result.now ≡ self.now }
     {

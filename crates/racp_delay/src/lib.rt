@@ -19,7 +19,9 @@
 //! ```
 //!
 //! `conflict(&net, &capacities, &starts)` finds the time and the active jobs, `alternatives` the two lists, and
-//! `first_end` the times in the last column.
+//! `first_end` the times in the last column. There can be very many lists, as 184,756 where 10 of 20 equal jobs have to
+//! go. So `Alternative::find_behind` finds them one at a time: the first that stands behind the empty list, the first
+//! behind that one, and so on.
 //!
 //! `conflict` sorts the starts and the ends of the jobs in two rows of fixed length, and goes over the starts in order:
 //! at each it sets the loads of the jobs that started so far against the capacities and the loads of those that ended
@@ -28,6 +30,7 @@
 //! jobs that stay exceed the capacities by themselves, and where one that goes has room beside all the others, of each
 //! resource that it requests; so a job without requests never goes. With one resource and equal requests each branch
 //! leads to an alternative; in general some do not, and the work for each alternative is not bounded by a polynomial.
+//! `find_behind` takes the decisions of the list that it was given again, and goes on from there.
 //!
 //! Why branching loses nothing: let starts in the window fit, and let f be the least end, in these starts, of the
 //! active jobs. Those that start before f are all active right before f, so they can run at once. The others have in
@@ -36,9 +39,9 @@
 //!
 //! Proved: `conflict` finds the first time of an excess with exactly the jobs that are active then, or none where no
 //! usage exceeds its capacity, and takes no memory; `alternatives` all minimal delaying alternatives and nothing else,
-//! each once; `first_end` the first end; `JobSet` what is in a set of jobs. In `laws`: the child windows cover their
-//! window and lie inside it, and the sum of the lower bounds rises. Not proved: that memory is not refused without
-//! need, and the time that all this takes.
+//! each once; `find_behind` the first of them behind a list, or that there is none; `first_end` the first end; `JobSet`
+//! what is in a set of jobs. In `laws`: the child windows cover their window and lie inside it, and the sum of the lower
+//! bounds rises. Not proved: that memory is not refused without need, and the time that all this takes.
 #![tactic(auto)]
 
 mod conflicts;

@@ -18,8 +18,9 @@ pub(crate) fn with(net: &Network, loads: &Loads, job: u32) -> Loads
     ensures sound { IsSound net.now }
 {
     let mut sums = *loads;
-    for k in 0..net.resource_count() {
-        sums[k] += net.request(job as usize - 1, k);
+    let requests = net.requests(job as usize - 1);
+    for k in 0..requests.len() {
+        sums[k] += requests[k];
     }
     sums
 }
@@ -32,8 +33,9 @@ pub(crate) fn without(net: &Network, loads: &Loads, job: u32) -> Loads
         slice_index result k + request net.now (place job) k ≡ slice_index loads.now k }
 {
     let mut sums = *loads;
-    for k in 0..net.resource_count() {
-        sums[k] -= net.request(job as usize - 1, k);
+    let requests = net.requests(job as usize - 1);
+    for k in 0..requests.len() {
+        sums[k] -= requests[k];
     }
     sums
 }

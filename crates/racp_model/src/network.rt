@@ -1,4 +1,4 @@
-ghost use Rattle.std.specs.Prelude.{◌≡◌, ℕ, ◌<◌, ◌≤◌, ◌↔◌, IsTrue, length, All};
+ghost use Rattle.std.specs.Prelude.{◌≡◌, ℕ, ◌<◌, ◌≤◌, ◌↔◌, IsTrue, length, slice_index, All};
 ghost use Rattle.racp_model.specs.Project.{duration, request, IsSound, IsJobWithinLimits, IsWithinLimits};
 ghost use Rattle.racp_model.specs.Made.{IsMade};
 ghost use Rattle.racp_model.specs.Topology.{IsTopological};
@@ -100,6 +100,17 @@ impl Network {
         ensures { result ≡ request self.now i k }
     {
         self.jobs[i].requests()[k]
+    }
+
+    /// How many units of each resource, by place from 0, the job at place `i`, from 0, uses while it runs.
+    #[tactic(auto, unfolding(crate::specs::Project::request))]
+    pub fn requests(&self, i: usize) -> &[u32]
+        requires { i < length self.now.jobs }
+        ensures count { length result.now ≡ self.now.resources }
+        ensures requests { (k : ℕ) → slice_index result.now k ≡ request self.now i k }
+        ensures sound { IsSound self.now }
+    {
+        self.jobs[i].requests()
     }
 
     /// The precedence relation: pairs of job numbers, from 1, each once and in rising order.

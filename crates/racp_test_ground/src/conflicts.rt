@@ -4,7 +4,9 @@ ghost use Rattle.std.specs.Prelude.{◌≡◌, All, length};
 ghost use Rattle.racp_model.specs.Project.{IsNumber};
 
 use crate::samples::{Sample, sampled};
-use racp_delay::{Clash, DelayingAlternatives, JobSet, alternatives, conflict, first_end};
+use racp_delay::{
+    Alternative, Clash, DelayingAlternatives, JobSet, alternatives, conflict, first_end,
+};
 use racp_model::{Capacities, Network, Starts};
 use racp_samples::{SampleFault, network};
 use smallvec::SmallVec;
@@ -12,14 +14,14 @@ use std::alloc::{AllocError, Global};
 use std::test::Fail;
 
 /// Jobs that go, and the time to which their lower bounds are raised in the child window, where there is one.
-type Alternative<'a> = (&'a [u32], Option<u64>);
+type Resolution<'a> = (&'a [u32], Option<u64>);
 
 /// A conflict: its time, the active jobs and the alternatives.
 #[derive(Clone, Copy)]
 struct Expected<'a> {
     time: u32,
     active: &'a [u32],
-    alternatives: &'a [Alternative<'a>],
+    alternatives: &'a [Resolution<'a>],
 }
 
 /// In words, a network with capacities and starts, and their first conflict.
@@ -137,7 +139,7 @@ fn are_alternatives(
     starts: &Starts,
     conflict: &Clash,
     lists: &[SmallVec<u32, 8>],
-    expected: &[Alternative],
+    expected: &[Resolution],
 ) -> bool
     requires starts { length starts.now ≡ length net.now.jobs }
     requires active { All (IsNumber (length net.now.jobs)) conflict.now.active }
@@ -150,8 +152,31 @@ fn are_alternatives(
     lists.len() == expected.len()
 }
 
-/// What is found otherwise than this of a conflict. The alternatives are found thrice, the second and the third time in the
-/// same memory.
+/// Whether these are the alternatives of a conflict, found one behind the other.
+fn follow_each_other(
+    alloc: Global,
+    net: &Network,
+    capacities: &Capacities,
+    conflict: &Clash,
+    expected: &[Resolution],
+) -> Result<bool, AllocError>
+    requires capacities { length capacities.now ≡ net.now.resources }
+    requires active { All (IsNumber (length net.now.jobs)) conflict.now.active }
+{
+    let mut found = Alternative::new(alloc);
+    let mut last: &[u32] = &[];
+    for (gone, _) in expected {
+        if !found.find_behind(net, capacities, &conflict.active, last)? || found.jobs() != *gone {
+            return Ok(false);
+        }
+        last = gone;
+    }
+    let more = found.find_behind(net, capacities, &conflict.active, last)?;
+    Ok(!more)
+}
+
+/// What is found otherwise than this of a conflict. The alternatives are found four times: alone, twice in the same
+/// memory, and one behind the other.
 fn conflict_difference(
     alloc: Global,
     net: &Network,
@@ -177,6 +202,8 @@ fn conflict_difference(
         Some("the alternatives")
     } else if !are_alternatives(net, starts, conflict, found.lists(), expected.alternatives) {
         Some("the alternatives found again")
+    } else if !follow_each_other(alloc, net, capacities, conflict, expected.alternatives)? {
+        Some("the alternatives one behind the other")
     } else {
         None
     })
@@ -214,6 +241,62 @@ fn finds_conflicts_and_alternatives(rt: HostRuntime) -> Result<(), Fail> {
     Ok(())
 }
 
+/// A list, and the alternative that is found behind it, of a conflict with the alternatives 1, 2 and 3, 4.
+const BEHIND: [(&[u32], Option<&[u32]>); 10] = [
+    (&[], Some(&[1, 2])),
+    (&[1], Some(&[1, 2])),
+    (&[1, 1, 9], Some(&[1, 2])),
+    (&[1, 2], Some(&[3, 4])),
+    (&[1, 2, 3], Some(&[3, 4])),
+    (&[1, 3], Some(&[3, 4])),
+    (&[2], Some(&[3, 4])),
+    (&[3, 3, 7], Some(&[3, 4])),
+    (&[3, 4], None),
+    (&[4], None),
+];
+
+/// Whether these are found for a conflict.
+fn finds_each_behind(
+    alloc: Global,
+    net: &Network,
+    capacities: &Capacities,
+    conflict: &Clash,
+) -> Result<bool, AllocError>
+    requires capacities { length capacities.now ≡ net.now.resources }
+    requires active { All (IsNumber (length net.now.jobs)) conflict.now.active }
+{
+    let mut found = Alternative::new(alloc);
+    for (last, expected) in BEHIND {
+        let more = found.find_behind(net, capacities, &conflict.active, last)?;
+        if more != expected.is_some() || (more && Some(found.jobs()) != expected) {
+            return Ok(false);
+        }
+    }
+    Ok(true)
+}
+
+/// The same at the first conflict of four jobs that start at once and have two units of each of two resources.
+fn finds_behind(alloc: Global, net: &Network) -> Result<bool, AllocError> {
+    if net.resource_count() != 2 || net.job_count() != 4 {
+        return Ok(false);
+    }
+    let capacities = Capacities::new(vec![in alloc; 2; 2]?);
+    let starts = Starts::new(vec![in alloc; 0; 4]?);
+    match conflict(net, &capacities, &starts) {
+        Some(first) => finds_each_behind(alloc, net, &capacities, &first),
+        None => Ok(false),
+    }
+}
+
+#[test]
+fn finds_the_alternative_behind_any_list(rt: HostRuntime) -> Result<(), Fail> {
+    let sample = Sample::Free(2, &[(2, &[2, 0]), (2, &[0, 2]), (2, &[1, 1]), (2, &[1, 1])]);
+    let net = sampled(rt.alloc(), sample)?;
+    let finds = finds_behind(rt.alloc(), &net)?;
+    assert!(rt; finds);
+    Ok(())
+}
+
 /// 130 equal jobs beside each other.
 fn wide(alloc: Global) -> Result<Network, SampleFault> {
     let one: &[u32] = &[1];
@@ -222,7 +305,7 @@ fn wide(alloc: Global) -> Result<Network, SampleFault> {
 }
 
 /// The alternatives in which one of these jobs goes, and those that stay end at 1.
-fn each_alone(alloc: Global, jobs: &[u32]) -> Result<Vec<Alternative>, AllocError> {
+fn each_alone(alloc: Global, jobs: &[u32]) -> Result<Vec<Resolution>, AllocError> {
     let mut alternatives = Vec::new(alloc);
     for job in jobs.chunks(1) {
         alternatives.push((job, Some(1)))?;

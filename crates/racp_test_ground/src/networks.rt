@@ -174,6 +174,19 @@ fn usages(net: &Network, starts: &[u32]) -> Option<[u64; 5]> {
     Some(used)
 }
 
+/// Whether these are the durations and the requests of the jobs.
+fn are_jobs(net: &Network, jobs: &[(u32, &[u32])]) -> bool {
+    if jobs.len() != net.job_count() {
+        return false;
+    }
+    for i in 0..net.job_count() {
+        if (net.duration(i), net.requests(i)) != jobs[i] {
+            return false;
+        }
+    }
+    true
+}
+
 #[test]
 fn reads_back_what_was_given(rt: HostRuntime) -> Result<(), Fail> {
     let jobs: [(u32, &[u32]); 5] = [(0, &[0]), (3, &[2]), (2, &[1]), (2, &[1]), (0, &[0])];
@@ -188,6 +201,7 @@ fn reads_back_what_was_given(rt: HostRuntime) -> Result<(), Fail> {
         (1, 2),
     ];
     let net = network(rt.alloc(), 1, &jobs, &pairs)?;
+    assert!(rt; are_jobs(&net, &jobs));
     let once = [(1, 2), (1, 3), (1, 4), (2, 5), (3, 5), (4, 5)];
     assert_eq!(rt; net.arcs(), once.as_slice());
     assert_eq!(rt; net.topological_arcs().len(), 6);
