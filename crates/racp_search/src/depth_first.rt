@@ -135,12 +135,13 @@ impl<N: OfNetwork> Stack<N> {
                     return Ok(Some(window));
                 }
                 None => {
-                    let (nogood, lower, early) = Nogood::of_reusing(node);
+                    let (nogood, lower, early, row) = Nogood::of_reusing(node);
                     local.keep(nogood);
                     let spare = &mut self.workspace.spare;
                     spare.give_list(children);
                     spare.give_row(lower.into_vec());
                     spare.give_row(early.into_vec());
+                    spare.give_row(row);
                 }
             }
         }

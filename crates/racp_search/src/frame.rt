@@ -75,7 +75,8 @@ pub(crate) fn expand<N: OfNetwork>(
         capacities: Capacities::new(capacities),
         window,
     };
-    let node = Node::reusing(net, question, starts, workspace.spare.row(), conflict.time)?;
+    let rows = (workspace.spare.row(), workspace.spare.row());
+    let node = Node::reusing(net, question, starts, rows, conflict.time)?;
     if local.find(subject.board(), &node).is_some() {
         workspace.spare.give_node(node);
         return Ok(None);

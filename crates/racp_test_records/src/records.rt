@@ -227,8 +227,8 @@ fn moves<N: OfNetwork>(alloc: Global, net: &Network) -> Result<bool, Fail>
     };
     let first: Node<N> = node(alloc, net, place)?;
     let told = is_told(&first);
-    let (asked, early, room) = first.into_rows();
-    let again: Node<N> = Node::reusing(net, asked, early, room, 1)?;
+    let (asked, early, rows) = first.into_rows();
+    let again: Node<N> = Node::reusing(net, asked, early, rows, 1)?;
     Ok(told && again.time() == 1 && is_told(&again))
 }
 
