@@ -1,13 +1,13 @@
 -- What the rows of nodes say of them.
-use Rattle.std.proofs.Common.{◌≡◌, ◌↔◌, ℕ, ◌<◌, ◌≤◌, List, length, slice_index, Contains, All, arith, subst, ap}
+use Rattle.std.proofs.Common.{◌≡◌, ◌↔◌, ℕ, ◌<◌, ◌≤◌, List, length, slice_index, Contains, All, arith, subst}
 use Rattle.std.proofs.lemmas.List.Kept.{AllPairs-from_increasing}
 use Rattle.racp_model.specs.Project.{Project, IsSound}
 use Rattle.racp_model.specs.Path.{IsEarly}
 use Rattle.racp_model.proofs.lemmas.Relations.{same_from_members}
 use Rattle.racp_cpm.proofs.lemmas.Bounded.{some_starts}
 use Rattle.racp_delay.specs.Alternatives.{place}
-use Rattle.racp_cutset.specs.Covering.{SearchNode, IsNode, IsStarted, HasCutsetOf, HasRoomOf, AreEnds, AreStartedBefore}
-use Rattle.racp_cutset.specs.Rows.{IsAtLeastRow}
+use Rattle.racp_cutset.specs.Covering.{SearchNode, IsNode, IsStarted, HasCutsetOf, AreEnds, AreStartedBefore}
+use Rattle.racp_cutset.specs.Rows.{AreBounds}
 use Rattle.racp_cutset.specs.Told.{started_from_sets}
 
 -- early starts above bounds of at most 20,000,000 are at most 25,120,000
@@ -18,20 +18,25 @@ early_small p lower early sound places small h i l =
     omega (arith, some.1.small i l, h.least some.0 some.1.above some.1.precedence i l)
 
 -- what is true of each node of the network that its type names
-abbrev pub IsKept : Project → SearchNode → List ℕ → List ℕ → Type 0
-IsKept p v ends started = IsSound p × IsNode p v × AreEnds p v.early ends × AreStartedBefore v.early v.time started
+abbrev pub IsKept : Project → SearchNode → List ℕ → List ℕ → List ℕ → Type 0
+IsKept p v ends started bounds = IsSound p × IsNode p v × AreEnds p v.early ends × AreStartedBefore v.early v.time started × AreBounds v.early v.time ends v.window.lower bounds
+
+-- bounds of equal rows are bounds of the node
+pub same_bounds : (v : SearchNode) (row ends early lower bounds : List ℕ) → row ≡ ends → early ≡ v.early → lower ≡ v.window.lower → AreBounds early v.time row lower bounds → AreBounds v.early v.time ends v.window.lower bounds
+same_bounds v row ends early lower bounds is_row is_early is_lower are =
+    subst (λ (xs : List ℕ). AreBounds v.early v.time xs v.window.lower bounds) is_row (subst (λ (xs : List ℕ). AreBounds v.early v.time row xs bounds) is_lower (subst (λ (xs : List ℕ). AreBounds xs v.time row lower bounds) is_early are))
 
 -- a node that is made is such a node
-pub made : (p q : Project) (v : SearchNode) (lower first second ends started : List ℕ) → p ≡ q → IsSound p
+pub made : (p q : Project) (v : SearchNode) (lower starts ends started bounds : List ℕ) → p ≡ q → IsSound p
     → length v.capacities ≡ p.resources → length v.window.lower ≡ length p.jobs → length v.window.upper ≡ length p.jobs
-    → lower ≡ v.window.lower → IsEarly p (slice_index lower) v.early → first ≡ v.early → AreEnds p first ends → second ≡ v.early → AreStartedBefore second v.time started
-    → IsKept q v ends started
-made p q v lower first second ends started named sound capacities low high is_lower early is_first are_ends is_second are_started =
+    → lower ≡ v.window.lower → IsEarly p (slice_index lower) v.early → starts ≡ v.early → AreEnds p starts ends → AreStartedBefore starts v.time started
+    → AreBounds v.early v.time ends v.window.lower bounds → IsKept q v ends started bounds
+made p q v lower starts ends started bounds named sound capacities low high is_lower early is_starts are_ends are_started are_bounds =
     let e : IsEarly p (slice_index v.window.lower) v.early = subst (λ (xs : List ℕ). IsEarly p (slice_index xs) v.early) is_lower early in
-    let f : AreEnds p v.early ends = subst (λ (xs : List ℕ). AreEnds p xs ends) is_first are_ends in
-    let s : AreStartedBefore v.early v.time started = subst (λ (xs : List ℕ). AreStartedBefore xs v.time started) is_second are_started in
+    let f : AreEnds p v.early ends = subst (λ (xs : List ℕ). AreEnds p xs ends) is_starts are_ends in
+    let s : AreStartedBefore v.early v.time started = subst (λ (xs : List ℕ). AreStartedBefore xs v.time started) is_starts are_started in
     let node : IsNode p v = record { resources = capacities; lower = low; upper = high; early = e } in
-    subst (λ (r : Project). IsKept r v ends started) named (sound, node, f, s)
+    subst (λ (r : Project). IsKept r v ends started bounds) named (sound, node, f, s, are_bounds)
 
 -- a member of the one set is in the other
 pub started_within : (p : Project) (v w : SearchNode) (s r : List ℕ) → IsNode p v → IsNode p w → AreStartedBefore v.early v.time s → AreStartedBefore w.early w.time r
@@ -52,8 +57,3 @@ pub cutset_tests : (p : Project) (v w : SearchNode) (s r : List ℕ) → IsNode 
     → (s ≡ r) ↔ HasCutsetOf p v w
 cutset_tests p v w s r hv hw first second earlier =
     (λ e. record { started = started_from_sets p v w s r hv hw first second e; time = earlier }, λ h. sets_from_started p v w s r hv hw first second h.started)
-
--- the room of the capacities, as rows
-pub room_rows : (p : Project) (v w : SearchNode) (high low : List ℕ) → IsNode p v → high ≡ v.capacities → low ≡ w.capacities → HasRoomOf p v w → IsAtLeastRow high low
-room_rows p v w high low hv is_high is_low h i l =
-    omega (arith, ap (λ (xs : List ℕ). slice_index xs i) is_high, ap (λ (xs : List ℕ). slice_index xs i) is_low, h.capacities i (omega (arith, ap length is_high, hv.resources)))

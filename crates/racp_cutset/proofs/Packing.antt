@@ -1,14 +1,14 @@
 -- What is true of the node that a record keeps.
-use Rattle.std.proofs.Common.{◌≡◌, ◌↔◌, ◌∙◌, ℕ, ◌<◌, ◌≤◌, inl, inr, List, length, slice_index, arith, ap, refl, sym, subst}
+use Rattle.std.proofs.Common.{◌≡◌, ◌↔◌, ◌∙◌, ℕ, ◌+◌, ◌<◌, ◌≤◌, inl, inr, List, length, slice_index, arith, ap, refl, sym, subst}
 use Rattle.std.proofs.lemmas.Bool.{cases_lt}
 use Rattle.std.proofs.lemmas.Bool.Decides.{nat_tests}
 use Rattle.std.proofs.lemmas.List.FromFn.{length-map-range_with_len, get_or-map-range_with_len}
-use Rattle.racp_model.specs.Project.{Project, IsSound}
+use Rattle.racp_model.specs.Project.{Project, IsSound, duration}
 use Rattle.racp_model.specs.Window.{IsNo}
-use Rattle.racp_cutset.specs.Covering.{SearchNode, IsNode, IsStarted, IsRefutedNode, FitsBeforeTime, Covers, HasCutsetOf, HasRoomOf, EndsNoLater, MayStartAsEarly}
+use Rattle.racp_cutset.specs.Covering.{SearchNode, IsNode, IsStarted, IsRefutedNode, FitsBeforeTime, Covers, HasCutsetOf, HasCapacitiesOf, HasUpperOf, EndsNoLater, MayStartAsEarly}
 use Rattle.racp_cutset.specs.Records.{settled, settled_bound, IsPacked, Told}
 use Rattle.racp_cutset.specs.Told.{told_once}
-use Rattle.racp_cutset.specs.Rows.{IsAtLeastRow, IsSoonerBefore, IsSoonerFrom, IsSoonerRow, AreBounds}
+use Rattle.racp_cutset.specs.Rows.{IsAtLeastRow, IsSoonerRow}
 use Rattle.racp_cutset.proofs.Nodes.{IsKept, cutset_tests}
 
 -- the lower bounds of a settled node
@@ -78,95 +78,81 @@ settled_covers p v w = (
   },
 )
 
--- the tests of a record against the rows of a node, where v is the node of the record and w the other one
-module _ (p : Project) (capacities upper bounds started : List ℕ) (time : ℕ) (v w : SearchNode) (a : IsPacked p capacities upper bounds started time v) where
-  pub cutset_of_node : (ends set : List ℕ) (when : ℕ) → IsKept p w ends set → when ≡ w.time → time ≤ when → (started ≡ set) ↔ HasCutsetOf p v w
-  cutset_of_node ends set when k e l = cutset_tests p v w started set a.node k.1 a.jobs k.3 (omega (arith, a.of_time, e, l))
+-- a row has the end of each started job of a node, and the lower bound of each other
+pub record HasRow (p : Project) (v : SearchNode) (row : List ℕ) : Type 0 where
+  pub places : length row ≡ length p.jobs
+  pub ends : (i : ℕ) → i < length p.jobs → IsStarted v i → slice_index row i ≡ slice_index v.early i + duration p i
+  pub lower : (i : ℕ) → i < length p.jobs → v.time ≤ slice_index v.early i → slice_index row i ≡ slice_index v.window.lower i
 
-  pub sooner_of_node : (ends set row ends_row early lower : List ℕ) (when : ℕ) → IsKept p w ends set → row ≡ bounds → ends_row ≡ ends → early ≡ w.early → lower ≡ w.window.lower → when ≡ w.time → HasCutsetOf p v w
-      → (IsSoonerBefore early when row when ends_row × IsSoonerFrom early when row when lower) ↔ (EndsNoLater p v w × MayStartAsEarly p v w)
-  sooner_of_node ends set row ends_row early lower when k is_row is_ends is_early is_lower is_when same =
-      let at = λ (i : ℕ). ap (λ (xs : List ℕ). slice_index xs i) is_early in
-      let low = λ (i : ℕ). ap (λ (xs : List ℕ). slice_index xs i) is_lower in
-      let own = λ (i : ℕ). ap (λ (xs : List ℕ). slice_index xs i) is_row in
-      let end = λ (i : ℕ). ap (λ (xs : List ℕ). slice_index xs i) is_ends in
-      let places : length early ≡ length p.jobs = ap length is_early ∙ k.1.early.places in (
-        λ h. (
-          (λ i l started. (let s = (same.started i l).0 started in omega (arith, is_when, at i, own i, end i, s, h.0 i (omega (arith, l, places)) (omega (arith, is_when, at i, s)), a.ends i l started, k.2.each i l))),
-          (λ i l later. elim (cases_lt (slice_index w.early i) w.time) [
-            | inl s ↦ absurd (let also = (same.started i l).1 s in omega (arith, also, later))
-            | inr s ↦ omega (arith, is_when, at i, own i, low i, s, h.1 i (omega (arith, l, places)) (omega (arith, is_when, at i, s)), a.lower i l later)
-          ]),
-        ),
-        λ h. (
-          (λ i m before. (let l : i < length p.jobs = omega (arith, m, places) in let s = (same.started i l).1 (omega (arith, is_when, at i, before)) in
-              omega (arith, is_when, own i, end i, h.0 i l s, a.ends i l s, k.2.each i l))),
-          (λ i m after. (let l : i < length p.jobs = omega (arith, m, places) in elim (cases_lt (slice_index v.early i) v.time) [
-            | inl s ↦ absurd (let also = (same.started i l).0 s in omega (arith, is_when, at i, also, after))
-            | inr s ↦ omega (arith, is_when, own i, low i, h.1 i l s, a.lower i l s)
-          ])),
-        ),
-      )
+-- as that of a record
+pub row_of_record : (p : Project) (capacities upper bounds started row : List ℕ) (time : ℕ) (v : SearchNode) → IsPacked p capacities upper bounds started time v → row ≡ bounds → HasRow p v row
+row_of_record p capacities upper bounds started row time v a e =
+    subst (HasRow p v) (sym e) (record { places = a.places; ends = a.ends; lower = a.lower })
 
--- and against the rows of another record
-module _ (p : Project) (capacities upper bounds started capacities' upper' bounds' started' : List ℕ) (time time' : ℕ) (v w : SearchNode)
-    (a : IsPacked p capacities upper bounds started time v) (b : IsPacked p capacities' upper' bounds' started' time' w) where
-  pub cutset_of_record : time ≤ time' → (started ≡ started') ↔ HasCutsetOf p v w
-  cutset_of_record l = cutset_tests p v w started started' a.node b.node a.jobs b.jobs (omega (arith, a.of_time, b.of_time, l))
+-- and that of a node
+pub row_of_node : (p : Project) (v : SearchNode) (ends started bounds row : List ℕ) → IsKept p v ends started bounds → row ≡ bounds → HasRow p v row
+row_of_node p v ends started bounds row k e =
+    let n = k.1.early.places in
+    subst (HasRow p v) (sym e) (record {
+      places = k.4.places ∙ n;
+      ends = λ i l s. omega (arith, k.4.before i (omega (arith, l, n)) s, k.2.each i l);
+      lower = λ i l s. k.4.after i (omega (arith, l, n)) s;
+    })
 
-  pub sooner_of_record : (row row' : List ℕ) → row ≡ bounds → row' ≡ bounds' → HasCutsetOf p v w → IsSoonerRow row time' row' ↔ (EndsNoLater p v w × MayStartAsEarly p v w)
-  sooner_of_record row row' is_row is_row' same =
-      let own = λ (i : ℕ). ap (λ (xs : List ℕ). slice_index xs i) is_row in
-      let other = λ (i : ℕ). ap (λ (xs : List ℕ). slice_index xs i) is_row' in
-      let places : length row ≡ length p.jobs = ap length is_row ∙ a.places in (
-        λ h. (
-          (λ i l started. (let s = (same.started i l).0 started in omega (arith, b.of_time, own i, other i, h i (omega (arith, l, places)), a.ends i l started, b.ends i l s))),
-          (λ i l later. elim (cases_lt (slice_index w.early i) w.time) [
-            | inl s ↦ absurd (let also = (same.started i l).1 s in omega (arith, also, later))
-            | inr s ↦ omega (arith, b.of_time, own i, other i, h i (omega (arith, l, places)), a.lower i l later, b.lower i l s)
-          ]),
-        ),
-        λ h i m. (let l : i < length p.jobs = omega (arith, m, places) in elim (cases_lt (slice_index v.early i) v.time) [
-          | inl s ↦ (let also = (same.started i l).0 s in omega (arith, b.of_time, own i, other i, h.0 i l s, a.ends i l s, b.ends i l also))
-          | inr s ↦ elim (cases_lt (slice_index w.early i) w.time) [
-            | inl also ↦ absurd (let t = (same.started i l).1 also in omega (arith, t, s))
-            | inr also ↦ omega (arith, b.of_time, own i, other i, h.1 i l s, a.lower i l s, b.lower i l also)
-          ]
-        ]),
-      )
+-- the test of two such rows, where v is the node of the record and w the other one
+pub sooner_rows : (p : Project) (v w : SearchNode) (row row' : List ℕ) (when : ℕ) → HasRow p v row → HasRow p w row' → when ≡ w.time → HasCutsetOf p v w → IsSoonerRow row when row' ↔ (EndsNoLater p v w × MayStartAsEarly p v w)
+sooner_rows p v w row row' when a b is_when same = (
+  λ h. (
+    (λ i l started. (let s = (same.started i l).0 started in omega (arith, is_when, h i (omega (arith, l, a.places)), a.ends i l started, b.ends i l s))),
+    (λ i l later. elim (cases_lt (slice_index w.early i) w.time) [
+      | inl s ↦ absurd (let also = (same.started i l).1 s in omega (arith, also, later))
+      | inr s ↦ omega (arith, is_when, h i (omega (arith, l, a.places)), a.lower i l later, b.lower i l s)
+    ]),
+  ),
+  λ h i m. (let l : i < length p.jobs = omega (arith, m, a.places) in elim (cases_lt (slice_index v.early i) v.time) [
+    | inl s ↦ (let also = (same.started i l).0 s in omega (arith, is_when, h.0 i l s, a.ends i l s, b.ends i l also))
+    | inr s ↦ elim (cases_lt (slice_index w.early i) w.time) [
+      | inl also ↦ absurd (let t = (same.started i l).1 also in omega (arith, t, s))
+      | inr also ↦ omega (arith, is_when, h.1 i l s, a.lower i l s, b.lower i l also)
+    ]
+  ]),
+)
+
+-- the sets of started jobs of a record and of a node
+pub cutset_of_node : (p : Project) (capacities upper bounds started : List ℕ) (time : ℕ) (v w : SearchNode) (ends set bounds' : List ℕ) → IsPacked p capacities upper bounds started time v → IsKept p w ends set bounds' → v.time ≤ w.time → (started ≡ set) ↔ HasCutsetOf p v w
+cutset_of_node p capacities upper bounds started time v w ends set bounds' a k l = cutset_tests p v w started set a.node k.1 a.jobs k.3 l
+
+-- and of two records
+pub cutset_of_record : (p : Project) (capacities upper bounds started capacities' upper' bounds' started' : List ℕ) (time time' : ℕ) (v w : SearchNode)
+    → IsPacked p capacities upper bounds started time v → IsPacked p capacities' upper' bounds' started' time' w → v.time ≤ w.time → (started ≡ started') ↔ HasCutsetOf p v w
+cutset_of_record p capacities upper bounds started capacities' upper' bounds' started' time time' v w a b l = cutset_tests p v w started started' a.node b.node a.jobs b.jobs l
 
 -- the rows of the node that a record keeps
-pub packed : (p : Project) (v : SearchNode) (ends started row early lower bounds : List ℕ) → IsKept p v ends started → row ≡ ends → early ≡ v.early → lower ≡ v.window.lower → AreBounds early v.time row lower bounds
-    → IsPacked p v.capacities v.window.upper bounds started v.time (settled p v)
-packed p v ends started row early lower bounds k is_row is_early is_lower are =
-    let g : AreBounds v.early v.time ends v.window.lower bounds =
-    subst (λ (xs : List ℕ). AreBounds v.early v.time xs v.window.lower bounds) is_row (subst (λ (xs : List ℕ). AreBounds v.early v.time row xs bounds) is_lower (subst (λ (xs : List ℕ). AreBounds xs v.time row lower bounds) is_early are)) in
-    let n = k.1.early.places in
+pub packed : (p : Project) (v : SearchNode) (ends started bounds : List ℕ) → IsKept p v ends started bounds → IsPacked p v.capacities v.window.upper bounds started v.time (settled p v)
+packed p v ends started bounds k =
+    let row = row_of_node p v ends started bounds bounds k refl in
     record {
       node = settled_node p v k.1;
       of_resources = refl;
       of_upper = refl;
       of_time = refl;
-      places = g.places ∙ n;
+      places = row.places;
       jobs = record { rises = k.3.rises; members = k.3.members };
-      ends = λ i l s. omega (arith, g.before i (omega (arith, l, n)) s, k.2.each i l);
+      ends = row.ends;
       starts = λ i l s. settled_started p v i l s;
-      lower = λ i l s. omega (arith, g.after i (omega (arith, l, n)) s, settled_later p v i l s);
+      lower = λ i l s. omega (arith, row.lower i l s, settled_later p v i l s);
     }
 
--- what each test says of the rows of resources and of upper bounds
-pub room_of_rows : (p : Project) (v w : SearchNode) (high low most few : List ℕ) → IsNode p v → IsNode p w → high ≡ v.window.upper → low ≡ w.window.upper → most ≡ v.capacities → few ≡ w.capacities
-    → (IsAtLeastRow high low × IsAtLeastRow most few) ↔ HasRoomOf p v w
-room_of_rows p v w high low most few a b is_high is_low is_most is_few = (
-  λ h. record {
-    capacities = λ k l. omega (arith, ap (λ (xs : List ℕ). slice_index xs k) is_most, ap (λ (xs : List ℕ). slice_index xs k) is_few, h.1 k (omega (arith, l, ap length is_most, a.resources)));
-    upper = λ i l. omega (arith, ap (λ (xs : List ℕ). slice_index xs i) is_high, ap (λ (xs : List ℕ). slice_index xs i) is_low, h.0 i (omega (arith, l, ap length is_high, a.upper)));
-  },
-  λ h. (
-    (λ i l. omega (arith, ap (λ (xs : List ℕ). slice_index xs i) is_high, ap (λ (xs : List ℕ). slice_index xs i) is_low, h.upper i (omega (arith, l, ap length is_high, a.upper)))),
-    (λ k l. omega (arith, ap (λ (xs : List ℕ). slice_index xs k) is_most, ap (λ (xs : List ℕ). slice_index xs k) is_few, h.capacities k (omega (arith, l, ap length is_most, a.resources)))),
-  ),
-)
+-- the tests of rows of resources and of upper bounds
+pub capacities_of_rows : (p : Project) (v w : SearchNode) (high low : List ℕ) → IsNode p v → high ≡ v.capacities → low ≡ w.capacities → IsAtLeastRow high low ↔ HasCapacitiesOf p v w
+capacities_of_rows p v w high low a is_high is_low =
+    subst (λ (xs : List ℕ). IsAtLeastRow xs low ↔ HasCapacitiesOf p v w) (sym is_high) (subst (λ (ys : List ℕ). IsAtLeastRow v.capacities ys ↔ HasCapacitiesOf p v w) (sym is_low)
+    ((λ h k l. h k (omega (arith, l, a.resources))), (λ h k l. h k (omega (arith, l, a.resources)))))
+
+pub upper_of_rows : (p : Project) (v w : SearchNode) (high low : List ℕ) → IsNode p v → high ≡ v.window.upper → low ≡ w.window.upper → IsAtLeastRow high low ↔ HasUpperOf p v w
+upper_of_rows p v w high low a is_high is_low =
+    subst (λ (xs : List ℕ). IsAtLeastRow xs low ↔ HasUpperOf p v w) (sym is_high) (subst (λ (ys : List ℕ). IsAtLeastRow v.window.upper ys ↔ HasUpperOf p v w) (sym is_low)
+    ((λ h i l. h i (omega (arith, l, a.upper))), (λ h i l. h i (omega (arith, l, a.upper)))))
 
 -- rows that tell a node tell that one
 pub told_is : (p : Project) (capacities upper bounds started : List ℕ) (time : ℕ) (t : Told p capacities upper bounds started time) (v : SearchNode) → IsPacked p capacities upper bounds started time v → t.0 ≡ v
@@ -182,12 +168,11 @@ pub recorded : (p : Project) (capacities upper bounds started : List ℕ) (time 
 recorded p capacities upper bounds started time t v sound h refuted =
     subst (IsRecord p capacities upper bounds started time) (sym (told_is p capacities upper bounds started time t v h)) (sound, h, refuted)
 
-pub record_of : (p : Project) (v node : SearchNode) (ends started upper early lower bounds : List ℕ) → v ≡ node → IsKept p v ends started → upper ≡ v.window.upper → early ≡ v.early → lower ≡ v.window.lower → AreBounds early v.time ends lower bounds
+pub record_of : (p : Project) (v node : SearchNode) (ends started bounds upper : List ℕ) → v ≡ node → IsKept p v ends started bounds → upper ≡ v.window.upper
     → FitsBeforeTime p node → IsNo p node.capacities node.window → IsRecord p v.capacities upper bounds started v.time (settled p v)
-record_of p v node ends started upper early lower bounds same k is_upper is_early is_lower are fits question_is_no =
+record_of p v node ends started bounds upper same k is_upper fits question_is_no =
     let refuted : IsRefutedNode p node = record { fits = fits; refuted = question_is_no } in
-    let here = packed p v ends started ends early lower bounds k refl is_early is_lower are in
-    (k.0, subst (λ (xs : List ℕ). IsPacked p v.capacities xs bounds started v.time (settled p v)) (sym is_upper) here, settled_refuted p v k.1 (subst (IsRefutedNode p) (sym same) refuted))
+    (k.0, subst (λ (xs : List ℕ). IsPacked p v.capacities xs bounds started v.time (settled p v)) (sym is_upper) (packed p v ends started bounds k), settled_refuted p v k.1 (subst (IsRefutedNode p) (sym same) refuted))
 
 -- what rows tell, where they tell a settled node, covers what the node covers
 pub told_covers : (p : Project) (capacities upper bounds started : List ℕ) (time : ℕ) (t : Told p capacities upper bounds started time) (v node : SearchNode) → IsPacked p capacities upper bounds started time (settled p v) → v ≡ node

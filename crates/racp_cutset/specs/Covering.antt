@@ -26,10 +26,18 @@ pub record IsNode (p : Project) (v : SearchNode) : Type 0 where
 abbrev pub IsStarted : SearchNode → ℕ → Type 0
 IsStarted v i = slice_index v.early i < v.time
 
--- node v has at least the capacities and the upper bounds of node w
+-- node v has at least the capacities of node w
+abbrev pub HasCapacitiesOf : Project → SearchNode → SearchNode → Type 0
+HasCapacitiesOf p v w = (k : ℕ) → k < p.resources → slice_index w.capacities k ≤ slice_index v.capacities k
+
+-- node v has at least the upper bounds of node w
+abbrev pub HasUpperOf : Project → SearchNode → SearchNode → Type 0
+HasUpperOf p v w = (i : ℕ) → i < length p.jobs → slice_index w.window.upper i ≤ slice_index v.window.upper i
+
+-- node v has at least both
 pub record HasRoomOf (p : Project) (v w : SearchNode) : Type 0 where
-  pub capacities : (k : ℕ) → k < p.resources → slice_index w.capacities k ≤ slice_index v.capacities k
-  pub upper : (i : ℕ) → i < length p.jobs → slice_index w.window.upper i ≤ slice_index v.window.upper i
+  pub capacities : HasCapacitiesOf p v w
+  pub upper : HasUpperOf p v w
 
 -- the same jobs are started in both nodes, and the time of v is no later
 pub record HasCutsetOf (p : Project) (v w : SearchNode) : Type 0 where

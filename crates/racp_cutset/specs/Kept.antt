@@ -1,6 +1,12 @@
 -- What a thread keeps of its own records.
-use Rattle.std.specs.Prelude.{◌≡◌, ◌⊎◌, List, [], ◌∷◌, ◌++◌, Option, Some, None}
+use Rattle.std.specs.Prelude.{◌≡◌, ◌⊎◌, ℕ, ◌+◌, ◌*◌, ◌/◌, List, [], ◌∷◌, ◌++◌, length, Option, Some, None}
+use Rattle.racp_model.specs.Project.{Project}
 use Rattle.racp_cutset.specs.Covering.{SearchNode}
+
+-- how many records a thread keeps at most: 2^28 numbers of 32 bits are 1 GiB, and a record takes two for each job, one
+-- for each resource, and about 100 others
+abbrev pub most_records : Project → ℕ
+most_records p = 268435456 / (2 * length p.jobs + p.resources + 100)
 
 -- what was kept stays kept, and new records come behind it
 abbrev pub StayKept : List SearchNode → List SearchNode → Type 0

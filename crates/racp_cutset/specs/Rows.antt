@@ -5,17 +5,12 @@ use Rattle.std.specs.Prelude.{◌≡◌, ℕ, ◌<◌, ◌≤◌, max, List, len
 abbrev pub IsAtLeastRow : List ℕ → List ℕ → Type 0
 IsAtLeastRow high low = (i : ℕ) → i < length high → slice_index low i ≤ slice_index high i
 
--- at each place where the early start is before the time, the first row's number is at most the second's, or the limit
-abbrev pub IsSoonerBefore : List ℕ → ℕ → List ℕ → ℕ → List ℕ → Type 0
-IsSoonerBefore early time first limit second =
-    (i : ℕ) → i < length early → slice_index early i < time → slice_index first i ≤ max limit (slice_index second i)
+-- at each place of a stretch the first row's number is at most the second's, or the limit
+abbrev pub IsSoonerWithin : List ℕ → ℕ → List ℕ → ℕ → ℕ → Type 0
+IsSoonerWithin first limit second from to =
+    (i : ℕ) → from ≤ i → i < to → slice_index first i ≤ max limit (slice_index second i)
 
--- at each other place
-abbrev pub IsSoonerFrom : List ℕ → ℕ → List ℕ → ℕ → List ℕ → Type 0
-IsSoonerFrom early time first limit second =
-    (i : ℕ) → i < length early → time ≤ slice_index early i → slice_index first i ≤ max limit (slice_index second i)
-
--- at each place the first row's number is at most the second's, or the limit
+-- at each place of the first row
 abbrev pub IsSoonerRow : List ℕ → ℕ → List ℕ → Type 0
 IsSoonerRow first limit second = (i : ℕ) → i < length first → slice_index first i ≤ max limit (slice_index second i)
 

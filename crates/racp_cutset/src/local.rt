@@ -1,7 +1,7 @@
-ghost use Rattle.std.specs.Prelude.{◌≡◌, IfSome, []};
+ghost use Rattle.std.specs.Prelude.{◌≡◌, ◌↔◌, ◌≤◌, IsTrue, IfSome, [], length, take};
 ghost use Rattle.racp_model.specs.Window.{IsNo};
 ghost use Rattle.racp_cutset.specs.Covering.{Covers};
-ghost use Rattle.racp_cutset.specs.Kept.{IsKeptOrDropped, IsLastTaken};
+ghost use Rattle.racp_cutset.specs.Kept.{IsKeptOrDropped, IsLastTaken, most_records};
 
 use crate::board::Board;
 use crate::node::Node;
@@ -17,6 +17,13 @@ const MOST_PLACES: usize = 64;
 /// How many places of the board, behind those of the records that are still to be read, are looked at. A place stays
 /// empty where the push to it was refused.
 const EMPTY_PLACES: usize = 8;
+
+/// How many numbers of 32 bits the records of a thread take at most, about: so many are 1 GiB.
+const MOST_NUMBERS: usize = 1 << 28;
+
+/// How many numbers a record takes at most beside one for each resource and two for each job: its other fields, its
+/// place in the index, and what the allocator needs for each piece of memory.
+const OTHER_NUMBERS: usize = 100;
 
 /// Where a record stands: on the board, or among those that the thread keeps, by place from 0.
 #[derive(Clone, Copy, PartialEq)]
@@ -38,22 +45,29 @@ struct Reading {
 }
 
 /// One thread's own part of the records: the records that it made and has not given away, and an index of these and of
-/// what it has read of the board. Contracts see the list of the records that it keeps.
+/// what it has read of the board. It keeps at most so many records that they take about 1 GiB, with their places in the
+/// index. Contracts see the list of the records that it keeps.
 #[derive(Drop)]
 pub struct Local<N: OfNetwork> {
     alloc: Global,
     kept: Vec<Nogood<N>>,
     index: Index,
     reading: Reading,
+    /// How many records are kept at most.
+    limit: usize,
 }
 
 impl<N: OfNetwork> Model for Local<N> {
-    ghost use Rattle.std.specs.Prelude.{List};
+    ghost use Rattle.std.specs.Prelude.{◌≡◌, ◌≤◌, List, length};
     ghost use Rattle.racp_cutset.specs.Covering.{SearchNode};
+    ghost use Rattle.racp_cutset.specs.Kept.{most_records};
 
     ghost Value = { List SearchNode };
 
     ghost view = { λ local. local.kept.items };
+
+    ghost invariant = { λ local. (local.limit ≡ most_records N.network) ×
+        (length local.kept.items ≤ most_records N.network) };
 }
 
 impl<N: OfNetwork> Local<N> {
@@ -66,7 +80,7 @@ impl<N: OfNetwork> Local<N> {
         requires { net.now ≡ N.network }
         ensures { result ≡ [] }
     {
-        let _ = net;
+        let numbers = 2 * net.job_count() + net.resource_count() + OTHER_NUMBERS;
         Local {
             alloc,
             kept: Vec::new(alloc),
@@ -75,14 +89,30 @@ impl<N: OfNetwork> Local<N> {
                 next: 0,
                 records: 0,
             },
+            limit: MOST_NUMBERS / numbers,
         }
+    }
+
+    /// Whether as many records are kept as can be: a further one is dropped.
+    pub fn is_full(&self) -> bool
+        ensures { IsTrue result ↔ (length self.now ≡ most_records N.network) }
+    {
+        self.limit <= self.kept.len()
+    }
+
+    /// How many records are kept.
+    pub fn kept_count(&self) -> usize
+        ensures count { result ≡ length self.now }
+        ensures most { result ≤ most_records N.network }
+    {
+        self.kept.len()
     }
 
     /// Keeps a record, behind the others; it is dropped where there is no room.
     pub fn keep(&mut self, nogood: Nogood<N>)
         ensures { IsKeptOrDropped self.old nogood self.new }
     {
-        if self.kept.reserve(1).is_err() {
+        if self.is_full() || self.kept.reserve(1).is_err() {
             return;
         }
         let place = Place::Kept(self.kept.len());
@@ -99,6 +129,14 @@ impl<N: OfNetwork> Local<N> {
         let place = Place::Kept(self.kept.len());
         forget(&mut self.index, record.key(), place);
         Some(record)
+    }
+
+    /// Drops the records behind the first `count`.
+    pub fn forget_behind(&mut self, count: usize)
+        ensures { self.new ≡ take count self.old }
+    {
+        forget_from(&mut self.index, &self.kept, count);
+        self.kept.truncate(count);
     }
 
     /// Reads the records that were written to the board since the last time.
@@ -229,9 +267,19 @@ fn is_written_covered<N: OfNetwork>(board: &Board<N>, nogood: &Nogood<N>, place:
     }
 }
 
-/// Forgets a place.
+/// Forgets the places of the kept records from one on.
+fn forget_from<N: OfNetwork>(index: &mut Index, kept: &Vec<Nogood<N>>, from: usize) {
+    for place in from..kept.len() {
+        forget(index, kept[place].key(), Place::Kept(place));
+    }
+}
+
+/// Forgets a place, and the hash where it was the last with it.
 fn forget(index: &mut Index, key: u64, place: Place) {
     if let Some(places) = index.get_mut(&key) {
         places.retain(|other| *other != place);
+        if places.is_empty() {
+            let _ = index.remove(&key);
+        }
     }
 }

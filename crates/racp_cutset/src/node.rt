@@ -4,7 +4,7 @@ ghost use Rattle.racp_model.specs.Path.{IsEarly};
 ghost use Rattle.racp_model.specs.Project.{IsSound};
 ghost use Rattle.racp_cutset.specs.Covering.{SearchNode, IsNode, AreEnds, AreStartedBefore};
 
-use crate::rows::{ends_of, hash_of, started_before};
+use crate::rows::{bounds_of, ends_of, hash_of, started_before};
 use racp_cpm::early;
 use racp_delay::JobSet;
 use racp_model::{Network, OfNetwork, Question, Starts};
@@ -12,12 +12,14 @@ use std::alloc::{AllocError, Global};
 use std::marker::{Model, PhantomData};
 
 /// A node of the search: a question about the network that `N` names, the early starts of its window, and a time.
-/// Contracts see a `SearchNode`.
+/// It holds when each job ends in the early starts, and what a record of it keeps: the end of a started job, the lower
+/// bound of another. Contracts see a `SearchNode`.
 #[derive(Drop)]
 pub struct Node<N: OfNetwork> {
     pub(crate) question: Question,
     pub(crate) early: Starts,
     pub(crate) ends: Vec<u32>,
+    pub(crate) bounds: Vec<u32>,
     pub(crate) started: JobSet,
     pub(crate) key: u64,
     pub(crate) time: u32,
@@ -27,6 +29,7 @@ pub struct Node<N: OfNetwork> {
 impl<N: OfNetwork> Model for Node<N> {
     ghost use Rattle.racp_model.specs.Project.{IsSound};
     ghost use Rattle.racp_cutset.specs.Covering.{SearchNode, IsNode, AreEnds, AreStartedBefore};
+    ghost use Rattle.racp_cutset.specs.Rows.{AreBounds};
 
     ghost Value = { SearchNode };
 
@@ -40,7 +43,8 @@ impl<N: OfNetwork> Model for Node<N> {
     ghost invariant = { λ n. let v : SearchNode =
         record { capacities = n.question.capacities; window = n.question.window; early = n.early; time = n.time } in
         IsSound N.network × IsNode N.network v × AreEnds N.network v.early n.ends.items ×
-        AreStartedBefore v.early v.time n.started };
+        AreStartedBefore v.early v.time n.started ×
+        AreBounds v.early v.time n.ends.items v.window.lower n.bounds.items };
 }
 
 impl<N: OfNetwork> Node<N> {
@@ -64,11 +68,11 @@ impl<N: OfNetwork> Node<N> {
     {
         prove!(question.window.lower().len() == net.job_count());
         let early = early(alloc, net, question.window.lower())?;
-        Node::reusing(net, question, early, Vec::new(alloc), time)
+        let rows = (Vec::new(alloc), Vec::new(alloc));
+        Node::reusing(net, question, early, rows, time)
     }
 
-    /// The node of a question, the early starts of its window and a time. The memory of `row` is used again, for the
-    /// ends.
+    /// The node of a question, the early starts of its window and a time. The memory of the two rows is used again.
     ///
     /// # Errors
     ///
@@ -77,7 +81,7 @@ impl<N: OfNetwork> Node<N> {
         net: &Network,
         question: Question,
         early: Starts,
-        row: Vec<u32>,
+        rows: (Vec<u32>, Vec<u32>),
         time: u32,
     ) -> Result<Self, AllocError>
         requires named { net.now ≡ N.network }
@@ -89,13 +93,17 @@ impl<N: OfNetwork> Node<N> {
         ensures time { IfOk result (λ node. node.time ≡ time) }
     {
         prove!(question.window.lower().len() == net.job_count());
-        let ends = ends_of(row, net, early.as_slice())?;
-        let started = started_before(early.as_slice(), time);
+        let (first, second) = rows;
+        let (starts, lower) = (early.as_slice(), question.window.lower());
+        let ends = ends_of(first, net, starts)?;
+        let bounds = bounds_of(second, &ends, starts, time, lower)?;
+        let started = started_before(starts, time);
         let key = hash_of(&started);
         Ok(Node {
             question,
             early,
             ends,
+            bounds,
             started,
             key,
             time,
@@ -103,14 +111,14 @@ impl<N: OfNetwork> Node<N> {
         })
     }
 
-    /// Gives the rows back: the question, the early starts, and the row of the ends. Takes no memory.
-    pub fn into_rows(self) -> (Question, Starts, Vec<u32>)
+    /// Gives the rows back: the question, the early starts, and the two rows that `reusing` took. Takes no memory.
+    pub fn into_rows(self) -> (Question, Starts, (Vec<u32>, Vec<u32>))
         ensures capacities { result.0.capacities ≡ self.capacities }
         ensures window { result.0.window ≡ self.window }
         ensures early { result.1 ≡ self.early }
         ensures node { IsNode N.network self }
     {
-        (self.question, self.early, self.ends)
+        (self.question, self.early, (self.ends, self.bounds))
     }
 
     /// The question.

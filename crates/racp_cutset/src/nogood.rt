@@ -1,12 +1,12 @@
-ghost use Rattle.std.specs.Prelude.{◌≡◌, ◌↔◌, IsTrue};
+ghost use Rattle.std.specs.Prelude.{◌≡◌, ◌↔◌, ◌≤◌, IsTrue};
 ghost use Rattle.racp_model.specs.Project.{IsSound};
 ghost use Rattle.racp_model.specs.Window.{IsNo};
-ghost use Rattle.racp_cutset.specs.Covering.{SearchNode, IsNode, Covers, HasCutsetOf, HasRoomOf, EndsNoLater, MayStartAsEarly, FitsBeforeTime, IsRefutedNode};
+ghost use Rattle.racp_cutset.specs.Covering.{SearchNode, IsNode, Covers, HasCapacitiesOf, HasUpperOf, HasCutsetOf, EndsNoLater, MayStartAsEarly, FitsBeforeTime, IsRefutedNode};
 ghost use Rattle.racp_cutset.specs.Records.{settled, Told};
 ghost use Rattle.racp_cutset.specs.Told.{told_once};
 
 use crate::node::Node;
-use crate::rows::{bounds_of, is_at_least, is_sooner, is_sooner_row};
+use crate::rows::{is_at_least, is_sooner_row};
 use racp_delay::JobSet;
 use racp_model::{Capacities, OfNetwork, Question, Starts};
 use std::marker::{Model, PhantomData};
@@ -49,13 +49,13 @@ impl<N: OfNetwork> Nogood<N> {
         ensures record { result ≡ settled N.network node }
         ensures covers { (other : SearchNode) → Covers N.network result other ↔ Covers N.network node other }
     {
-        let (nogood, _, _) = Nogood::of_reusing(node);
+        let (nogood, _, _, _) = Nogood::of_reusing(node);
         nogood
     }
 
-    /// The record of a refuted node, and the two rows that it does not need: the lower bounds and the early starts.
-    /// Takes no memory.
-    pub fn of_reusing(node: Node<N>) -> (Self, Starts, Starts)
+    /// The record of a refuted node, and the three rows that it does not need: the lower bounds, the early starts and
+    /// one of the two that `Node::reusing` took. Takes no memory.
+    pub fn of_reusing(node: Node<N>) -> (Self, Starts, Starts, Vec<u32>)
         requires fits { FitsBeforeTime N.network node }
         requires refuted { IsNo N.network node.capacities node.window }
         ensures record { result.0 ≡ settled N.network node }
@@ -67,6 +67,7 @@ impl<N: OfNetwork> Nogood<N> {
             question,
             early,
             ends,
+            bounds,
             started,
             key,
             time,
@@ -74,7 +75,6 @@ impl<N: OfNetwork> Nogood<N> {
         } = node;
         let Question { capacities, window } = question;
         let (lower, upper) = window.into_bounds();
-        let bounds = bounds_of(ends, early.as_slice(), time, lower.as_slice());
         let nogood = Nogood {
             capacities,
             upper,
@@ -84,7 +84,7 @@ impl<N: OfNetwork> Nogood<N> {
             time,
             of,
         };
-        (nogood, lower, early)
+        (nogood, lower, early, ends)
     }
 
     /// A hash of the started jobs: equal for records with the same started jobs.
@@ -108,18 +108,38 @@ impl<N: OfNetwork> Nogood<N> {
         ensures own { IsNode N.network self.now }
         ensures refuted { IsRefutedNode N.network self.now }
     {
-        self.has_cutset_of(node) && self.is_sooner_than(node) && self.has_room_of(node)
+        self.is_no_later_than(node)
+            && self.has_capacities_of(node)
+            && self.has_cutset_of(node)
+            && self.is_sooner_than(node)
+            && self.has_upper_of(node)
     }
 
-    /// Whether the same jobs are started in a node, whose time is no earlier.
-    fn has_cutset_of(&self, node: &Node<N>) -> bool
-        ensures exact { IsTrue result ↔ HasCutsetOf N.network self.now node.now }
+    /// Whether the time is no later than that of a node.
+    fn is_no_later_than(&self, node: &Node<N>) -> bool
+        ensures exact { IsTrue result ↔ (self.now.time ≤ node.now.time) }
         ensures sound { IsSound N.network }
         ensures node { IsNode N.network node.now }
         ensures own { IsNode N.network self.now }
         ensures refuted { IsRefutedNode N.network self.now }
     {
-        self.time <= node.time && self.started == node.started
+        self.time <= node.time
+    }
+
+    /// Whether the record has at least the capacities of a node.
+    fn has_capacities_of(&self, node: &Node<N>) -> bool
+        ensures { IsTrue result ↔ HasCapacitiesOf N.network self.now node.now }
+    {
+        let capacities = &node.question.capacities;
+        is_at_least(self.capacities.as_slice(), capacities.as_slice())
+    }
+
+    /// Whether the same jobs are started in a node, whose time is no earlier.
+    fn has_cutset_of(&self, node: &Node<N>) -> bool
+        requires { self.now.time ≤ node.now.time }
+        ensures { IsTrue result ↔ HasCutsetOf N.network self.now node.now }
+    {
+        self.started == node.started
     }
 
     /// Whether each started job ends no later than in a node, or by the node's time, and each other job may start as
@@ -129,35 +149,48 @@ impl<N: OfNetwork> Nogood<N> {
         ensures { IsTrue result ↔ (EndsNoLater N.network self.now node.now ×
             MayStartAsEarly N.network self.now node.now) }
     {
-        let early = node.early.as_slice();
-        let lower = node.question.window.lower();
-        is_sooner(&self.bounds, early, node.time, &node.ends, lower)
+        is_sooner_row(&self.bounds, node.time, &node.bounds)
     }
 
-    /// Whether the record has at least the upper bounds and the capacities of a node.
-    fn has_room_of(&self, node: &Node<N>) -> bool
-        ensures { IsTrue result ↔ HasRoomOf N.network self.now node.now }
+    /// Whether the record has at least the upper bounds of a node.
+    fn has_upper_of(&self, node: &Node<N>) -> bool
+        ensures { IsTrue result ↔ HasUpperOf N.network self.now node.now }
     {
-        let question = &node.question;
-        is_at_least(self.upper.as_slice(), question.window.upper())
-            && is_at_least(self.capacities.as_slice(), question.capacities.as_slice())
+        is_at_least(self.upper.as_slice(), node.question.window.upper())
     }
 
     /// Whether the record covers the node of another one. Takes no memory.
     pub fn covers_record(&self, other: &Nogood<N>) -> bool
         ensures { IsTrue result ↔ Covers N.network self.now other.now }
     {
-        self.has_cutset_of_record(other)
+        self.is_no_later_than_record(other)
+            && self.has_capacities_of_record(other)
+            && self.has_cutset_of_record(other)
             && self.is_sooner_than_record(other)
-            && self.has_room_of_record(other)
+            && self.has_upper_of_record(other)
+    }
+
+    /// Whether the time is no later than that of another record.
+    fn is_no_later_than_record(&self, other: &Nogood<N>) -> bool
+        ensures exact { IsTrue result ↔ (self.now.time ≤ other.now.time) }
+        ensures refuted { IsRefutedNode N.network self.now }
+    {
+        self.time <= other.time
+    }
+
+    /// Whether the record has at least the capacities of another one.
+    fn has_capacities_of_record(&self, other: &Nogood<N>) -> bool
+        ensures { IsTrue result ↔ HasCapacitiesOf N.network self.now other.now }
+    {
+        is_at_least(self.capacities.as_slice(), other.capacities.as_slice())
     }
 
     /// Whether the same jobs are started in the node of another record, whose time is no earlier.
     fn has_cutset_of_record(&self, other: &Nogood<N>) -> bool
-        ensures exact { IsTrue result ↔ HasCutsetOf N.network self.now other.now }
-        ensures refuted { IsRefutedNode N.network self.now }
+        requires { self.now.time ≤ other.now.time }
+        ensures { IsTrue result ↔ HasCutsetOf N.network self.now other.now }
     {
-        self.time <= other.time && self.started == other.started
+        self.started == other.started
     }
 
     /// Whether each job ends no later, or may start as early, than in the node of another record, or does by its time.
@@ -169,11 +202,10 @@ impl<N: OfNetwork> Nogood<N> {
         is_sooner_row(&self.bounds, other.time, &other.bounds)
     }
 
-    /// Whether the record has at least the upper bounds and the capacities of another one.
-    fn has_room_of_record(&self, other: &Nogood<N>) -> bool
-        ensures { IsTrue result ↔ HasRoomOf N.network self.now other.now }
+    /// Whether the record has at least the upper bounds of another one.
+    fn has_upper_of_record(&self, other: &Nogood<N>) -> bool
+        ensures { IsTrue result ↔ HasUpperOf N.network self.now other.now }
     {
         is_at_least(self.upper.as_slice(), other.upper.as_slice())
-            && is_at_least(self.capacities.as_slice(), other.capacities.as_slice())
     }
 }

@@ -1,42 +1,25 @@
 //! Rows of numbers, one for each job or resource, and the jobs that start before a time.
 
-ghost use Rattle.std.specs.Prelude.{◌≡◌, ◌↔◌, ℕ, ◌<◌, ◌≤◌, IsTrue, IfOk, length, slice_index};
+ghost use Rattle.std.specs.Prelude.{◌≡◌, ◌↔◌, ℕ, ◌+◌, ◌<◌, ◌≤◌, IsTrue, IfOk, length, slice_index};
 ghost use Rattle.racp_model.specs.Project.{IsSound};
 ghost use Rattle.racp_model.specs.Path.{IsEarly};
 ghost use Rattle.racp_model.specs.Limits.{most_early};
 ghost use Rattle.racp_cutset.specs.Covering.{AreEnds, AreStartedBefore};
-ghost use Rattle.racp_cutset.specs.Rows.{IsAtLeastRow, IsSoonerBefore, IsSoonerFrom, IsSoonerRow, AreBounds};
+ghost use Rattle.racp_cutset.specs.Rows.{IsAtLeastRow, IsSoonerWithin, IsSoonerRow, AreBounds};
 
 use racp_delay::JobSet;
 use racp_model::Network;
 use std::alloc::AllocError;
+
+/// How many places are compared at a time, without a branch for each.
+const WIDTH: usize = 8;
 
 /// Whether no number of the second row is above that of the first.
 pub(crate) fn is_at_least(high: &[u32], low: &[u32]) -> bool
     requires { length low.now ≡ length high.now }
     ensures { IsTrue result ↔ IsAtLeastRow high.now low.now }
 {
-    (0..high.len()).all(|i| low[i] <= high[i])
-}
-
-/// Whether each bound is at most the time or, at the places where the early start is before the time, the end there,
-/// and at the others the lower bound.
-pub(crate) fn is_sooner(
-    bounds: &[u32],
-    early: &[u32],
-    time: u32,
-    ends: &[u32],
-    lower: &[u32],
-) -> bool
-    requires bounds { length bounds.now ≡ length early.now }
-    requires ends { length ends.now ≡ length early.now }
-    requires lower { length lower.now ≡ length early.now }
-    ensures { IsTrue result ↔ (IsSoonerBefore early.now time bounds.now time ends.now ×
-        IsSoonerFrom early.now time bounds.now time lower.now) }
-{
-    (0..early.len()).all(|i| {
-        bounds[i] <= time || bounds[i] <= (if early[i] < time { ends[i] } else { lower[i] })
-    })
+    is_sooner_row(low, 0, high)
 }
 
 /// Whether at each place the first row's number is at most the limit or the second's.
@@ -44,17 +27,57 @@ pub(crate) fn is_sooner_row(first: &[u32], limit: u32, second: &[u32]) -> bool
     requires { length second.now ≡ length first.now }
     ensures { IsTrue result ↔ IsSoonerRow first.now limit second.now }
 {
-    (0..first.len()).all(|i| first[i] <= limit || first[i] <= second[i])
+    let whole = first.len() / WIDTH;
+    for part in 0..whole {
+        if !is_sooner_part(first, limit, second, WIDTH * part) {
+            return false;
+        }
+    }
+    is_sooner_rest(first, limit, second, WIDTH * whole)
 }
 
-/// The ends, with the lower bounds in place of those of the jobs that do not start before the time. Takes no memory.
-pub(crate) fn bounds_of(mut ends: Vec<u32>, early: &[u32], time: u32, lower: &[u32]) -> Vec<u32>
-    requires ends { length ends.items ≡ length early.now }
-    requires lower { length lower.now ≡ length early.now }
-    ensures { AreBounds early.now time ends.items lower.now result.items }
+/// The same at the `WIDTH` places from one on.
+fn is_sooner_part(first: &[u32], limit: u32, second: &[u32], from: usize) -> bool
+    requires same { length second.now ≡ length first.now }
+    requires within { from + 8 ≤ length first.now }
+    ensures { IsTrue result ↔ IsSoonerWithin first.now limit second.now from (from + 8) }
 {
-    write_lower(&mut ends, early, time, lower);
-    ends
+    let mut holds = true;
+    for i in from..from + WIDTH {
+        holds &= first[i] <= limit.max(second[i]);
+    }
+    holds
+}
+
+/// The same at all places from one on.
+fn is_sooner_rest(first: &[u32], limit: u32, second: &[u32], from: usize) -> bool
+    requires { length second.now ≡ length first.now }
+    ensures { IsTrue result ↔ IsSoonerWithin first.now limit second.now from (length first.now) }
+{
+    (from..first.len()).all(|i| first[i] <= limit.max(second[i]))
+}
+
+/// The ends, with the lower bounds in place of those of the jobs that do not start before the time; in the memory of
+/// `row`.
+///
+/// # Errors
+///
+/// Memory was refused.
+pub(crate) fn bounds_of(
+    mut row: Vec<u32>,
+    ends: &[u32],
+    early: &[u32],
+    time: u32,
+    lower: &[u32],
+) -> Result<Vec<u32>, AllocError>
+    requires ends { length ends.now ≡ length early.now }
+    requires lower { length lower.now ≡ length early.now }
+    ensures { IfOk result (λ bounds. AreBounds early.now time ends.now lower.now bounds.items) }
+{
+    row.clear();
+    row.extend_from_slice(ends)?;
+    write_lower(&mut row, early, time, lower);
+    Ok(row)
 }
 
 /// Writes the lower bounds over the ends of the jobs that do not start before the time.

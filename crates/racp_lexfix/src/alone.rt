@@ -12,9 +12,11 @@ use racp_questions::{AskStop, Asker, First, Series};
 use racp_search::{Finding, Never, Piece, explore};
 use std::alloc::{AllocError, Global};
 
-/// Answers series of questions about the network that `N` names, on the calling thread. What was refuted is kept, and
-/// serves all series that it is asked. It neither stops nor wants a thread. It counts the series that it has answered,
-/// and answers no more than 2^64 - 1 of them: a further one ends as where memory is refused.
+/// Answers series of questions about the network that `N` names, on the calling thread. It keeps the records of the
+/// questions that were a yes, for all series that it is asked. Those of a no it forgets: they would serve a later
+/// question with no more capacities and no greater upper bounds, and the planner asks none. It neither stops nor wants
+/// a thread. It counts the series that it has answered, and answers no more than 2^64 - 1 of them: a further one ends
+/// as where memory is refused.
 #[derive(Drop)]
 pub struct Alone<N: OfNetwork> {
     alloc: Global,
@@ -66,7 +68,8 @@ impl<N: OfNetwork> Asker for Alone<N> {
     }
 }
 
-/// Asks the next question, and searches it to its end. False where the answer is known.
+/// Asks the next question, and searches it to its end. Where it is a no, its records are forgotten. False where the
+/// answer is known.
 fn settle_next<N: OfNetwork, S: Series>(
     alloc: Global,
     net: &Network,
@@ -83,10 +86,14 @@ fn settle_next<N: OfNetwork, S: Series>(
     let Some(piece) = next_piece(core)? else {
         return Ok(false);
     };
+    let kept = local.kept_count();
     let finding = explore(alloc, net, piece, None, board, local, &Never);
     if finding.short() {
         let _ = finding.into_found();
         return Err(AskStop::Memory);
+    }
+    if finding.found().is_none() {
+        local.forget_behind(kept);
     }
     Ok(hand_in(core, finding)?)
 }

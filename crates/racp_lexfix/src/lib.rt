@@ -26,8 +26,9 @@
 //!
 //! Each stage asks through `Asker`, so the same planner runs over one thread or more. `Alone` is an asker on the
 //! calling thread, over a collector of one seat: it asks a question, takes its one piece, searches that to its end and
-//! hands it in. Records of one series serve the next. The vector of the first yes of stage 4 is not told by the asker:
-//! it is the peaks of the starts that were found, since these peaks are enough too, and none that are stand before it.
+//! hands it in. Records of a question that was a yes serve those after it; those of a no are forgotten. The vector of
+//! the first yes of stage 4 is not told by the asker: it is the peaks of the starts that were found, since these peaks
+//! are enough too, and none that are stand before it.
 //!
 //! `plan_alone(alloc, net_bytes, order_text)` answers the text of examples/b3.plan for the texts of b.sm and b3.toml,
 //! with the status 0; for a.sm and a2.toml it answers `impossible critical 3 deadline 2` with the status 3.

@@ -1,4 +1,4 @@
-ghost use Rattle.std.specs.Prelude.{◌≡◌, ◌↔◌, ◌≤◌, ◌++◌, ◌∷◌, [], IsTrue, IsFalse, IfOk, OnOk, IfSome, Contains};
+ghost use Rattle.std.specs.Prelude.{◌≡◌, ◌↔◌, ◌≤◌, ◌++◌, ◌∷◌, [], IsTrue, IsFalse, IfOk, OnOk, IfSome, Contains, take};
 ghost use Rattle.racp_cutset.specs.Kept.{StayKept};
 ghost use Rattle.racp_search.specs.DepthFirst.{IsHigher, IsSearching, IsSearchingNext};
 ghost use Rattle.racp_search.specs.Ends.{IsEnd, IsSpent};
@@ -31,6 +31,7 @@ pub(crate) fn search<N: OfNetwork, S: Stop>(
     ensures nodes { IfSome quantum (λ most. nodes.new ≤ most) }
     ensures kept { StayKept local.old local.new }
 {
+    let first = local.kept_count();
     let mut stack = Stack::new(alloc);
     let mut window = stack.workspace.spare.window_of(subject.whole())?;
     'next: loop {
@@ -43,6 +44,7 @@ pub(crate) fn search<N: OfNetwork, S: Stop>(
             return Ok(Ended::left(rest, true));
         }
         *nodes = nodes.saturating_add(1);
+        make_room(local, first);
         if let Some(starts) = stack.enter(subject, window, local)? {
             return Ok(Ended::found(alloc, starts));
         }
@@ -60,6 +62,15 @@ fn is_spent(quantum: Option<u64>, nodes: u64) -> bool
     match quantum {
         Some(most) => most <= nodes,
         None => false,
+    }
+}
+
+/// Drops the records behind the first `count` where no further one can be kept.
+fn make_room<N: OfNetwork>(local: &mut Local<N>, count: usize)
+    ensures { StayKept (take count local.old) local.new }
+{
+    if local.is_full() {
+        local.forget_behind(count);
     }
 }
 
@@ -133,13 +144,14 @@ impl<N: OfNetwork> Stack<N> {
                 return Ok(Some(window));
             }
             let (node, children, last) = frame.into_parts();
-            let (nogood, lower, early) = Nogood::of_reusing(node);
+            let (nogood, lower, early, ends) = Nogood::of_reusing(node);
             local.keep(nogood);
             let spare = &mut self.workspace.spare;
             spare.give_list(children);
             spare.give_row(last);
             spare.give_row(lower.into_vec());
             spare.give_row(early.into_vec());
+            spare.give_row(ends);
         }
         Ok(None)
     }

@@ -219,7 +219,8 @@ pub(crate) fn expand<N: OfNetwork>(
         capacities: Capacities::new(capacities),
         window,
     };
-    let node = Node::reusing(net, question, starts, spare.row(), conflict.time)?;
+    let rows = (spare.row(), spare.row());
+    let node = Node::reusing(net, question, starts, rows, conflict.time)?;
     if local.find(subject.board(), &node).is_some() {
         spare.give_node(node);
         return Ok(None);

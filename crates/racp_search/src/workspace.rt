@@ -98,10 +98,11 @@ impl Spare {
 
     /// Takes the rows of a node.
     pub(crate) fn give_node<N: OfNetwork>(&mut self, node: Node<N>) {
-        let (question, early, ends) = node.into_rows();
+        let (question, early, (first, second)) = node.into_rows();
         self.give_row(question.capacities.into_vec());
         self.give_window(question.window);
         self.give_row(early.into_vec());
-        self.give_row(ends);
+        self.give_row(first);
+        self.give_row(second);
     }
 }

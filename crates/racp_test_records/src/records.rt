@@ -227,8 +227,8 @@ fn moves<N: OfNetwork>(alloc: Global, net: &Network) -> Result<bool, Fail>
     };
     let first: Node<N> = node(alloc, net, place)?;
     let told = is_told(&first);
-    let (asked, early, room) = first.into_rows();
-    let again: Node<N> = Node::reusing(net, asked, early, room, 1)?;
+    let (asked, early, rows) = first.into_rows();
+    let again: Node<N> = Node::reusing(net, asked, early, rows, 1)?;
     Ok(told && again.time() == 1 && is_told(&again))
 }
 
@@ -273,11 +273,48 @@ fn check_kept<N: OfNetwork>(
     Ok(())
 }
 
+/// The root window with two units, so much later; its record covers no other of these.
+fn window<'a>(bounds: &'a ([u32; 5], [u32; 5])) -> Place<'a> {
+    Place {
+        capacities: &[2],
+        lower: &bounds.0,
+        upper: &bounds.1,
+        time: 0,
+    }
+}
+
+/// The first of three records are found, and those that were forgotten are not.
+fn check_forgetting<N: OfNetwork>(
+    rt: &impl Abort,
+    alloc: Global,
+    net: &Network,
+    empty: &Board<N>,
+    local: &mut Local<N>,
+) -> Result<(), Fail>
+    requires named { net.now ≡ N.network }
+{
+    let windows = [later(0), later(1), later(2)];
+    for bounds in &windows {
+        local.keep(nogood(rt, alloc, net, window(bounds))?);
+    }
+    for count in [3, 1, 0] {
+        local.forget_behind(count);
+        assert!(rt; local.kept_count() == count && !local.is_full());
+        for i in 0..3 {
+            let is_found = finds(alloc, net, empty, local, window(&windows[i]))?;
+            assert!(rt; is_found == (i < count));
+        }
+    }
+    Ok(())
+}
+
 fn check_keeping<N: OfNetwork>(rt: &impl Abort, alloc: Global, net: &Network) -> Result<(), Fail>
     requires named { net.now ≡ N.network }
 {
     let empty: Board<N> = Board::new(alloc, net)?;
     let mut local: Local<N> = Local::new(alloc, net);
+    check_kept(rt, alloc, net, &empty, &mut local)?;
+    check_forgetting(rt, alloc, net, &empty, &mut local)?;
     check_kept(rt, alloc, net, &empty, &mut local)
 }
 
@@ -299,14 +336,7 @@ fn push_later<N: OfNetwork, R: Abort + Wait>(
     requires named { net.now ≡ N.network }
 {
     for time in 0..count {
-        let (lower, upper) = later(time);
-        let place = Place {
-            capacities: &[2],
-            lower: &lower,
-            upper: &upper,
-            time: 0,
-        };
-        board.push(rt, nogood(rt, alloc, net, place)?);
+        board.push(rt, nogood(rt, alloc, net, window(&later(time)))?);
     }
     Ok(())
 }

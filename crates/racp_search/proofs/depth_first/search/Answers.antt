@@ -13,6 +13,7 @@ next-init g c = record {
   higher = λ a. absurd (omega (arith, a, c.requires.nodes));
   bounded = none_yet c.args.quantum c.args.nodes.now c.requires.nodes;
   kept = ([], sym (append-nil c.args.local.now));
+  first = c.kept_count-first.ensures.count;
 }
 
 pub returns-then-is_spent-clause-end : goal.returns-then-is_spent-clause-end

@@ -1,4 +1,4 @@
-use Rattle.std.proofs.Common.{◌<◌, ◌≤◌, ◌++◌, ◌∷◌, [], IfSome}
+use Rattle.std.proofs.Common.{◌≡◌, ◌<◌, ◌≤◌, ◌++◌, ◌∷◌, [], IfSome, length}
 use Rattle.racp_cutset.specs.Kept.{StayKept}
 use Rattle.racp_search.specs.DepthFirst.{IsSearchingNext, IsHigher, open_parts, weights}
 use Rattle.racp_search.specs.DepthFirst.Part.{all_of}
@@ -10,6 +10,7 @@ invariant-next g l = record {
   higher : 0 < l.nodes → IsHigher g.N.OfNetwork.network l.subject.window l.window;
   bounded : IfSome l.quantum (λ most. l.nodes ≤ most);
   kept : StayKept l.fn.local l.local;
+  first : l.first ≡ length l.fn.local;
 }
 
 abbrev pub decreases-next : goal.decreases-next

@@ -6,28 +6,28 @@ use Rattle.racp_cutset.proofs.nogood.Nogood.of_reusing.Goals as goal
 
 pub invariant_of-nogood-inside : goal.invariant_of-nogood-inside
 invariant_of-nogood-inside g c =
-    let v : SearchNode = record { capacities = c.node.inside.question.capacities; window = c.node.inside.question.window; early = c.node.inside.early; time = c.node.inside.time } in
-    let r = record_of g.N.OfNetwork.network v c.args.node c.node.inside.ends.items c.node.inside.started c.into_bounds-lower.result.1 c.as_slice.result.now c.as_slice-2.result.now c.bounds_of-bounds.result.items
-    c.node.view_is c.node.invariant c.into_bounds-lower.ensures.upper c.as_slice.ensures (c.as_slice-2.ensures ∙ c.into_bounds-lower.ensures.lower) c.bounds_of-bounds.ensures c.requires.fits c.requires.refuted in
+    let own = c.node.inside in
+    let v : SearchNode = record { capacities = own.question.capacities; window = own.question.window; early = own.early; time = own.time } in
+    let r = record_of g.N.OfNetwork.network v c.args.node own.ends.items own.started own.bounds.items c.into_bounds-lower.result.1 c.node.view_is c.node.invariant c.into_bounds-lower.ensures.upper c.requires.fits c.requires.refuted in
     ((settled g.N.OfNetwork.network v, ∣ r.1 ∣₁), tt)
 
 pub invariant_of-nogood : goal.invariant_of-nogood
 invariant_of-nogood g c =
-    let v : SearchNode = record { capacities = c.node.inside.question.capacities; window = c.node.inside.question.window; early = c.node.inside.early; time = c.node.inside.time } in
-    let r = record_of g.N.OfNetwork.network v c.args.node c.node.inside.ends.items c.node.inside.started c.into_bounds-lower.result.1 c.as_slice.result.now c.as_slice-2.result.now c.bounds_of-bounds.result.items
-    c.node.view_is c.node.invariant c.into_bounds-lower.ensures.upper c.as_slice.ensures (c.as_slice-2.ensures ∙ c.into_bounds-lower.ensures.lower) c.bounds_of-bounds.ensures c.requires.fits c.requires.refuted in
-    recorded g.N.OfNetwork.network v.capacities c.into_bounds-lower.result.1 c.bounds_of-bounds.result.items c.node.inside.started v.time c.nogood-1.given.0 (settled g.N.OfNetwork.network v) r.0 r.1 r.2
+    let own = c.node.inside in
+    let v : SearchNode = record { capacities = own.question.capacities; window = own.question.window; early = own.early; time = own.time } in
+    let r = record_of g.N.OfNetwork.network v c.args.node own.ends.items own.started own.bounds.items c.into_bounds-lower.result.1 c.node.view_is c.node.invariant c.into_bounds-lower.ensures.upper c.requires.fits c.requires.refuted in
+    recorded g.N.OfNetwork.network v.capacities c.into_bounds-lower.result.1 own.bounds.items own.started v.time c.nogood-1.given.0 (settled g.N.OfNetwork.network v) r.0 r.1 r.2
 
 pub returns-clause-record : goal.returns-clause-record
 returns-clause-record g c =
-    let v : SearchNode = record { capacities = c.node.inside.question.capacities; window = c.node.inside.question.window; early = c.node.inside.early; time = c.node.inside.time } in
-    let r = record_of g.N.OfNetwork.network v c.args.node c.node.inside.ends.items c.node.inside.started c.into_bounds-lower.result.1 c.as_slice.result.now c.as_slice-2.result.now c.bounds_of-bounds.result.items
-    c.node.view_is c.node.invariant c.into_bounds-lower.ensures.upper c.as_slice.ensures (c.as_slice-2.ensures ∙ c.into_bounds-lower.ensures.lower) c.bounds_of-bounds.ensures c.requires.fits c.requires.refuted in
-    told_is g.N.OfNetwork.network v.capacities c.into_bounds-lower.result.1 c.bounds_of-bounds.result.items c.node.inside.started v.time c.nogood-1.given.0 (settled g.N.OfNetwork.network v) r.1 ∙ ap (settled g.N.OfNetwork.network) c.node.view_is
+    let own = c.node.inside in
+    let v : SearchNode = record { capacities = own.question.capacities; window = own.question.window; early = own.early; time = own.time } in
+    let r = record_of g.N.OfNetwork.network v c.args.node own.ends.items own.started own.bounds.items c.into_bounds-lower.result.1 c.node.view_is c.node.invariant c.into_bounds-lower.ensures.upper c.requires.fits c.requires.refuted in
+    told_is g.N.OfNetwork.network v.capacities c.into_bounds-lower.result.1 own.bounds.items own.started v.time c.nogood-1.given.0 (settled g.N.OfNetwork.network v) r.1 ∙ ap (settled g.N.OfNetwork.network) c.node.view_is
 
 pub returns-clause-covers : goal.returns-clause-covers
 returns-clause-covers g c =
-    let v : SearchNode = record { capacities = c.node.inside.question.capacities; window = c.node.inside.question.window; early = c.node.inside.early; time = c.node.inside.time } in
-    let r = record_of g.N.OfNetwork.network v c.args.node c.node.inside.ends.items c.node.inside.started c.into_bounds-lower.result.1 c.as_slice.result.now c.as_slice-2.result.now c.bounds_of-bounds.result.items
-    c.node.view_is c.node.invariant c.into_bounds-lower.ensures.upper c.as_slice.ensures (c.as_slice-2.ensures ∙ c.into_bounds-lower.ensures.lower) c.bounds_of-bounds.ensures c.requires.fits c.requires.refuted in
-    told_covers g.N.OfNetwork.network v.capacities c.into_bounds-lower.result.1 c.bounds_of-bounds.result.items c.node.inside.started v.time c.nogood-1.given.0 v c.args.node r.1 c.node.view_is
+    let own = c.node.inside in
+    let v : SearchNode = record { capacities = own.question.capacities; window = own.question.window; early = own.early; time = own.time } in
+    let r = record_of g.N.OfNetwork.network v c.args.node own.ends.items own.started own.bounds.items c.into_bounds-lower.result.1 c.node.view_is c.node.invariant c.into_bounds-lower.ensures.upper c.requires.fits c.requires.refuted in
+    told_covers g.N.OfNetwork.network v.capacities c.into_bounds-lower.result.1 own.bounds.items own.started v.time c.nogood-1.given.0 v c.args.node r.1 c.node.view_is
