@@ -17,3 +17,4 @@ mod ActiveSets
 mod Subsets
 mod Children
 mod Ending
+mod Raising
