@@ -18,3 +18,4 @@ mod Subsets
 mod Children
 mod Ending
 mod Raising
+mod Scanning
