@@ -20,3 +20,5 @@ mod Subsets
 mod Children
 mod Ending
 mod Alone
+mod Raising
+mod Scanning

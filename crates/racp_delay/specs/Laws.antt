@@ -1,11 +1,11 @@
 -- Laws of conflicts, alternatives and child windows. Each is the contract of a public function.
-use Rattle.std.specs.Prelude.{◌≡◌, ◌≢◌, ◌↔◌, ℕ, ◌<◌, List, [], ◌∷◌, length, slice_index, Contains}
+use Rattle.std.specs.Prelude.{◌≡◌, ◌≢◌, ◌↔◌, ◌⊎◌, ℕ, ◌<◌, ◌≤◌, List, [], ◌∷◌, length, slice_index, Contains}
 use Rattle.std.specs.List.Sorted.{IsStrictlyIncreasing}
 use Rattle.racp_model.specs.Project.{Project}
 use Rattle.racp_model.specs.Schedule.{usage, sum_below}
 use Rattle.racp_model.specs.Path.{IsEarly}
 use Rattle.racp_model.specs.Window.{Bounds, LiesIn, Answers, IsInside, WindowsCover}
-use Rattle.racp_delay.specs.Alternatives.{Splits, load, IsMinimalDelayingAlternative, AreAlternatives}
+use Rattle.racp_delay.specs.Alternatives.{Splits, load, CanRun, IsMinimalDelayingAlternative, AreAlternatives}
 use Rattle.racp_delay.specs.Branching.{IsActiveSet, IsConflict, IsChild}
 
 -- starts in the child window of some minimal alternative other than the whole active set
@@ -116,3 +116,33 @@ abbrev pub AlternativesAreOneList : Type 0
 AlternativesAreOneList =
     (p : Project) (capacities active : List ℕ) (a b : List (List ℕ)) → AreAlternatives p capacities active a →
     AreAlternatives p capacities active b → a ≡ b
+
+-- each of some lower bounds is that of others, or is raised to after a time
+abbrev pub AreRaisedPast : Project → ℕ → (ℕ → ℕ) → (ℕ → ℕ) → Type 0
+AreRaisedPast p t lower raised =
+    (i : ℕ) → i < length p.jobs → (raised i ≡ lower i) ⊎ ((lower i ≤ raised i) × (t < raised i))
+
+-- where lower bounds are raised to after a time, the early starts use no more up to that time
+abbrev pub RaisingLowersUsage : Type 0
+RaisingLowersUsage =
+    (p : Project) (t : ℕ) (lower raised : ℕ → ℕ) (early next : List ℕ) →
+    IsEarly p lower early → IsEarly p raised next → AreRaisedPast p t lower raised →
+    (k s : ℕ) → s ≤ t → usage p next k s ≤ usage p early k s
+
+-- so the early starts of a child have no conflict before that of its window
+abbrev pub NoConflictBefore : Type 0
+NoConflictBefore =
+    (p : Project) (capacities : List ℕ) (window : Bounds) (early : List ℕ) (t : ℕ) (active gone kept : List ℕ)
+    (child : Bounds) (next : List ℕ) →
+    IsEarly p (slice_index window.lower) early → IsConflict p capacities early t active → Splits active gone kept →
+    IsChild p early window gone kept child → IsEarly p (slice_index child.lower) next →
+    (k s : ℕ) → k < p.resources → s < t → usage p next k s ≤ slice_index capacities k
+
+-- and none then, where the jobs that stay can run at once
+abbrev pub NoConflictThen : Type 0
+NoConflictThen =
+    (p : Project) (capacities : List ℕ) (window : Bounds) (early : List ℕ) (t : ℕ) (active gone kept : List ℕ)
+    (child : Bounds) (next : List ℕ) →
+    IsEarly p (slice_index window.lower) early → IsConflict p capacities early t active → Splits active gone kept →
+    CanRun p capacities kept → IsChild p early window gone kept child → IsEarly p (slice_index child.lower) next →
+    (k : ℕ) → k < p.resources → usage p next k t ≤ slice_index capacities k

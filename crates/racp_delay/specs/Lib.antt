@@ -5,3 +5,4 @@ pub mod Found
 pub mod JobSets
 pub mod Words
 pub mod Sweeps
+pub mod Scans

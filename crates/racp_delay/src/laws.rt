@@ -1,7 +1,7 @@
 //! Laws of conflicts, alternatives and child windows: why branching over minimal delaying alternatives finds all schedules
 //! (Demeulemeester and Herroelen 1992). Each function does nothing; its contract is the law.
 
-ghost use Rattle.racp_delay.specs.Laws.{BranchingLosesNothing, ChildrenCover, EachHasChild, ChildIsInside, ChildIsHigher, SomeJobGoes, EachJobAloneCovers, LoadIsUsage, OthersStay, SubsetsGo, ConflictIsOne, AlternativesAreOneList};
+ghost use Rattle.racp_delay.specs.Laws.{BranchingLosesNothing, ChildrenCover, EachHasChild, ChildIsInside, ChildIsHigher, SomeJobGoes, EachJobAloneCovers, LoadIsUsage, OthersStay, SubsetsGo, ConflictIsOne, AlternativesAreOneList, RaisingLowersUsage, NoConflictBefore, NoConflictThen};
 
 /// At the first conflict of a window's early starts, whatever answers in the window lies in the child window of some
 /// minimal alternative other than the whole active set.
@@ -62,4 +62,19 @@ pub fn conflict_is_one()
 /// There is at most one list of alternatives.
 pub fn alternatives_are_one_list()
     ensures { AlternativesAreOneList }
+{}
+
+/// Where lower bounds are raised to after a time, the early starts use no more up to that time.
+pub fn raising_lowers_usage()
+    ensures { RaisingLowersUsage }
+{}
+
+/// So the early starts of a child window have no conflict before that of its window.
+pub fn no_conflict_before()
+    ensures { NoConflictBefore }
+{}
+
+/// And none then, where the jobs that stay can run at once.
+pub fn no_conflict_then()
+    ensures { NoConflictThen }
 {}

@@ -50,8 +50,11 @@ mod following;
 mod job_set;
 pub mod laws;
 mod loads;
+mod profile;
+mod scans;
 
 pub use conflicts::{Clash, conflict};
 pub use delaying::{DelayingAlternatives, alternatives, first_end};
 pub use following::Alternative;
 pub use job_set::{JobSet, Jobs};
+pub use profile::Profile;

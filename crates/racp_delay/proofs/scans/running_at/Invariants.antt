@@ -1,0 +1,9 @@
+use Rattle.racp_delay.proofs.ActiveSets.{AreActiveBelow}
+use Rattle.racp_delay.proofs.Scanning.{AreLoadsBelow}
+use Rattle.racp_delay.proofs.scans.running_at.Given as goal
+
+abbrev pub invariant-loop-i : goal.invariant-loop-i
+invariant-loop-i l = record {
+  set : AreActiveBelow l.net l.starts l.time l.i l.active;
+  sums : AreLoadsBelow l.net l.starts l.time l.i l.loads;
+}
