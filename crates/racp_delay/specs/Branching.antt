@@ -18,6 +18,11 @@ pub record IsFirstExcess (p : Project) (capacities starts : List ℕ) (t : ℕ) 
   pub before : (k s : ℕ) → k < p.resources → s < t → usage p starts k s ≤ slice_index capacities k
   pub exceeds : (k : ℕ) × (k < p.resources) × (slice_index capacities k < usage p starts k t)
 
+-- before a time the usage exceeds no capacity
+abbrev pub KeepsBefore : Project → List ℕ → List ℕ → ℕ → Type 0
+KeepsBefore p capacities starts t =
+    (k s : ℕ) → k < p.resources → s < t → usage p starts k s ≤ slice_index capacities k
+
 -- the first conflict of the starts: that time, and the jobs that are active then
 pub record IsConflict (p : Project) (capacities starts : List ℕ) (t : ℕ) (active : List ℕ) : Type 0 where
   pub first : IsFirstExcess p capacities starts t

@@ -1,11 +1,12 @@
 ghost use Rattle.std.specs.Prelude.{◌≡◌, ◌↔◌, ℕ, ◌+◌, ◌<◌, ◌≤◌, IsTrue, All, length, take, slice_index};
 ghost use Rattle.racp_model.specs.Project.{IsNumber, IsSound, duration};
-ghost use Rattle.racp_delay.specs.Branching.{IsActiveSet, IsConflictAnswer};
+ghost use Rattle.racp_delay.specs.Branching.{IsActiveSet, IsConflictAnswer, KeepsBefore};
 ghost use Rattle.racp_model.specs.Limits.{most_load};
 ghost use Rattle.racp_delay.specs.Sweeps.{AreEvents, AreFirstLoads, AreTaken, Exceeds, IsExcessAnswer, event_load};
 
 use crate::job_set::JobSet;
 use crate::loads::{Loads, with};
+use crate::scans::first_over_from;
 use racp_model::limits::{MOST_JOBS, MOST_RESOURCES};
 use racp_model::{Capacities, Network, Starts};
 
@@ -33,6 +34,22 @@ pub fn conflict(net: &Network, capacities: &Capacities, starts: &Starts) -> Opti
         time,
         active: active_at(net, starts, time),
     })
+}
+
+/// The same, where no usage exceeds its capacity before a time. Takes no memory, and the time of going over the jobs
+/// for each start from that time to the conflict.
+pub fn conflict_from(
+    net: &Network,
+    capacities: &Capacities,
+    starts: &Starts,
+    from: u32,
+) -> Option<Clash>
+    requires capacities { length capacities.now ≡ net.now.resources }
+    requires starts { length starts.now ≡ length net.now.jobs }
+    requires before { KeepsBefore net.now capacities.now starts.now from }
+    ensures { IsConflictAnswer net.now capacities.now starts.now result }
+{
+    first_over_from(net, capacities.as_slice(), starts.as_slice(), from)
 }
 
 /// The jobs that are active at a time.

@@ -53,7 +53,7 @@ mod loads;
 mod profile;
 mod scans;
 
-pub use conflicts::{Clash, conflict};
+pub use conflicts::{Clash, conflict, conflict_from};
 pub use delaying::{DelayingAlternatives, alternatives, first_end};
 pub use following::Alternative;
 pub use job_set::{JobSet, Jobs};

@@ -6,7 +6,7 @@ use Rattle.racp_model.proofs.lemmas.Relations.{all_members}
 use Rattle.racp_model.proofs.lemmas.Sums.{duration-small}
 use Rattle.racp_delay.specs.Alternatives.{Splits, place}
 use Rattle.racp_delay.specs.Branching.{IsConflict, IsChild, IsFirstEnd, end_of}
-use Rattle.racp_delay.specs.Laws.{OthersStay, SubsetsGo, ChildIsInside, ChildIsHigher}
+use Rattle.racp_delay.specs.Laws.{OthersStay, SubsetsGo, ChildIsInside, ChildIsHigher, NoConflictBefore}
 use Rattle.racp_cutset.specs.Covering.{SearchNode}
 use Rattle.racp_search.specs.Children.{IsChildFor, IsEmptyChild, IsPutOff}
 use Rattle.racp_search.specs.DepthFirst.{HasActive, IsBelow}
@@ -56,9 +56,10 @@ module _ (p : Project) (v : SearchNode) (active gone : List ℕ) (is : HasActive
   }
 
   -- a window that is put off is the child window for these jobs
-  pub child_is : (kept : List ℕ) (end : ℕ) (child : Bounds) → ChildIsInside → ChildIsHigher → Splits active gone kept → gone ≢ [] → ((others : List ℕ) → Splits active gone others → IsFirstEnd p v.early others end) → IsPutOff v.window gone end child → IsChildFor p v active gone child
-  child_is kept end child inside higher s some ends off = record {
+  pub child_is : (kept : List ℕ) (end : ℕ) (child : Bounds) → ChildIsInside → ChildIsHigher → NoConflictBefore → Splits active gone kept → gone ≢ [] → ((others : List ℕ) → Splits active gone others → IsFirstEnd p v.early others end) → IsPutOff v.window gone end child → IsChildFor p v active gone child
+  child_is kept end child inside higher quiet s some ends off = record {
     below = child_below kept child inside higher s some off.lower.places (child_from_put_off p v.early v.window gone kept end child is.node.lower (ends kept s) off);
+    quiet = λ next early. quiet p v.capacities v.window v.early v.time active gone kept child next is.node.early is.conflict s (child_from_put_off p v.early v.window gone kept end child is.node.lower (ends kept s) off) early;
     is = λ others t. child_from_put_off p v.early v.window gone others end child is.node.lower (ends others t) off;
   }
 

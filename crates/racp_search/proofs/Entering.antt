@@ -20,25 +20,25 @@ same_glance p q a b window glance named same h =
     subst (λ (xs : List ℕ). IsGlance q xs window glance) same (subst (λ (r : Project). IsGlance r a window glance) named h)
 
 -- a refuted window is closed
-pub closed-refuted : (p : Project) (capacities : List ℕ) (whole : Bounds) (stack : List SearchFrame) (w : Bounds) → IsSearchingNext p capacities whole stack w → IsNo p capacities w → IsClosed p capacities whole stack w stack
-closed-refuted p capacities whole stack w h refuted = record {
+pub closed-refuted : (p : Project) (capacities : List ℕ) (whole : Bounds) (stack : List SearchFrame) (w : Bounds) (from : ℕ) → IsSearchingNext p capacities whole stack w from → IsNo p capacities w → IsClosed p capacities whole stack w stack
+closed-refuted p capacities whole stack w from h refuted = record {
   state = searching-refuted p capacities whole stack w h.state refuted;
   lighter = closed-lighter p (open_parts stack) w;
 }
 
 -- so is one whose frame is on the stack
-pub closed-framed : (q : Project) (capacities : List ℕ) (whole : Bounds) (stack new : List SearchFrame) (w : Bounds) (f : SearchFrame) → IsSearchingNext q capacities whole stack w → IsFrameOf q capacities w f → new ≡ stack ++ f ∷ [] → IsClosed q capacities whole stack w new
-closed-framed q capacities whole stack new w f h is e =
+pub closed-framed : (q : Project) (capacities : List ℕ) (whole : Bounds) (stack new : List SearchFrame) (w : Bounds) (from : ℕ) (f : SearchFrame) → IsSearchingNext q capacities whole stack w from → IsFrameOf q capacities w f → new ≡ stack ++ f ∷ [] → IsClosed q capacities whole stack w new
+closed-framed q capacities whole stack new w from f h is e =
     subst (λ (xs : List SearchFrame). IsClosed q capacities whole stack w xs) (sym e)
-    (record { state = searching-framed q capacities whole stack w f h is; lighter = framed-lighter q capacities stack w f is })
+    (record { state = searching-framed q capacities whole stack w from f h is; lighter = framed-lighter q capacities stack w f is })
 
 -- at the start a copy of the whole window is searched next
-pub started : (p : Project) (capacities : List ℕ) (whole copy : Bounds) (frames : List SearchFrame) → HasBounds p whole → copy.lower ≡ whole.lower → copy.upper ≡ whole.upper → frames ≡ [] → IsSearchingNext p capacities whole frames copy
+pub started : (p : Project) (capacities : List ℕ) (whole copy : Bounds) (frames : List SearchFrame) → HasBounds p whole → copy.lower ≡ whole.lower → copy.upper ≡ whole.upper → frames ≡ [] → IsSearchingNext p capacities whole frames copy 0
 started p capacities whole copy frames bounds lower upper none =
     let same_lower : record { lower = copy.lower; upper = whole.upper } ≡ whole = subst (λ (xs : List ℕ). record { lower = xs; upper = whole.upper } ≡ whole) (sym lower) refl in
     let same : copy ≡ whole = subst (λ (xs : List ℕ). record { lower = copy.lower; upper = xs } ≡ whole) (sym upper) same_lower in
-    let copied : IsSearchingNext p capacities whole [] copy = subst (λ (w : Bounds). IsSearchingNext p capacities whole [] w) (sym same) (searching-start p capacities whole bounds) in
-    subst (λ (xs : List SearchFrame). IsSearchingNext p capacities whole xs copy) (sym none) copied
+    let copied : IsSearchingNext p capacities whole [] copy 0 = subst (λ (w : Bounds). IsSearchingNext p capacities whole [] w 0) (sym same) (searching-start p capacities whole bounds) in
+    subst (λ (xs : List SearchFrame). IsSearchingNext p capacities whole xs copy 0) (sym none) copied
 
 -- a search that leaves nothing and finds nothing
 pub end_nothing : (p : Project) (capacities : List ℕ) (whole : Bounds) (quantum : Option ℕ) (nodes : ℕ) (ended : Ended) → IsSearching p capacities whole [] [] → 0 < nodes →

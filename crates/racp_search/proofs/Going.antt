@@ -12,7 +12,7 @@ use Rattle.racp_delay.specs.JobSets.{AreJobs}
 use Rattle.racp_delay.specs.Laws.{EachHasChild, SubsetsGo, lower_sum}
 use Rattle.racp_cutset.specs.Covering.{SearchNode}
 use Rattle.racp_search.specs.Children.{IsChildFor, IsEmptyChild, IsInserted}
-use Rattle.racp_search.specs.DepthFirst.{SearchFrame, Part, LiesInPart, LiesBehind, PartsCover, HasActive, IsFrame, IsBelow, IsGoneOn, child_windows, parts_of, rank, most_lists, steps_left, weight, weights}
+use Rattle.racp_search.specs.DepthFirst.{SearchFrame, Part, LiesInPart, LiesBehind, PartsCover, HasActive, IsFrame, IsBelow, IsQuiet, IsGoneOn, child_windows, parts_of, rank, most_lists, steps_left, weight, weights}
 use Rattle.racp_search.specs.DepthFirst.Part.{all_of, behind}
 use Rattle.racp_search.specs.declared.child.Child.{Child}
 use Rattle.racp_search.proofs.Children.{gone_numbers}
@@ -208,11 +208,15 @@ module _ (p : Project) (capacities : List ℕ) (v : SearchNode) (active last : L
         | inl same ↦ subst (λ (x : Bounds). IsBelow p v.window x) same child.below
         | inr there ↦ f.below w there
       ];
+      quiet = λ w has. elim (inserted-window cs c new inserted w has) [
+        | inl same ↦ subst (λ (x : Bounds). IsQuiet p v.capacities x v.time) same child.quiet
+        | inr there ↦ f.quiet w there
+      ];
       last = set;
     }
 
     pub frame-empty : (more : Bool) → IsFrame p (frame_with v active cs last more) → IsFrame p (frame_with v active cs gone more)
-    frame-empty more f = record { active = is; below = f.below; last = set }
+    frame-empty more f = record { active = is; below = f.below; quiet = f.quiet; last = set }
 
 -- a frame goes on again and again
 pub gone-same : (p : Project) (capacities : List ℕ) (a : SearchFrame) → IsGoneOn p capacities a a

@@ -41,8 +41,8 @@ module _ (p : Project) (capacities : List ℕ) (whole next : Bounds) where
     pub some : rest ≢ []
 
   -- at the start the next window alone is gathered
-  pub leaving-start : (frames : List SearchFrame) (rest : List Bounds) → IsSearchingNext p capacities whole frames next → rest ≡ next ∷ [] → IsLeaving frames [] rest
-  leaving-start frames rest h e = subst (λ (xs : List Bounds). IsLeaving frames [] xs) (sym e) (record {
+  pub leaving-start : (from : ℕ) (frames : List SearchFrame) (rest : List Bounds) → IsSearchingNext p capacities whole frames next from → rest ≡ next ∷ [] → IsLeaving frames [] rest
+  leaving-start from frames rest h e = subst (λ (xs : List Bounds). IsLeaving frames [] xs) (sym e) (record {
     covers = λ left same. subst (λ (xs : List SearchFrame). PartsCover p capacities (all_of whole) (open_parts xs ++ all_of next ∷ [])) same h.state.covers;
     parts = λ w c. elim (member_cases next [] w c) [ inl same ↦ subst (λ (x : Bounds). IsPartOf p whole x) same h.part | inr none ↦ absurd (no_member w none) ];
     higher = λ up w c. elim (member_cases next [] w c) [ inl same ↦ subst (λ (x : Bounds). IsHigher p whole x) same up | inr none ↦ absurd (no_member w none) ];
@@ -55,9 +55,9 @@ module _ (p : Project) (capacities : List ℕ) (whole next : Bounds) where
   one-open (x ∷ xs) f ys parts h = one-open xs f ys parts h.1
 
   -- one frame more
-  pub leaving-next : (frames yielded left : List SearchFrame) (f : SearchFrame) (rest more new : List Bounds) → IsSearchingNext p capacities whole frames next → frames ≡ yielded ++ f ∷ left → IsLeaving frames yielded rest →
+  pub leaving-next : (from : ℕ) (frames yielded left : List SearchFrame) (f : SearchFrame) (rest more new : List Bounds) → IsSearchingNext p capacities whole frames next from → frames ≡ yielded ++ f ∷ left → IsLeaving frames yielded rest →
       IsRestOfFrame p capacities f more → new ≡ rest ++ more → IsLeaving frames (yielded ++ f ∷ []) new
-  leaving-next frames yielded left f rest more new h is l m e = subst (λ (xs : List Bounds). IsLeaving frames (yielded ++ f ∷ []) xs) (sym e) (record {
+  leaving-next from frames yielded left f rest more new h is l m e = subst (λ (xs : List Bounds). IsLeaving frames (yielded ++ f ∷ []) xs) (sym e) (record {
     covers = λ others same starts lies fits.
         let before : frames ≡ yielded ++ (f ∷ others) = same ∙ append_assoc yielded (f ∷ []) others in
         let old = l.covers (f ∷ others) before starts lies fits in

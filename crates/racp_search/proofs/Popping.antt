@@ -5,7 +5,7 @@ use Rattle.racp_model.specs.Project.{Project}
 use Rattle.racp_model.specs.Window.{Bounds, IsNo}
 use Rattle.racp_cutset.specs.Covering.{SearchNode}
 use Rattle.racp_cutset.specs.Kept.{StayKept, IsKeptOrDropped}
-use Rattle.racp_search.specs.DepthFirst.{SearchFrame, Part, parts_of, open_parts, IsHigher, IsSearching, IsTaken, IsUsedUp, weights}
+use Rattle.racp_search.specs.DepthFirst.{SearchFrame, Part, parts_of, open_parts, IsHigher, IsSearching, IsSearchingNext, IsTaken, IsUsedUp, weights}
 use Rattle.racp_search.specs.DepthFirst.Part.{all_of}
 use Rattle.racp_search.specs.Steps.{IsNext}
 use Rattle.racp_search.proofs.Stacks.{open-last, last-open, inside-sum, searching-next, searching-popped, frame-refuted}
@@ -29,13 +29,13 @@ open-with fs f = sym (append-nil (open_parts (fs ++ f ∷ []))) ∙ (open-last f
 
 module _ (p : Project) (capacities : List ℕ) (whole : Bounds) (start stack fs : List SearchFrame) (f g : SearchFrame) where
   -- a window below the last frame
-  pub is_next : (next : Bounds) (new : List SearchFrame) → stack ≡ fs ++ f ∷ [] → IsSearching p capacities whole stack [] → weights p (open_parts stack) ≤ weights p (open_parts start) →
-      IsTaken p capacities f g next → new ≡ fs ++ g ∷ [] → IsNext p capacities whole start next new
-  is_next next new is_stack h lighter taken is_new =
+  pub is_next : (next : Bounds) (from : ℕ) (new : List SearchFrame) → from ≡ g.node.time → stack ≡ fs ++ f ∷ [] → IsSearching p capacities whole stack [] → weights p (open_parts stack) ≤ weights p (open_parts start) →
+      IsTaken p capacities f g next → new ≡ fs ++ g ∷ [] → IsNext p capacities whole start (record { window = next; from = from }) new
+  is_next next from new is_time is_stack h lighter taken is_new =
       let at : IsSearching p capacities whole (fs ++ f ∷ []) [] = subst (λ (xs : List SearchFrame). IsSearching p capacities whole xs []) is_stack h in
-      subst (λ (xs : List SearchFrame). IsNext p capacities whole start next xs) (sym is_new)
+      subst (λ (xs : List SearchFrame). IsNext p capacities whole start (record { window = next; from = from }) xs) (sym is_new)
       (record {
-        state = searching-next p capacities whole fs f g next at taken;
+        state = subst (λ t. IsSearchingNext p capacities whole (fs ++ g ∷ []) next t) (sym is_time) (searching-next p capacities whole fs f g next at taken);
         higher = omega (arith, inside-sum p whole f.node.window (last-open p capacities whole fs f [] at).inside.inside, taken.below.higher);
         lighter = omega (
           arith,

@@ -12,7 +12,7 @@ use Rattle.racp_delay.specs.Laws.{EachHasChild, ChildIsInside, EachJobAloneCover
 use Rattle.std.specs.List.Sorted.{IsStrictlyIncreasing}
 use Rattle.racp_cutset.specs.Covering.{SearchNode}
 use Rattle.racp_search.specs.Children.{IsChildFor, IsChildAnswer, IsEmptyChild}
-use Rattle.racp_search.specs.DepthFirst.{SearchFrame, Part, LiesInPart, LiesBehind, PartsCover, HasActive, IsFrame, IsBelow, IsGoneOn, IsTaken, IsUsedUp, IsRestOfFrame, child_windows, parts_of, part_behind, weights}
+use Rattle.racp_search.specs.DepthFirst.{SearchFrame, Part, LiesInPart, LiesBehind, PartsCover, HasActive, IsFrame, IsBelow, IsQuiet, IsGoneOn, IsTaken, IsUsedUp, IsRestOfFrame, child_windows, parts_of, part_behind, weights}
 use Rattle.racp_search.specs.DepthFirst.Part.{all_of, behind}
 use Rattle.racp_search.specs.declared.child.Child.{Child}
 use Rattle.racp_search.proofs.Going.{child_parts, child_parts-append, windows-append, frame_with}
@@ -36,6 +36,7 @@ module _ (p : Project) (capacities : List ℕ) (old : SearchFrame) (v : SearchNo
         node = gone.node;
         covers = λ part has. subst (λ (xs : List Part). PartsCover p capacities part xs) parts (gone.covers part has);
         below = subst (λ (x : SearchNode). IsBelow p x.window child.window) gone.node (f.below child.window there);
+        quiet = subst (λ (x : SearchNode). IsQuiet p x.capacities child.window x.time) gone.node (f.quiet child.window there);
         lighter = omega (arith, ap (weights p) parts, gone.lighter);
       }
 
@@ -178,9 +179,13 @@ module _ (p : Project) (v : SearchNode) (active : List ℕ) where
 pub frame-less : (p : Project) (v : SearchNode) (active last : List ℕ) (more : Bool) (cs left others : List Child) → cs ≡ left ++ others → IsFrame p (frame_with v active cs last more) → IsFrame p (frame_with v active left last more)
 frame-less p v active last more cs left others e f = record {
   active = f.active;
-  below = λ w c. f.below w (subst (λ (xs : List Bounds). Contains xs w) (sym (ap child_windows e ∙ windows-append left others)) (Contains-append_left (child_windows left) (child_windows others) w c));
+  below = λ w c. f.below w (has w c);
+  quiet = λ w c. f.quiet w (has w c);
   last = f.last;
 }
+  where
+    has : (w : Bounds) → Contains (child_windows left) w → Contains (child_windows cs) w
+    has w c = subst (λ (xs : List Bounds). Contains xs w) (sym (ap child_windows e ∙ windows-append left others)) (Contains-append_left (child_windows left) (child_windows others) w c)
 
 -- what follows from what holds of an answer
 pub if_ok_more : {A E : Type 0} (r : Result A E) (P Q : A → Type 0) → ((x : A) → P x → Q x) → IfOk r P → IfOk r Q

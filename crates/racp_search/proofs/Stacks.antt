@@ -9,7 +9,7 @@ use Rattle.racp_model.proofs.lemmas.Sums.{sum_below-mono}
 use Rattle.racp_model.proofs.lemmas.Relations.{member_cases, member_first, no_member}
 use Rattle.racp_delay.specs.Laws.{lower_sum}
 use Rattle.racp_cutset.specs.Covering.{SearchNode}
-use Rattle.racp_search.specs.DepthFirst.{SearchFrame, Part, LiesInPart, PartsCover, parts_of, open_parts, IsOpenFrame, AreOpenFrames, IsPartOf, IsSearching, IsSearchingNext, IsFrameOf, IsTaken, IsUsedUp}
+use Rattle.racp_search.specs.DepthFirst.{SearchFrame, Part, LiesInPart, PartsCover, parts_of, open_parts, IsOpenFrame, AreOpenFrames, IsPartOf, IsQuiet, IsSearching, IsSearchingNext, IsFrameOf, IsTaken, IsUsedUp}
 use Rattle.racp_search.specs.DepthFirst.Part.{all_of}
 
 -- the parts of a stack with one frame more
@@ -97,10 +97,11 @@ module _ (p : Project) (capacities : List ℕ) (whole : Bounds) where
   }
 
   -- at the start the whole window is open
-  pub searching-start : HasBounds p whole → IsSearchingNext p capacities whole [] whole
+  pub searching-start : HasBounds p whole → IsSearchingNext p capacities whole [] whole 0
   searching-start bounds = record {
     state = record { covers = λ starts lies fits. (all_of whole, member_first (all_of whole) [] (all_of whole) refl, lies); frames = tt };
     part = record { bounds = bounds; inside = record { lower = λ i l. omega arith; upper = λ i l. omega arith } };
+    quiet = λ early is k s l m. absurd (omega (arith, m));
   }
 
   -- what covers the one part covers each of the list
@@ -116,8 +117,8 @@ module _ (p : Project) (capacities : List ℕ) (whole : Bounds) where
       searching-replaced fs (all_of w ∷ []) [] h (one w [] (λ starts lies fits. absurd (refuted starts (record { lies = lies; fits = fits }))))
 
   -- a window of which a frame is made
-  pub searching-framed : (fs : List SearchFrame) (w : Bounds) (f : SearchFrame) → IsSearchingNext p capacities whole fs w → IsFrameOf p capacities w f → IsSearching p capacities whole (fs ++ f ∷ []) []
-  searching-framed fs w f h is =
+  pub searching-framed : (fs : List SearchFrame) (w : Bounds) (from : ℕ) (f : SearchFrame) → IsSearchingNext p capacities whole fs w from → IsFrameOf p capacities w f → IsSearching p capacities whole (fs ++ f ∷ []) []
+  searching-framed fs w from f h is =
       let replaced : IsSearching p capacities whole fs (parts_of f) = searching-replaced fs (all_of w ∷ []) (parts_of f) h.state (one w (parts_of f) is.covers) in
       let own : IsOpenFrame p capacities whole f (parts_of f) = record {
         same = is.same;
@@ -145,7 +146,7 @@ module _ (p : Project) (capacities : List ℕ) (whole : Bounds) where
       searching-replaced fs (parts_of f) [] (subst (λ (xs : List Part). IsSearching p capacities whole fs xs) (append-nil (parts_of f)) (searching-split fs f [] h)) none.covers
 
   -- a window below the last frame is searched next
-  pub searching-next : (fs : List SearchFrame) (f g : SearchFrame) (next : Bounds) → IsSearching p capacities whole (fs ++ f ∷ []) [] → IsTaken p capacities f g next → IsSearchingNext p capacities whole (fs ++ g ∷ []) next
+  pub searching-next : (fs : List SearchFrame) (f g : SearchFrame) (next : Bounds) → IsSearching p capacities whole (fs ++ f ∷ []) [] → IsTaken p capacities f g next → IsSearchingNext p capacities whole (fs ++ g ∷ []) next g.node.time
   searching-next fs f g next h taken =
       let own = last-open fs f [] h in
       let below : IsSearching p capacities whole fs (parts_of g ++ all_of next ∷ []) =
@@ -158,4 +159,5 @@ module _ (p : Project) (capacities : List ℕ) (whole : Bounds) where
       record {
         state = searching-join fs g (all_of next ∷ []) below other;
         part = part-of_part p whole f.node.window next own.inside taken.below.part;
+        quiet = subst (λ (v : SearchNode). IsQuiet p capacities next v.time) (sym taken.node) (subst (λ (xs : List ℕ). IsQuiet p xs next f.node.time) own.same taken.quiet);
       }

@@ -5,12 +5,13 @@ use Rattle.racp_model.specs.Window.{Bounds, LiesIn}
 use Rattle.racp_delay.specs.Alternatives.{Splits}
 use Rattle.racp_delay.specs.Branching.{IsChild}
 use Rattle.racp_cutset.specs.Covering.{SearchNode}
-use Rattle.racp_search.specs.DepthFirst.{IsBelow}
+use Rattle.racp_search.specs.DepthFirst.{IsBelow, IsQuiet}
 use Rattle.racp_search.specs.declared.child.Child.{Child}
 
 -- the child window in which these jobs are put off
 pub record IsChildFor (p : Project) (v : SearchNode) (active gone : List ℕ) (child : Bounds) : Type 0 where
   pub below : IsBelow p v.window child
+  pub quiet : IsQuiet p v.capacities child v.time
   pub is : (kept : List ℕ) → Splits active gone kept → IsChild p v.early v.window gone kept child
 
 -- nothing lies in the child window in which these jobs are put off, or no active job stays

@@ -4,11 +4,12 @@ use Rattle.std.specs.Prelude.{◌≡◌, ◌≢◌, ℕ, zero, suc, ◌+◌, ◌
 use Rattle.racp_model.specs.Project.{Project}
 use Rattle.racp_model.specs.Schedule.{Fits}
 use Rattle.racp_model.specs.Terms.{IsLexBefore}
+use Rattle.racp_model.specs.Path.{IsEarly}
 use Rattle.racp_model.specs.Window.{Bounds, LiesIn, IsInside}
 use Rattle.racp_model.specs.Formed.{HasBounds}
 use Rattle.racp_model.specs.Limits.{most_start}
 use Rattle.racp_delay.specs.Alternatives.{Splits, IsMinimalDelayingAlternative}
-use Rattle.racp_delay.specs.Branching.{IsChild, IsConflict}
+use Rattle.racp_delay.specs.Branching.{IsChild, IsConflict, KeepsBefore}
 use Rattle.racp_delay.specs.JobSets.{AreJobs}
 use Rattle.racp_delay.specs.Laws.{lower_sum}
 use Rattle.racp_cutset.specs.Covering.{SearchNode, IsNode, FitsBeforeTime}
@@ -82,6 +83,11 @@ pub record IsBelow (p : Project) (whole window : Bounds) : Type 0 where
   pub part : IsPartOf p whole window
   pub higher : IsHigher p whole window
 
+-- the early starts of a window keep the capacities before a time
+abbrev pub IsQuiet : Project → List ℕ → Bounds → ℕ → Type 0
+IsQuiet p capacities window t =
+    (early : List ℕ) → IsEarly p (slice_index window.lower) early → KeepsBefore p capacities early t
+
 -- the node of a frame is one of the question's capacities, its window a part of the whole, and what answers in it lies
 -- in a part that is still to be searched
 pub record IsOpenFrame (p : Project) (capacities : List ℕ) (whole : Bounds) (frame : SearchFrame)
@@ -104,11 +110,12 @@ pub record IsSearching (p : Project) (capacities : List ℕ) (whole : Bounds) (s
   pub covers : PartsCover p capacities (all_of whole) (open_parts stack ++ next)
   pub frames : AreOpenFrames p capacities whole stack next
 
--- the same, with a window to be searched next that is a part of the whole
+-- the same, with a window to be searched next that is a part of the whole, and quiet before a time
 pub record IsSearchingNext (p : Project) (capacities : List ℕ) (whole : Bounds) (stack : List SearchFrame)
-    (next : Bounds) : Type 0 where
+    (next : Bounds) (from : ℕ) : Type 0 where
   pub state : IsSearching p capacities whole stack (all_of next ∷ [])
   pub part : IsPartOf p whole next
+  pub quiet : IsQuiet p capacities next from
 
 -- the active jobs of a node at its time, where its early starts have their first conflict
 pub record HasActive (p : Project) (v : SearchNode) (active : List ℕ) : Type 0 where
@@ -117,10 +124,12 @@ pub record HasActive (p : Project) (v : SearchNode) (active : List ℕ) : Type 0
   pub conflict : IsConflict p v.capacities v.early v.time active
   pub small : (i : ℕ) → i < length p.jobs → slice_index v.early i ≤ most_start
 
--- what holds of each frame: its child windows are below its node, and the last alternative has job numbers that rise
+-- what holds of each frame: its child windows are below its node and quiet before its time, and the last alternative
+-- has job numbers that rise
 pub record IsFrame (p : Project) (f : SearchFrame) : Type 0 where
   pub active : HasActive p f.node f.active
   pub below : (w : Bounds) → Contains f.windows w → IsBelow p f.node.window w
+  pub quiet : (w : Bounds) → Contains f.windows w → IsQuiet p f.node.capacities w f.node.time
   pub last : AreJobs f.last
 
 -- the place of a list of at most n job numbers, from 1 to 512, in lexicographic order
@@ -156,6 +165,7 @@ pub record IsTaken (p : Project) (capacities : List ℕ) (old new : SearchFrame)
   pub node : new.node ≡ old.node
   pub covers : (part : Part) → Contains (parts_of old) part → PartsCover p capacities part (parts_of new ++ all_of next ∷ [])
   pub below : IsBelow p old.node.window next
+  pub quiet : IsQuiet p old.node.capacities next old.node.time
   pub lighter : weights p (parts_of new ++ all_of next ∷ []) ≤ weights p (parts_of old)
 
 -- nothing that is still to be searched answers

@@ -3,6 +3,7 @@ use Rattle.std.specs.Prelude.{◌≢◌, ℕ, Contains, ◌<◌, ◌≤◌, List
 use Rattle.racp_model.specs.Project.{Project}
 use Rattle.racp_model.specs.Window.{Bounds, Answers}
 use Rattle.racp_search.specs.Truth.{IsRestOf}
+use Rattle.racp_search.specs.declared.depth_first.Next.{Next}
 use Rattle.racp_search.specs.DepthFirst.{SearchFrame, open_parts, IsHigher, IsSearching, IsSearchingNext, IsTaken, IsUsedUp, weights}
 use Rattle.racp_search.specs.DepthFirst.Part.{all_of}
 
@@ -24,14 +25,14 @@ IsEntered p capacities whole old next new (Some starts) = Answers p capacities w
 IsEntered p capacities whole old next new None = IsClosed p capacities whole old next new
 
 -- a window that is searched next, and the stack without it
-pub record IsNext (p : Project) (capacities : List ℕ) (whole : Bounds) (old : List SearchFrame) (next : Bounds)
+pub record IsNext (p : Project) (capacities : List ℕ) (whole : Bounds) (old : List SearchFrame) (next : Next)
     (new : List SearchFrame) : Type 0 where
-  pub state : IsSearchingNext p capacities whole new next
-  pub higher : IsHigher p whole next
-  pub lighter : weights p (open_parts new ++ all_of next ∷ []) ≤ weights p (open_parts old)
+  pub state : IsSearchingNext p capacities whole new next.window next.from
+  pub higher : IsHigher p whole next.window
+  pub lighter : weights p (open_parts new ++ all_of next.window ∷ []) ≤ weights p (open_parts old)
 
 -- the next window, or that none is left
-abbrev pub IsNextAnswer : Project → List ℕ → Bounds → List SearchFrame → List SearchFrame → Option Bounds → Type 0
+abbrev pub IsNextAnswer : Project → List ℕ → Bounds → List SearchFrame → List SearchFrame → Option Next → Type 0
 IsNextAnswer p capacities whole old new (Some next) = IsNext p capacities whole old next new
 IsNextAnswer p capacities whole old new None = IsSearching p capacities whole [] []
 

@@ -41,6 +41,7 @@ pub(crate) fn child_of<N: OfNetwork>(
     laws::subsets_go();
     laws::child_is_inside();
     laws::child_is_higher();
+    laws::no_conflict_before();
     let window = &node.question().window;
     let end = match first_end(subject.network(), node.early(), active, gone) {
         Some(end) => end as u32,

@@ -1,4 +1,4 @@
-ghost use Rattle.std.specs.Prelude.{◌≡◌, ◌↔◌, ◌≤◌, ◌++◌, ◌∷◌, [], IsTrue, IsFalse, IfOk, OnOk, IfSome, Contains, take};
+ghost use Rattle.std.specs.Prelude.{◌≡◌, ℕ, ◌↔◌, ◌≤◌, ◌++◌, ◌∷◌, [], IsTrue, IsFalse, IfOk, OnOk, IfSome, Contains, take};
 ghost use Rattle.racp_cutset.specs.Kept.{StayKept};
 ghost use Rattle.racp_search.specs.DepthFirst.{IsHigher, IsSearching, IsSearchingNext};
 ghost use Rattle.racp_search.specs.Ends.{IsEnd, IsSpent};
@@ -34,6 +34,7 @@ pub(crate) fn search<N: OfNetwork, S: Stop>(
     let first = local.kept_count();
     let mut stack = Stack::new(alloc);
     let mut window = stack.workspace.spare.window_of(subject.whole())?;
+    let mut from = 0;
     'next: loop {
         if is_spent(quantum, *nodes) {
             let rest = stack.into_rest(alloc, subject, window)?;
@@ -45,11 +46,14 @@ pub(crate) fn search<N: OfNetwork, S: Stop>(
         }
         *nodes = nodes.saturating_add(1);
         make_room(local, first);
-        if let Some(starts) = stack.enter(subject, window, local)? {
+        if let Some(starts) = stack.enter(subject, window, from, local)? {
             return Ok(Ended::found(alloc, starts));
         }
         match stack.next_window(subject, local)? {
-            Some(next) => window = next,
+            Some(next) => {
+                window = next.window;
+                from = next.from;
+            }
             None => return Ok(Ended::nothing(alloc)),
         }
     }
@@ -72,6 +76,13 @@ fn make_room<N: OfNetwork>(local: &mut Local<N>, count: usize)
     if local.is_full() {
         local.forget_behind(count);
     }
+}
+
+/// A window to be searched next, and a time before which its early starts keep the capacities.
+#[derive(Drop)]
+struct Next {
+    window: Window,
+    from: u32,
 }
 
 /// The frames on the way to the window that is searched next, the first node first, and the memory that is used again
@@ -99,16 +110,18 @@ impl<N: OfNetwork> Stack<N> {
         &mut self,
         subject: &Subject<N>,
         window: Window,
+        from: u32,
         local: &mut Local<N>,
     ) -> Result<Option<Starts>, AllocError>
-        requires { IsSearchingNext N.network subject.now.capacities subject.now.window self.old.frames.items window }
+        requires { IsSearchingNext N.network subject.now.capacities subject.now.window
+            self.old.frames.items window from }
         ensures entered { IfOk result (IsEntered N.network subject.now.capacities subject.now.window
             self.old.frames.items window self.new.frames.items) }
         ensures kept { local.new ≡ local.old }
     {
         let (net, capacities) = (subject.network(), subject.capacities());
         let workspace = &mut self.workspace;
-        match look_at(&mut workspace.spare, net, capacities, &window)? {
+        match look_at(&mut workspace.spare, net, capacities, &window, from)? {
             Glance::Refuted => {
                 workspace.spare.give_window(window);
                 Ok(None)
@@ -132,7 +145,7 @@ impl<N: OfNetwork> Stack<N> {
         &mut self,
         subject: &Subject<N>,
         local: &mut Local<N>,
-    ) -> Result<Option<Window>, AllocError>
+    ) -> Result<Option<Next>, AllocError>
         requires { IsSearching N.network subject.now.capacities subject.now.window self.old.frames.items [] }
         ensures next { IfOk result (IsNextAnswer N.network subject.now.capacities subject.now.window
             self.old.frames.items self.new.frames.items) }
@@ -140,8 +153,9 @@ impl<N: OfNetwork> Stack<N> {
     {
         while let Some(mut frame) = self.frames.pop() {
             if let Some(window) = frame.next_child(&mut self.workspace, subject)? {
+                let from = frame.time();
                 self.frames.push(frame)?;
-                return Ok(Some(window));
+                return Ok(Some(Next { window, from }));
             }
             let (node, children, last) = frame.into_parts();
             let (nogood, lower, early, ends) = Nogood::of_reusing(node);
@@ -163,7 +177,8 @@ impl<N: OfNetwork> Stack<N> {
         subject: &Subject<N>,
         window: Window,
     ) -> Result<Vec<Window>, AllocError>
-        requires { IsSearchingNext N.network subject.now.capacities subject.now.window self.frames.items window }
+        requires { (from : ℕ) × IsSearchingNext N.network subject.now.capacities subject.now.window
+            self.frames.items window from }
         ensures { IfOk result (λ rest. IsLeft N.network subject.now.capacities subject.now.window window rest.items) }
     {
         let Stack {

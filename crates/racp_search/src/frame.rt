@@ -67,6 +67,13 @@ impl<N: OfNetwork> Frame<N> {
         }
     }
 
+    /// The time of the node, before which the early starts of its child windows keep the capacities.
+    pub(crate) fn time(&self) -> u32
+        ensures { result ≡ self.now.node.time }
+    {
+        self.node.time()
+    }
+
     /// The node, and the lists of which nothing is in use any more.
     pub(crate) fn into_parts(self) -> (Node<N>, Vec<Child>, Vec<u32>)
         ensures node { result.0 ≡ self.node }

@@ -2,11 +2,12 @@ ghost use Rattle.std.specs.Prelude.{◌↔◌, ℕ, ◌<◌, ◌≤◌, ◌≡�
 ghost use Rattle.racp_model.specs.Formed.{HasBounds};
 ghost use Rattle.racp_model.specs.Path.{IsEarly};
 ghost use Rattle.racp_model.specs.Limits.{most_bound};
+ghost use Rattle.racp_search.specs.DepthFirst.{IsQuiet};
 ghost use Rattle.racp_search.specs.Glances.{IsGlance};
 
 use crate::workspace::Spare;
 use racp_cpm::settle_early;
-use racp_delay::{Clash, conflict};
+use racp_delay::{Clash, conflict_from};
 use racp_model::{Capacities, Network, Starts, Window};
 use std::alloc::AllocError;
 
@@ -21,15 +22,17 @@ pub(crate) enum Glance {
     Conflict(Starts, Clash),
 }
 
-/// Looks at the early starts of a window.
+/// Looks at the early starts of a window, which keep the capacities before a time.
 pub(crate) fn look_at(
     spare: &mut Spare,
     net: &Network,
     capacities: &Capacities,
     window: &Window,
+    from: u32,
 ) -> Result<Glance, AllocError>
     requires capacities { length capacities.now ≡ net.now.resources }
     requires bounds { HasBounds net.now window.now }
+    requires quiet { IsQuiet net.now capacities.now window.now from }
     ensures { IfOk result (IsGlance net.now capacities.now window.now) }
 {
     let starts = early_in(spare, net, window.lower())?;
@@ -37,7 +40,7 @@ pub(crate) fn look_at(
         spare.give_row(starts.into_vec());
         return Ok(Glance::Refuted);
     }
-    match conflict(net, capacities, &starts) {
+    match conflict_from(net, capacities, &starts, from) {
         Some(first) => Ok(Glance::Conflict(starts, first)),
         None => Ok(Glance::Found(starts)),
     }

@@ -59,4 +59,4 @@ returns g c =
     let split = c.requires.splits in
     let ends : (kept : List ℕ) → Splits c.args.active.now c.args.gone.now kept → IsFirstEnd g.N.OfNetwork.network v.early kept c.in-Some.end = same_ends c.network.result.now g.N.OfNetwork.network c.early.result.now v.early c.args.active.now c.args.gone.now c.in-Some.end c.network.ensures.named c.early.ensures.starts c.in-Some.ensures in
     let off : IsPutOff v.window c.args.gone.now c.in-Some.end c.in_ok-window.window = subst (λ (w : Bounds). IsPutOff w c.args.gone.now c.in-Some.end c.in_ok-window.window) c.question.ensures.window c.in_ok-window.ensures in
-    child_is g.N.OfNetwork.network v c.args.active.now c.args.gone.now c.requires.active split.0 c.in-Some.end c.in_ok-window.window c.child_is_inside.ensures c.child_is_higher.ensures split.1 c.requires.some ends off
+    child_is g.N.OfNetwork.network v c.args.active.now c.args.gone.now c.requires.active split.0 c.in-Some.end c.in_ok-window.window c.child_is_inside.ensures c.child_is_higher.ensures c.no_conflict_before.ensures split.1 c.requires.some ends off

@@ -6,7 +6,7 @@ use Rattle.racp_search.proofs.depth_first.search.Given as goal
 
 abbrev pub invariant-next : goal.invariant-next
 invariant-next g l = record {
-  state : IsSearchingNext g.N.OfNetwork.network l.subject.capacities l.subject.window l.stack.frames.items l.window;
+  state : IsSearchingNext g.N.OfNetwork.network l.subject.capacities l.subject.window l.stack.frames.items l.window l.from;
   higher : 0 < l.nodes → IsHigher g.N.OfNetwork.network l.subject.window l.window;
   bounded : IfSome l.quantum (λ most. l.nodes ≤ most);
   kept : StayKept l.fn.local l.local;

@@ -16,7 +16,7 @@ pub returns-in-Some-2-clause-next : goal.returns-in-Some-2-clause-next
 returns-in-Some-2-clause-next g c =
     let taken : IsTaken g.N.OfNetwork.network c.args.subject.now.capacities c.in-Some.frame c.next_child.new.self c.in-Some-2.window = subst (IsTakenAnswer g.N.OfNetwork.network c.args.subject.now.capacities c.in-Some.frame c.next_child.new.self) c.in-Some-2.is c.in_ok-window.ensures in
     is_next g.N.OfNetwork.network c.args.subject.now.capacities c.args.subject.now.window c.args.self.now.frames.items c.loop-frame.self.frames.items c.pop.new.self.items c.in-Some.frame c.next_child.new.self
-    c.in-Some-2.window c.push.new.self.items c.in-Some.ensures.items c.loop-frame.invariant.state c.loop-frame.invariant.lighter taken c.in_ok-push.ensures.items
+    c.in-Some-2.window c.time-from.result c.push.new.self.items c.time-from.ensures c.in-Some.ensures.items c.loop-frame.invariant.state c.loop-frame.invariant.lighter taken c.in_ok-push.ensures.items
 
 pub of_reusing-nogood-requires-clause-refuted : goal.of_reusing-nogood-requires-clause-refuted
 of_reusing-nogood-requires-clause-refuted g c =
