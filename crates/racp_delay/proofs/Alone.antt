@@ -21,11 +21,14 @@ first_alone job more (goes {job = j} {jobs = jobs} {gone = gone} {kept = kept} s
     let same : j ≡ job = cc e in
     (jobs, subst (λ x. Splits (j ∷ jobs) (x ∷ []) jobs) same (goes (splits-none jobs)), λ i c. kept_in i s c)
 first_alone job more (stays {job = j} {jobs = jobs} {gone = gone} {kept = kept} s) e =
-    let h = first_alone job more s e in
-    (j ∷ h.0, stays h.1, λ i c. elim (member_cases j kept i c) [
-      | inl same ↦ member_first j h.0 i same
-      | inr there ↦ member_later j h.0 i (h.2 i there)
-    ])
+    let h = first_alone job more s e in (
+      j ∷ h.0,
+      stays h.1,
+      λ i c. elim (member_cases j kept i c) [
+        | inl same ↦ member_first j h.0 i same
+        | inr there ↦ member_later j h.0 i (h.2 i there)
+      ],
+    )
 
 -- a list without members
 no_members : (xs : List ℕ) → ((i : ℕ) → Contains xs i → ⊥) → xs ≡ []

@@ -1,66 +1,49 @@
 -- The search for the first conflict from start to start.
-use Rattle.std.proofs.Common.{◌≡◌, ◌⊎◌, ◌∙◌, inl, inr, ℕ, ◌+◌, ◌-◌, ◌<◌, ◌≤◌, Bool, true, false, true≢false, IsTrue, IsFalse, refl, List, length, slice_index, replicate, arith, ap, sym}
+use Rattle.std.proofs.Common.{◌≡◌, ◌⊎◌, ◌∙◌, inl, inr, ℕ, ◌+◌, ◌-◌, ◌<◌, ◌≤◌, refl, List, length, slice_index, replicate, arith, ap, sym}
 use Rattle.std.proofs.lemmas.Bool.{cases_lt}
-use Rattle.racp_model.specs.Project.{Project, duration, request, number, IsSound}
-use Rattle.racp_model.specs.Schedule.{IsActive, use_of, usage, sum_below}
+use Rattle.racp_model.specs.Project.{Project, duration, request, IsSound}
+use Rattle.racp_model.specs.Schedule.{IsActive, use_of, usage, sum_below, IsWithinCapacities}
 use Rattle.racp_model.proofs.lemmas.Sums.{sum_below-mono, sum_below-step, sum_below-none, sum_below-bound, use_of-small}
 use Rattle.racp_model.proofs.lemmas.Usage.{use_of-active, use_of-idle, active_cases}
 use Rattle.racp_model.proofs.lemmas.Zeros.{zeros}
-use Rattle.racp_delay.specs.Alternatives.{place}
+use Rattle.racp_delay.specs.Scans.{AreTooMuch, IsNextStart}
 
--- a flag is set or not
-on_or_off : (b : Bool) → (b ≡ true) ⊎ (b ≡ false)
-on_or_off true = inl refl
-on_or_off false = inr refl
+-- among the first n starts: the next one after a time, or the greatest number
+pub record IsNextBelow (starts : List ℕ) (time n next : ℕ) : Type 0 where
+  pub first : (i : ℕ) → i < n → time < slice_index starts i → next ≤ slice_index starts i
+  pub some : ((i : ℕ) × (i < length starts) × (time < slice_index starts i) × (slice_index starts i ≡ next)) ⊎ (next ≡ 4294967295)
 
--- among the first n starts: whether some are at or after a time, and the least of them
-pub record IsLeastBelow (starts : List ℕ) (from n : ℕ) (is_some : Bool) (least : ℕ) : Type 0 where
-  pub all : (i : ℕ) → i < n → from ≤ slice_index starts i → IsTrue is_some × (least ≤ slice_index starts i)
-  pub some : IsTrue is_some → (i : ℕ) × (i < length starts) × (slice_index starts i ≡ least) × (from ≤ least)
-  pub none : IsFalse is_some → least ≡ 4294967295
-
-module _ (starts : List ℕ) (from n : ℕ) (is_some : Bool) (least : ℕ) (h : IsLeastBelow starts from n is_some least) (l : n < length starts) where
-  -- one that is less
-  pub least-lower : (some' : Bool) (least' : ℕ) → some' ≡ true → least' ≡ slice_index starts n → from ≤ slice_index starts n → slice_index starts n < least → IsLeastBelow starts from (n + 1) some' least'
-  least-lower some' least' yes_is is late less = record {
-    all = λ i m w. (
-      yes_is,
-      elim (cases_lt i n) [
-        | inl before ↦ omega (arith, is, (h.all i before w).1)
-        | inr most ↦ (let here : i ≡ n = omega arith in omega (arith, is, ap (slice_index starts) here))
-      ],
-    );
-    some = λ _. (n, l, sym is, omega (arith, is));
-    none = λ off. absurd (true≢false (sym yes_is ∙ off));
-  }
-
-  -- one that is not
-  pub least-same : (some' : Bool) (least' : ℕ) → some' ≡ true → least' ≡ least → from ≤ slice_index starts n → least ≤ slice_index starts n → slice_index starts n ≤ 4294967295 → IsLeastBelow starts from (n + 1) some' least'
-  least-same some' least' yes_is is late most fits = record {
-    all = λ i m w. (
-      yes_is,
-      elim (cases_lt i n) [
-        | inl before ↦ omega (arith, is, (h.all i before w).1)
-        | inr last ↦ (let here : i ≡ n = omega arith in omega (arith, is, ap (slice_index starts) here))
-      ],
-    );
-    some = λ _. elim (on_or_off is_some) [
-      | inl on ↦ (let w = h.some on in (w.0, w.1, w.2 ∙ sym is, omega (arith, w.3, is)))
-      | inr off ↦ (n, l, omega (arith, is, h.none off), omega (arith, is, h.none off))
+module _ (starts : List ℕ) (time n next : ℕ) (h : IsNextBelow starts time n next) where
+  -- a start after it that is sooner
+  pub next-sooner : (next' : ℕ) → n < length starts → next' ≡ slice_index starts n → time < slice_index starts n → slice_index starts n < next → IsNextBelow starts time (n + 1) next'
+  next-sooner next' l is late less = record {
+    first = λ i m w. elim (cases_lt i n) [
+      | inl before ↦ omega (arith, is, h.first i before w)
+      | inr last ↦ (let here : i ≡ n = omega arith in omega (arith, is, ap (slice_index starts) here))
     ];
-    none = λ off. absurd (true≢false (sym yes_is ∙ off));
+    some = inl (n, l, late, sym is);
   }
 
-  -- one before that time
-  pub least-skip : (some' : Bool) (least' : ℕ) → some' ≡ is_some → least' ≡ least → slice_index starts n < from → IsLeastBelow starts from (n + 1) some' least'
-  least-skip some' least' some_is is early = record {
-    all = λ i m w. elim (cases_lt i n) [
-      | inl before ↦ (let old = h.all i before w in (some_is ∙ old.0, omega (arith, is, old.1)))
-      | inr last ↦ (let here : i ≡ n = omega arith in absurd (omega (arith, ap (slice_index starts) here)))
+  -- another one
+  pub next-same : (next' : ℕ) → next' ≡ next → (time < slice_index starts n → next ≤ slice_index starts n) → IsNextBelow starts time (n + 1) next'
+  next-same next' is later = record {
+    first = λ i m w. elim (cases_lt i n) [
+      | inl before ↦ omega (arith, is, h.first i before w)
+      | inr last ↦
+          let here : i ≡ n = omega arith in
+          let same : slice_index starts i ≡ slice_index starts n = ap (slice_index starts) here in
+          omega (arith, is, same, later (omega (arith, same)))
     ];
-    some = λ on. (let w = h.some (sym some_is ∙ on) in (w.0, w.1, w.2 ∙ sym is, omega (arith, w.3, is)));
-    none = λ off. is ∙ h.none (sym some_is ∙ off);
+    some = elim h.some [ inl w ↦ inl (w.0, w.1, w.2, w.3 ∙ sym is) | inr none ↦ inr (is ∙ none) ];
   }
+
+  -- of all starts
+  pub next-all : n ≡ length starts → IsNextStart starts time next
+  next-all e = record { first = λ i m w. h.first i (omega (arith, e)) w; some = h.some }
+
+-- before the first start
+pub next-none : (starts : List ℕ) (time : ℕ) → IsNextBelow starts time 0 4294967295
+next-none starts time = record { first = λ i m w. absurd (omega arith); some = inr refl }
 
 -- loads of the first n jobs, where they are active at a time
 abbrev pub AreLoadsBelow : Project → List ℕ → ℕ → ℕ → List ℕ → Type 0
@@ -109,10 +92,8 @@ module _ (p : Project) (capacities starts : List ℕ) (from : ℕ) (fine : AreFi
   ]
 
 -- the loads with one job more, which is active
-pub loads-more : (p : Project) (starts : List ℕ) (t n job : ℕ) (loads new : List ℕ) → AreLoadsBelow p starts t n loads → job ≡ number n → IsActive p starts t n → ((k : ℕ) → k < p.resources → slice_index new k ≡ slice_index loads k + request p (place job) k) → AreLoadsBelow p starts t (n + 1) new
-loads-more p starts t n job loads new h is_job a more k r =
-    let here : place job ≡ n = omega (arith, is_job) in
-    omega (arith, h k r, more k r, sum_below-step n (use_of p starts k t), use_of-active p starts k t n a, ap (λ (i : ℕ). request p i k) here)
+pub loads-more : (p : Project) (starts : List ℕ) (t n : ℕ) (loads new : List ℕ) → AreLoadsBelow p starts t n loads → IsActive p starts t n → ((k : ℕ) → k < p.resources → slice_index new k ≡ slice_index loads k + request p n k) → AreLoadsBelow p starts t (n + 1) new
+loads-more p starts t n loads new h a more k r = omega (arith, h k r, more k r, sum_below-step n (use_of p starts k t), use_of-active p starts k t n a)
 
 -- or which is not
 pub loads-same : (p : Project) (starts : List ℕ) (t n : ℕ) (loads : List ℕ) → AreLoadsBelow p starts t n loads → (IsActive p starts t n → ⊥) → AreLoadsBelow p starts t (n + 1) loads
@@ -125,3 +106,39 @@ loads-none p starts t k r = zeros 16 k ∙ sym (sum_below-none (use_of p starts 
 -- all do what is used
 pub loads-all : (p : Project) (starts : List ℕ) (t n : ℕ) (loads : List ℕ) → n ≡ length p.jobs → AreLoadsBelow p starts t n loads → (k : ℕ) → k < p.resources → slice_index loads k ≡ usage p starts k t
 loads-all p starts t n loads e h k r = h k r ∙ ap (λ (m : ℕ). sum_below m (use_of p starts k t)) e
+
+-- a job is not active before its start
+pub not_yet : (p : Project) (starts : List ℕ) (t i : ℕ) → t < slice_index starts i → IsActive p starts t i → ⊥
+not_yet p starts t i l a = let started : slice_index starts i ≤ t = a.started in omega arith
+
+-- nor when it is over
+pub over_by : (p : Project) (starts : List ℕ) (t i : ℕ) → slice_index starts i + duration p i ≤ t → IsActive p starts t i → ⊥
+over_by p starts t i l a = let runs : t < slice_index starts i + duration p i = a.runs in omega arith
+
+module _ (p : Project) (capacities starts loads : List ℕ) (time : ℕ) (fine : AreFineBefore p capacities starts time) (sums : (k : ℕ) → k < p.resources → slice_index loads k ≡ usage p starts k time) where
+  -- where nothing exceeds at a time either, nothing does up to it
+  pub fine-then : (AreTooMuch p capacities loads → ⊥) → AreFineBefore p capacities starts (time + 1)
+  fine-then none k s r l = elim (cases_lt s time) [
+    | inl before ↦ fine k s r before
+    | inr most ↦
+        let here : s ≡ time = omega arith in
+        elim (cases_lt (slice_index capacities k) (slice_index loads k)) [
+          | inl over ↦ absurd (none (k, r, over))
+          | inr fits ↦ omega (arith, fits, sums k r, ap (usage p starts k) here)
+        ]
+  ]
+
+-- nor before the next start
+pub fine-next : (p : Project) (capacities starts : List ℕ) (time next : ℕ) → length starts ≡ length p.jobs → AreFineBefore p capacities starts (time + 1) → IsNextStart starts time next → AreFineBefore p capacities starts next
+fine-next p capacities starts time next places fine is = fine-to p capacities starts (time + 1) fine next (λ i j m. is.first i (omega (arith, places)) (omega arith))
+
+-- nor ever, where no start is later
+pub fine-ever : (p : Project) (capacities starts : List ℕ) (time : ℕ) → AreFineBefore p capacities starts (time + 1) → ((i : ℕ) → slice_index starts i ≤ time) → IsWithinCapacities p capacities starts
+fine-ever p capacities starts time fine last k t r = elim (cases_lt t (time + 1)) [
+  | inl before ↦ fine k t r before
+  | inr after ↦ quiet p capacities starts (time + 1) fine k t r after (λ i j m. absurd (omega (arith, last i)))
+]
+
+-- the next start is later
+pub next-later : (starts : List ℕ) (time next : ℕ) → IsNextStart starts time next → time < 4294967295 → time < next
+next-later starts time next is l = elim is.some [ inl w ↦ omega (arith, w.2, w.3) | inr none ↦ omega (arith, none) ]

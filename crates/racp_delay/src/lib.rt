@@ -32,6 +32,10 @@
 //! leads to an alternative; in general some do not, and the work for each alternative is not bounded by a polynomial.
 //! `find_behind` takes the decisions of the list that it was given again, and goes on from there.
 //!
+//! A `Profile` holds starts, of which `move_job` changes one at a time. `first_over` finds what `conflict` finds, but
+//! sorts nothing: it goes over the jobs once for each start up to the conflict. The early starts of a child window have
+//! no conflict before that of its window, so a search begins there, by `first_over_from`, and then few starts are left.
+//!
 //! Why branching loses nothing: let starts in the window fit, and let f be the least end, in these starts, of the
 //! active jobs. Those that start before f are all active right before f, so they can run at once. The others have in
 //! them a minimal alternative, and start at f or later, which is at or after the first end in the early starts of those
@@ -41,7 +45,8 @@
 //! usage exceeds its capacity, and takes no memory; `alternatives` all minimal delaying alternatives and nothing else,
 //! each once; `find_behind` the first of them behind a list, or that there is none; `first_end` the first end; `JobSet`
 //! what is in a set of jobs. In `laws`: the child windows cover their window and lie inside it, and the sum of the lower
-//! bounds rises. Not proved: that memory is not refused without need, and the time that all this takes.
+//! bounds rises; before the conflict of a window its children have none. A `Profile` answers of its starts what
+//! `conflict` does. Not proved: that memory is not refused without need, and the time that all this takes.
 #![tactic(auto)]
 
 mod conflicts;

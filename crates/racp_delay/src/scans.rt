@@ -1,14 +1,16 @@
 //! Looking for conflicts from start to start. It goes over the jobs once for each start up to the conflict, and sorts
 //! nothing.
 
-ghost use Rattle.std.specs.Prelude.{◌≡◌, ◌↔◌, ℕ, ◌<◌, ◌≤◌, IsTrue, MatchOption, length, slice_index};
+ghost use Rattle.std.specs.Prelude.{◌≡◌, ◌↔◌, ℕ, ◌+◌, ◌<◌, ◌≤◌, IsTrue, length, slice_index};
+ghost use Rattle.racp_model.specs.Limits.{most_load};
+ghost use Rattle.racp_model.specs.Project.{request};
 ghost use Rattle.racp_model.specs.Schedule.{usage};
 ghost use Rattle.racp_delay.specs.Branching.{IsActiveSet, IsConflictAnswer};
-ghost use Rattle.racp_delay.specs.Scans.{AreAllBefore, AreTooMuch, IsNextStart};
+ghost use Rattle.racp_delay.specs.Scans.{AreTooMuch, IsNextStart};
 
 use crate::conflicts::Clash;
 use crate::job_set::JobSet;
-use crate::loads::{Loads, with};
+use crate::loads::Loads;
 use racp_model::Network;
 use racp_model::limits::MOST_RESOURCES;
 
@@ -25,8 +27,8 @@ pub(crate) fn first_over_from(
         usage net.now starts.now k s ≤ slice_index capacities.now k }
     ensures { IsConflictAnswer net.now capacities.now starts.now result }
 {
-    let mut from = from as u64;
-    while let Some(time) = next_start(starts, from) {
+    let mut time = from;
+    loop {
         let running = running_at(net, starts, time);
         if are_too_much(net, capacities, &running.loads) {
             return Some(Clash {
@@ -34,37 +36,20 @@ pub(crate) fn first_over_from(
                 active: running.active,
             });
         }
-        from = time as u64 + 1;
-    }
-    None
-}
-
-/// The least start at or after a time.
-fn next_start(starts: &[u32], from: u64) -> Option<u32>
-    ensures { MatchOption result (AreAllBefore starts.now from) (IsNextStart starts.now from) }
-{
-    if from > u32::MAX as u64 {
-        return None;
-    }
-    let from = from as u32;
-    let mut least = u32::MAX;
-    let mut is_some = false;
-    for start in starts {
-        if from <= *start {
-            is_some = true;
-            if *start < least {
-                least = *start;
-            }
+        if time == u32::MAX {
+            return None;
         }
+        time = running.next;
     }
-    if is_some { Some(least) } else { None }
 }
 
-/// The jobs that are active at a time, and what they request together of each resource.
+/// The jobs that are active at a time, what they request together of each resource, and the next start after it, or
+/// the greatest number where there is none.
 #[derive(Drop)]
 struct Running {
     active: JobSet,
     loads: Loads,
+    next: u32,
 }
 
 /// What runs at a time.
@@ -72,16 +57,40 @@ fn running_at(net: &Network, starts: &[u32], time: u32) -> Running
     requires { length starts.now ≡ length net.now.jobs }
     ensures set { IsActiveSet net.now starts.now time result.active }
     ensures sums { (k : ℕ) → k < net.now.resources → slice_index result.loads k ≡ usage net.now starts.now k time }
+    ensures next { IsNextStart starts.now time result.next }
 {
     let mut active = JobSet::new();
     let mut loads = [0; MOST_RESOURCES];
+    let mut next = u32::MAX;
     for i in 0..net.job_count() {
-        if starts[i] <= time && time - starts[i] < net.duration(i) {
+        let start = starts[i];
+        if time < start {
+            if start < next {
+                next = start;
+            }
+        } else if time - start < net.duration(i) {
             active.insert(i as u32 + 1);
-            loads = with(net, &loads, i as u32 + 1);
+            add_to(net, &mut loads, i);
         }
     }
-    Running { active, loads }
+    Running {
+        active,
+        loads,
+        next,
+    }
+}
+
+/// Adds to loads what the job at a place requests.
+fn add_to(net: &Network, loads: &mut Loads, i: usize)
+    requires job { i < length net.now.jobs }
+    requires small { (k : ℕ) → k < net.now.resources → slice_index loads.old k ≤ most_load }
+    ensures { (k : ℕ) → k < net.now.resources →
+        slice_index loads.new k ≡ slice_index loads.old k + request net.now i k }
+{
+    let requests = net.requests(i);
+    for k in 0..requests.len() {
+        loads[k] += requests[k];
+    }
 }
 
 /// Whether the load of some resource is more than its capacity.

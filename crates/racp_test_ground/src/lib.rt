@@ -10,4 +10,6 @@ mod networks;
 #[cfg(test)]
 mod paths;
 #[cfg(test)]
+mod profiles;
+#[cfg(test)]
 mod samples;

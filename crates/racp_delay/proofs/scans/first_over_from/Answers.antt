@@ -1,38 +1,26 @@
-use Rattle.std.proofs.Common.{◌≡◌, inl, inr, slice_index, arith, ap}
-use Rattle.std.proofs.lemmas.Bool.{cases_lt}
-use Rattle.racp_model.specs.Schedule.{usage}
-use Rattle.racp_delay.proofs.Scanning.{quiet, fine-to}
+use Rattle.std.proofs.Common.{◌<◌, arith}
+use Rattle.racp_delay.specs.Scans.{AreTooMuch}
+use Rattle.racp_delay.proofs.Scanning.{fine-then, fine-next, fine-ever, next-later}
 use Rattle.racp_delay.proofs.scans.first_over_from.Goals as goal
 
-pub returns-then-are_too_much : goal.returns-then-are_too_much
-returns-then-are_too_much c =
-    let more = c.are_too_much.ensures.0 c.if-are_too_much.true in
+pub returns-then-time : goal.returns-then-time
+returns-then-time c =
+    let none : AreTooMuch c.args.net.now c.args.capacities.now c.running_at-running.result.loads → ⊥ = λ more. cc (c.are_too_much.ensures.1 more, c.if-are_too_much.false) in
+    fine-ever c.args.net.now c.args.capacities.now c.args.starts.now c.loop-running.time
+    (fine-then c.args.net.now c.args.capacities.now c.args.starts.now c.running_at-running.result.loads c.loop-running.time c.loop-running.invariant.fine c.running_at-running.ensures.sums none)
+    (λ i. omega (arith, c.type_inv.starts i, c.if-time.true))
+
+pub loop-running-smaller : goal.loop-running-smaller
+loop-running-smaller c =
+    let later : c.loop-running.time < c.running_at-running.result.next = next-later c.args.starts.now c.loop-running.time c.running_at-running.result.next c.running_at-running.ensures.next (omega (arith, c.loop-running.invariant.small, c.if-time.false)) in
+    omega (arith, c.loop-running.invariant.small, c.if-time.false)
+
+pub loop-running-preserved : goal.loop-running-preserved
+loop-running-preserved c =
+    let none : AreTooMuch c.args.net.now c.args.capacities.now c.running_at-running.result.loads → ⊥ = λ more. cc (c.are_too_much.ensures.1 more, c.if-are_too_much.false) in
     record {
-      first = record {
-        before = fine-to c.args.net.now c.args.capacities.now c.args.starts.now c.loop-time.from c.loop-time.invariant.fine c.in-Some.time (λ i j m. c.in-Some.ensures.first i (omega (arith, c.requires.starts)) m);
-        exceeds = (more.0, more.1, omega (arith, more.2, c.running_at-running.ensures.sums more.0 more.1));
-      };
-      set = c.running_at-running.ensures.set;
+      fine = fine-next c.args.net.now c.args.capacities.now c.args.starts.now c.loop-running.time c.running_at-running.result.next c.requires.starts
+          (fine-then c.args.net.now c.args.capacities.now c.args.starts.now c.running_at-running.result.loads c.loop-running.time c.loop-running.invariant.fine c.running_at-running.ensures.sums none)
+          c.running_at-running.ensures.next;
+      small = omega arith;
     }
-
-pub loop-time-preserved : goal.loop-time-preserved
-loop-time-preserved c = record {
-  fine = λ k s r l. elim (cases_lt s c.in-Some.time) [
-    | inl before ↦
-        fine-to c.args.net.now c.args.capacities.now c.args.starts.now c.loop-time.from c.loop-time.invariant.fine c.in-Some.time (λ i j m. c.in-Some.ensures.first i (omega (arith, c.requires.starts)) m) k s r before
-    | inr most ↦ elim (cases_lt (slice_index c.args.capacities.now k) (slice_index c.running_at-running.result.loads k)) [
-      | inl over ↦ absurd (cc (c.are_too_much.ensures.1 (k, r, over), c.if-are_too_much.false))
-      | inr fits ↦
-          let here : s ≡ c.in-Some.time = omega arith in
-          omega (arith, fits, c.running_at-running.ensures.sums k r, ap (usage c.args.net.now c.args.starts.now k) here)
-    ]
-  ];
-  small = omega (arith, c.in-Some.time);
-}
-
-pub returns : goal.returns
-returns c k t r = elim (cases_lt t c.loop-time.from) [
-  | inl before ↦ c.loop-time.invariant.fine k t r before
-  | inr after ↦
-      quiet c.args.net.now c.args.capacities.now c.args.starts.now c.loop-time.from c.loop-time.invariant.fine k t r after (λ i j m. absurd (omega (arith, c.in_default.ensures i (omega (arith, c.requires.starts)))))
-]
