@@ -18,10 +18,10 @@ const MOST_PLACES: usize = 64;
 /// empty where the push to it was refused.
 const EMPTY_PLACES: usize = 8;
 
-/// How many numbers of 32 bits the records of a thread take at most, about: so many are 1 GiB.
+/// How many numbers of 32 bits the records of a thread take at most, about. So many are 1 GiB.
 const MOST_NUMBERS: usize = 1 << 28;
 
-/// How many numbers a record takes at most beside one for each resource and two for each job: its other fields, its
+/// How many numbers a record takes, about, beside one for each resource and two for each job: its other fields, its
 /// place in the index, and what the allocator needs for each piece of memory.
 const OTHER_NUMBERS: usize = 100;
 
