@@ -2,7 +2,6 @@
 use Rattle.std.proofs.Common.{◌≡◌, ◌≢◌, ◌∙◌, ℕ, ◌*◌, ◌<◌, ◌≤◌, List, [], ◌∷◌, length, slice_index, arith, refl, sym, subst, ap, true, Option, Some, None, is_some, IfSome}
 use Rattle.racp_model.specs.Project.{Project}
 use Rattle.racp_model.specs.Schedule.{usage}
-use Rattle.racp_model.specs.Terms.{IsLexBefore}
 use Rattle.racp_model.specs.Window.{Bounds}
 use Rattle.racp_model.proofs.lemmas.Sums.{sum_below-bound}
 use Rattle.racp_model.proofs.lemmas.Relations.{member_first}
@@ -11,8 +10,9 @@ use Rattle.racp_delay.specs.declared.conflicts.Clash.{Clash}
 use Rattle.racp_delay.specs.Laws.{BranchingLosesNothing, SomeJobGoes, lower_sum}
 use Rattle.racp_cutset.specs.Covering.{SearchNode, IsNode, FitsBeforeTime}
 use Rattle.racp_search.specs.Glances.{HasConflict}
-use Rattle.racp_search.specs.DepthFirst.{SearchFrame, Part, HasActive, IsFrameOf}
+use Rattle.racp_search.specs.DepthFirst.{SearchFrame, Part, HasActive, IsFrameOf, IsGoneOn}
 use Rattle.racp_search.specs.DepthFirst.Part.{behind}
+use Rattle.racp_search.proofs.Going.{empty_before}
 use Rattle.racp_search.proofs.Weights.{weights-one, behind-lighter}
 
 -- what holds of a value that is there
@@ -40,11 +40,6 @@ has_active p v capacities starts window conflict node e is_capacities is_window 
       (subst (λ (xs : List ℕ). IsConflict p capacities xs conflict.time conflict.active) (sym e) has.first));
   small = λ i l. omega (arith, ap (λ (xs : List ℕ). slice_index xs i) e, has.small i l);
 }
-
--- before each list of jobs stands the empty one
-empty_before : (gone : List ℕ) → gone ≢ [] → IsLexBefore [] gone
-empty_before [] some = absurd (some refl)
-empty_before (job ∷ gone) some = refl
 
 -- at the start what answers lies behind the empty list
 pub frame_of : (p : Project) (v : SearchNode) (active : List ℕ) (f : SearchFrame) (capacities : List ℕ) (w : Bounds) → BranchingLosesNothing → SomeJobGoes → HasActive p v active →
@@ -76,3 +71,14 @@ frame_of p v active f capacities w loses goes is same placed e =
           });
       lighter = omega (arith, weights-one p (behind v active []), behind-lighter p v active small);
     }
+
+-- so are the parts of a frame that went on
+pub frame-gone : (p : Project) (capacities : List ℕ) (w : Bounds) (a b : SearchFrame) → IsFrameOf p capacities w a → IsGoneOn p capacities a b → IsFrameOf p capacities w b
+frame-gone p capacities w a b is gone = record {
+  same = ap (λ (v : SearchNode). v.capacities) gone.node ∙ is.same;
+  placed = ap (λ (v : SearchNode). v.window) gone.node ∙ is.placed;
+  covers = λ starts lies fits.
+      let v = is.covers starts lies fits in
+      gone.covers v.0 v.1 starts v.2 fits;
+  lighter = omega (arith, gone.lighter, is.lighter);
+}

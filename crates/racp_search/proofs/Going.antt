@@ -1,13 +1,16 @@
 -- A frame goes on: the next alternative is looked at, and its child window takes its place among those to be searched.
-use Rattle.std.proofs.Common.{◌≡◌, ◌≢◌, ◌⊎◌, inl, inr, ◌∙◌, ℕ, ◌+◌, ◌-◌, ◌*◌, ◌<◌, ◌≤◌, List, [], ◌∷◌, ◌++◌, length, take, drop, map, slice_index, Contains, All, true, false, Bool, arith, refl, sym, subst, ap}
-use Rattle.std.proofs.lemmas.List.{take-append-drop, length-map}
+use Rattle.std.proofs.Common.{◌≡◌, ◌≢◌, ◌⊎◌, inl, inr, ◌∙◌, ℕ, ◌+◌, ◌-◌, ◌*◌, ◌<◌, ◌≤◌, List, [], ◌∷◌, ◌++◌, length, take, drop, map, slice_index, slice_index_or, Contains, All, true, false, Bool, arith, refl, sym, subst, ap}
+use Rattle.std.proofs.lemmas.Bool.{cases_lt}
+use Rattle.std.proofs.lemmas.List.{take-append-drop, length-map, get_or-map, get_or_default}
+use Rattle.smallvec.specs.SmallVec.{SmallVec}
+use Rattle.racp_model.proofs.lemmas.Costs.{lex_apart, lex_one_way}
 use Rattle.std.proofs.lemmas.List.Elements.{Contains-append_left, Contains-append_right, Contains-append_cases}
 use Rattle.racp_model.specs.Project.{Project, IsNumber, IsSound}
 use Rattle.racp_model.specs.Terms.{IsLexBefore}
 use Rattle.racp_model.specs.Window.{Bounds, LiesIn}
 use Rattle.racp_model.proofs.lemmas.Relations.{member_cases, member_first, member_later, no_member}
 use Rattle.racp_model.proofs.lemmas.Sums.{sum_below-bound}
-use Rattle.racp_delay.specs.Alternatives.{Splits, IsMinimalDelayingAlternative, IsNextAlternative, IsLastAlternative, IsFollowing}
+use Rattle.racp_delay.specs.Alternatives.{Splits, IsMinimalDelayingAlternative, IsNextAlternative, IsLastAlternative, IsFollowing, AreAlternatives, job_lists}
 use Rattle.racp_delay.specs.JobSets.{AreJobs}
 use Rattle.racp_delay.specs.Laws.{EachHasChild, SubsetsGo, lower_sum}
 use Rattle.racp_cutset.specs.Covering.{SearchNode}
@@ -99,6 +102,15 @@ is_last p a active l false gone e h = h
 pub is_next : (p : Project) (a active l : List ℕ) (more : Bool) (gone : List ℕ) → more ≡ true → IsFollowing p a active l more gone → IsNextAlternative p a active l gone
 is_next p a active l true gone e h = h
 is_next p a active l false gone e h = absurd (cc e)
+
+-- an element of a list, whatever stands for those that are not there
+same_default : (lists : List (List ℕ)) (j : ℕ) (d e : List ℕ) → j < length lists → slice_index_or lists j d ≡ slice_index_or lists j e
+same_default lists j d e l = get_or_default lists j d e l
+
+-- before each list of jobs stands the empty one
+pub empty_before : (gone : List ℕ) → gone ≢ [] → IsLexBefore [] gone
+empty_before [] some = absurd (some refl)
+empty_before (job ∷ gone) some = refl
 
 -- a frame, by its fields
 abbrev pub frame_with : SearchNode → List ℕ → List Child → List ℕ → Bool → SearchFrame
@@ -234,3 +246,61 @@ gone-again p capacities a b c first second = record {
 -- as many child windows as children
 pub as-many : (cs : List Child) → length (child_windows cs) ≡ length cs
 as-many cs = length-map cs (λ (c : Child). c.window)
+
+-- the jobs of a short vector among some
+pub list_at : (vectors : List (SmallVec ℕ)) (k : ℕ) (v : SmallVec ℕ) (gone d : List ℕ) → k < length vectors → v ≡ slice_index_or vectors k v → gone ≡ v.items → gone ≡ slice_index_or (job_lists vectors) k d
+list_at vectors k v gone d l is same =
+    sym (get_or-map (λ (w : SmallVec ℕ). w.items) vectors k v d l ∙ (ap (λ (w : SmallVec ℕ). w.items) (sym is) ∙ sym same))
+
+-- the lists of some short vectors are as many
+pub lists_length : (vectors : List (SmallVec ℕ)) → length (job_lists vectors) ≡ length vectors
+lists_length vectors = length-map vectors (λ (w : SmallVec ℕ). w.items)
+
+-- the lists of the alternatives, of which some were taken up: the last one stands before those behind
+pub record IsTakingUp (lists : List (List ℕ)) (k : ℕ) (last : List ℕ) : Type 0 where
+  pub left : (j : ℕ) → k ≤ j → j < length lists → IsLexBefore last (slice_index_or lists j [])
+  pub past : (j : ℕ) → j < k → j < length lists → IsLexBefore last (slice_index_or lists j []) → ⊥
+
+module _ (p : Project) (capacities active : List ℕ) (lists : List (List ℕ)) (are : AreAlternatives p capacities active lists) where
+  -- before the first none was
+  pub taking-start : ((gone : List ℕ) → IsMinimalDelayingAlternative p capacities active gone → gone ≢ []) → (last : List ℕ) → last ≡ [] → IsTakingUp lists 0 last
+  taking-start goes last e = subst (IsTakingUp lists 0) (sym e) (record {
+    left = λ j l within. empty_before (slice_index_or lists j []) (goes (slice_index_or lists j []) (are.only (slice_index_or lists j []) (j, within, same_default lists j (slice_index_or lists j []) [] within)));
+    past = λ j l. absurd (omega (arith, l));
+  })
+
+  -- the next list is the next alternative
+  pub taking-next : (k : ℕ) (last gone : List ℕ) → IsTakingUp lists k last → k < length lists → gone ≡ slice_index_or lists k [] → IsNextAlternative p capacities active last gone
+  taking-next k last gone h within e = subst (IsNextAlternative p capacities active last) (sym e) (record {
+    minimal = are.only (slice_index_or lists k []) (k, within, same_default lists k (slice_index_or lists k []) [] within);
+    behind = h.left k (omega arith) within;
+    first = λ other minimal after-last.
+        let at = are.all other minimal in
+        let here : slice_index_or lists at.0 [] ≡ other = same_default lists at.0 [] other at.1 ∙ at.2 in
+        elim (cases_lt at.0 k) [
+          | inl before ↦ absurd (h.past at.0 before at.1 (subst (IsLexBefore last) (sym here) after-last))
+          | inr most ↦ elim (cases_lt k at.0) [
+            | inl after ↦ inr (subst (IsLexBefore (slice_index_or lists k [])) here (are.in_order k at.0 [] after at.1))
+            | inr same ↦ inl (sym here ∙ ap (λ j. slice_index_or lists j []) (let n : at.0 ≡ k = omega (arith, most, same) in n))
+          ]
+        ];
+  })
+
+  -- it is taken up then
+  pub taking-more : (k : ℕ) (last gone : List ℕ) → IsTakingUp lists k last → k < length lists → gone ≡ slice_index_or lists k [] → IsTakingUp lists (k + 1) gone
+  taking-more k last gone h within e = subst (IsTakingUp lists (k + 1)) (sym e) (record {
+    left = λ j l inside. are.in_order k j [] (omega (arith, l)) inside;
+    past = λ j l inside later. elim (cases_lt j k) [
+      | inl before ↦ lex_one_way (slice_index_or lists k []) (slice_index_or lists j []) later (are.in_order j k [] before within)
+      | inr most ↦
+          let same : j ≡ k = omega (arith, most, l) in
+          lex_apart (slice_index_or lists k []) (subst (λ i. IsLexBefore (slice_index_or lists k []) (slice_index_or lists i [])) same later)
+    ];
+  })
+
+  -- and at the end none stands behind it
+  pub taking-end : (k : ℕ) (last : List ℕ) → IsTakingUp lists k last → length lists ≤ k → IsLastAlternative p capacities active last
+  taking-end k last h all other minimal before =
+      let at = are.all other minimal in
+      let here : slice_index_or lists at.0 [] ≡ other = same_default lists at.0 [] other at.1 ∙ at.2 in
+      h.past at.0 (omega (arith, at.1, all)) at.1 (subst (IsLexBefore last) (sym here) before)

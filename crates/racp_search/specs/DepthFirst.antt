@@ -188,3 +188,9 @@ pub record IsGoneOn (p : Project) (capacities : List ℕ) (old new : SearchFrame
   pub node : new.node ≡ old.node
   pub covers : (part : Part) → Contains (parts_of old) part → PartsCover p capacities part (parts_of new)
   pub lighter : weights p (parts_of new) ≤ weights p (parts_of old)
+
+-- an alternative was taken up
+pub record IsTakenUp (old : SearchFrame) (gone : List ℕ) (new : SearchFrame) : Type 0 where
+  pub active : new.active ≡ old.active
+  pub last : new.last ≡ gone
+  pub more : new.more ≡ true

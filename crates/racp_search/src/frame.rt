@@ -1,20 +1,25 @@
-ghost use Rattle.std.specs.Prelude.{◌≡◌, ◌<◌, ◌≤◌, [], ◌∷◌, IfOk, IsTrue, true, length};
+ghost use Rattle.std.specs.Prelude.{◌≡◌, ◌≢◌, ℕ, List, ◌<◌, ◌≤◌, [], ◌∷◌, IfOk, IsTrue, true, length};
 ghost use Rattle.racp_model.specs.Formed.{HasBounds};
-ghost use Rattle.racp_search.specs.DepthFirst.{HasActive, IsGoneOn, IsRestOfFrame, child_windows, steps_left};
+ghost use Rattle.racp_delay.specs.Alternatives.{AreAlternatives, IsMinimalDelayingAlternative, IsNextAlternative, job_lists};
+ghost use Rattle.racp_search.specs.DepthFirst.{HasActive, IsFrameOf, IsGoneOn, IsRestOfFrame, IsTakenUp, child_windows, steps_left};
 ghost use Rattle.racp_search.specs.Glances.{HasConflict, IsExpanded};
 ghost use Rattle.racp_search.specs.Steps.{IsTakenAnswer};
 
 use crate::child::{Child, child_of, insert, windows_of};
 use crate::subject::Subject;
-use crate::workspace::Workspace;
+use crate::workspace::{Spare, Workspace};
 use racp_cutset::{Local, Node};
 use racp_delay::{Clash, JobSet, laws};
 use racp_model::{Capacities, OfNetwork, Question, Starts, Window};
+use smallvec::SmallVec;
 use std::alloc::{AllocError, Global};
 use std::marker::Model;
 
 /// How many child windows are made at a time, those with the most slack to be searched first.
 const MOST_CHILDREN: usize = 64;
+
+/// Up to this number of active jobs all alternatives are listed at once: they are 70 at the most.
+const FEW_ACTIVE: usize = 8;
 
 /// A node on the way to the window that is searched next, with child windows that are still to be searched, those with
 /// more slack behind. Child windows of alternatives behind the last that was looked at are made when they are wanted.
@@ -137,22 +142,59 @@ impl<N: OfNetwork> Frame<N> {
         ensures further { IfOk result (λ _. IsGoneOn N.network subject.now.capacities self.old self.new) }
         ensures fewer { IfOk result (λ _. steps_left self.new.more self.new.last < steps_left self.old.more self.old.last) }
     {
-        laws::each_has_child();
-        laws::subsets_go();
         let (net, capacities) = (subject.network(), subject.capacities());
         let next = &mut workspace.next;
         if !next.find_behind(net, capacities, &self.active, &self.last)? {
             self.more = false;
             return Ok(());
         }
-        let gone = workspace.next.jobs();
-        let child = child_of(&mut workspace.spare, subject, &self.node, &self.active, gone)?;
+        self.take_up(&mut workspace.spare, subject, workspace.next.jobs())
+    }
+
+    /// Takes up the next alternative: makes its child window where something may lie in it.
+    fn take_up(
+        &mut self,
+        spare: &mut Spare,
+        subject: &Subject<N>,
+        gone: &[u32],
+    ) -> Result<(), AllocError>
+        requires more { IsTrue self.old.more }
+        requires next { IsNextAlternative N.network self.old.node.capacities self.old.active self.old.last gone.now }
+        ensures further { IfOk result (λ _. IsGoneOn N.network subject.now.capacities self.old self.new) }
+        ensures taken { IfOk result (λ _. IsTakenUp self.old gone.now self.new) }
+        ensures fewer { IfOk result (λ _. steps_left self.new.more self.new.last < steps_left self.old.more self.old.last) }
+    {
+        laws::each_has_child();
+        laws::subsets_go();
+        prove!(subject.network().job_count() == subject.network().job_count());
+        let child = child_of(spare, subject, &self.node, &self.active, gone)?;
         self.last.clear();
         self.last.extend_from_slice(gone)?;
         match child {
             Some(child) => insert(&mut self.children, child)?,
             None => return Ok(()),
         }
+        Ok(())
+    }
+
+    /// Takes up all alternatives, which are these.
+    fn take_all(
+        &mut self,
+        spare: &mut Spare,
+        subject: &Subject<N>,
+        all: &[SmallVec<u32, 8>],
+    ) -> Result<(), AllocError>
+        requires more { IsTrue self.old.more }
+        requires first { self.old.last ≡ [] }
+        requires all { AreAlternatives N.network self.old.node.capacities self.old.active (job_lists all.now) }
+        requires some { (gone : List ℕ) →
+            IsMinimalDelayingAlternative N.network self.old.node.capacities self.old.active gone → gone ≢ [] }
+        ensures { IfOk result (λ _. IsGoneOn N.network subject.now.capacities self.old self.new) }
+    {
+        for list in all {
+            self.take_up(spare, subject, list.as_slice())?;
+        }
+        self.more = false;
         Ok(())
     }
 
@@ -217,8 +259,6 @@ pub(crate) fn expand<N: OfNetwork>(
     ensures expanded { IfOk result (IsExpanded N.network subject.now.capacities window) }
     ensures kept { local.new ≡ local.old }
 {
-    laws::branching_loses_nothing();
-    laws::some_job_goes();
     let net = subject.network();
     let spare = &mut workspace.spare;
     let capacities = spare.row_of(subject.capacities().as_slice())?;
@@ -233,6 +273,35 @@ pub(crate) fn expand<N: OfNetwork>(
         return Ok(None);
     }
     prove!(node.question().window.lower().len() == net.job_count());
+    Ok(Some(first_frame(workspace, subject, node, conflict)?))
+}
+
+/// The frame of a node at its conflict. Its child windows are made at once where few jobs are active.
+fn first_frame<N: OfNetwork>(
+    workspace: &mut Workspace,
+    subject: &Subject<N>,
+    node: Node<N>,
+    conflict: Clash,
+) -> Result<Frame<N>, AllocError>
+    requires active { HasActive N.network node conflict.active }
+    requires same { node.capacities ≡ subject.now.capacities }
+    ensures { IfOk result (IsFrameOf N.network subject.now.capacities node.window) }
+{
+    laws::branching_loses_nothing();
+    laws::some_job_goes();
+    let spare = &mut workspace.spare;
     let last = spare.row_of(&[])?;
-    Ok(Some(Frame::new(node, conflict.active, spare.list(), last)))
+    if !are_few(&conflict.active) {
+        return Ok(Frame::new(node, conflict.active, spare.list(), last));
+    }
+    let (net, capacities) = (subject.network(), subject.capacities());
+    workspace.all.find(net, capacities, &conflict)?;
+    let mut frame = Frame::new(node, conflict.active, workspace.spare.list(), last);
+    frame.take_all(&mut workspace.spare, subject, workspace.all.lists())?;
+    Ok(frame)
+}
+
+/// Whether the alternatives of these active jobs are so few that they are listed at once.
+fn are_few(active: &JobSet) -> bool {
+    active.iter().count() <= FEW_ACTIVE
 }

@@ -4,14 +4,16 @@ ghost use Rattle.std.specs.Prelude.{◌≡◌, [], IfOk};
 
 use crate::child::Child;
 use racp_cutset::Node;
-use racp_delay::Alternative;
+use racp_delay::{Alternative, DelayingAlternatives};
 use racp_model::{OfNetwork, Starts, Window};
 use std::alloc::{AllocError, Global};
 
-/// The memory of a search: of the alternative that was looked at last, and of what is not in use.
+/// The memory of a search: of the alternative that was looked at last, of those that were listed last, and of what is
+/// not in use.
 #[derive(Drop)]
 pub(crate) struct Workspace {
     pub(crate) next: Alternative,
+    pub(crate) all: DelayingAlternatives,
     pub(crate) spare: Spare,
 }
 
@@ -20,6 +22,7 @@ impl Workspace {
     pub(crate) fn new(alloc: Global) -> Self {
         Workspace {
             next: Alternative::new(alloc),
+            all: DelayingAlternatives::new(alloc),
             spare: Spare {
                 alloc,
                 rows: Vec::new(alloc),
