@@ -34,7 +34,7 @@
 //!
 //! A `Profile` holds starts, of which `move_job` changes one at a time. `first_over` finds what `conflict` finds, but
 //! sorts nothing: it goes over the jobs once for each start up to the conflict. The early starts of a child window have
-//! no conflict before that of its window, so a search begins there, by `first_over_from`, and then few starts are left.
+//! no conflict before that of its window, so a search begins there, by `conflict_from`, and then few starts are left.
 //!
 //! Why branching loses nothing: let starts in the window fit, and let f be the least end, in these starts, of the
 //! active jobs. Those that start before f are all active right before f, so they can run at once. The others have in

@@ -1,6 +1,5 @@
-ghost use Rattle.std.specs.Prelude.{◌≡◌, ℕ, ◌<◌, ◌≤◌, IfOk, MatchResult, length, set, slice_index};
+ghost use Rattle.std.specs.Prelude.{◌≡◌, IfOk, MatchResult, length, set};
 ghost use Rattle.racp_model.specs.Project.{IsNumber};
-ghost use Rattle.racp_model.specs.Schedule.{usage};
 ghost use Rattle.racp_delay.specs.Alternatives.{place};
 ghost use Rattle.racp_delay.specs.Branching.{IsConflictAnswer};
 
@@ -63,21 +62,5 @@ impl Profile {
         ensures { IsConflictAnswer net.now capacities.now self.now result }
     {
         first_over_from(net, capacities.as_slice(), &self.starts, 0)
-    }
-
-    /// The same, where no usage exceeds its capacity before a time.
-    pub fn first_over_from(
-        &self,
-        net: &Network,
-        capacities: &Capacities,
-        from: u32,
-    ) -> Option<Clash>
-        requires capacities { length capacities.now ≡ net.now.resources }
-        requires starts { length self.now ≡ length net.now.jobs }
-        requires before { (k s : ℕ) → k < net.now.resources → s < from →
-            usage net.now self.now k s ≤ slice_index capacities.now k }
-        ensures { IsConflictAnswer net.now capacities.now self.now result }
-    {
-        first_over_from(net, capacities.as_slice(), &self.starts, from)
     }
 }

@@ -1,5 +1,6 @@
 -- A window is entered, and how a search ends.
-use Rattle.std.proofs.Common.{◌≡◌, ◌≢◌, ◌∙◌, ℕ, ◌<◌, ◌≤◌, List, [], ◌∷◌, ◌++◌, true, Contains, arith, refl, sym, subst, ap, Option, Some, None, IfSome, IsTrue, IsFalse, false}
+use Rattle.std.proofs.Common.{◌≡◌, ◌≢◌, ◌∙◌, inl, inr, ℕ, ◌+◌, ◌<◌, ◌≤◌, List, [], ◌∷◌, ◌++◌, true, Contains, arith, refl, sym, subst, ap, Option, Some, None, IfSome, IsTrue, IsFalse, false}
+use Rattle.std.proofs.lemmas.Bool.{cases_lt}
 use Rattle.racp_model.specs.Project.{Project}
 use Rattle.racp_model.specs.Window.{Bounds, IsNo}
 use Rattle.racp_model.specs.Formed.{HasBounds}
@@ -71,6 +72,14 @@ spent_some None nodes h some = absurd (cc h)
 pub spent_there : (quantum : Option ℕ) (nodes : ℕ) → IsSpent quantum nodes true → quantum ≡ None → ⊥
 spent_there (Some most) nodes h e = absurd (cc e)
 spent_there None nodes h e = absurd (cc h)
+
+-- one node more is within a quantum that is not spent
+pub within_still : (quantum : Option ℕ) (nodes new : ℕ) → IsSpent quantum nodes false → new ≤ nodes + 1 → IfSome quantum (λ most. new ≤ most)
+within_still (Some most) nodes new h l = elim (cases_lt nodes most) [
+  | inl less ↦ omega (arith, less, l)
+  | inr spent ↦ absurd (cc (h.1 spent))
+]
+within_still None nodes new h l = tt
 
 -- and is spent exactly
 pub spent_exactly : (quantum : Option ℕ) (nodes : ℕ) → IsSpent quantum nodes true → IfSome quantum (λ most. nodes ≤ most) → quantum ≡ Some nodes

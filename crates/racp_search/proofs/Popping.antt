@@ -1,6 +1,7 @@
 -- The last frame of a stack is taken out: a window below it is searched next, or it is used up.
-use Rattle.std.proofs.Common.{◌≡◌, inl, inr, ◌∙◌, ℕ, ◌≤◌, List, [], ◌∷◌, ◌++◌, length, arith, refl, sym, subst, ap}
+use Rattle.std.proofs.Common.{◌≡◌, inl, inr, ◌∙◌, ℕ, ◌≤◌, List, [], ◌∷◌, ◌++◌, length, take, arith, refl, sym, subst, ap}
 use Rattle.std.proofs.lemmas.List.{append-nil, append_assoc}
+use Rattle.std.proofs.Math.Seq.{take-append_seam}
 use Rattle.racp_model.specs.Project.{Project}
 use Rattle.racp_model.specs.Window.{Bounds, IsNo}
 use Rattle.racp_cutset.specs.Covering.{SearchNode}
@@ -22,6 +23,12 @@ one_more start old record_node new kept step = elim step [
 pub kept_on : (start mid new : List SearchNode) → StayKept start mid → StayKept mid new → StayKept start new
 kept_on start mid new first second =
     (first.0 ++ second.0, second.1 ∙ (ap (λ (xs : List SearchNode). xs ++ second.0) first.1 ∙ append_assoc start first.0 second.0))
+
+-- what was kept at the start stays kept where the records behind it are dropped
+pub kept_first : (start old new : List SearchNode) (count : ℕ) → StayKept start old → count ≡ length start → StayKept (take count old) new → StayKept start new
+kept_first start old new count kept first room =
+    let e : take count old ≡ start = ap (λ n. take n old) first ∙ (ap (λ (xs : List SearchNode). take (length start) xs) kept.1 ∙ take-append_seam start kept.0) in
+    subst (λ (xs : List SearchNode). StayKept xs new) e room
 
 -- the parts of a stack with one frame more
 pub open-with : (fs : List SearchFrame) (f : SearchFrame) → open_parts (fs ++ f ∷ []) ≡ open_parts fs ++ parts_of f

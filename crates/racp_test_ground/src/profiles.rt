@@ -57,8 +57,7 @@ fn follows(
         }
         profile.move_job(net, job, start)?;
         let first = profile.first_over(net, &capacities);
-        let first_from = profile.first_over_from(net, &capacities, 0);
-        if !is_conflict(alloc, first, expected)? || !is_conflict(alloc, first_from, expected)? {
+        if !is_conflict(alloc, first, expected)? {
             return Ok(false);
         }
     }

@@ -1,9 +1,12 @@
-use Rattle.std.proofs.Common.{ap, arith, true, refl, sym, subst, [], ◌∙◌}
+use Rattle.std.proofs.Common.{ap, arith, false, true, refl, sym, subst, [], ◌∙◌, List}
 use Rattle.std.proofs.lemmas.List.{append-nil}
 use Rattle.racp_model.specs.Window.{Bounds}
-use Rattle.racp_search.specs.Steps.{IsNextAnswer}
+use Rattle.racp_search.specs.Steps.{IsNext, IsNextAnswer}
 use Rattle.racp_search.specs.Ends.{IsEnd, IsSpent}
-use Rattle.racp_search.proofs.Entering.{started, none_yet, end_nothing, spent_some, spent_there, spent_exactly, not_false, false_is_not_true}
+use Rattle.racp_search.proofs.Entering.{started, none_yet, within_still, end_nothing, spent_some, spent_there, spent_exactly, not_false, false_is_not_true}
+use Rattle.racp_cutset.specs.Covering.{SearchNode}
+use Rattle.racp_cutset.specs.Kept.{StayKept}
+use Rattle.racp_search.proofs.Popping.{kept_first, kept_on}
 use Rattle.racp_search.proofs.depth_first.search.Goals as goal
 
 pub next-init : goal.next-init
@@ -44,3 +47,32 @@ returns-in-None-clause-end g c =
     end_nothing g.N.OfNetwork.network c.args.subject.now.capacities c.args.subject.now.window c.args.quantum c.saturating_add.result c.nothing.result
     (subst (IsNextAnswer g.N.OfNetwork.network c.args.subject.now.capacities c.args.subject.now.window c.enter.new.self.frames.items c.next_window.new.self.frames.items) c.in-None.is c.in_ok-next.ensures.next)
     (omega (arith, c.saturating_add.ensures)) c.nothing.ensures.found c.nothing.ensures.rest c.nothing.ensures.stopped
+
+pub returns-in-Some-clause-kept : goal.returns-in-Some-clause-kept
+returns-in-Some-clause-kept g c =
+    let room = kept_first c.args.local.now c.next.local c.make_room.new.local c.kept_count-first.result c.next.invariant.kept c.kept_count-first.ensures.count c.make_room.ensures in
+    subst (λ (xs : List SearchNode). StayKept c.args.local.now xs) (sym c.enter.ensures.kept) room
+
+pub returns-in_err-next-clause-kept : goal.returns-in_err-next-clause-kept
+returns-in_err-next-clause-kept g c =
+    let room = kept_first c.args.local.now c.next.local c.make_room.new.local c.kept_count-first.result c.next.invariant.kept c.kept_count-first.ensures.count c.make_room.ensures in
+    kept_on c.args.local.now c.enter.new.local c.next_window.new.local (subst (λ (xs : List SearchNode). StayKept c.args.local.now xs) (sym c.enter.ensures.kept) room) c.next_window.ensures.kept
+
+pub returns-in-None-clause-kept : goal.returns-in-None-clause-kept
+returns-in-None-clause-kept g c =
+    let room = kept_first c.args.local.now c.next.local c.make_room.new.local c.kept_count-first.result c.next.invariant.kept c.kept_count-first.ensures.count c.make_room.ensures in
+    kept_on c.args.local.now c.enter.new.local c.next_window.new.local (subst (λ (xs : List SearchNode). StayKept c.args.local.now xs) (sym c.enter.ensures.kept) room) c.next_window.ensures.kept
+
+pub next-preserved : goal.next-preserved
+next-preserved g c =
+    let room = kept_first c.args.local.now c.next.local c.make_room.new.local c.kept_count-first.result c.next.invariant.kept c.kept_count-first.ensures.count c.make_room.ensures in
+    let is : IsNext g.N.OfNetwork.network c.args.subject.now.capacities c.args.subject.now.window c.enter.new.self.frames.items c.in-Some-2.next c.next_window.new.self.frames.items =
+    subst (IsNextAnswer g.N.OfNetwork.network c.args.subject.now.capacities c.args.subject.now.window c.enter.new.self.frames.items c.next_window.new.self.frames.items) c.in-Some-2.is c.in_ok-next.ensures.next in
+    let unspent : IsSpent c.args.quantum c.next.nodes false = subst (IsSpent c.args.quantum c.next.nodes) c.if-is_spent.false c.is_spent.ensures in
+    record {
+      state = is.state;
+      higher = λ a. is.higher;
+      bounded = within_still c.args.quantum c.next.nodes c.saturating_add.result unspent (omega (arith, c.saturating_add.ensures));
+      kept = kept_on c.args.local.now c.enter.new.local c.next_window.new.local (subst (λ (xs : List SearchNode). StayKept c.args.local.now xs) (sym c.enter.ensures.kept) room) c.next_window.ensures.kept;
+      first = c.kept_count-first.ensures.count;
+    }
