@@ -22,6 +22,10 @@ popped xs old new x n e len rest =
     let short : n - 1 ≡ length xs = omega (arith, sym len ∙ ap length e ∙ length-append xs (x ∷ [])) in
     rest ∙ (ap (λ (ys : List ℕ). take (n - 1) ys) e ∙ (ap (λ (m : ℕ). take m (xs ++ x ∷ [])) short ∙ (take-append-le (length xs) xs (x ∷ []) (omega arith) ∙ take_all (length xs) xs (omega arith))))
 
+-- the same, where nothing changed between the push and that
+pub popped_after : (xs with_x old new : List ℕ) (x n : ℕ) → with_x ≡ xs ++ x ∷ [] → old ≡ with_x → length old ≡ n → new ≡ take (n - 1) old → new ≡ xs
+popped_after xs with_x old new x n pushed same len rest = popped xs old new x n (same ∙ pushed) len rest
+
 -- what holds of each of a list holds of its head, of its tail, of a longer one and of an equal one
 pub all-tail : (P : ℕ → Type 0) (job : ℕ) (rest others : List ℕ) → rest ≡ job ∷ others → All P rest → All P others
 all-tail P job rest others e h = All-tail P job others (subst (λ (x : List ℕ). All P x) e h)

@@ -53,8 +53,8 @@ pub(crate) fn some_have_room(net: &Network, capacities: &[u32], loads: &Loads, j
 
 /// Adds, in lexicographic order, the alternatives in which the jobs of `gone` go and those that load `kept` stay, where
 /// the jobs of `undecided` may go or stay. `left` are the loads of the kept and the undecided together. Nothing is
-/// looked for where the kept exceed the capacities by themselves, or where one of the gone has room beside all the
-/// others: it could then stay with any of them that run.
+/// looked for where one of the gone has room beside all the others: it could then stay with any of them that run.
+#[cycle(adding)]
 fn add(
     net: &Network,
     capacities: &[u32],
@@ -75,7 +75,7 @@ fn add(
     ensures added { IfOk result (λ _. AreAdded net.now capacities.now
         (slice_index kept.now) gone.old.items undecided.now (job_lists lists.old.items) (job_lists lists.new.items)) }
 {
-    if !are_within(net, capacities, kept) || some_have_room(net, capacities, left, gone) {
+    if some_have_room(net, capacities, left, gone) {
         return Ok(());
     }
     if are_within(net, capacities, left) {
@@ -83,15 +83,46 @@ fn add(
         lists.push(alternative)?;
         return Ok(());
     }
-    if let Some((job, others)) = undecided.split_first() {
-        gone.push(*job)?;
-        let less = without(net, left, *job);
-        add(net, capacities, kept, &less, gone, others, lists)?;
-        gone.pop();
-        let more = with(net, kept, *job);
-        add(net, capacities, &more, left, gone, others, lists)?;
+    add_branches(net, capacities, kept, left, gone, undecided, lists)
+}
+
+/// The same, where the kept and the undecided together exceed the capacities, so that one of the undecided has to go.
+/// What each branch changes is tested there, and nothing else: where a job goes, whether one of the gone has room and
+/// whether the others fit; where it stays, whether the kept fit.
+#[cycle(adding)]
+fn add_branches(
+    net: &Network,
+    capacities: &[u32],
+    kept: &Loads,
+    left: &Loads,
+    gone: &mut Vec<u32>,
+    undecided: &[u32],
+    lists: &mut Vec<SmallVec<u32, 8>>,
+) -> Result<(), AllocError>
+    requires capacities { length capacities.now ≡ net.now.resources }
+    requires gone { All (IsNumber (length net.now.jobs)) gone.old.items }
+    requires undecided { All (IsNumber (length net.now.jobs)) undecided.now }
+    requires rises { IsStrictlyIncreasing undecided.now }
+    requires left { (k : ℕ) → k < net.now.resources →
+        slice_index left.now k ≡ with_load net.now (slice_index kept.now) undecided.now k }
+    requires small { (k : ℕ) → k < net.now.resources → slice_index left.now k ≤ most_load }
+    requires over { AreWithin net.now capacities.now (slice_index left.now) → ⊥ }
+    ensures gone { IfOk result (λ _. gone.new.items ≡ gone.old.items) }
+    ensures added { IfOk result (λ _. AreAdded net.now capacities.now
+        (slice_index kept.now) gone.old.items undecided.now (job_lists lists.old.items) (job_lists lists.new.items)) }
+{
+    let Some((job, others)) = undecided.split_first() else {
+        return Ok(());
+    };
+    gone.push(*job)?;
+    let less = without(net, left, *job);
+    add(net, capacities, kept, &less, gone, others, lists)?;
+    gone.pop();
+    let more = with(net, kept, *job);
+    if !are_within(net, capacities, &more) {
+        return Ok(());
     }
-    Ok(())
+    add_branches(net, capacities, &more, left, gone, others, lists)
 }
 
 /// All minimal delaying alternatives of the active jobs of a conflict, each once: the lists of job numbers, from 1 and
