@@ -59,16 +59,19 @@ frame_of p v active f capacities w loses goes is same placed e =
       same = refl;
       placed = refl;
       covers = λ starts lies fits.
-          let b = loses p v.capacities v.window v.early v.time active starts is.node.early is.conflict (record { lies = lies; fits = fits }) in
-          (behind v active [], member_first (behind v active []) [] (behind v active []) refl, record {
-            gone = b.gone;
-            kept = b.kept;
-            splits = b.splits;
-            some_stay = b.some_stay;
-            minimal = b.minimal;
-            behind = empty_before b.gone (goes p v.capacities v.early v.time active b.gone is.conflict b.minimal);
-            lies = b.lies;
-          });
+          let b = loses p v.capacities v.window v.early v.time active starts is.node.early is.conflict (record { lies = lies; fits = fits }) in (
+            behind v active [],
+            member_first (behind v active []) [] (behind v active []) refl,
+            record {
+              gone = b.gone;
+              kept = b.kept;
+              splits = b.splits;
+              some_stay = b.some_stay;
+              minimal = b.minimal;
+              behind = empty_before b.gone (goes p v.capacities v.early v.time active b.gone is.conflict b.minimal);
+              lies = b.lies;
+            },
+          );
       lighter = omega (arith, weights-one p (behind v active []), behind-lighter p v active small);
     }
 

@@ -140,7 +140,8 @@ impl<N: OfNetwork> Frame<N> {
         requires same { self.old.node.capacities ≡ subject.now.capacities }
         requires more { IsTrue self.old.more }
         ensures further { IfOk result (λ _. IsGoneOn N.network subject.now.capacities self.old self.new) }
-        ensures fewer { IfOk result (λ _. steps_left self.new.more self.new.last < steps_left self.old.more self.old.last) }
+        ensures fewer { IfOk result (λ _.
+            steps_left self.new.more self.new.last < steps_left self.old.more self.old.last) }
     {
         let (net, capacities) = (subject.network(), subject.capacities());
         let next = &mut workspace.next;
@@ -198,8 +199,8 @@ impl<N: OfNetwork> Frame<N> {
         Ok(())
     }
 
-    /// The windows that are left: its child windows, where fewer than there are jobs are still to be made; else, for each active job, the window in which this job alone is put off behind the first end of the
-    /// others.
+    /// The windows that are left: its child windows, where those still to be made are fewer than the jobs; else, for
+    /// each active job, the window in which this job alone is put off behind the first end of the others.
     pub(crate) fn into_rest(
         mut self,
         alloc: Global,

@@ -22,11 +22,15 @@
 //! workers. A piece and a finding cannot be dropped, so that no part of a question is lost by an oversight.
 //!
 //! `explore` goes by depth over a stack of frames on the heap. A frame is a node on the way to the window that is
-//! searched next, with its child windows still to be searched. What answers the question lies in an open window of a
-//! frame, or in the next one. A frame whose last child window was refuted is refuted itself: then, and at no other
-//! time, its node becomes a record. A search that ends early leaves its open windows. It ends in any case: each child
-//! window has a greater sum of lower bounds than its parent, this sum is at most 10,000,000 for each job where there is
-//! a conflict, and a node has fewer than 2^64 child windows. Rows and lists are used again from node to node, so a node
+//! searched next. It looks at its alternatives one behind the other, in lexicographic order, and makes child windows
+//! of them, 64 at a time. The one with the most slack is searched first, the one whose jobs that go have the most time
+//! left. None has a conflict before its parent's, so its own is looked for from that time on. What answers the
+//! question lies in the next window, in a child window of a frame, or in that of an alternative behind the frame's
+//! last. A frame with none of these left is refuted: then, and at no other time, its node becomes a record. A search
+//! that ends early leaves of each frame its child windows; or, where at least as many as there are jobs are still to
+//! be made, for each active job the window in which it alone is put off. A search ends in any case: the place of a
+//! frame's last alternative in lexicographic order rises, and each child window has a greater sum of lower bounds than
+//! its parent, at most 10,000,000 for each job where there is a conflict. Rows and lists are used again, so a node
 //! takes memory only where its path is the longest so far, or where it becomes a record.
 //!
 //! Proved: `decide` answers starts in the window that fit, or `None` exactly where there are none. A finding of
@@ -34,7 +38,7 @@
 //! window. Once a node was searched, and memory was not refused, each of these has a greater sum of lower bounds.
 //! Without a quantum, a stop and lack of memory nothing is left. The type keeps that truth, whoever holds the finding.
 //! Tested alone: that the stop is asked, that records are looked for and made, and that memory is not refused without
-//! need. How many nodes a search takes is not promised.
+//! need. In which order windows are searched, and how many, is not promised.
 #![tactic(auto)]
 
 mod child;

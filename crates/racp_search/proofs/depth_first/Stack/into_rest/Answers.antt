@@ -19,11 +19,10 @@ into_rest-requires g c =
 
 pub loop-frame-preserved : goal.loop-frame-preserved
 loop-frame-preserved g c =
-    let at : c.args.self.frames.items ≡ c.loop-frame.yielded ++ c.in-Some.frame ∷ c.next.new.self.rest.items = c.loop-frame.invariant.0 ∙ ap (λ (xs : List SearchFrame). c.loop-frame.yielded ++ xs) c.in-Some.ensures.steps.0 in
-    (
+    let at : c.args.self.frames.items ≡ c.loop-frame.yielded ++ c.in-Some.frame ∷ c.next.new.self.rest.items = c.loop-frame.invariant.0 ∙ ap (λ (xs : List SearchFrame). c.loop-frame.yielded ++ xs) c.in-Some.ensures.steps.0 in (
       at ∙ sym (append_assoc c.loop-frame.yielded (c.in-Some.frame ∷ []) c.next.new.self.rest.items),
       leaving-next g.N.OfNetwork.network c.args.subject.now.capacities c.args.subject.now.window c.args.window c.requires.0 c.args.self.frames.items c.loop-frame.yielded c.next.new.self.rest.items c.in-Some.frame c.loop-frame.rest.items c.in_ok-into_rest.field-0.items c.append.new.rest.items
-      c.requires.1 at c.loop-frame.invariant.1 c.in_ok-into_rest.ensures c.in_ok-append.ensures,
+          c.requires.1 at c.loop-frame.invariant.1 c.in_ok-into_rest.ensures c.in_ok-append.ensures,
     )
 
 pub returns : goal.returns
