@@ -1,8 +1,13 @@
 -- Contracts of private functions: a collector of one seat, of which each piece is searched to its end before the next is taken.
-use Rattle.std.specs.Prelude.{◌≡◌, ◌+◌, ◌<◌, Bool, true, false, [], ◌∷◌, length, Option, Some, None}
+use Rattle.std.specs.Prelude.{◌≡◌, ◌≢◌, ◌↔◌, ◌+◌, ◌<◌, Bool, true, false, IsTrue, [], ◌∷◌, length, Option, Some, None}
 use Rattle.racp_model.specs.Project.{Project}
+use Rattle.racp_model.specs.Window.{Answers, IsNo}
 use Rattle.racp_model.specs.Formed.{IsFormed}
-use Rattle.racp_search.specs.Truth.{SearchPiece}
+use Rattle.racp_questions.specs.declared.asker.Probe.{Probe}
+use Rattle.racp_questions.specs.declared.asker.Probe.TheVariants.{Yes, No, Open}
+use Rattle.racp_search.specs.Truth.{SearchPiece, SearchFinding, left_windows}
+use Rattle.racp_search.specs.declared.finding.Rest.{Rest}
+use Rattle.racp_search.specs.declared.finding.Rest.TheVariants.{Whole, Windows}
 use Rattle.racp_core.specs.Machine.{Machine, row_at, AreDone, IsSettled}
 use Rattle.racp_core.specs.Steps.{out_of}
 
@@ -39,3 +44,14 @@ IsHandedIn old false new = IsSettled new
 abbrev pub IsGoneOn : Machine → Bool → Machine → Type 0
 IsGoneOn old true new = IsIdle new × (length new.to_come < length old.to_come)
 IsGoneOn old false new = IsSettled new
+
+-- whether windows are left of a piece
+abbrev pub IsLeft : Rest → Bool → Type 0
+IsLeft Whole result = IsTrue result
+IsLeft (Windows list) result = IsTrue result ↔ (list.items ≢ [])
+
+-- what a finding tells of its question: starts that answer it, that it is a no, or that windows of it are left
+abbrev pub IsProbeOf : Project → SearchFinding → Probe → Type 0
+IsProbeOf p finding (Yes starts) = Answers p finding.piece.question.capacities finding.piece.question.window starts
+IsProbeOf p finding No = IsNo p finding.piece.question.capacities finding.piece.question.window
+IsProbeOf p finding Open = left_windows finding ≢ []

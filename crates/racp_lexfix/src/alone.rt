@@ -1,15 +1,15 @@
-ghost use Rattle.std.specs.Prelude.{◌≡◌, None, [], IfOk, IfErr};
+ghost use Rattle.std.specs.Prelude.{◌≡◌, None, [], IfOk, IfErr, IsFalse};
 ghost use Rattle.racp_questions.specs.declared.asker.AskStop.TheVariants.{Memory};
 ghost use Rattle.racp_search.specs.Truth.{rest_windows};
 ghost use Rattle.racp_core.specs.Machine.{all_questions, IsSettled};
 ghost use Rattle.racp_questions.specs.FirstYes.{IsFirst};
-ghost use Rattle.racp_lexfix.specs.Working.{IsIdle, IsAtWork, IsNextPiece, IsHandedIn, IsGoneOn};
+ghost use Rattle.racp_lexfix.specs.Working.{IsIdle, IsAtWork, IsNextPiece, IsHandedIn, IsGoneOn, IsLeft, IsProbeOf};
 
 use racp_core::{Asked, Core, Merged, Outcome, Reply};
 use racp_cutset::{Board, Local};
-use racp_model::{Network, OfNetwork};
-use racp_questions::{AskStop, Asker, First, Series};
-use racp_search::{Finding, Never, Piece, explore};
+use racp_model::{Network, OfNetwork, Question};
+use racp_questions::{AskStop, Asker, First, Probe, Series};
+use racp_search::{Finding, Never, Piece, Rest, explore};
 use std::alloc::{AllocError, Global};
 
 /// Answers series of questions about the network that `N` names, on the calling thread. It keeps the records of the
@@ -65,6 +65,51 @@ impl<N: OfNetwork> Asker for Alone<N> {
                 return Ok(first_of(core));
             }
         }
+    }
+
+    fn probe(
+        &mut self,
+        net: &Network,
+        question: Question,
+        most: Option<u64>,
+    ) -> Result<Probe, AskStop> {
+        let kept = self.local.kept_count();
+        let piece = Piece::new(0, 0, 0, question);
+        let local = &mut self.local;
+        let finding = explore(self.alloc, net, piece, most, &self.board, local, &Never);
+        let probe = probe_of(finding)?;
+        if matches!(probe, Probe::No) {
+            self.local.forget_behind(kept);
+        }
+        Ok(probe)
+    }
+}
+
+/// What the finding of a question tells of it. Where memory was refused to the search, it tells nothing.
+fn probe_of<N: OfNetwork>(finding: Finding<N>) -> Result<Probe, AskStop>
+    ensures probe { IfOk result (IsProbeOf N.network finding) }
+    ensures long { IfOk result (λ _. IsFalse finding.short) }
+    ensures err { IfErr result (λ stop. stop ≡ Memory) }
+{
+    if finding.short() {
+        let _ = finding.into_found();
+        return Err(AskStop::Memory);
+    }
+    let open = is_left(finding.rest());
+    match finding.into_found() {
+        Some(starts) => Ok(Probe::Yes(starts)),
+        None if open => Ok(Probe::Open),
+        None => Ok(Probe::No),
+    }
+}
+
+/// Whether windows are left of a piece.
+fn is_left(rest: &Rest) -> bool
+    ensures { IsLeft rest.now result }
+{
+    match rest {
+        Rest::Whole => true,
+        Rest::Windows(windows) => !windows.is_empty(),
     }
 }
 

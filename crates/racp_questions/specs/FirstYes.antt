@@ -1,10 +1,12 @@
 -- The first question of a list that is a yes, and what an asker answers.
-use Rattle.std.specs.Prelude.{◌≡◌, ℕ, ◌<◌, List, [], length, slice_index_or, Option, Some, None, ⊤}
+use Rattle.std.specs.Prelude.{◌≡◌, ◌≢◌, ℕ, ◌<◌, List, [], length, slice_index_or, Option, Some, None, ⊤}
 use Rattle.racp_model.specs.Project.{Project}
 use Rattle.racp_model.specs.Window.{Answers, IsYes, IsNo}
 use Rattle.racp_model.specs.declared.question.Question.{Question}
 use Rattle.racp_questions.specs.declared.asker.First.{First}
 use Rattle.racp_questions.specs.declared.asker.First.TheVariants.{Yes, None as NoYes}
+use Rattle.racp_questions.specs.declared.asker.Probe.{Probe}
+use Rattle.racp_questions.specs.declared.asker.Probe.TheVariants.{Yes as ProbedYes, No as ProbedNo, Open as ProbedOpen}
 use Rattle.racp_questions.specs.declared.asker.AskStop.{AskStop}
 use Rattle.racp_questions.specs.declared.asker.AskStop.TheVariants.{Stopped, Memory, NoThread}
 
@@ -40,6 +42,12 @@ IsFirst p questions (Yes index starts) =
     Answers p (question_at questions index).capacities (question_at questions index).window starts
 IsFirst p questions NoYes = IsFirstYes p questions None
 
+-- what a search of one question tells: starts that answer it, that it is a no, or neither, where its nodes had a bound
+abbrev pub IsProbed : Project → Question → (most : Option ℕ) → Probe → Type 0
+IsProbed p question most (ProbedYes starts) = Answers p question.capacities question.window starts
+IsProbed p question most ProbedNo = IsNo p question.capacities question.window
+IsProbed p question most ProbedOpen = most ≢ None
+
 -- where a search was stopped: at the capacities of a question before which each question is a no, or at none
 abbrev pub IsReached : Project → List Question → Option (List ℕ) → Type 0
 IsReached p questions (Some capacities) =
@@ -63,3 +71,13 @@ abbrev pub IsStop : Project → List Question → (told : Option (List ℕ)) →
     (may_stop may_want_thread : Type 0) → AskStop → Type 0
 IsStop p questions told may_stop may_want_thread stop =
     MayGiveUp may_stop may_want_thread stop × IsTold p questions told stop
+
+-- where a search of one question is stopped, nothing is told
+abbrev pub IsUntold : (told : Option (List ℕ)) → AskStop → Type 0
+IsUntold told (Stopped reached) = told ≡ None
+IsUntold told Memory = ⊤
+IsUntold told NoThread = ⊤
+
+-- why one question is not decided: a reason for which the asker may give up
+abbrev pub IsProbeStop : (told : Option (List ℕ)) → (may_stop may_want_thread : Type 0) → AskStop → Type 0
+IsProbeStop told may_stop may_want_thread stop = MayGiveUp may_stop may_want_thread stop × IsUntold told stop

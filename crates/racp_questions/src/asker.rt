@@ -1,5 +1,5 @@
 use crate::series::Series;
-use racp_model::{Capacities, Network, Starts};
+use racp_model::{Capacities, Network, Question, Starts};
 use std::alloc::AllocError;
 use thiserror::Error;
 
@@ -10,6 +10,17 @@ pub enum First {
     Yes { index: usize, starts: Starts },
     /// No question of the series is a yes.
     None,
+}
+
+/// What a search of one question with a bound on its nodes tells.
+#[derive(Drop)]
+pub enum Probe {
+    /// The question is a yes: these starts answer it.
+    Yes(Starts),
+    /// The question is a no.
+    No,
+    /// As many nodes were searched as the bound allows, and neither is known.
+    Open,
 }
 
 /// Why the first yes of a series is not known.
@@ -43,8 +54,8 @@ impl From<AllocError> for AskStop {
 pub trait Asker {
     ghost use Rattle.std.specs.Prelude.{◌≡◌, ℕ, ◌+◌, List, Option, OnOk, OnErr, IfOk, IfErr};
     ghost use Rattle.racp_model.specs.Project.{Project};
-    ghost use Rattle.racp_model.specs.Formed.{AreFormed};
-    ghost use Rattle.racp_questions.specs.FirstYes.{IsFirst, IsStop};
+    ghost use Rattle.racp_model.specs.Formed.{AreFormed, IsFormed};
+    ghost use Rattle.racp_questions.specs.FirstYes.{IsFirst, IsProbed, IsProbeStop, IsStop};
 
     ghost network: { Self → Project };
 
@@ -73,4 +84,23 @@ pub trait Asker {
         ensures unanswered { OnErr result (answered self.new ≡ answered self.old) }
         ensures stop { IfErr result (IsStop net.now (S.questions series) (told self.new) (may_stop self.new)
             (may_want_thread self.new)) };
+
+    /// What a search of one question tells that ends after so many nodes at the latest; `None` is no bound on them. It
+    /// counts as no series. The network is the one that the asker is about, and the question has its form.
+    ///
+    /// # Errors
+    ///
+    /// As those of `first`; where the search was stopped, nothing is told of what was reached.
+    fn probe(
+        &mut self,
+        net: &Network,
+        question: Question,
+        most: Option<u64>,
+    ) -> Result<Probe, AskStop>
+        requires named { net.now ≡ network self.old }
+        requires formed { IsFormed net.now question }
+        ensures network { network self.new ≡ network self.old }
+        ensures probed { IfOk result (IsProbed net.now question most) }
+        ensures answered { answered self.new ≡ answered self.old }
+        ensures stop { IfErr result (IsProbeStop (told self.new) (may_stop self.new) (may_want_thread self.new)) };
 }

@@ -24,7 +24,9 @@
 //! off, or gives `None` where there are none; after a refusal of memory they are as before. Whoever implements `Asker`
 //! is asked about one network, by series of questions that have its form, and proves of `first` that the answer is the
 //! first yes, with starts that answer it, or that each question is a no. It says how many series it has answered, what
-//! it told when it last stopped, and for which reasons it may give up; memory may always run out.
+//! it told when it last stopped, and for which reasons it may give up; memory may always run out. Of a single question
+//! `probe` tells starts that answer it, or that it is a no; or nothing, where the search was given a bound and reached
+//! it.
 //!
 //! Proved: in `laws`, a list of questions has at most one first yes. There is no code to prove but the traits' and that
 //! a refusal of memory is `AskStop::Memory`; what implementors promise is proved where they stand.
@@ -34,5 +36,5 @@ mod asker;
 pub mod laws;
 mod series;
 
-pub use asker::{AskStop, Asker, First};
+pub use asker::{AskStop, Asker, First, Probe};
 pub use series::Series;

@@ -1,0 +1,4 @@
+pub mod lemmas
+mod Cutting
+mod Learning
+mod Halves

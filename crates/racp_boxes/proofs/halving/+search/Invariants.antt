@@ -1,0 +1,5 @@
+use Rattle.racp_boxes.specs.Searched.{width}
+use Rattle.racp_boxes.proofs.halving.+search.Given as goal
+
+abbrev pub decreases-search : goal.decreases-search
+decreases-search g l = width l.net.now l.span

@@ -1,0 +1,19 @@
+-- Capacities within roofs that are enough for a window.
+use Rattle.std.specs.Prelude.{◌≡◌, ℕ, ◌<◌, ◌≤◌, List, length, slice_index}
+use Rattle.racp_model.specs.Project.{Project}
+use Rattle.racp_model.specs.Window.{Bounds, IsYes}
+
+-- one vector is at most another, resource by resource
+abbrev pub IsAtMost : Project → List ℕ → List ℕ → Type 0
+IsAtMost p low high = (k : ℕ) → k < p.resources → slice_index low k ≤ slice_index high k
+
+-- capacities within the roofs, with which some starts in the window fit
+pub record IsEnoughWithin (p : Project) (window : Bounds) (roofs vector : List ℕ) : Type 0 where
+  pub places : length vector ≡ p.resources
+  pub within : IsAtMost p vector roofs
+  pub yes : IsYes p vector window
+
+-- floors of such capacities: there is one for each resource, and all such capacities are at or above them
+pub record AreFloorsOf (p : Project) (window : Bounds) (floors roofs : List ℕ) : Type 0 where
+  pub places : length floors ≡ p.resources
+  pub below : (vector : List ℕ) → IsEnoughWithin p window roofs vector → IsAtMost p floors vector

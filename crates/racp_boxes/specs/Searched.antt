@@ -1,0 +1,128 @@
+-- Contracts of private functions: the search of a box of vectors below one that is known to be enough.
+use Rattle.std.specs.Prelude.{◌≡◌, ◌≢◌, ◌↔◌, ◌⊎◌, ℕ, ◌+◌, ◌-◌, ◌<◌, ◌≤◌, Bool, IsTrue, IsFalse, List, length, slice_index, set, Contains, Option, Some, None}
+use Rattle.racp_model.specs.Project.{Project}
+use Rattle.racp_model.specs.Schedule.{sum_below}
+use Rattle.racp_model.specs.Terms.{Terms, cost, IsBefore}
+use Rattle.racp_model.specs.Window.{Bounds, IsYes, IsNo}
+use Rattle.racp_candidates.specs.Box.{IsBetween}
+use Rattle.racp_boxes.specs.Enough.{IsAtMost, IsEnoughWithin}
+use Rattle.racp_boxes.specs.declared.halving.Span.{Span}
+use Rattle.racp_boxes.specs.declared.known.Known.{Known}
+use Rattle.racp_boxes.specs.declared.known.Told.{Told}
+use Rattle.racp_boxes.specs.declared.known.Told.TheVariants.{Enough, Refuted, Open}
+
+-- what is known: a vector that is enough, with its cost, and vectors with which nothing fits
+pub record IsKnown (p : Project) (terms : Terms) (window : Bounds) (roofs : List ℕ) (known : Known) : Type 0 where
+  pub enough : IsEnoughWithin p window roofs known.best
+  pub priced : known.cost ≡ cost terms known.best
+  pub places : (other : List ℕ) → Contains known.refuted.items other → length other ≡ p.resources
+  pub refuted : (other : List ℕ) → Contains known.refuted.items other → IsNo p other window
+
+-- what stands before a vector stands before another too
+abbrev pub IsNoLater : Terms → List ℕ → List ℕ → Type 0
+IsNoLater terms old new = (vector : List ℕ) → IsBefore terms vector new → IsBefore terms vector old
+
+-- what is known after some questions: no less than before
+pub record IsBetterKnown (p : Project) (terms : Terms) (window : Bounds) (roofs : List ℕ) (old new : Known) : Type 0 where
+  pub known : IsKnown p terms window roofs new
+  pub no_later : IsNoLater terms old.best new.best
+
+-- a vector is at most one of some others
+abbrev pub IsRefutedBy : List (List ℕ) → List ℕ → Type 0
+IsRefutedBy refuted units =
+    (other : List ℕ) × Contains refuted other × ((k : ℕ) → k < length units → slice_index units k ≤ slice_index other k)
+
+-- a vector is the best one now where it stands before the old one, and nothing else changes
+pub record IsLearnt (terms : Terms) (old : Known) (units : List ℕ) (new : Known) : Type 0 where
+  pub best : ((new.best ≡ units) × IsBefore terms units old.best) ⊎
+      ((new.best ≡ old.best) × (IsBefore terms units old.best → ⊥))
+  pub priced : new.cost ≡ cost terms new.best
+  pub refuted : new.refuted ≡ old.refuted
+
+-- what is told of a vector: nothing fits, it does not stand before the best one, or neither, where nodes had a bound
+abbrev pub IsTold : Project → Terms → Bounds → List ℕ → (most : Option ℕ) → List ℕ → Told → Type 0
+IsTold p terms window units most best Enough = IsBefore terms units best → ⊥
+IsTold p terms window units most best Refuted = IsNo p units window
+IsTold p terms window units most best Open = most ≢ None
+
+-- whether nothing fits
+abbrev pub SaysRefuted : Told → Bool → Type 0
+SaysRefuted Refuted result = IsTrue result
+SaysRefuted Enough result = IsFalse result
+SaysRefuted Open result = IsFalse result
+
+-- a box of vectors within the roofs
+pub record IsSpan (p : Project) (roofs : List ℕ) (span : Span) : Type 0 where
+  pub low : length span.low ≡ p.resources
+  pub high : length span.high ≡ p.resources
+  pub bounds : IsAtMost p span.low span.high
+  pub within : IsAtMost p span.high roofs
+
+-- no vector of a box, with which some starts fit, stands before the best one
+abbrev pub HasNoneBefore : Project → Terms → Bounds → Span → List ℕ → Type 0
+HasNoneBefore p terms window span best =
+    (vector : List ℕ) → IsBetween span.low span.high vector → IsYes p vector window → IsBefore terms vector best → ⊥
+
+-- a box was searched
+pub record IsSearched (p : Project) (terms : Terms) (window : Bounds) (roofs : List ℕ) (span : Span) (old new : Known)
+    : Type 0 where
+  pub better : IsBetterKnown p terms window roofs old new
+  pub none : HasNoneBefore p terms window span new.best
+
+-- how wide a box is: over all resources, how many units the high vector has above the low one
+abbrev pub width : Project → Span → ℕ
+width p span = sum_below p.resources (λ k. slice_index span.high k - slice_index span.low k)
+
+-- two narrower boxes that have all of a box that stands before the best vector
+pub record AreHalves (p : Project) (terms : Terms) (roofs : List ℕ) (span : Span) (best : List ℕ) (halves : Span × Span)
+    : Type 0 where
+  pub below : IsSpan p roofs halves.0
+  pub above : IsSpan p roofs halves.1
+  pub narrower_below : width p halves.0 < width p span
+  pub narrower_above : width p halves.1 < width p span
+  pub cover : (vector : List ℕ) → IsBetween span.low span.high vector → IsBefore terms vector best →
+      IsBetween halves.0.low halves.0.high vector ⊎ IsBetween halves.1.low halves.1.high vector
+
+-- these, or that the box was searched
+abbrev pub IsHalvesAnswer : Project → Terms → Bounds → List ℕ → Span → Known → Known → Option (Span × Span) → Type 0
+IsHalvesAnswer p terms window roofs span old new (Some halves) =
+    IsBetterKnown p terms window roofs old new × AreHalves p terms roofs span new.best halves
+IsHalvesAnswer p terms window roofs span old new None = IsSearched p terms window roofs span old new
+
+-- a box was halved between two numbers of units of the resource at place k
+pub record AreHalved (low high : List ℕ) (k : ℕ) (halves : Span × Span) : Type 0 where
+  pub middle : ℕ
+  pub from : slice_index low k ≤ middle
+  pub to : middle < slice_index high k
+  pub below : halves.0 ≡ record { low = low; high = set high k middle }
+  pub above : halves.1 ≡ record { low = set low k (middle + 1); high = high }
+
+-- high numbers, cut so that the box still has each vector that stands before the best one
+pub record IsCut (p : Project) (terms : Terms) (low high best cut : List ℕ) : Type 0 where
+  pub places : length cut ≡ p.resources
+  pub above : IsAtMost p low cut
+  pub below : IsAtMost p cut high
+  pub all : (vector : List ℕ) → IsBetween low high vector → IsBefore terms vector best → IsAtMost p vector cut
+
+-- these, or that no vector of the box stands before the best one
+abbrev pub IsCutAnswer : Project → Terms → (low high best : List ℕ) → Option (List ℕ) → Type 0
+IsCutAnswer p terms low high best (Some cut) = IsCut p terms low high best cut
+IsCutAnswer p terms low high best None =
+    (vector : List ℕ) → IsBetween low high vector → IsBefore terms vector best → ⊥
+
+-- the most units of resource k, up to a roof, of a vector that stands before the best one and is at or above a low one
+pub record IsMostBefore (p : Project) (terms : Terms) (low best : List ℕ) (k roof units : ℕ) : Type 0 where
+  pub from : slice_index low k ≤ units
+  pub to : units ≤ roof
+  pub most : (vector : List ℕ) → length vector ≡ p.resources → IsAtMost p low vector → slice_index vector k ≤ roof →
+      IsBefore terms vector best → slice_index vector k ≤ units
+
+-- a vector as it was
+pub record IsAsBefore (old new : List ℕ) : Type 0 where
+  pub places : length new ≡ length old
+  pub same : (k : ℕ) → k < length old → slice_index new k ≡ slice_index old k
+
+-- of the first n resources one of which a box has several numbers of units, or none where it has one of each
+abbrev pub IsWidest : (n : ℕ) → (low high : List ℕ) → Option ℕ → Type 0
+IsWidest n low high (Some k) = (k < n) × (slice_index low k < slice_index high k)
+IsWidest n low high None = (k : ℕ) → k < n → slice_index high k ≤ slice_index low k

@@ -1,0 +1,199 @@
+//! The search of a box by halves.
+
+ghost use Rattle.std.specs.Prelude.{◌≡◌, ℕ, ◌<◌, ◌≤◌, None, IfOk, IfErr, length, set, slice_index};
+ghost use Rattle.racp_model.specs.Formed.{HasBounds};
+ghost use Rattle.racp_model.specs.Plan.{IsLeast};
+ghost use Rattle.racp_model.specs.Terms.{AreTermsOf, IsBefore};
+ghost use Rattle.racp_model.specs.Window.{IsYes};
+ghost use Rattle.racp_questions.specs.FirstYes.{IsProbeStop};
+ghost use Rattle.racp_boxes.specs.Enough.{AreFloorsOf, IsAtMost, IsEnoughWithin};
+ghost use Rattle.racp_boxes.specs.Searched.{AreHalved, IsHalvesAnswer, IsKnown, IsSearched, IsSpan, IsWidest};
+
+use crate::cut::cut;
+use crate::known::{Known, Told, ask};
+use racp_model::{Capacities, Network, Window};
+use racp_prices::Order;
+use racp_questions::{AskStop, Asker};
+use std::alloc::{AllocError, Global};
+
+/// How many nodes a question about a box of more than one vector may take.
+const MOST_NODES: u64 = 64000;
+
+/// The first vector, by cost and then lexicographically, of those that are within the roofs and with which some starts
+/// in the window fit. All of these are at or above the floors, and the roofs are one of them. Resources stand by place,
+/// from 0.
+///
+/// # Errors
+///
+/// The asker gave up, or memory was refused.
+pub fn first_enough<A: Asker>(
+    alloc: Global,
+    net: &Network,
+    order: &Order,
+    root: &Window,
+    floors: &Capacities,
+    roofs: &Capacities,
+    asker: &mut A,
+) -> Result<Capacities, AskStop>
+    requires named { net.now ≡ A.network asker.old }
+    requires terms { AreTermsOf net.now order.now }
+    requires root { HasBounds net.now root.now }
+    requires floors { AreFloorsOf net.now root.now floors.now roofs.now }
+    requires roofs { IsEnoughWithin net.now root.now roofs.now roofs.now }
+    ensures network { A.network asker.new ≡ A.network asker.old }
+    ensures first { IfOk result (IsLeast (IsBefore order.now) (IsEnoughWithin net.now root.now roofs.now)) }
+    ensures answered { A.answered asker.new ≡ A.answered asker.old }
+    ensures stop { IfErr result (IsProbeStop (A.told asker.new) (A.may_stop asker.new) (A.may_want_thread asker.new)) }
+{
+    let mut known = Known::of(alloc, net, order, roofs)?;
+    let whole = Span {
+        low: floors.copy()?,
+        high: roofs.copy()?,
+    };
+    search(alloc, net, order, root, roofs, &mut known, whole, asker)?;
+    Ok(known.best)
+}
+
+/// The vectors from a low to a high one, resource by resource.
+#[derive(Drop)]
+struct Span {
+    low: Capacities,
+    high: Capacities,
+}
+
+/// Searches a box of vectors: what is then known as the best vector is none that another one of the box, with which
+/// some starts fit, stands before.
+fn search<A: Asker>(
+    alloc: Global,
+    net: &Network,
+    order: &Order,
+    root: &Window,
+    roofs: &Capacities,
+    known: &mut Known,
+    span: Span,
+    asker: &mut A,
+) -> Result<(), AskStop>
+    requires named { net.now ≡ A.network asker.old }
+    requires terms { AreTermsOf net.now order.now }
+    requires root { HasBounds net.now root.now }
+    requires span { IsSpan net.now roofs.now span }
+    requires known { IsKnown net.now order.now root.now roofs.now known.old }
+    ensures network { A.network asker.new ≡ A.network asker.old }
+    ensures searched { IfOk result (λ _. IsSearched net.now order.now root.now roofs.now span known.old known.new) }
+    ensures answered { A.answered asker.new ≡ A.answered asker.old }
+    ensures stop { IfErr result (IsProbeStop (A.told asker.new) (A.may_stop asker.new) (A.may_want_thread asker.new)) }
+{
+    let Some((below, above)) = halves(alloc, net, order, root, roofs, known, span, asker)? else {
+        return Ok(());
+    };
+    search(alloc, net, order, root, roofs, known, below, asker)?;
+    search(alloc, net, order, root, roofs, known, above, asker)
+}
+
+/// The two halves of a box, where something in it may stand before the best vector.
+fn halves<A: Asker>(
+    alloc: Global,
+    net: &Network,
+    order: &Order,
+    root: &Window,
+    roofs: &Capacities,
+    known: &mut Known,
+    span: Span,
+    asker: &mut A,
+) -> Result<Option<(Span, Span)>, AskStop>
+    requires named { net.now ≡ A.network asker.old }
+    requires terms { AreTermsOf net.now order.now }
+    requires root { HasBounds net.now root.now }
+    requires span { IsSpan net.now roofs.now span }
+    requires known { IsKnown net.now order.now root.now roofs.now known.old }
+    ensures network { A.network asker.new ≡ A.network asker.old }
+    ensures halves { IfOk result (IsHalvesAnswer net.now order.now root.now roofs.now span known.old known.new) }
+    ensures answered { A.answered asker.new ≡ A.answered asker.old }
+    ensures stop { IfErr result (IsProbeStop (A.told asker.new) (A.may_stop asker.new) (A.may_want_thread asker.new)) }
+{
+    let Span { low, high } = span;
+    let Some(high) = cut(alloc, net, order, known, &low, &high)? else {
+        return Ok(None);
+    };
+    let lane = widest(order, &low, &high);
+    let told = ask(alloc, net, order, root, roofs, known, &high, most_nodes(lane), asker)?;
+    if told.is_refuted() {
+        return Ok(None);
+    }
+    let Some(k) = lane else {
+        return Ok(None);
+    };
+    Ok(Some(halved(low, high, k)?))
+}
+
+/// The two halves of a box along the resource at place `k`: that with fewer units, and the other one.
+fn halved(low: Capacities, high: Capacities, k: usize) -> Result<(Span, Span), AllocError>
+    requires low { k < length low }
+    requires high { length high ≡ length low }
+    requires several { slice_index low k < slice_index high k }
+    ensures { IfOk result (AreHalved low high k) }
+{
+    let middle = middle_of(low.as_slice(), high.as_slice(), k);
+    prove!(middle < high.as_slice()[k]);
+    let below = Span {
+        low: low.copy()?,
+        high: with_units(high.copy()?, k, middle),
+    };
+    let above = Span {
+        low: with_units(low, k, middle + 1),
+        high,
+    };
+    Ok((below, above))
+}
+
+/// How many nodes a question about a box may take: there is no bound where the box has one vector.
+fn most_nodes(lane: Option<usize>) -> Option<u64>
+    ensures { lane ≡ None → result ≡ None }
+{
+    match lane {
+        Some(_) => Some(MOST_NODES),
+        None => None,
+    }
+}
+
+/// The resource, by place from 0, whose units from the low to the high number cost most; `None` where there is one
+/// vector from the low to the high one.
+fn widest(order: &Order, low: &Capacities, high: &Capacities) -> Option<usize>
+    requires prices { length order.now.prices ≡ length low.now }
+    requires high { length high.now ≡ length low.now }
+    requires bounds { (k : ℕ) → k < length low.now → slice_index low.now k ≤ slice_index high.now k }
+    ensures { IsWidest (length low.now) low.now high.now result }
+{
+    let (low, high) = (low.as_slice(), high.as_slice());
+    let mut widest = None;
+    let mut most = 0;
+    for k in 0..low.len() {
+        let cost = (high[k] - low[k]) as u64 * order.prices[k] as u64;
+        if low[k] < high[k] && (widest.is_none() || most < cost) {
+            widest = Some(k);
+            most = cost;
+        }
+    }
+    widest
+}
+
+/// The greatest number of units in the lower half of those of one resource.
+fn middle_of(low: &[u32], high: &[u32], k: usize) -> u32
+    requires low { k < length low.now }
+    requires high { k < length high.now }
+    requires several { slice_index low.now k < slice_index high.now k }
+    ensures from { slice_index low.now k ≤ result }
+    ensures to { result < slice_index high.now k }
+{
+    low[k] + (high[k] - low[k]) / 2
+}
+
+/// These capacities with other units of one resource.
+fn with_units(capacities: Capacities, k: usize, units: u32) -> Capacities
+    requires { k < length capacities }
+    ensures { result ≡ set capacities k units }
+{
+    let mut list = capacities.into_vec();
+    list[k] = units;
+    Capacities::new(list)
+}
