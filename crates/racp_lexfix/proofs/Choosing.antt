@@ -21,29 +21,12 @@ use Rattle.racp_prices.proofs.lemmas.Ceilings.{cut-below, most-within}
 use Rattle.racp_candidates.specs.Questions.{question_of}
 use Rattle.racp_questions.specs.FirstYes.{question_at, no_question, IsYesAt, AreNoBefore, IsFirstYes, IsReached}
 use Rattle.racp_candidates.specs.Box.{AreBounds, IsInBox, AreBoxQuestions}
+use Rattle.racp_boxes.proofs.lemmas.AtMost.{at_most-cost, at_most-not_after}
 use Rattle.racp_bounds.specs.Floors.{AreFloors, AreRoofs}
 use Rattle.racp_bounds.specs.Sharp.{AreSharpened, AreRefutedPairs, AreSharpenedBefore}
 use Rattle.racp_bounds.proofs.lemmas.Above.{admitting_above, roofs_admit}
 use Rattle.racp_bounds.proofs.lemmas.Sharpened.{above_admits, admitting_yes, admitting_above_sharpened, admitting_in_box}
 use Rattle.racp_lexfix.specs.Stages.{IsNotAfterEnough}
-
--- a vector that is at or above another in each place costs no less
-above-cost : (p : Project) (terms : Terms) (low high : List ℕ) → AreTermsOf p terms → ((k : ℕ) → k < p.resources → slice_index low k ≤ slice_index high k) → cost terms low ≤ cost terms high
-above-cost p terms low high t above =
-    sum_below-mono (length terms.prices) (λ k. slice_index terms.prices k * (slice_index low k - slice_index terms.owned k)) (λ k. slice_index terms.prices k * (slice_index high k - slice_index terms.owned k))
-    (λ k l.
-    let fewer : slice_index low k - slice_index terms.owned k ≤ slice_index high k - slice_index terms.owned k = omega (arith, above k (omega (arith, l, t.price_places))) in
-    mul-le-mul_left (slice_index terms.prices k) fewer)
-
--- a vector that is at or above another in each place does not stand before it
-pub above-no_before : (p : Project) (terms : Terms) (low high : List ℕ) → AreTermsOf p terms → length low ≡ p.resources → length high ≡ p.resources →
-    ((k : ℕ) → k < p.resources → slice_index low k ≤ slice_index high k) → IsBefore terms high low → ⊥
-above-no_before p terms low high t low_places high_places above before = elim (before_cases terms high low before) [
-  | inl less ↦ omega (arith, less, above-cost p terms low high t above)
-  | inr tie ↦
-      let k : HasFirstPlace high low = first_from_lex high low (omega (arith, low_places, high_places)) tie.1 in
-      omega (arith, k.3, above k.0 (omega (arith, k.1, high_places)))
-]
 
 -- so it is the same where the other does not stand before it
 above-same : (p : Project) (terms : Terms) (low high : List ℕ) → AreTermsOf p terms → length low ≡ p.resources → length high ≡ p.resources →
@@ -52,7 +35,7 @@ above-same p terms low high t low_places high_places above not_before =
     lower-same low high (omega (arith, low_places, high_places)) (λ k l. above k (omega (arith, l, high_places)))
     (λ lesser. elim (cases_lt (cost terms low) (cost terms high)) [
       | inl less ↦ not_before (cheaper-before terms low high less)
-      | inr more ↦ not_before (lesser-before terms low high (omega (arith, more, above-cost p terms low high t above)) lesser)
+      | inr more ↦ not_before (lesser-before terms low high (omega (arith, more, at_most-cost p terms t low high above)) lesser)
     ])
 
 -- without ceilings the most units are the roofs
@@ -65,19 +48,19 @@ plain_roofs p terms roofs most none = record {
 module _ (p : Project) (terms : Terms) (root : Bounds) (floors roofs : List ℕ) (t : AreTermsOf p terms) (h : IsRootWindow p (release_of terms) (due_of terms) root)
     (lowest : AreFloors p root terms.deadline floors) (most : AreMostUnits p terms roofs) where
   -- each job has to end by the deadline
-  due_by : (i : ℕ) → i < length p.jobs → due_of terms i ≤ terms.deadline
+  pub due_by : (i : ℕ) → i < length p.jobs → due_of terms i ≤ terms.deadline
   due_by i l = omega arith
 
   -- capacities that are enough, cut to the sums of requests, are within the roofs and admit
-  cut_within : (vector : List ℕ) → IsEnough p terms vector → (k : ℕ) → k < p.resources → slice_index (cut p vector) k ≤ slice_index roofs k
+  pub cut_within : (vector : List ℕ) → IsEnough p terms vector → (k : ℕ) → k < p.resources → slice_index (cut p vector) k ≤ slice_index roofs k
   cut_within vector e k l =
       cut-below terms.ceilings (slice_index roofs k) (length vector) k (slice_index (cut p vector) k) (roof p k) vector e.ceilings (omega (arith, l, e.places)) (cut-at p vector k l) (most.each k l)
 
-  cut_admits : (vector : List ℕ) → IsEnough p terms vector → Admits p (release_of terms) (due_of terms) (cut p vector)
+  pub cut_admits : (vector : List ℕ) → IsEnough p terms vector → Admits p (release_of terms) (due_of terms) (cut p vector)
   cut_admits vector e = cut_admitting p (release_of terms) (due_of terms) vector (cut p vector) (cut-at p vector) e.admits
 
   -- they are no greater than whole
-  cut_less : (vector : List ℕ) → (k : ℕ) → k < p.resources → slice_index (cut p vector) k ≤ slice_index vector k
+  pub cut_less : (vector : List ℕ) → (k : ℕ) → k < p.resources → slice_index (cut p vector) k ≤ slice_index vector k
   cut_less vector k l = omega (arith, cut-at p vector k l)
 
   -- a yes within the roofs is enough
@@ -113,11 +96,11 @@ module _ (p : Project) (terms : Terms) (root : Bounds) (floors roofs : List ℕ)
   reached_first n reached are = record {
     places = are.places;
     none = λ vector e before.
-        above-no_before p terms reached vector t are.places e.places
+        at_most-not_after p terms t reached vector
         (λ k l.
         let low = admitting_above_sharpened p (release_of terms) (due_of terms) root terms.deadline n floors roofs reached (cut p vector) h due_by lowest most.places are (cut_within vector e) (cut_admits vector e) k l in
         omega (arith, low, cut_less vector k l))
-        before;
+        are.places e.places before;
   }
 
   -- the first floors are such

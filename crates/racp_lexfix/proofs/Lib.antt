@@ -4,6 +4,8 @@ mod Choosing
 mod Fixing
 mod Staging
 mod Passing
+mod Probing
+mod Halving
 mod OneAnswer
 mod Deciding
 mod Existing

@@ -12,13 +12,17 @@ use crate::answer::{Answer, PlanStop};
 use crate::bounds::floors_and_roofs;
 use crate::starts::least_starts;
 use racp_bounds::{Sharp, sharpen};
-use racp_candidates::Vectors;
+use racp_boxes::first_enough;
+use racp_candidates::{One, Vectors};
 use racp_check::{Opening, opening_of};
 use racp_model::{Capacities, Network, Starts, Window, peaks};
 use racp_plan::Plan;
 use racp_prices::{Order, cost_of};
 use racp_questions::{Asker, First};
 use std::alloc::{AllocError, Global};
+
+/// Up to so many vectors are asked one by one.
+const FEW_VECTORS: u64 = 64;
 
 /// The plan of an order, or why there is none. Questions go to the asker, which is about this network: first whether
 /// the ceilings admit, where there are such, then to sharpen the floors, then for each capacity vector of the box in
@@ -90,9 +94,36 @@ fn chosen<A: Asker>(
     }
 }
 
+/// The first capacities of all that are enough: asked for in their order where they are among few vectors, and else
+/// found by halves of their box.
+fn cheapest<A: Asker>(
+    alloc: Global,
+    net: &Network,
+    order: &Order,
+    root: &Window,
+    sharp: Sharp,
+    roofs: &Capacities,
+    asker: &mut A,
+) -> Result<Capacities, PlanStop>
+    requires named { net.now ≡ A.network asker.old }
+    requires terms { AreTermsOf net.now order.now }
+    requires root { IsRootWindow net.now (release_of order.now) (due_of order.now) root.now }
+    requires sharp { AreSharpFloorsAndRoofs net.now order.now root.now sharp roofs.now }
+    ensures network { A.network asker.new ≡ A.network asker.old }
+    ensures least { IfOk result (IsLeast (IsBefore order.now) (IsEnough net.now order.now)) }
+    ensures answered { OnOk result (A.answered asker.new ≡ A.answered asker.old + 1) }
+    ensures stop { IfErr result (IsPlanStop (IsStoppedInBox net.now order.now sharp.floors (A.told asker.new))
+        (A.may_stop asker.new × (A.answered asker.new ≡ A.answered asker.old)) (A.may_want_thread asker.new)) }
+{
+    if is_small(&sharp.floors, roofs) {
+        return cheapest_in_order(alloc, net, order, root, sharp, roofs, asker);
+    }
+    cheapest_by_halves(alloc, net, order, root, sharp, roofs, asker)
+}
+
 /// The first capacities of all that are enough: those of the first question of the box that is a yes. They are the
 /// peaks of the starts that were found, since these peaks are enough too, and no others that are stand before them.
-fn cheapest<A: Asker>(
+fn cheapest_in_order<A: Asker>(
     alloc: Global,
     net: &Network,
     order: &Order,
@@ -119,6 +150,49 @@ fn cheapest<A: Asker>(
     match first {
         First::Yes { starts, .. } => Ok(peaks(alloc, net, &starts)?),
         First::None => unreachable!(),
+    }
+}
+
+/// Whether there are so few vectors from the floors to the roofs that they are asked one by one, in their order.
+fn is_small(floors: &Capacities, roofs: &Capacities) -> bool {
+    let (floors, roofs) = (floors.as_slice(), roofs.as_slice());
+    let mut count: u64 = 1;
+    for (floor, roof) in floors.iter().zip(roofs) {
+        let units = roof.saturating_sub(*floor) as u64 + 1;
+        count = count.saturating_mul(units);
+    }
+    count <= FEW_VECTORS
+}
+
+/// The first capacities of all that are enough, found by boxes of vectors below known ones. They are asked for once
+/// more, by a series, for which an asker keeps what serves the starts.
+fn cheapest_by_halves<A: Asker>(
+    alloc: Global,
+    net: &Network,
+    order: &Order,
+    root: &Window,
+    sharp: Sharp,
+    roofs: &Capacities,
+    asker: &mut A,
+) -> Result<Capacities, PlanStop>
+    requires named { net.now ≡ A.network asker.old }
+    requires terms { AreTermsOf net.now order.now }
+    requires root { IsRootWindow net.now (release_of order.now) (due_of order.now) root.now }
+    requires sharp { AreSharpFloorsAndRoofs net.now order.now root.now sharp roofs.now }
+    ensures network { A.network asker.new ≡ A.network asker.old }
+    ensures least { IfOk result (IsLeast (IsBefore order.now) (IsEnough net.now order.now)) }
+    ensures answered { OnOk result (A.answered asker.new ≡ A.answered asker.old + 1) }
+    ensures stop { IfErr result (IsPlanStop (IsStoppedInBox net.now order.now sharp.floors (A.told asker.new))
+        (A.may_stop asker.new × (A.answered asker.new ≡ A.answered asker.old)) (A.may_want_thread asker.new)) }
+{
+    let first = match first_enough(alloc, net, order, root, &sharp.floors, roofs, asker) {
+        Ok(first) => first,
+        Err(stop) => return Err(PlanStop::given_up(stop, sharp.floors)),
+    };
+    let series = One::new(alloc, &first, root)?;
+    match asker.first(net, series) {
+        Ok(_) => Ok(first),
+        Err(stop) => Err(PlanStop::given_up(stop, first)),
     }
 }
 

@@ -5,7 +5,7 @@ use Rattle.racp_lexfix.specs.Answers.{IsPlanStop}
 use Rattle.racp_lexfix.specs.Stages.{IsStoppedInBox}
 use Rattle.racp_lexfix.specs.declared.answer.PlanStop.{PlanStop}
 use Rattle.racp_lexfix.proofs.Staging.{box_yes, box_least, box_stopped}
-use Rattle.racp_lexfix.proofs.planning.cheapest.Goals as goal
+use Rattle.racp_lexfix.proofs.planning.cheapest_in_order.Goals as goal
 
 pub first-requires-clause-formed : goal.first-requires-clause-formed
 first-requires-clause-formed g c =

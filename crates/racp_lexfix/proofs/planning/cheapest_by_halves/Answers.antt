@@ -1,0 +1,32 @@
+use Rattle.std.proofs.Common.{◌≡◌, ◌∙◌, subst, sym}
+use Rattle.racp_lexfix.specs.Answers.{IsPlanStop}
+use Rattle.racp_lexfix.specs.Stages.{IsStoppedInBox}
+use Rattle.racp_lexfix.specs.declared.answer.PlanStop.{PlanStop}
+use Rattle.racp_lexfix.proofs.Halving.{first_stopped, halves_stopped, roofs_enough, sharp_floors, within_least}
+use Rattle.racp_lexfix.proofs.planning.cheapest_by_halves.Goals as goal
+
+pub first_enough-requires-clause-floors : goal.first_enough-requires-clause-floors
+first_enough-requires-clause-floors g c = sharp_floors c.args.net.now c.args.order.now c.args.root.now c.requires.terms c.requires.root c.args.sharp c.args.roofs.now c.requires.sharp
+
+pub returns-in-Err-clause-stop : goal.returns-in-Err-clause-stop
+returns-in-Err-clause-stop g c =
+    let told = g.A.Asker.told c.first_enough.new.asker in
+    let may_stop = g.A.Asker.may_stop c.first_enough.new.asker in
+    let may_want_thread = g.A.Asker.may_want_thread c.first_enough.new.asker in
+    let left = g.A.Asker.answered c.first_enough.new.asker ≡ g.A.Asker.answered c.args.asker.now in
+    subst (λ (stop : PlanStop). IsPlanStop (IsStoppedInBox c.args.net.now c.args.order.now c.args.sharp.floors told) (may_stop × left) may_want_thread stop) (sym c.given_up.ensures)
+    (halves_stopped c.args.net.now c.args.order.now c.args.root.now c.requires.terms c.requires.root c.args.sharp c.args.roofs.now c.requires.sharp told may_stop may_want_thread left c.in-Err.stop c.in-Err.ensures.stop c.in-Err.ensures.answered)
+
+pub returns-in-Ok-first-clause-least : goal.returns-in-Ok-first-clause-least
+returns-in-Ok-first-clause-least g c =
+    within_least c.args.net.now c.args.order.now c.args.root.now c.requires.terms c.requires.root c.args.sharp c.args.roofs.now c.requires.sharp c.in-Ok.first c.in-Ok.ensures.first
+
+pub returns-clause-stop : goal.returns-clause-stop
+returns-clause-stop g c =
+    let told = g.A.Asker.told c.first-2.new.self in
+    let may_stop = g.A.Asker.may_stop c.first-2.new.self in
+    let may_want_thread = g.A.Asker.may_want_thread c.first-2.new.self in
+    let left = g.A.Asker.answered c.first-2.new.self ≡ g.A.Asker.answered c.args.asker.now in
+    subst (λ (stop : PlanStop). IsPlanStop (IsStoppedInBox c.args.net.now c.args.order.now c.args.sharp.floors told) (may_stop × left) may_want_thread stop) (sym c.given_up-in-Err-first.ensures)
+    (first_stopped c.args.net.now c.args.order.now c.args.root.now c.requires.terms c.requires.root c.args.sharp c.args.roofs.now c.requires.sharp c.in-Ok.first c.in-Ok.ensures.first c.in_ok-series.series
+    told may_stop may_want_thread left c.in-Err-first.stop c.in_ok-series.ensures c.in-Err-first.ensures.stop (c.in-Err-first.ensures.unanswered ∙ c.in-Ok.ensures.answered))
