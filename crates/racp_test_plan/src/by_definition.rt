@@ -1,7 +1,7 @@
 //! An asker that decides each question by its definition.
 
-use racp_model::{Network, OfNetwork};
-use racp_questions::{AskStop, Asker, First, Series};
+use racp_model::{Network, OfNetwork, Question};
+use racp_questions::{AskStop, Asker, First, Probe, Series};
 use racp_reference::decide_by_definition;
 use std::alloc::Global;
 use std::marker::PhantomData;
@@ -53,5 +53,17 @@ impl<N: OfNetwork> Asker for ByDefinition<N> {
         }
         self.answered += 1;
         Ok(First::None)
+    }
+
+    fn probe(
+        &mut self,
+        net: &Network,
+        question: Question,
+        _most: Option<u64>,
+    ) -> Result<Probe, AskStop> {
+        match decide_by_definition(self.alloc, net, &question)? {
+            Some(starts) => Ok(Probe::Yes(starts)),
+            None => Ok(Probe::No),
+        }
     }
 }

@@ -3,9 +3,9 @@
 ghost use Rattle.std.specs.Prelude.{◌≡◌, IfOk};
 
 use racp_lexfix::{Alone, PlanStop, plan};
-use racp_model::{Capacities, Network, OfNetwork};
+use racp_model::{Capacities, Network, OfNetwork, Question};
 use racp_prices::{Order, OrderFault, read_order};
-use racp_questions::{AskStop, Asker, First, Series};
+use racp_questions::{AskStop, Asker, First, Probe, Series};
 use racp_samples::crossed;
 use std::alloc::{AllocError, Global};
 use std::marker::Brand;
@@ -53,6 +53,19 @@ impl<N: OfNetwork> Asker for Tired<N> {
         Err(AskStop::Stopped {
             reached: Some(question.capacities),
         })
+    }
+
+    fn probe(
+        &mut self,
+        net: &Network,
+        question: Question,
+        most: Option<u64>,
+    ) -> Result<Probe, AskStop> {
+        if self.answered < self.series {
+            return self.alone.probe(net, question, most);
+        }
+        self.told = None;
+        Err(AskStop::Stopped { reached: None })
     }
 }
 
