@@ -225,7 +225,7 @@ impl DelayingAlternatives {
 }
 
 /// Puts the jobs of a set into a list, in place of what was there, and sums up what they request of each resource.
-pub(crate) fn load_of(
+fn load_of(
     net: &Network,
     jobs: &JobSet,
     list: &mut Vec<u32>,
