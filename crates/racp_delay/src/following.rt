@@ -210,9 +210,9 @@ impl Alternative {
     }
 
     /// Finds, of the lists that `alternatives` answers for a conflict with these active jobs, the first that stands
-    /// behind `last` in lexicographic order and in which only `free` jobs go, in place of what was found before. Answers
-    /// `false` where there is none. The empty list stands before all alternatives of a conflict, so a search starts with
-    /// it and goes on with what it found last. Where all active jobs are free it finds all alternatives.
+    /// behind `last` in lexicographic order and in which only free jobs go, in place of what was found before. Answers
+    /// `false` where there is none. The empty list stands before all alternatives of a conflict, so a search starts
+    /// with it and goes on with what it found last. Where all active jobs are free it finds all alternatives.
     ///
     /// # Errors
     ///

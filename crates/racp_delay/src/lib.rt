@@ -31,8 +31,8 @@
 //! jobs that stay exceed the capacities by themselves, and where one that goes has room beside all the others, of each
 //! resource that it requests; so a job without requests never goes. With one resource and equal requests each branch
 //! leads to an alternative; in general some do not, and the work for each alternative is not bounded by a polynomial.
-//! `find_behind` takes the decisions of the list that it was given again, and goes on from there. It decides on free jobs
-//! alone, and keeps the others from the start.
+//! `find_behind` takes the decisions of the list that it was given again, and goes on from there. It decides on free
+//! jobs alone, and keeps the others from the start.
 //!
 //! A `Profile` holds starts, of which `move_job` changes one at a time. `first_over` finds what `conflict` finds, but
 //! sorts nothing: it goes over the jobs once for each start up to the conflict. The early starts of a child window have
@@ -46,10 +46,10 @@
 //! Proved: `conflict` finds the first time of an excess with exactly the jobs that are active then, or none where no
 //! usage exceeds its capacity, and takes no memory; `alternatives` all minimal delaying alternatives and nothing else,
 //! each once; `find_behind` the first of them behind a list in which only free jobs go, or that there is none;
-//! `first_end` the first end; `JobSet` what is in a set of jobs. In `laws`: the child windows cover their window and lie
-//! inside it, and the sum of the lower bounds rises; before the conflict of a window its children have none. A `Profile`
-//! answers of its starts what `conflict` does. Not proved: that memory is not refused without need, and the time that all
-//! this takes.
+//! `first_end` the first end; `JobSet` what is in a set of jobs. In `laws`: the child windows cover their window and
+//! lie inside it, and the sum of the lower bounds rises; before the conflict of a window its children have none. A
+//! `Profile` answers of its starts what `conflict` does. Not proved: that memory is not refused without need, and the
+//! time that all this takes.
 #![tactic(auto)]
 
 mod conflicts;
