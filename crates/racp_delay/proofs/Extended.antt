@@ -5,12 +5,10 @@ use Rattle.std.specs.List.Sorted.{IsStrictlyIncreasing}
 use Rattle.racp_model.specs.Project.{Project}
 use Rattle.racp_model.specs.Terms.{lex_cmp, IsLexBefore}
 use Rattle.racp_model.proofs.lemmas.Costs.{lex_one_way}
-use Rattle.racp_delay.specs.Alternatives.{IsMinimalDelayingAlternative, IsNextAlternative, IsFollowing}
 use Rattle.racp_delay.specs.Found.{AreWithin, SomeHaveRoom, Each, with_load, IsExtension, IsFirstExtension, HasNoExtension, IsExtended, IsAny}
 use Rattle.racp_delay.proofs.Each.{Ascends, ascends, each-map}
 use Rattle.racp_delay.proofs.Adding.{popped}
-use Rattle.racp_delay.proofs.Searching.{less_before, IsMore, tight-same}
-use Rattle.racp_delay.proofs.Tight.{none_kept, tight-from_minimal, minimal-from_tight}
+use Rattle.racp_delay.proofs.Searching.{less_before, IsMore}
 use Rattle.racp_delay.proofs.Extending.{lex_tails, none-over, none-loose, first-here, none_more, none-undecided, first-goes, first-stays, none-both, behind_empty, behind_less}
 
 -- the same of another way to look for the same extensions
@@ -135,22 +133,3 @@ module _ (p : Project) (capacities : List ℕ) (kept left : ℕ → ℕ) (chosen
       let above : Each (λ i. first < i) undecided = subst (λ (x : List ℕ). Each (λ i. first < i) x) (sym er) (less, each-map (λ i. job < i) (λ i. first < i) others (λ i l. omega (arith, l, less)) up.0) in
       let behind : (x : List ℕ) → IsExtension p capacities kept chosen undecided x → IsLexBefore last x = λ x e. subst (λ (l : List ℕ). IsLexBefore l x) (sym el) (behind_less p capacities kept chosen undecided first rest above too_much x e) in
       extended-same p capacities kept chosen undecided IsAny (IsLexBefore last) (λ x e w. behind x e) (λ x e w. tt) found new h
-
--- at the start nothing is kept and nothing chosen, and the extensions are the alternatives
-pub followed : (p : Project) (capacities active last gone new : List ℕ) (kept : ℕ → ℕ) (found : Bool) → gone ≡ [] → ((k : ℕ) → k < p.resources → kept k ≡ 0)
-    → IsExtended p capacities kept gone active (IsLexBefore last) found new → IsFollowing p capacities active last found new
-followed p capacities active last gone new kept found e zero h = by_cases found (subst (λ (x : List ℕ). IsExtended p capacities kept x active (IsLexBefore last) found new) e h)
-  where
-    extension : (other : List ℕ) → IsMinimalDelayingAlternative p capacities active other → IsExtension p capacities kept [] active other
-    extension other m = (m.delays.0, m.delays.1, tight-same p capacities none_kept kept other m.delays.0 m.delays.0 (λ k l. omega (arith, zero k l)) (tight-from_minimal p capacities active other m.delays.0 m.delays.1 m))
-
-    alternative : (gone : List ℕ) → IsExtension p capacities kept [] active gone → IsMinimalDelayingAlternative p capacities active gone
-    alternative gone e = minimal-from_tight p capacities active gone e.0 e.1 (tight-same p capacities kept none_kept gone e.0 e.0 (λ k l. omega (arith, zero k l)) e.2)
-
-    by_cases : (b : Bool) → IsExtended p capacities kept [] active (IsLexBefore last) b new → IsFollowing p capacities active last b new
-    by_cases true g = subst (λ (x : List ℕ). IsNextAlternative p capacities active last x) (sym g.1) (record {
-      minimal = alternative g.0 g.2.extends;
-      behind = g.2.wanted;
-      first = λ other m before. g.2.first other (extension other m) before;
-    })
-    by_cases false g = λ other m before. g.1 other (extension other m) before

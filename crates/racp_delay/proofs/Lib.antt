@@ -13,10 +13,12 @@ mod Extended
 mod JobSets
 mod Bits
 mod Loading
+mod Parting
 mod Events
 mod Sweeping
 mod ActiveSets
 mod Subsets
+mod Freed
 mod Children
 mod Ending
 mod Alone

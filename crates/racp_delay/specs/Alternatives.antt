@@ -43,19 +43,25 @@ pub record AreAlternatives (p : Project) (capacities active : List ℕ) (lists :
 abbrev pub job_lists : List (SmallVec ℕ) → List (List ℕ)
 job_lists vectors = map (λ (v : SmallVec ℕ). v.items) vectors
 
--- the first minimal delaying alternative that stands behind a list in lexicographic order
-pub record IsNextAlternative (p : Project) (capacities active last gone : List ℕ) : Type 0 where
+-- a minimal delaying alternative in which only free jobs go
+pub record IsFreeAlternative (p : Project) (capacities active free gone : List ℕ) : Type 0 where
   pub minimal : IsMinimalDelayingAlternative p capacities active gone
+  pub only : (job : ℕ) → Contains gone job → Contains free job
+
+-- the first of them that stands behind a list in lexicographic order
+pub record IsNextAlternative (p : Project) (capacities active free last gone : List ℕ) : Type 0 where
+  pub is : IsFreeAlternative p capacities active free gone
   pub behind : IsLexBefore last gone
-  pub first : (other : List ℕ) → IsMinimalDelayingAlternative p capacities active other → IsLexBefore last other →
+  pub first : (other : List ℕ) → IsFreeAlternative p capacities active free other → IsLexBefore last other →
       (other ≡ gone) ⊎ IsLexBefore gone other
 
--- no minimal delaying alternative stands behind a list
-abbrev pub IsLastAlternative : Project → List ℕ → List ℕ → List ℕ → Type 0
-IsLastAlternative p capacities active last =
-    (other : List ℕ) → IsMinimalDelayingAlternative p capacities active other → IsLexBefore last other → ⊥
+-- none of them stands behind a list
+abbrev pub IsLastAlternative : Project → List ℕ → List ℕ → List ℕ → List ℕ → Type 0
+IsLastAlternative p capacities active free last =
+    (other : List ℕ) → IsFreeAlternative p capacities active free other → IsLexBefore last other → ⊥
 
--- what looking for the alternative behind a list answers: there is one more, and it is the next, or there is none
-abbrev pub IsFollowing : Project → List ℕ → List ℕ → List ℕ → Bool → List ℕ → Type 0
-IsFollowing p capacities active last more gone =
-    MatchBool more (IsNextAlternative p capacities active last gone) (IsLastAlternative p capacities active last)
+-- what looking for the one behind a list answers: there is one more, and it is the next, or there is none
+abbrev pub IsFollowing : Project → List ℕ → List ℕ → List ℕ → List ℕ → Bool → List ℕ → Type 0
+IsFollowing p capacities active free last more gone =
+    MatchBool more (IsNextAlternative p capacities active free last gone)
+    (IsLastAlternative p capacities active free last)

@@ -87,6 +87,16 @@ pub record AreLoads (p : Project) (jobs loads : List ℕ) : Type 0 where
   pub sums : (k : ℕ) → k < p.resources → slice_index loads k ≡ load p k jobs
   pub small : (k : ℕ) → k < p.resources → slice_index loads k ≤ most_load
 
+-- some jobs split into a list of free ones and the others, which are not free, with what these request together of each
+-- resource, and what all do
+pub record IsSplitByFree (p : Project) (jobs free list kept left : List ℕ) : Type 0 where
+  pub others : List ℕ
+  pub splits : Splits jobs list others
+  pub go : (job : ℕ) → Contains list job → Contains free job
+  pub stay : (job : ℕ) → Contains others job → Contains free job → ⊥
+  pub kept_sums : (k : ℕ) → k < p.resources → slice_index kept k ≡ load p k others
+  pub left_sums : AreLoads p jobs left
+
 -- the earlier of a time that may be known and another time
 abbrev pub IsEarlier : Option ℕ → ℕ → Option ℕ → Type 0
 IsEarlier (Some known) time result = result ≡ Some (min known time)

@@ -225,11 +225,7 @@ impl DelayingAlternatives {
 }
 
 /// Puts the jobs of a set into a list, in place of what was there, and sums up what they request of each resource.
-pub(crate) fn load_of(
-    net: &Network,
-    jobs: &JobSet,
-    list: &mut Vec<u32>,
-) -> Result<Loads, AllocError>
+fn load_of(net: &Network, jobs: &JobSet, list: &mut Vec<u32>) -> Result<Loads, AllocError>
     requires { All (IsNumber (length net.now.jobs)) jobs.now }
     ensures jobs { OnOk result (list.new.items ≡ jobs.now) }
     ensures loads { IfOk result (AreLoads net.now jobs.now) }

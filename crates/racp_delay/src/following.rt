@@ -4,9 +4,10 @@ ghost use Rattle.racp_model.specs.Project.{IsNumber};
 ghost use Rattle.racp_model.specs.Limits.{most_load};
 ghost use Rattle.racp_model.specs.Terms.{IsLexBefore};
 ghost use Rattle.racp_delay.specs.Alternatives.{IsFollowing};
-ghost use Rattle.racp_delay.specs.Found.{AreWithin, with_load, IsAny, IsExtended};
+ghost use Rattle.racp_delay.specs.Found.{AreWithin, with_load, IsAny, IsExtended, IsSplitByFree};
+ghost use Rattle.racp_delay.specs.JobSets.{AreJobs};
 
-use crate::delaying::{are_within, load_of, some_have_room};
+use crate::delaying::{are_within, some_have_room};
 use crate::job_set::JobSet;
 use crate::loads::{Loads, with, without};
 use racp_model::limits::MOST_RESOURCES;
@@ -155,11 +156,37 @@ fn branch_behind(
     branch_behind(net, capacities, &more, left, gone, others, last)
 }
 
+/// Puts the free jobs of a set into a list, in place of what was there, and sums up what the others request of each
+/// resource, and what all do.
+fn split_free(
+    net: &Network,
+    active: &JobSet,
+    free: &JobSet,
+    list: &mut Vec<u32>,
+) -> Result<(Loads, Loads), AllocError>
+    requires { All (IsNumber (length net.now.jobs)) active.now }
+    ensures free { IfOk result (λ loads. IsSplitByFree net.now active.now free.now list.new.items loads.0 loads.1) }
+    ensures jobs { AreJobs active.now }
+{
+    list.clear();
+    let mut kept = [0; MOST_RESOURCES];
+    let mut left = [0; MOST_RESOURCES];
+    for job in active.iter() {
+        left = with(net, &left, job);
+        if !free.contains(job) {
+            kept = with(net, &kept, job);
+            continue;
+        }
+        list.push(job)?;
+    }
+    Ok((kept, left))
+}
+
 /// A minimal delaying alternative, in memory that is used again from one to the next. Contracts see the numbers of the
 /// jobs that go.
 #[derive(Drop)]
 pub struct Alternative {
-    active: Vec<u32>,
+    free: Vec<u32>,
     gone: Vec<u32>,
 }
 
@@ -177,15 +204,15 @@ impl Alternative {
         ensures { result ≡ [] }
     {
         Alternative {
-            active: Vec::new(alloc),
+            free: Vec::new(alloc),
             gone: Vec::new(alloc),
         }
     }
 
     /// Finds, of the lists that `alternatives` answers for a conflict with these active jobs, the first that stands
-    /// behind `last` in lexicographic order, in place of what was found before. Answers `false` where there is none.
-    /// The empty list stands before all alternatives of a conflict, so a search starts with it and goes on with what
-    /// it found last.
+    /// behind `last` in lexicographic order and in which only free jobs go, in place of what was found before. Answers
+    /// `false` where there is none. The empty list stands before all alternatives of a conflict, so a search starts
+    /// with it and goes on with what it found last. Where all active jobs are free it finds all alternatives.
     ///
     /// # Errors
     ///
@@ -195,21 +222,23 @@ impl Alternative {
         net: &Network,
         capacities: &Capacities,
         active: &JobSet,
+        free: &JobSet,
         last: &[u32],
     ) -> Result<bool, AllocError>
         requires capacities { length capacities.now ≡ net.now.resources }
         requires active { All (IsNumber (length net.now.jobs)) active.now }
-        ensures { IfOk result (λ more. IsFollowing net.now capacities.now active.now last.now more self.new) }
+        ensures { IfOk result (λ more.
+            IsFollowing net.now capacities.now active.now free.now last.now more self.new) }
     {
         self.gone.clear();
-        let loads = load_of(net, active, &mut self.active)?;
+        let (kept, left) = split_free(net, active, free, &mut self.free)?;
         extend_behind(
             net,
             capacities.as_slice(),
-            &[0; MOST_RESOURCES],
-            &loads,
+            &kept,
+            &left,
             &mut self.gone,
-            &self.active,
+            &self.free,
             last,
         )
     }

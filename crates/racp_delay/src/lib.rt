@@ -21,7 +21,8 @@
 //! `conflict(&net, &capacities, &starts)` finds the time and the active jobs, `alternatives` the two lists, and
 //! `first_end` the times in the last column. There can be very many lists, as 184,756 where 10 of 20 equal jobs have to
 //! go. So `Alternative::find_behind` finds them one at a time: the first that stands behind the empty list, the first
-//! behind that one, and so on.
+//! behind that one, and so on. It is told which jobs are free, and passes over the lists in which any other goes: of 40
+//! equal jobs of which 36 have to go there are 91,390 lists, but one alone where just those 36 can be put off.
 //!
 //! `conflict` sorts the starts and the ends of the jobs in two rows of fixed length, and goes over the starts in order:
 //! at each it sets the loads of the jobs that started so far against the capacities and the loads of those that ended
@@ -30,7 +31,8 @@
 //! jobs that stay exceed the capacities by themselves, and where one that goes has room beside all the others, of each
 //! resource that it requests; so a job without requests never goes. With one resource and equal requests each branch
 //! leads to an alternative; in general some do not, and the work for each alternative is not bounded by a polynomial.
-//! `find_behind` takes the decisions of the list that it was given again, and goes on from there.
+//! `find_behind` takes the decisions of the list that it was given again, and goes on from there. It decides on free
+//! jobs alone, and keeps the others from the start.
 //!
 //! A `Profile` holds starts, of which `move_job` changes one at a time. `first_over` finds what `conflict` finds, but
 //! sorts nothing: it goes over the jobs once for each start up to the conflict. The early starts of a child window have
@@ -43,10 +45,11 @@
 //!
 //! Proved: `conflict` finds the first time of an excess with exactly the jobs that are active then, or none where no
 //! usage exceeds its capacity, and takes no memory; `alternatives` all minimal delaying alternatives and nothing else,
-//! each once; `find_behind` the first of them behind a list, or that there is none; `first_end` the first end; `JobSet`
-//! what is in a set of jobs. In `laws`: the child windows cover their window and lie inside it, and the sum of the lower
-//! bounds rises; before the conflict of a window its children have none. A `Profile` answers of its starts what
-//! `conflict` does. Not proved: that memory is not refused without need, and the time that all this takes.
+//! each once; `find_behind` the first of them behind a list in which only free jobs go, or that there is none;
+//! `first_end` the first end; `JobSet` what is in a set of jobs. In `laws`: the child windows cover their window and
+//! lie inside it, and the sum of the lower bounds rises; before the conflict of a window its children have none. A
+//! `Profile` answers of its starts what `conflict` does. Not proved: that memory is not refused without need, and the
+//! time that all this takes.
 #![tactic(auto)]
 
 mod conflicts;

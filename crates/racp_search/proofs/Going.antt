@@ -1,5 +1,5 @@
 -- A frame goes on: the next alternative is looked at, and its child window takes its place among those to be searched.
-use Rattle.std.proofs.Common.{◌≡◌, ◌≢◌, ◌⊎◌, inl, inr, ◌∙◌, ℕ, ◌+◌, ◌-◌, ◌*◌, ◌<◌, ◌≤◌, List, [], ◌∷◌, ◌++◌, length, take, drop, map, slice_index, slice_index_or, Contains, All, true, false, Bool, arith, refl, sym, subst, ap}
+use Rattle.std.proofs.Common.{◌≡◌, ◌≢◌, ◌⊎◌, inl, inr, ◌∙◌, ℕ, ◌+◌, ◌*◌, ◌<◌, ◌≤◌, List, [], ◌∷◌, ◌++◌, length, take, drop, map, slice_index, slice_index_or, Contains, All, true, false, Bool, arith, refl, sym, subst, ap}
 use Rattle.std.proofs.lemmas.Bool.{cases_lt}
 use Rattle.std.proofs.lemmas.List.{take-append-drop, length-map, get_or-map, get_or_default}
 use Rattle.smallvec.specs.SmallVec.{SmallVec}
@@ -8,14 +8,14 @@ use Rattle.std.proofs.lemmas.List.Elements.{Contains-append_left, Contains-appen
 use Rattle.racp_model.specs.Project.{Project, IsNumber, IsSound}
 use Rattle.racp_model.specs.Terms.{IsLexBefore}
 use Rattle.racp_model.specs.Window.{Bounds, LiesIn}
-use Rattle.racp_model.proofs.lemmas.Relations.{member_cases, member_first, member_later, no_member}
+use Rattle.racp_model.proofs.lemmas.Relations.{member_cases, member_first, member_later}
 use Rattle.racp_model.proofs.lemmas.Sums.{sum_below-bound}
-use Rattle.racp_delay.specs.Alternatives.{Splits, IsMinimalDelayingAlternative, IsNextAlternative, IsLastAlternative, IsFollowing, AreAlternatives, job_lists}
+use Rattle.racp_delay.specs.Alternatives.{Splits, IsMinimalDelayingAlternative, AreAlternatives, job_lists}
 use Rattle.racp_delay.specs.JobSets.{AreJobs}
 use Rattle.racp_delay.specs.Laws.{EachHasChild, SubsetsGo, lower_sum}
 use Rattle.racp_cutset.specs.Covering.{SearchNode}
 use Rattle.racp_search.specs.Children.{IsChildFor, IsEmptyChild, IsInserted}
-use Rattle.racp_search.specs.DepthFirst.{SearchFrame, Part, LiesInPart, LiesBehind, PartsCover, HasActive, IsFrame, IsBelow, IsQuiet, IsGoneOn, child_windows, parts_of, rank, most_lists, steps_left, weight, weights}
+use Rattle.racp_search.specs.DepthFirst.{SearchFrame, Part, LiesInPart, LiesBehind, IsNextToLookAt, HasActive, IsFrame, IsBelow, IsQuiet, IsGoneOn, child_windows, steps_left, weight, weights}
 use Rattle.racp_search.specs.DepthFirst.Part.{all_of, behind}
 use Rattle.racp_search.specs.declared.child.Child.{Child}
 use Rattle.racp_search.proofs.Children.{gone_numbers}
@@ -89,20 +89,6 @@ pub not_first : (last : List ℕ) → IsLexBefore last [] → ⊥
 not_first [] h = absurd (cc h)
 not_first (x ∷ xs) h = absurd (cc h)
 
--- what was found, in equal projects, capacities and lists
-pub same_following : (p q : Project) (a b active l m : List ℕ) (more : Bool) (gone : List ℕ) → p ≡ q → a ≡ b → l ≡ m → IsFollowing p a active l more gone → IsFollowing q b active m more gone
-same_following p q a b active l m more gone named same at h =
-    subst (λ (xs : List ℕ). IsFollowing q b active xs more gone) at
-    (subst (λ (xs : List ℕ). IsFollowing q xs active l more gone) same (subst (λ (r : Project). IsFollowing r a active l more gone) named h))
-
-pub is_last : (p : Project) (a active l : List ℕ) (more : Bool) (gone : List ℕ) → more ≡ false → IsFollowing p a active l more gone → IsLastAlternative p a active l
-is_last p a active l true gone e h = absurd (cc e)
-is_last p a active l false gone e h = h
-
-pub is_next : (p : Project) (a active l : List ℕ) (more : Bool) (gone : List ℕ) → more ≡ true → IsFollowing p a active l more gone → IsNextAlternative p a active l gone
-is_next p a active l true gone e h = h
-is_next p a active l false gone e h = absurd (cc e)
-
 -- an element of a list, whatever stands for those that are not there
 same_default : (lists : List (List ℕ)) (j : ℕ) (d e : List ℕ) → j < length lists → slice_index_or lists j d ≡ slice_index_or lists j e
 same_default lists j d e l = get_or_default lists j d e l
@@ -130,13 +116,13 @@ module _ (p : Project) (capacities : List ℕ) (v : SearchNode) (active last : L
   small = sum_below-bound (length p.jobs) 10000000 (slice_index v.window.lower) (λ i l. omega (arith, is.node.early.above i l, is.small i l))
 
   -- where no alternative is left
-  pub gone-none : IsLastAlternative p v.capacities active last → IsGoneOn p capacities (frame_with v active cs last true) (frame_with v active cs last false)
+  pub gone-none : ((starts : List ℕ) → LiesBehind p v active last starts → ⊥) → IsGoneOn p capacities (frame_with v active cs last true) (frame_with v active cs last false)
   gone-none none = record {
     node = refl;
     covers = λ part has starts lies fits. elim (member_cases (behind v active last) (child_parts cs) part has) [
       | inl same ↦
           let b : LiesBehind p v active last starts = subst (λ (x : Part). LiesInPart p x starts) (sym same) lies in
-          absurd (none b.gone b.minimal b.behind)
+          absurd (none starts b)
       | inr there ↦ (part, there, lies)
     ];
     lighter = omega (arith, weights-append p (behind v active last ∷ []) (child_parts cs));
@@ -146,14 +132,14 @@ module _ (p : Project) (capacities : List ℕ) (v : SearchNode) (active last : L
   pub some-left : 0 < steps_left true last
   some-left = omega (arith, place-less last jobs)
 
-  module _ (gone : List ℕ) (set : AreJobs gone) (next : IsNextAlternative p v.capacities active last gone) where
+  module _ (gone : List ℕ) (set : AreJobs gone) (next : IsNextToLookAt p v active last gone) where
     -- fewer lists are left
     pub fewer-left : steps_left true gone < steps_left true last
     fewer-left = omega (arith, place-rises last gone jobs set next.behind, place-less gone set)
 
     -- what lies behind the last alternative lies in the next one's child window or behind it
     behind-next : (starts : List ℕ) (b : LiesBehind p v active last starts) → (b.gone ≡ gone) ⊎ LiesBehind p v active gone starts
-    behind-next starts b = elim (next.first b.gone b.minimal b.behind) [
+    behind-next starts b = elim (next.first starts b) [
       | inl same ↦ inl same
       | inr later ↦ inr (record { gone = b.gone; kept = b.kept; splits = b.splits; some_stay = b.some_stay; minimal = b.minimal; behind = later; lies = b.lies })
     ]
@@ -261,21 +247,23 @@ pub record IsTakingUp (lists : List (List ℕ)) (k : ℕ) (last : List ℕ) : Ty
   pub left : (j : ℕ) → k ≤ j → j < length lists → IsLexBefore last (slice_index_or lists j [])
   pub past : (j : ℕ) → j < k → j < length lists → IsLexBefore last (slice_index_or lists j []) → ⊥
 
-module _ (p : Project) (capacities active : List ℕ) (lists : List (List ℕ)) (are : AreAlternatives p capacities active lists) where
+module _ (p : Project) (v : SearchNode) (active : List ℕ) (lists : List (List ℕ)) (are : AreAlternatives p v.capacities active lists) where
   -- before the first none was
-  pub taking-start : ((gone : List ℕ) → IsMinimalDelayingAlternative p capacities active gone → gone ≢ []) → (last : List ℕ) → last ≡ [] → IsTakingUp lists 0 last
+  pub taking-start : ((gone : List ℕ) → IsMinimalDelayingAlternative p v.capacities active gone → gone ≢ []) → (last : List ℕ) → last ≡ [] → IsTakingUp lists 0 last
   taking-start goes last e = subst (IsTakingUp lists 0) (sym e) (record {
     left = λ j l within. empty_before (slice_index_or lists j []) (goes (slice_index_or lists j []) (are.only (slice_index_or lists j []) (j, within, same_default lists j (slice_index_or lists j []) [] within)));
     past = λ j l. absurd (omega (arith, l));
   })
 
   -- the next list is the next alternative
-  pub taking-next : (k : ℕ) (last gone : List ℕ) → IsTakingUp lists k last → k < length lists → gone ≡ slice_index_or lists k [] → IsNextAlternative p capacities active last gone
-  taking-next k last gone h within e = subst (IsNextAlternative p capacities active last) (sym e) (record {
+  pub taking-next : (k : ℕ) (last gone : List ℕ) → IsTakingUp lists k last → k < length lists → gone ≡ slice_index_or lists k [] → IsNextToLookAt p v active last gone
+  taking-next k last gone h within e = subst (IsNextToLookAt p v active last) (sym e) (record {
     minimal = are.only (slice_index_or lists k []) (k, within, same_default lists k (slice_index_or lists k []) [] within);
     behind = h.left k (omega arith) within;
-    first = λ other minimal after-last.
-        let at = are.all other minimal in
+    first = λ starts b.
+        let other : List ℕ = b.gone in
+        let after-last : IsLexBefore last other = b.behind in
+        let at = are.all other b.minimal in
         let here : slice_index_or lists at.0 [] ≡ other = same_default lists at.0 [] other at.1 ∙ at.2 in
         elim (cases_lt at.0 k) [
           | inl before ↦ absurd (h.past at.0 before at.1 (subst (IsLexBefore last) (sym here) after-last))
@@ -299,8 +287,8 @@ module _ (p : Project) (capacities active : List ℕ) (lists : List (List ℕ)) 
   })
 
   -- and at the end none stands behind it
-  pub taking-end : (k : ℕ) (last : List ℕ) → IsTakingUp lists k last → length lists ≤ k → IsLastAlternative p capacities active last
-  taking-end k last h all other minimal before =
-      let at = are.all other minimal in
-      let here : slice_index_or lists at.0 [] ≡ other = same_default lists at.0 [] other at.1 ∙ at.2 in
-      h.past at.0 (omega (arith, at.1, all)) at.1 (subst (IsLexBefore last) (sym here) before)
+  pub taking-end : (k : ℕ) (last : List ℕ) → IsTakingUp lists k last → length lists ≤ k → (starts : List ℕ) → LiesBehind p v active last starts → ⊥
+  taking-end k last h all starts b =
+      let at = are.all b.gone b.minimal in
+      let here : slice_index_or lists at.0 [] ≡ b.gone = same_default lists at.0 [] b.gone at.1 ∙ at.2 in
+      h.past at.0 (omega (arith, at.1, all)) at.1 (subst (IsLexBefore last) (sym here) b.behind)

@@ -1,9 +1,9 @@
 -- Contracts of private functions: the child windows of a node. Lists of jobs hold job numbers, from 1.
-use Rattle.std.specs.Prelude.{◌≡◌, ◌≢◌, ℕ, ◌<◌, max, List, [], ◌∷◌, ◌++◌, length, take, drop, slice_index, Contains, Option, Some, None}
+use Rattle.std.specs.Prelude.{◌≡◌, ◌≢◌, ◌↔◌, ℕ, ◌<◌, ◌≤◌, max, List, [], ◌∷◌, ◌++◌, length, take, drop, slice_index, Contains, Option, Some, None}
 use Rattle.racp_model.specs.Project.{Project, number}
 use Rattle.racp_model.specs.Window.{Bounds, LiesIn}
-use Rattle.racp_delay.specs.Alternatives.{Splits}
-use Rattle.racp_delay.specs.Branching.{IsChild}
+use Rattle.racp_delay.specs.Alternatives.{Splits, place}
+use Rattle.racp_delay.specs.Branching.{IsChild, IsFirstEnd}
 use Rattle.racp_cutset.specs.Covering.{SearchNode}
 use Rattle.racp_search.specs.DepthFirst.{IsBelow, IsQuiet}
 use Rattle.racp_search.specs.declared.child.Child.{Child}
@@ -24,6 +24,11 @@ IsEmptyChild p v active gone =
 abbrev pub IsChildAnswer : Project → SearchNode → List ℕ → List ℕ → Option Child → Type 0
 IsChildAnswer p v active gone (Some child) = IsChildFor p v active gone child.window
 IsChildAnswer p v active gone None = IsEmptyChild p v active gone
+
+-- the free jobs: the active jobs whose upper bound is at least the first end of the active jobs
+abbrev pub AreFree : Project → SearchNode → List ℕ → List ℕ → Type 0
+AreFree p v active free = (job : ℕ) → Contains free job ↔ (Contains active job ×
+    ((end : ℕ) → IsFirstEnd p v.early active end → end ≤ slice_index v.window.upper (place job)))
 
 -- a child more, at some place
 abbrev pub IsInserted : List Child → Child → List Child → Type 0

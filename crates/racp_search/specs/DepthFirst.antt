@@ -1,6 +1,6 @@
 -- Contracts of private functions: a search by depth. A stack holds the nodes on the way to the window that is searched
 -- next, the first node first, each with the parts of its window that are still to be searched.
-use Rattle.std.specs.Prelude.{◌≡◌, ◌≢◌, ℕ, zero, suc, ◌+◌, ◌-◌, ◌*◌, ◌^◌, ◌<◌, ◌≤◌, List, [], ◌∷◌, ◌++◌, length, map, slice_index, Contains, Bool, true, false}
+use Rattle.std.specs.Prelude.{◌≡◌, ◌≢◌, ◌⊎◌, ℕ, zero, suc, ◌+◌, ◌-◌, ◌*◌, ◌^◌, ◌<◌, ◌≤◌, List, [], ◌∷◌, ◌++◌, length, map, slice_index, Contains, Bool, true, false}
 use Rattle.racp_model.specs.Project.{Project}
 use Rattle.racp_model.specs.Schedule.{Fits}
 use Rattle.racp_model.specs.Terms.{IsLexBefore}
@@ -24,6 +24,14 @@ pub record LiesBehind (p : Project) (v : SearchNode) (active last starts : List 
   pub minimal : IsMinimalDelayingAlternative p v.capacities active gone
   pub behind : IsLexBefore last gone
   pub lies : (child : Bounds) → IsChild p v.early v.window gone kept child → LiesIn p child starts
+
+-- the alternative that is looked at behind a list of jobs: what lies behind that list lies in the child window of this
+-- alternative, or of one behind it
+pub record IsNextToLookAt (p : Project) (v : SearchNode) (active last gone : List ℕ) : Type 0 where
+  pub minimal : IsMinimalDelayingAlternative p v.capacities active gone
+  pub behind : IsLexBefore last gone
+  pub first : (starts : List ℕ) (other : LiesBehind p v active last starts) →
+      (other.gone ≡ gone) ⊎ IsLexBefore gone other.gone
 
 -- what is still to be searched: a window; or, of the window of a node, the child windows of the alternatives of its
 -- active jobs that stand behind a list of jobs

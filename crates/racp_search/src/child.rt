@@ -2,14 +2,14 @@ ghost use Rattle.std.specs.Prelude.{◌≡◌, ◌≢◌, ℕ, ◌<◌, ◌≤�
 ghost use Rattle.racp_model.specs.Project.{IsNumber};
 ghost use Rattle.racp_model.specs.Limits.{most_bound};
 ghost use Rattle.racp_delay.specs.Alternatives.{Splits};
-ghost use Rattle.racp_search.specs.Children.{IsChildAnswer, IsInserted, IsPutOff, IsRaised, IsSlackAnswer};
+ghost use Rattle.racp_search.specs.Children.{AreFree, IsChildAnswer, IsInserted, IsPutOff, IsRaised, IsSlackAnswer};
 ghost use Rattle.racp_search.specs.DepthFirst.{HasActive, child_windows};
 
 use crate::subject::Subject;
 use crate::workspace::Spare;
 use racp_cutset::Node;
 use racp_delay::{JobSet, first_end, laws};
-use racp_model::{OfNetwork, Starts, Window};
+use racp_model::{Network, OfNetwork, Starts, Window};
 use std::alloc::{AllocError, Global};
 use std::cmp::min;
 
@@ -53,6 +53,26 @@ pub(crate) fn child_of<N: OfNetwork>(
     };
     let window = put_off(spare, window, gone, end)?;
     Ok(Some(Child { window, slack }))
+}
+
+/// The free jobs: the active jobs of a node whose upper bounds are at least the first end of its active jobs. Where any
+/// other goes nothing lies in the child window, for the first end of those that stay is no earlier.
+pub(crate) fn free_of<N: OfNetwork>(net: &Network, node: &Node<N>, active: &JobSet) -> JobSet
+    requires net { net.now ≡ N.network }
+    requires active { HasActive N.network node.now active.now }
+    ensures { AreFree N.network node.now active.now result }
+{
+    let mut free = JobSet::new();
+    let Some(end) = first_end(net, node.early(), active, &[]) else {
+        return free;
+    };
+    let upper = node.question().window.upper();
+    for job in active.iter() {
+        if end <= upper[job as usize - 1] as u64 {
+            free.insert(job);
+        }
+    }
+    free
 }
 
 /// How many time units are left, at the least, from a time to the upper bound of one of these jobs; `None` where the

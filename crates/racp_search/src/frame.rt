@@ -1,11 +1,11 @@
 ghost use Rattle.std.specs.Prelude.{◌≡◌, ◌≢◌, ℕ, List, ◌<◌, ◌≤◌, [], ◌∷◌, IfOk, IsTrue, true, length};
 ghost use Rattle.racp_model.specs.Formed.{HasBounds};
-ghost use Rattle.racp_delay.specs.Alternatives.{AreAlternatives, IsMinimalDelayingAlternative, IsNextAlternative, job_lists};
-ghost use Rattle.racp_search.specs.DepthFirst.{HasActive, IsFrameOf, IsGoneOn, IsRestOfFrame, IsTakenUp, child_windows, steps_left};
+ghost use Rattle.racp_delay.specs.Alternatives.{AreAlternatives, IsMinimalDelayingAlternative, job_lists};
+ghost use Rattle.racp_search.specs.DepthFirst.{HasActive, IsFrameOf, IsGoneOn, IsNextToLookAt, IsRestOfFrame, IsTakenUp, child_windows, steps_left};
 ghost use Rattle.racp_search.specs.Glances.{HasConflict, IsExpanded};
 ghost use Rattle.racp_search.specs.Steps.{IsTakenAnswer};
 
-use crate::child::{Child, child_of, insert, windows_of};
+use crate::child::{Child, child_of, free_of, insert, windows_of};
 use crate::subject::Subject;
 use crate::workspace::{Spare, Workspace};
 use racp_cutset::{Local, Node};
@@ -131,7 +131,8 @@ impl<N: OfNetwork> Frame<N> {
         Ok(())
     }
 
-    /// Looks at the next alternative, and makes its child window where something may lie in it.
+    /// Looks at the next alternative in which only free jobs go, and makes its child window where something may lie in
+    /// it. Nothing lies in the child windows of those that are passed over.
     fn find_child(
         &mut self,
         workspace: &mut Workspace,
@@ -143,9 +144,13 @@ impl<N: OfNetwork> Frame<N> {
         ensures fewer { IfOk result (λ _.
             steps_left self.new.more self.new.last < steps_left self.old.more self.old.last) }
     {
+        laws::each_has_child();
+        laws::subsets_go();
+        laws::others_stay();
         let (net, capacities) = (subject.network(), subject.capacities());
+        let free = free_of(net, &self.node, &self.active);
         let next = &mut workspace.next;
-        if !next.find_behind(net, capacities, &self.active, &self.last)? {
+        if !next.find_behind(net, capacities, &self.active, &free, &self.last)? {
             self.more = false;
             return Ok(());
         }
@@ -160,7 +165,7 @@ impl<N: OfNetwork> Frame<N> {
         gone: &[u32],
     ) -> Result<(), AllocError>
         requires more { IsTrue self.old.more }
-        requires next { IsNextAlternative N.network self.old.node.capacities self.old.active self.old.last gone.now }
+        requires next { IsNextToLookAt N.network self.old.node self.old.active self.old.last gone.now }
         ensures further { IfOk result (λ _. IsGoneOn N.network subject.now.capacities self.old self.new) }
         ensures taken { IfOk result (λ _. IsTakenUp self.old gone.now self.new) }
         ensures fewer { IfOk result (λ _. steps_left self.new.more self.new.last < steps_left self.old.more self.old.last) }

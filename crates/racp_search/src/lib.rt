@@ -23,8 +23,10 @@
 //!
 //! `explore` goes by depth over a stack of frames on the heap. A frame is a node on the way to the window that is
 //! searched next. It looks at its alternatives one behind the other, in lexicographic order, and makes child windows
-//! of them, 64 at a time. The one with the most slack is searched first, the one whose jobs that go have the most time
-//! left. None has a conflict before its parent's, so its own is looked for from that time on. What answers the
+//! of them, 64 at a time. Alternatives in which a job goes whose upper bound is before the first end of the active jobs
+//! are passed over: nothing lies in their child windows. So where most starts are fixed few alternatives are left of
+//! tens of thousands. The child window with the most slack is searched first, the one whose jobs that go have the most
+//! time left. None has a conflict before its parent's, so its own is looked for from that time on. What answers the
 //! question lies in the next window, in a child window of a frame, or in that of an alternative behind the frame's
 //! last. A frame with none of these left is refuted: then, and at no other time, its node becomes a record. A search
 //! that ends early leaves of each frame its child windows; or, where at least as many as there are jobs are still to

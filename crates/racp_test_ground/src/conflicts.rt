@@ -164,14 +164,15 @@ fn follow_each_other(
     requires active { All (IsNumber (length net.now.jobs)) conflict.now.active }
 {
     let mut found = Alternative::new(alloc);
+    let active = &conflict.active;
     let mut last: &[u32] = &[];
     for (gone, _) in expected {
-        if !found.find_behind(net, capacities, &conflict.active, last)? || found.jobs() != *gone {
+        if !found.find_behind(net, capacities, active, active, last)? || found.jobs() != *gone {
             return Ok(false);
         }
         last = gone;
     }
-    let more = found.find_behind(net, capacities, &conflict.active, last)?;
+    let more = found.find_behind(net, capacities, active, active, last)?;
     Ok(!more)
 }
 
@@ -241,18 +242,25 @@ fn finds_conflicts_and_alternatives(rt: HostRuntime) -> Result<(), Fail> {
     Ok(())
 }
 
-/// A list, and the alternative that is found behind it, of a conflict with the alternatives 1, 2 and 3, 4.
-const BEHIND: [(&[u32], Option<&[u32]>); 10] = [
-    (&[], Some(&[1, 2])),
-    (&[1], Some(&[1, 2])),
-    (&[1, 1, 9], Some(&[1, 2])),
-    (&[1, 2], Some(&[3, 4])),
-    (&[1, 2, 3], Some(&[3, 4])),
-    (&[1, 3], Some(&[3, 4])),
-    (&[2], Some(&[3, 4])),
-    (&[3, 3, 7], Some(&[3, 4])),
-    (&[3, 4], None),
-    (&[4], None),
+/// The active jobs of a conflict with the alternatives 1, 2 and 3, 4.
+const ACTIVE: &[u32] = &[1, 2, 3, 4];
+
+/// The free jobs, a list, and the alternative that is found behind it, of this conflict.
+const BEHIND: [(&[u32], &[u32], Option<&[u32]>); 14] = [
+    (ACTIVE, &[], Some(&[1, 2])),
+    (ACTIVE, &[1], Some(&[1, 2])),
+    (ACTIVE, &[1, 1, 9], Some(&[1, 2])),
+    (ACTIVE, &[1, 2], Some(&[3, 4])),
+    (ACTIVE, &[1, 2, 3], Some(&[3, 4])),
+    (ACTIVE, &[1, 3], Some(&[3, 4])),
+    (ACTIVE, &[2], Some(&[3, 4])),
+    (ACTIVE, &[3, 3, 7], Some(&[3, 4])),
+    (ACTIVE, &[3, 4], None),
+    (ACTIVE, &[4], None),
+    (&[3, 4], &[], Some(&[3, 4])),
+    (&[1, 3, 4, 9], &[1], Some(&[3, 4])),
+    (&[1, 2, 3], &[1, 2], None),
+    (&[2, 3], &[], None),
 ];
 
 /// Whether these are found for a conflict.
@@ -266,8 +274,9 @@ fn finds_each_behind(
     requires active { All (IsNumber (length net.now.jobs)) conflict.now.active }
 {
     let mut found = Alternative::new(alloc);
-    for (last, expected) in BEHIND {
-        let more = found.find_behind(net, capacities, &conflict.active, last)?;
+    for (free, last, expected) in BEHIND {
+        let free = set_of(free);
+        let more = found.find_behind(net, capacities, &conflict.active, &free, last)?;
         if more != expected.is_some() || (more && Some(found.jobs()) != expected) {
             return Ok(false);
         }

@@ -1,24 +1,37 @@
-use Rattle.std.proofs.Common.{◌≡◌, ◌∙◌, subst, List, ℕ, slice_index, replicate}
+use Rattle.std.proofs.Common.{◌≡◌, sym, subst, List, ℕ, slice_index}
 use Rattle.std.proofs.lemmas.Result.{IfOk-weaker}
-use Rattle.racp_model.proofs.lemmas.Zeros.{zeros}
 use Rattle.racp_model.specs.Terms.{IsLexBefore}
 use Rattle.racp_delay.specs.Alternatives.{IsFollowing}
-use Rattle.racp_delay.specs.Found.{IsExtended}
-use Rattle.racp_delay.proofs.Extended.{followed}
+use Rattle.racp_delay.specs.Found.{IsExtended, IsSplitByFree}
+use Rattle.racp_delay.proofs.Freed.{freed-left, freed-numbers, freed-rises, followed}
 use Rattle.racp_delay.proofs.following.Alternative.find_behind.Goals as goal
+
+pub extend_behind-requires-clause-undecided : goal.extend_behind-requires-clause-undecided
+extend_behind-requires-clause-undecided c =
+    let s : IsSplitByFree c.args.net.now c.args.active.now c.args.free.now c.deref.result.now c.in_ok-kept.kept c.in_ok-kept.left = subst (λ (xs : List ℕ). IsSplitByFree c.args.net.now c.args.active.now c.args.free.now xs c.in_ok-kept.kept c.in_ok-kept.left) (sym c.deref.ensures.value) c.in_ok-kept.ensures.free in
+    freed-numbers c.args.net.now c.args.capacities.now c.args.active.now c.args.free.now c.deref.result.now c.in_ok-kept.kept c.in_ok-kept.left s _ c.requires.active
+
+pub extend_behind-requires-clause-rises : goal.extend_behind-requires-clause-rises
+extend_behind-requires-clause-rises c =
+    let s : IsSplitByFree c.args.net.now c.args.active.now c.args.free.now c.deref.result.now c.in_ok-kept.kept c.in_ok-kept.left = subst (λ (xs : List ℕ). IsSplitByFree c.args.net.now c.args.active.now c.args.free.now xs c.in_ok-kept.kept c.in_ok-kept.left) (sym c.deref.ensures.value) c.in_ok-kept.ensures.free in
+    freed-rises c.args.net.now c.args.capacities.now c.args.active.now c.args.free.now c.deref.result.now c.in_ok-kept.kept c.in_ok-kept.left s c.in_ok-kept.ensures.jobs.rises
+
+pub extend_behind-requires-clause-left : goal.extend_behind-requires-clause-left
+extend_behind-requires-clause-left c =
+    let s : IsSplitByFree c.args.net.now c.args.active.now c.args.free.now c.deref.result.now c.in_ok-kept.kept c.in_ok-kept.left = subst (λ (xs : List ℕ). IsSplitByFree c.args.net.now c.args.active.now c.args.free.now xs c.in_ok-kept.kept c.in_ok-kept.left) (sym c.deref.ensures.value) c.in_ok-kept.ensures.free in
+    freed-left c.args.net.now c.args.capacities.now c.args.active.now c.args.free.now c.deref.result.now c.in_ok-kept.kept c.in_ok-kept.left s
 
 pub returns : goal.returns
 returns c =
     let p = c.args.net.now in
     let last = c.args.last.now in
     let new = c.extend_behind.new.gone.items in
-    let active : c.deref.result.now ≡ c.args.active.now = c.deref.ensures.value ∙ c.in_ok-loads.ensures.jobs in
+    let s : IsSplitByFree p c.args.active.now c.args.free.now c.deref.result.now c.in_ok-kept.kept c.in_ok-kept.left = subst (λ (xs : List ℕ). IsSplitByFree c.args.net.now c.args.active.now c.args.free.now xs c.in_ok-kept.kept c.in_ok-kept.left) (sym c.deref.ensures.value) c.in_ok-kept.ensures.free in
     let capacities : c.as_slice.result.now ≡ c.args.capacities.now = c.as_slice.ensures in
     IfOk-weaker c.extend_behind.result
-    (λ found. IsExtended p c.as_slice.result.now (slice_index (replicate 16 0)) c.clear.new.self.items c.deref.result.now (IsLexBefore last) found new)
-    (λ found. IsFollowing p c.args.capacities.now c.args.active.now last found new)
+    (λ found. IsExtended p c.as_slice.result.now (slice_index c.in_ok-kept.kept) c.clear.new.self.items c.deref.result.now (IsLexBefore last) found new)
+    (λ found. IsFollowing p c.args.capacities.now c.args.active.now c.args.free.now last found new)
     (λ found h.
-    subst (λ (xs : List ℕ). IsFollowing p xs c.args.active.now last found new) capacities
-    (subst (λ (xs : List ℕ). IsFollowing p c.as_slice.result.now xs last found new) active
-    (followed p c.as_slice.result.now c.deref.result.now last c.clear.new.self.items new (slice_index (replicate 16 0)) found c.clear.ensures.items (λ k l. zeros 16 k) h)))
+    subst (λ (xs : List ℕ). IsFollowing p xs c.args.active.now c.args.free.now last found new) capacities
+    (followed p c.as_slice.result.now c.args.active.now c.args.free.now c.deref.result.now c.in_ok-kept.kept c.in_ok-kept.left s c.in_ok-kept.ensures.jobs.rises last c.clear.new.self.items new found c.clear.ensures.items h))
     c.extend_behind.ensures

@@ -1,12 +1,9 @@
-use Rattle.std.proofs.Common.{◌≡◌, ◌++◌, Bool, ◌∙◌, ℕ, List, All, true, false, length, ◌<◌, ap, sym, subst}
+use Rattle.std.proofs.Common.{◌≡◌, ◌∙◌, ℕ, List, All, true, false, length, ◌<◌, ap, sym, subst}
 use Rattle.racp_model.specs.Project.{Project, IsNumber}
-use Rattle.racp_model.specs.Terms.{IsLexBefore}
-use Rattle.racp_delay.specs.Alternatives.{IsNextAlternative}
-use Rattle.racp_search.specs.Children.{IsChildFor, IsChildAnswer, IsEmptyChild}
-use Rattle.racp_search.specs.declared.child.Child.{Child}
 use Rattle.racp_delay.proofs.lemmas.Conflicts.{conflict_numbers}
-use Rattle.racp_search.specs.DepthFirst.{SearchFrame, IsFrame, IsGoneOn, steps_left}
-use Rattle.racp_search.proofs.Going.{frame_with, gone-none, some-left, same_following, is_last, is_next}
+use Rattle.racp_search.specs.DepthFirst.{SearchFrame, IsGoneOn, IsNextToLookAt, steps_left}
+use Rattle.racp_search.proofs.Going.{frame_with, gone-none, some-left}
+use Rattle.racp_search.proofs.Freeing.{same_following, is_last, is_next, next-free, none-behind}
 use Rattle.racp_search.proofs.frame.Frame.find_child.Goals as goal
 
 pub find_behind-requires-clause-active : goal.find_behind-requires-clause-active
@@ -20,11 +17,12 @@ returns-then-not-branch-clause-further g c =
     let f = c.self.inside in
     let more : f.more ≡ true = ap (λ (x : SearchFrame). x.more) c.self.view_is ∙ c.requires.more in
     let same : c.capacities-capacities.result.now ≡ f.node.capacities = c.capacities-capacities.ensures ∙ (sym c.requires.same ∙ ap (λ (x : SearchFrame). x.node.capacities) (sym c.self.view_is)) in
-    let found = same_following c.network-net.result.now g.N.OfNetwork.network c.capacities-capacities.result.now f.node.capacities f.active c.deref.result.now f.last.items c.in_ok-find_behind.field-0 c.find_behind.new.self c.network-net.ensures.named same c.deref.ensures.value c.in_ok-find_behind.ensures in
+    let found = same_following c.network-net.result.now g.N.OfNetwork.network c.capacities-capacities.result.now f.node.capacities f.active c.free_of-free.result c.deref.result.now f.last.items c.in_ok-find_behind.field-0 c.find_behind.new.self c.network-net.ensures.named same c.deref.ensures.value c.in_ok-find_behind.ensures in
     let old : frame_with f.node f.active f.children.items f.last.items true ≡ c.args.self.now = ap (frame_with f.node f.active f.children.items f.last.items) (sym more) ∙ c.self.view_is in
     subst (λ (x : SearchFrame). IsGoneOn g.N.OfNetwork.network c.args.subject.now.capacities x (frame_with f.node f.active f.children.items f.last.items false)) old
     (gone-none g.N.OfNetwork.network c.args.subject.now.capacities f.node f.active f.last.items f.children.items c.self.invariant.active c.self.invariant.last
-    (is_last g.N.OfNetwork.network f.node.capacities f.active f.last.items c.in_ok-find_behind.field-0 c.find_behind.new.self c.if-not-branch.true found))
+    (none-behind g.N.OfNetwork.network f.node f.active c.free_of-free.result f.last.items c.self.invariant.active c.each_has_child.ensures c.subsets_go.ensures c.others_stay.ensures c.free_of-free.ensures
+    (is_last g.N.OfNetwork.network f.node.capacities f.active c.free_of-free.result f.last.items c.in_ok-find_behind.field-0 c.find_behind.new.self c.if-not-branch.true found)))
 
 pub returns-then-not-branch-clause-fewer : goal.returns-then-not-branch-clause-fewer
 returns-then-not-branch-clause-fewer g c =
@@ -40,7 +38,10 @@ pub take_up-requires-clause-next : goal.take_up-requires-clause-next
 take_up-requires-clause-next g c =
     let f = c.self.inside in
     let same : c.capacities-capacities.result.now ≡ f.node.capacities = c.capacities-capacities.ensures ∙ (sym c.requires.same ∙ ap (λ (x : SearchFrame). x.node.capacities) (sym c.self.view_is)) in
-    let found = same_following c.network-net.result.now g.N.OfNetwork.network c.capacities-capacities.result.now f.node.capacities f.active c.deref.result.now f.last.items c.in_ok-find_behind.field-0 c.find_behind.new.self c.network-net.ensures.named same c.deref.ensures.value c.in_ok-find_behind.ensures in
-    let now = is_next g.N.OfNetwork.network f.node.capacities f.active f.last.items c.in_ok-find_behind.field-0 c.find_behind.new.self c.if-not-branch.false found in
-    subst (λ (xs : List ℕ). IsNextAlternative g.N.OfNetwork.network c.args.self.now.node.capacities c.args.self.now.active c.args.self.now.last xs) (sym c.jobs.ensures)
-    (subst (λ (x : SearchFrame). IsNextAlternative g.N.OfNetwork.network x.node.capacities x.active x.last c.find_behind.new.self) c.self.view_is now)
+    let found = same_following c.network-net.result.now g.N.OfNetwork.network c.capacities-capacities.result.now f.node.capacities f.active c.free_of-free.result c.deref.result.now f.last.items c.in_ok-find_behind.field-0 c.find_behind.new.self c.network-net.ensures.named same c.deref.ensures.value c.in_ok-find_behind.ensures in
+    let gone = c.find_behind.new.self in
+    let now : IsNextToLookAt g.N.OfNetwork.network f.node f.active f.last.items gone =
+    next-free g.N.OfNetwork.network f.node f.active c.free_of-free.result f.last.items c.self.invariant.active c.each_has_child.ensures c.subsets_go.ensures c.others_stay.ensures c.free_of-free.ensures gone
+    (is_next g.N.OfNetwork.network f.node.capacities f.active c.free_of-free.result f.last.items c.in_ok-find_behind.field-0 gone c.if-not-branch.false found) in
+    subst (λ (xs : List ℕ). IsNextToLookAt g.N.OfNetwork.network c.args.self.now.node c.args.self.now.active c.args.self.now.last xs) (sym c.jobs.ensures)
+    (subst (λ (x : SearchFrame). IsNextToLookAt g.N.OfNetwork.network x.node x.active x.last gone) c.self.view_is now)
