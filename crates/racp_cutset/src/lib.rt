@@ -46,6 +46,7 @@
 #![tactic(auto)]
 
 mod board;
+mod index;
 pub mod laws;
 mod local;
 mod node;

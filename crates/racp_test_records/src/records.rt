@@ -264,7 +264,7 @@ fn check_kept<N: OfNetwork>(
 ) -> Result<(), Fail>
     requires named { net.now ≡ N.network }
 {
-    local.keep(nogood(rt, alloc, net, root(&[2]))?);
+    local.keep(nogood(rt, alloc, net, root(&[2]))?, 0);
     assert!(rt; finds(alloc, net, empty, local, root(&[1]))?);
     assert!(rt; !finds(alloc, net, empty, local, root(&[3]))?);
     assert!(rt; local.take_kept().is_some());
@@ -295,7 +295,7 @@ fn check_forgetting<N: OfNetwork>(
 {
     let windows = [later(0), later(1), later(2)];
     for bounds in &windows {
-        local.keep(nogood(rt, alloc, net, window(bounds))?);
+        local.keep(nogood(rt, alloc, net, window(bounds))?, 0);
     }
     for count in [3, 1, 0] {
         local.forget_behind(count);
