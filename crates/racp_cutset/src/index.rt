@@ -18,12 +18,12 @@ pub(crate) enum Place {
     Kept(usize),
 }
 
-/// The places of records, by the hash of their started jobs, and the places of kept records that have given way. Places
-/// may be out of date, so what stands there is tested.
+/// The places of records by the hash of their started jobs. Places may be out of date, so what stands there is tested.
 #[derive(Drop)]
 pub(crate) struct Index {
     alloc: Global,
     places: HashMap<u64, Vec<Place>>,
+    /// Where kept records stand that have given way: further ones are kept there.
     free: Vec<usize>,
 }
 
@@ -81,7 +81,7 @@ impl Index {
         }
     }
 
-    /// A place of a kept record that has given way: none of the first ones, and below the count.
+    /// The place of a kept record that has given way: not among the first ones, and below the count.
     pub(crate) fn take_free(&mut self, first: usize, count: usize) -> Option<usize>
         ensures { IfSome result (λ place. (first ≤ place) × (place < count)) }
     {

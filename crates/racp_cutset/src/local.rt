@@ -93,8 +93,8 @@ impl<N: OfNetwork> Local<N> {
         self.kept.len()
     }
 
-    /// Keeps a record: in place of one that has given way and is not among the first ones, or behind the others. It is
-    /// dropped where there is no room.
+    /// Keeps a record: in place of one that gave way, as it is covered, or behind the others. The first `first` ones stay.
+    /// It is dropped where there is no room.
     pub fn keep(&mut self, nogood: Nogood<N>, first: usize)
         ensures { IsKeptOrDropped first self.old nogood self.new }
     {
@@ -117,7 +117,8 @@ impl<N: OfNetwork> Local<N> {
         ensures { IsLastTaken self.old result self.new }
     {
         let record = self.kept.pop()?;
-        self.index.forget(record.key(), Place::Kept(self.kept.len()));
+        let place = Place::Kept(self.kept.len());
+        self.index.forget(record.key(), place);
         self.index.forget_free();
         Some(record)
     }
