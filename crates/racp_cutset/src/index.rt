@@ -42,8 +42,8 @@ impl Index {
         self.places.get(&key)
     }
 
-    /// Enters a place by the hash of the started jobs of what stands there. Of too many places with this hash the oldest
-    /// gives way.
+    /// Enters a place by the hash of the started jobs of what stands there. Of too many places with this hash the
+    /// oldest gives way.
     pub(crate) fn enter(&mut self, key: u64, place: Place) {
         if let Some(places) = self.places.get_mut(&key) {
             if MOST_PLACES <= places.len() {

@@ -93,8 +93,8 @@ impl<N: OfNetwork> Local<N> {
         self.kept.len()
     }
 
-    /// Keeps a record: in place of one that gave way, as it is covered, or behind the others. The first `first` ones stay.
-    /// It is dropped where there is no room.
+    /// Keeps a record: in place of one that gave way, as one that is covered does, or behind the others. The first
+    /// `first` ones stay. It is dropped where there is no room.
     pub fn keep(&mut self, nogood: Nogood<N>, first: usize)
         ensures { IsKeptOrDropped first self.old nogood self.new }
     {
@@ -112,7 +112,7 @@ impl<N: OfNetwork> Local<N> {
         self.index.enter(key, Place::Kept(count));
     }
 
-    /// Takes out the record that was kept last, as to push it to the board.
+    /// Takes out the last record, as to push it to the board.
     pub fn take_kept(&mut self) -> Option<Nogood<N>>
         ensures { IsLastTaken self.old result self.new }
     {

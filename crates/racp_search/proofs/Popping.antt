@@ -1,6 +1,6 @@
 -- The last frame of a stack is taken out: a window below it is searched next, or it is used up.
 use Rattle.std.proofs.Common.{◌≡◌, inl, inr, ◌∙◌, ℕ, ◌≤◌, List, [], ◌∷◌, ◌++◌, length, take, drop, arith, refl, sym, subst, ap}
-use Rattle.std.proofs.lemmas.List.{append-nil, append_assoc, take-append-drop, take-set-le, length-take}
+use Rattle.std.proofs.lemmas.List.{append-nil, append_assoc, take-append-drop, take-set-le}
 use Rattle.std.proofs.Math.Seq.{take-append_seam}
 use Rattle.racp_model.specs.Project.{Project}
 use Rattle.racp_model.specs.Window.{Bounds, IsNo}
