@@ -168,11 +168,12 @@ pub recorded : (p : Project) (capacities upper bounds started : List ℕ) (time 
 recorded p capacities upper bounds started time t v sound h refuted =
     subst (IsRecord p capacities upper bounds started time) (sym (told_is p capacities upper bounds started time t v h)) (sound, h, refuted)
 
-pub record_of : (p : Project) (v node : SearchNode) (ends started bounds upper : List ℕ) → v ≡ node → IsKept p v ends started bounds → upper ≡ v.window.upper
-    → FitsBeforeTime p node → IsNo p node.capacities node.window → IsRecord p v.capacities upper bounds started v.time (settled p v)
-record_of p v node ends started bounds upper same k is_upper fits question_is_no =
+pub record_of : (p : Project) (v node : SearchNode) (ends started bounds capacities upper : List ℕ) → v ≡ node → IsKept p v ends started bounds → capacities ≡ v.capacities → upper ≡ v.window.upper
+    → FitsBeforeTime p node → IsNo p node.capacities node.window → IsRecord p capacities upper bounds started v.time (settled p v)
+record_of p v node ends started bounds capacities upper same k is_capacities is_upper fits question_is_no =
     let refuted : IsRefutedNode p node = record { fits = fits; refuted = question_is_no } in
-    (k.0, subst (λ (xs : List ℕ). IsPacked p v.capacities xs bounds started v.time (settled p v)) (sym is_upper) (packed p v ends started bounds k), settled_refuted p v k.1 (subst (IsRefutedNode p) (sym same) refuted))
+    let row = subst (λ (xs : List ℕ). IsPacked p v.capacities xs bounds started v.time (settled p v)) (sym is_upper) (packed p v ends started bounds k) in
+    (k.0, subst (λ (xs : List ℕ). IsPacked p xs upper bounds started v.time (settled p v)) (sym is_capacities) row, settled_refuted p v k.1 (subst (IsRefutedNode p) (sym same) refuted))
 
 -- what rows tell, where they tell a settled node, covers what the node covers
 pub told_covers : (p : Project) (capacities upper bounds started : List ℕ) (time : ℕ) (t : Told p capacities upper bounds started time) (v node : SearchNode) → IsPacked p capacities upper bounds started time (settled p v) → v ≡ node

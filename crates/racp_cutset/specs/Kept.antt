@@ -1,5 +1,5 @@
 -- What a thread keeps of its own records.
-use Rattle.std.specs.Prelude.{◌≡◌, ◌⊎◌, ℕ, ◌+◌, ◌*◌, ◌/◌, List, [], ◌∷◌, ◌++◌, length, Option, Some, None}
+use Rattle.std.specs.Prelude.{◌≡◌, ◌⊎◌, ℕ, ◌+◌, ◌*◌, ◌/◌, ◌<◌, ◌≤◌, List, [], ◌∷◌, ◌++◌, length, slice_set, Option, Some, None}
 use Rattle.racp_model.specs.Project.{Project}
 use Rattle.racp_cutset.specs.Covering.{SearchNode}
 
@@ -12,9 +12,16 @@ most_records p = 268435456 / (2 * length p.jobs + p.resources + 100)
 abbrev pub StayKept : List SearchNode → List SearchNode → Type 0
 StayKept old new = (more : List SearchNode) × (new ≡ old ++ more)
 
--- a record is kept behind the others, or dropped where there is no room
-abbrev pub IsKeptOrDropped : List SearchNode → SearchNode → List SearchNode → Type 0
-IsKeptOrDropped old last new = (new ≡ old ++ last ∷ []) ⊎ (new ≡ old)
+-- a record takes the place of one that is not among the first
+pub record TakesPlace (first : ℕ) (old : List SearchNode) (last : SearchNode) (new : List SearchNode) : Type 0 where
+  pub place : ℕ
+  pub behind : first ≤ place
+  pub within : place < length old
+  pub written : new ≡ slice_set old place last
+
+-- a record is kept behind the others, or takes such a place, or is dropped where there is no room
+abbrev pub IsKeptOrDropped : ℕ → List SearchNode → SearchNode → List SearchNode → Type 0
+IsKeptOrDropped first old last new = (new ≡ old ++ last ∷ []) ⊎ (TakesPlace first old last new ⊎ (new ≡ old))
 
 -- the last record is taken out, or there is none
 abbrev pub IsLastTaken : List SearchNode → Option SearchNode → List SearchNode → Type 0

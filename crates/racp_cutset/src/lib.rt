@@ -23,7 +23,7 @@
 //! the same with the upper bounds 2, 2, 3, 3, 5      no: it may end at 5
 //! ```
 //!
-//! `local.keep(Nogood::of(node))` keeps a record; `local.find(&board, &other)` looks for one that covers a node.
+//! `local.keep(Nogood::of(node), 0)` keeps a record; `local.find(&board, &other)` looks for one that covers a node.
 //!
 //! A record is three rows of its node: the capacities, the upper bounds, and for each job the end if it is started and
 //! else the lower bound. With the started jobs and the time they tell one node: that with the early starts of its
@@ -32,20 +32,22 @@
 //! upper bounds. `Board` has the records that threads share; it only grows, and is read without waiting. `Local` has
 //! one thread's own records and an index, by a hash of the started jobs, of these and of what it has read of the board.
 //! What the index leads to is tested by `covers` before it is answered. A place of the board stays empty where the push
-//! to it was refused; reading goes on past it. The index keeps at most the 64 newest places for one hash, and drops a
-//! record that a newer one covers. `Local` keeps at most so many records that they take about 1 GiB, and drops each
-//! further one; `forget_behind` makes room, and drops all but the first ones.
+//! to it was refused; reading goes on past it. The index keeps at most the 16 newest places for one hash, and none of a
+//! record that a newer one covers. A kept record that it keeps no more gives its place in `Local` to a further one, but
+//! for the first ones, of which whoever keeps a record says how many stay. `Local` keeps at most so many records that
+//! they take about 1 GiB, and drops each further one; `forget_behind` makes room, and drops all but the first ones.
 //!
 //! Proved: whoever makes a record shows that its question is a no, and the type keeps that; so each record on a board
 //! is true, whoever wrote it. `covers` is true exactly where the covering relation holds, and then the node's question
-//! is a no. What `find` finds covers the node. A thread keeps at most `most_records` records, in the order in which
-//! they were kept, and `forget_behind` leaves exactly the first ones. In `laws`: why covering keeps a yes, step by
-//! step. Not proved: which records are found, so a body that never finds one would do; that records are found is
-//! tested. `Board::push` may wait for another thread, and is the only function of which it is not claimed that it
-//! returns.
+//! is a no. What `find` finds covers the node. A thread keeps at most `most_records` records. A further one comes behind
+//! them, or takes the place of one that is not among the first ones, and no other changes; `forget_behind` leaves exactly
+//! the first ones. In `laws`: why covering keeps a yes, step by step. Not proved: which records are found or give way, so
+//! a body that never finds one would do; that records are found is tested. `Board::push` may wait for another thread, and
+//! is the only function of which it is not claimed that it returns.
 #![tactic(auto)]
 
 mod board;
+mod index;
 pub mod laws;
 mod local;
 mod node;

@@ -4,15 +4,12 @@ ghost use Rattle.racp_cutset.specs.Covering.{Covers};
 ghost use Rattle.racp_cutset.specs.Kept.{IsKeptOrDropped, IsLastTaken, most_records};
 
 use crate::board::Board;
+use crate::index::{Index, Place};
 use crate::node::Node;
 use crate::nogood::Nogood;
 use racp_model::{Network, OfNetwork};
 use std::alloc::Global;
-use std::collections::HashMap;
 use std::marker::Model;
-
-/// How many records with the same started jobs are looked at; where there are more, the oldest are forgotten.
-const MOST_PLACES: usize = 64;
 
 /// How many places of the board, behind those of the records that are still to be read, are looked at. A place stays
 /// empty where the push to it was refused.
@@ -24,16 +21,6 @@ const MOST_NUMBERS: usize = 1 << 28;
 /// How many numbers a record takes, about, beside one for each resource and two for each job: its other fields, its
 /// place in the index, and what the allocator needs for each piece of memory.
 const OTHER_NUMBERS: usize = 100;
-
-/// Where a record stands: on the board, or among those that the thread keeps, by place from 0.
-#[derive(Clone, Copy, PartialEq)]
-enum Place {
-    Board(usize),
-    Kept(usize),
-}
-
-/// The places of records, by the hash of their started jobs. Places may be out of date, so what stands there is tested.
-type Index = HashMap<u64, Vec<Place>>;
 
 /// How far the board has been read.
 #[derive(Clone, Copy, Drop)]
@@ -49,7 +36,6 @@ struct Reading {
 /// index. Contracts see the list of the records that it keeps.
 #[derive(Drop)]
 pub struct Local<N: OfNetwork> {
-    alloc: Global,
     kept: Vec<Nogood<N>>,
     index: Index,
     reading: Reading,
@@ -82,9 +68,8 @@ impl<N: OfNetwork> Local<N> {
     {
         let numbers = 2 * net.job_count() + net.resource_count() + OTHER_NUMBERS;
         Local {
-            alloc,
             kept: Vec::new(alloc),
-            index: HashMap::new(alloc),
+            index: Index::new(alloc),
             reading: Reading {
                 next: 0,
                 records: 0,
@@ -108,26 +93,33 @@ impl<N: OfNetwork> Local<N> {
         self.kept.len()
     }
 
-    /// Keeps a record, behind the others; it is dropped where there is no room.
-    pub fn keep(&mut self, nogood: Nogood<N>)
-        ensures { IsKeptOrDropped self.old nogood self.new }
+    /// Keeps a record: in place of one that gave way, as one that is covered does, or behind the others. The first
+    /// `first` ones stay. It is dropped where there is no room.
+    pub fn keep(&mut self, nogood: Nogood<N>, first: usize)
+        ensures { IsKeptOrDropped first self.old nogood self.new }
     {
-        if self.is_full() || self.kept.reserve(1).is_err() {
+        self.index.forget_kept(&self.kept, &nogood);
+        let key = nogood.key();
+        let count = self.kept.len();
+        if let Some(place) = self.index.take_free(first, count) {
+            self.kept[place] = nogood;
+            self.index.enter(key, Place::Kept(place));
             return;
         }
-        let place = Place::Kept(self.kept.len());
-        forget_kept(&mut self.index, &self.kept, &nogood);
-        enter(self.alloc, &mut self.index, nogood.key(), place);
-        let _ = self.kept.push(nogood);
+        if self.is_full() || self.kept.push(nogood).is_err() {
+            return;
+        }
+        self.index.enter(key, Place::Kept(count));
     }
 
-    /// Takes out the record that was kept last, as to push it to the board.
+    /// Takes out the last record, as to push it to the board.
     pub fn take_kept(&mut self) -> Option<Nogood<N>>
         ensures { IsLastTaken self.old result self.new }
     {
         let record = self.kept.pop()?;
         let place = Place::Kept(self.kept.len());
-        forget(&mut self.index, record.key(), place);
+        self.index.forget(record.key(), place);
+        self.index.forget_free();
         Some(record)
     }
 
@@ -136,6 +128,7 @@ impl<N: OfNetwork> Local<N> {
         ensures { self.new ≡ take count self.old }
     {
         forget_from(&mut self.index, &self.kept, count);
+        self.index.forget_free();
         self.kept.truncate(count);
     }
 
@@ -143,7 +136,7 @@ impl<N: OfNetwork> Local<N> {
     pub(crate) fn read(&mut self, board: &Board<N>)
         ensures { self.new ≡ self.old }
     {
-        self.reading = read_from(self.reading, self.alloc, &mut self.index, board, &self.kept);
+        self.reading = read_from(self.reading, &mut self.index, board, &self.kept);
     }
 
     /// A record that covers the node, of those that the index has.
@@ -151,8 +144,7 @@ impl<N: OfNetwork> Local<N> {
         ensures covers { IfSome result (λ found. Covers N.network found.now node.now) }
         ensures refutes { IfSome result (λ _. IsNo N.network node.now.capacities node.now.window) }
     {
-        let key = node.key();
-        let places = self.index.get(&key)?;
+        let places = self.index.places(node.key())?;
         for place in places.iter().rev() {
             if let Some(found) = self.at(board, *place) {
                 if found.covers(node) {
@@ -188,7 +180,6 @@ impl<N: OfNetwork> Local<N> {
 /// read past where a record stands behind them.
 fn read_from<N: OfNetwork>(
     reading: Reading,
-    alloc: Global,
     index: &mut Index,
     board: &Board<N>,
     kept: &Vec<Nogood<N>>,
@@ -204,9 +195,9 @@ fn read_from<N: OfNetwork>(
         .saturating_add(EMPTY_PLACES);
     for i in read.next..end {
         if let Some(nogood) = board.record(i) {
-            forget_kept(index, kept, nogood);
-            forget_written(index, board, nogood);
-            enter(alloc, index, nogood.key(), Place::Board(i));
+            index.forget_kept(kept, nogood);
+            index.forget_written(board, nogood);
+            index.enter(nogood.key(), Place::Board(i));
             read = Reading {
                 next: i + 1,
                 records: read.records.saturating_add(1),
@@ -216,70 +207,9 @@ fn read_from<N: OfNetwork>(
     read
 }
 
-/// Enters a place by the hash of the started jobs of what stands there.
-fn enter(alloc: Global, index: &mut Index, key: u64, place: Place) {
-    if let Some(places) = index.get_mut(&key) {
-        if MOST_PLACES <= places.len() {
-            places.remove(0);
-        }
-        let _ = places.push(place);
-        return;
-    }
-    let mut places = Vec::new(alloc);
-    if places.push(place).is_ok() {
-        let _ = index.insert(key, places);
-    }
-}
-
-/// Forgets the places of the kept records that a record covers.
-fn forget_kept<N: OfNetwork>(index: &mut Index, kept: &Vec<Nogood<N>>, nogood: &Nogood<N>) {
-    if let Some(places) = index.get_mut(&nogood.key()) {
-        places.retain(|place| !is_kept_covered(kept, nogood, *place));
-    }
-}
-
-/// Forgets the places of the board's records that a record covers.
-fn forget_written<N: OfNetwork>(index: &mut Index, board: &Board<N>, nogood: &Nogood<N>) {
-    if let Some(places) = index.get_mut(&nogood.key()) {
-        places.retain(|place| !is_written_covered(board, nogood, *place));
-    }
-}
-
-/// Whether a kept record stands at the place that the record covers.
-fn is_kept_covered<N: OfNetwork>(kept: &Vec<Nogood<N>>, nogood: &Nogood<N>, place: Place) -> bool {
-    let Place::Kept(i) = place else {
-        return false;
-    };
-    match kept.get(i) {
-        Some(other) => nogood.covers_record(other),
-        None => false,
-    }
-}
-
-/// Whether a record of the board stands at the place that the record covers.
-fn is_written_covered<N: OfNetwork>(board: &Board<N>, nogood: &Nogood<N>, place: Place) -> bool {
-    let Place::Board(i) = place else {
-        return false;
-    };
-    match board.record(i) {
-        Some(other) => nogood.covers_record(other),
-        None => false,
-    }
-}
-
 /// Forgets the places of the kept records from one on.
 fn forget_from<N: OfNetwork>(index: &mut Index, kept: &Vec<Nogood<N>>, from: usize) {
     for place in from..kept.len() {
-        forget(index, kept[place].key(), Place::Kept(place));
-    }
-}
-
-/// Forgets a place, and the hash where it was the last with it.
-fn forget(index: &mut Index, key: u64, place: Place) {
-    if let Some(places) = index.get_mut(&key) {
-        places.retain(|other| *other != place);
-        if places.is_empty() {
-            let _ = index.remove(&key);
-        }
+        index.forget(kept[place].key(), Place::Kept(place));
     }
 }

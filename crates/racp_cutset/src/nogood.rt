@@ -75,6 +75,7 @@ impl<N: OfNetwork> Nogood<N> {
         } = node;
         let Question { capacities, window } = question;
         let (lower, upper) = window.into_bounds();
+        let capacities = trimmed(capacities);
         let nogood = Nogood {
             capacities,
             upper,
@@ -208,4 +209,13 @@ impl<N: OfNetwork> Nogood<N> {
     {
         is_at_least(self.upper.as_slice(), other.upper.as_slice())
     }
+}
+
+/// The same capacities, in no more memory than they need.
+fn trimmed(capacities: Capacities) -> Capacities
+    ensures { result ≡ capacities }
+{
+    let mut row = capacities.into_vec();
+    row.shrink_to_fit();
+    Capacities::new(row)
 }

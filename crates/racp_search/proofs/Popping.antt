@@ -1,28 +1,38 @@
 -- The last frame of a stack is taken out: a window below it is searched next, or it is used up.
-use Rattle.std.proofs.Common.{◌≡◌, inl, inr, ◌∙◌, ℕ, ◌≤◌, List, [], ◌∷◌, ◌++◌, length, take, arith, refl, sym, subst, ap}
-use Rattle.std.proofs.lemmas.List.{append-nil, append_assoc}
+use Rattle.std.proofs.Common.{◌≡◌, inl, inr, ◌∙◌, ℕ, ◌≤◌, List, [], ◌∷◌, ◌++◌, length, take, drop, arith, refl, sym, subst, ap}
+use Rattle.std.proofs.lemmas.List.{append-nil, append_assoc, take-append-drop, take-set-le}
 use Rattle.std.proofs.Math.Seq.{take-append_seam}
 use Rattle.racp_model.specs.Project.{Project}
 use Rattle.racp_model.specs.Window.{Bounds, IsNo}
 use Rattle.racp_cutset.specs.Covering.{SearchNode}
-use Rattle.racp_cutset.specs.Kept.{StayKept, IsKeptOrDropped}
+use Rattle.racp_cutset.specs.Kept.{StayKept, IsKeptOrDropped, TakesPlace}
 use Rattle.racp_search.specs.DepthFirst.{SearchFrame, Part, parts_of, open_parts, IsHigher, IsSearching, IsSearchingNext, IsTaken, IsUsedUp, weights}
 use Rattle.racp_search.specs.DepthFirst.Part.{all_of}
 use Rattle.racp_search.specs.Steps.{IsNext}
 use Rattle.racp_search.proofs.Stacks.{open-last, last-open, inside-sum, searching-next, searching-popped, frame-refuted}
 use Rattle.racp_search.proofs.Weights.{weights-append}
 
--- one record more, or none, leaves what was kept
-pub one_more : (start old : List SearchNode) (record_node : SearchNode) (new : List SearchNode) → StayKept start old → IsKeptOrDropped old record_node new → StayKept start new
-one_more start old record_node new kept step = elim step [
+-- what was kept stays where a record takes a place behind it
+pub replaced : (start old : List SearchNode) (record_node : SearchNode) (new : List SearchNode) (count : ℕ) → length start ≤ count → StayKept start old → TakesPlace count old record_node new → StayKept start new
+replaced start old record_node new count within kept taken =
+    let n : ℕ = length start in
+    let front : take n new ≡ start =
+    ap (λ (xs : List SearchNode). take n xs) taken.written ∙ (take-set-le n old taken.place record_node (omega (arith, within, taken.behind)) ∙ (ap (λ (xs : List SearchNode). take n xs) kept.1 ∙ take-append_seam start kept.0)) in
+    (drop n new, sym (take-append-drop n new) ∙ ap (λ (xs : List SearchNode). xs ++ drop n new) front)
+
+-- one record more, one in place of another behind what was kept, or none, leaves what was kept
+pub one_more : (start old : List SearchNode) (record_node : SearchNode) (new : List SearchNode) (count : ℕ) → length start ≤ count → StayKept start old → IsKeptOrDropped count old record_node new → StayKept start new
+one_more start old record_node new count within kept step = elim step [
   | inl more ↦ (kept.0 ++ record_node ∷ [], more ∙ (ap (λ (xs : List SearchNode). xs ++ record_node ∷ []) kept.1 ∙ append_assoc start kept.0 (record_node ∷ [])))
-  | inr same ↦ (kept.0, same ∙ kept.1)
+  | inr rest ↦ elim rest [
+    | inl taken ↦ replaced start old record_node new count within kept taken
+    | inr same ↦ (kept.0, same ∙ kept.1)
+  ]
 ]
 
--- so do more records, again and again
-pub kept_on : (start mid new : List SearchNode) → StayKept start mid → StayKept mid new → StayKept start new
-kept_on start mid new first second =
-    (first.0 ++ second.0, second.1 ∙ (ap (λ (xs : List SearchNode). xs ++ second.0) first.1 ∙ append_assoc start first.0 second.0))
+-- the first of them stay to begin with
+pub first_stay : (count : ℕ) (old : List SearchNode) → StayKept (take count old) old
+first_stay count old = (drop count old, sym (take-append-drop count old))
 
 -- what was kept at the start stays kept where the records behind it are dropped
 pub kept_first : (start old new : List SearchNode) (count : ℕ) → StayKept start old → count ≡ length start → StayKept (take count old) new → StayKept start new

@@ -49,7 +49,7 @@ pub(crate) fn search<N: OfNetwork, S: Stop>(
         if let Some(starts) = stack.enter(subject, window, from, local)? {
             return Ok(Ended::found(alloc, starts));
         }
-        match stack.next_window(subject, local)? {
+        match stack.next_window(subject, local, first)? {
             Some(next) => {
                 window = next.window;
                 from = next.from;
@@ -140,16 +140,17 @@ impl<N: OfNetwork> Stack<N> {
     }
 
     /// The next window to be searched: a child window of the last frame that has one. Frames that have none are taken
-    /// out, and their nodes, which are refuted, are kept as records.
+    /// out, and their nodes, which are refuted, are kept as records; the first `count` records stay.
     fn next_window(
         &mut self,
         subject: &Subject<N>,
         local: &mut Local<N>,
+        count: usize,
     ) -> Result<Option<Next>, AllocError>
         requires { IsSearching N.network subject.now.capacities subject.now.window self.old.frames.items [] }
         ensures next { IfOk result (IsNextAnswer N.network subject.now.capacities subject.now.window
             self.old.frames.items self.new.frames.items) }
-        ensures kept { StayKept local.old local.new }
+        ensures kept { StayKept (take count local.old) local.new }
     {
         while let Some(mut frame) = self.frames.pop() {
             if let Some(window) = frame.next_child(&mut self.workspace, subject)? {
@@ -159,7 +160,7 @@ impl<N: OfNetwork> Stack<N> {
             }
             let (node, children, last) = frame.into_parts();
             let (nogood, lower, early, ends) = Nogood::of_reusing(node);
-            local.keep(nogood);
+            local.keep(nogood, count);
             let spare = &mut self.workspace.spare;
             spare.give_list(children);
             spare.give_row(last);

@@ -264,7 +264,7 @@ fn check_kept<N: OfNetwork>(
 ) -> Result<(), Fail>
     requires named { net.now ≡ N.network }
 {
-    local.keep(nogood(rt, alloc, net, root(&[2]))?);
+    local.keep(nogood(rt, alloc, net, root(&[2]))?, 0);
     assert!(rt; finds(alloc, net, empty, local, root(&[1]))?);
     assert!(rt; !finds(alloc, net, empty, local, root(&[3]))?);
     assert!(rt; local.take_kept().is_some());
@@ -295,7 +295,7 @@ fn check_forgetting<N: OfNetwork>(
 {
     let windows = [later(0), later(1), later(2)];
     for bounds in &windows {
-        local.keep(nogood(rt, alloc, net, window(bounds))?);
+        local.keep(nogood(rt, alloc, net, window(bounds))?, 0);
     }
     for count in [3, 1, 0] {
         local.forget_behind(count);
@@ -308,6 +308,45 @@ fn check_forgetting<N: OfNetwork>(
     Ok(())
 }
 
+/// A record takes the place of one that it covers, unless that is among the first ones.
+fn check_giving_way<N: OfNetwork>(
+    rt: &impl Abort,
+    alloc: Global,
+    net: &Network,
+    empty: &Board<N>,
+    local: &mut Local<N>,
+) -> Result<(), Fail>
+    requires named { net.now ≡ N.network }
+{
+    for (units, first, count) in [(1, 0, 1), (2, 0, 1), (2, 1, 2), (2, 1, 2), (2, 0, 2)] {
+        local.keep(nogood(rt, alloc, net, root(&[units]))?, first);
+        assert!(rt; local.kept_count() == count);
+        assert!(rt; finds(alloc, net, empty, local, root(&[units]))?);
+    }
+    local.forget_behind(0);
+    Ok(())
+}
+
+/// Of many records with the same started jobs the oldest give way.
+fn check_oldest<N: OfNetwork>(
+    rt: &impl Abort,
+    alloc: Global,
+    net: &Network,
+    empty: &Board<N>,
+    local: &mut Local<N>,
+) -> Result<(), Fail>
+    requires named { net.now ≡ N.network }
+{
+    for time in 0..40 {
+        local.keep(nogood(rt, alloc, net, window(&later(time)))?, 0);
+    }
+    assert!(rt; local.kept_count() < 40);
+    assert!(rt; finds(alloc, net, empty, local, window(&later(39)))?);
+    assert!(rt; !finds(alloc, net, empty, local, window(&later(0)))?);
+    local.forget_behind(0);
+    Ok(())
+}
+
 fn check_keeping<N: OfNetwork>(rt: &impl Abort, alloc: Global, net: &Network) -> Result<(), Fail>
     requires named { net.now ≡ N.network }
 {
@@ -315,6 +354,8 @@ fn check_keeping<N: OfNetwork>(rt: &impl Abort, alloc: Global, net: &Network) ->
     let mut local: Local<N> = Local::new(alloc, net);
     check_kept(rt, alloc, net, &empty, &mut local)?;
     check_forgetting(rt, alloc, net, &empty, &mut local)?;
+    check_giving_way(rt, alloc, net, &empty, &mut local)?;
+    check_oldest(rt, alloc, net, &empty, &mut local)?;
     check_kept(rt, alloc, net, &empty, &mut local)
 }
 

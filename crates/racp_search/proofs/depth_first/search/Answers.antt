@@ -6,7 +6,7 @@ use Rattle.racp_search.specs.Ends.{IsEnd, IsSpent}
 use Rattle.racp_search.proofs.Entering.{started, none_yet, within_still, end_nothing, spent_some, spent_there, spent_exactly, not_false, false_is_not_true}
 use Rattle.racp_cutset.specs.Covering.{SearchNode}
 use Rattle.racp_cutset.specs.Kept.{StayKept}
-use Rattle.racp_search.proofs.Popping.{kept_first, kept_on}
+use Rattle.racp_search.proofs.Popping.{kept_first}
 use Rattle.racp_search.proofs.depth_first.search.Goals as goal
 
 pub next-init : goal.next-init
@@ -56,12 +56,12 @@ returns-in-Some-clause-kept g c =
 pub returns-in_err-next-clause-kept : goal.returns-in_err-next-clause-kept
 returns-in_err-next-clause-kept g c =
     let room = kept_first c.args.local.now c.next.local c.make_room.new.local c.kept_count-first.result c.next.invariant.kept c.kept_count-first.ensures.count c.make_room.ensures in
-    kept_on c.args.local.now c.enter.new.local c.next_window.new.local (subst (λ (xs : List SearchNode). StayKept c.args.local.now xs) (sym c.enter.ensures.kept) room) c.next_window.ensures.kept
+    kept_first c.args.local.now c.enter.new.local c.next_window.new.local c.kept_count-first.result (subst (λ (xs : List SearchNode). StayKept c.args.local.now xs) (sym c.enter.ensures.kept) room) c.kept_count-first.ensures.count c.next_window.ensures.kept
 
 pub returns-in-None-clause-kept : goal.returns-in-None-clause-kept
 returns-in-None-clause-kept g c =
     let room = kept_first c.args.local.now c.next.local c.make_room.new.local c.kept_count-first.result c.next.invariant.kept c.kept_count-first.ensures.count c.make_room.ensures in
-    kept_on c.args.local.now c.enter.new.local c.next_window.new.local (subst (λ (xs : List SearchNode). StayKept c.args.local.now xs) (sym c.enter.ensures.kept) room) c.next_window.ensures.kept
+    kept_first c.args.local.now c.enter.new.local c.next_window.new.local c.kept_count-first.result (subst (λ (xs : List SearchNode). StayKept c.args.local.now xs) (sym c.enter.ensures.kept) room) c.kept_count-first.ensures.count c.next_window.ensures.kept
 
 pub next-preserved : goal.next-preserved
 next-preserved g c =
@@ -73,6 +73,6 @@ next-preserved g c =
       state = is.state;
       higher = λ a. is.higher;
       bounded = within_still c.args.quantum c.next.nodes c.saturating_add.result unspent (omega (arith, c.saturating_add.ensures));
-      kept = kept_on c.args.local.now c.enter.new.local c.next_window.new.local (subst (λ (xs : List SearchNode). StayKept c.args.local.now xs) (sym c.enter.ensures.kept) room) c.next_window.ensures.kept;
+      kept = kept_first c.args.local.now c.enter.new.local c.next_window.new.local c.kept_count-first.result (subst (λ (xs : List SearchNode). StayKept c.args.local.now xs) (sym c.enter.ensures.kept) room) c.kept_count-first.ensures.count c.next_window.ensures.kept;
       first = c.kept_count-first.ensures.count;
     }
