@@ -4,6 +4,7 @@ pub mod Lists
 pub mod Zeros
 pub mod Sums
 pub mod Usage
+pub mod CoreTimes
 pub mod Parts
 pub mod Latest
 pub mod Arcs
