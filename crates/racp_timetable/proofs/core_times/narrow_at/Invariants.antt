@@ -1,0 +1,5 @@
+use Rattle.racp_timetable.specs.Narrowing.{IsNarrowed}
+use Rattle.racp_timetable.proofs.core_times.narrow_at.Given as goal
+
+abbrev pub invariant-loop-i : goal.invariant-loop-i
+invariant-loop-i l = IsNarrowed l.net l.capacities l.fn.window l.window
