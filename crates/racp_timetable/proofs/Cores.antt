@@ -8,8 +8,9 @@ use Rattle.racp_model.specs.Core.{IsCoreTime, core_use}
 use Rattle.racp_model.proofs.lemmas.Sums.{sum_below-mono, sum_below-step, sum_below-none, sum_below-bound}
 use Rattle.racp_model.proofs.lemmas.Usage.{use_of-active}
 use Rattle.racp_model.proofs.lemmas.Parts.{on_cases}
-use Rattle.racp_model.proofs.lemmas.CoreTimes.{core_use-on, core_use-off, core_use-small}
+use Rattle.racp_model.proofs.lemmas.CoreTimes.{core_use-on, core_use-off, core_use-use, core_use-small}
 use Rattle.racp_timetable.specs.Cores.{IsCore, IsCoreAround, HasRoom, AreWithin}
+use Rattle.racp_timetable.specs.Laws.{CoreLeavesNoRoom}
 use Rattle.racp_timetable.specs.declared.core_times.Core.{Core}
 
 -- a sum is more by at least what one of its terms is more
@@ -142,3 +143,9 @@ module _ (p : Project) (window : Bounds) (time n until : ℕ) (loads : List ℕ)
 pub loads-small : (p : Project) (window : Bounds) (time n k : ℕ) → IsSound p → n ≤ length p.jobs → k < p.resources → sum_below n (core_use p window k time) ≤ 5120000
 loads-small p window time n k sound l r =
     omega (arith, sound.limits.most_jobs, sum_below-bound n 10000 (core_use p window k time) (λ i m. core_use-small p window k time i sound (omega arith) r))
+
+-- a job does not run at a time at which the core usage leaves no room for it
+pub no_room : CoreLeavesNoRoom
+no_room p capacities window starts k t i answers r l apart over active =
+    let more : core_use p window k t i + request p i k ≤ use_of p starts k t i = omega (arith, core_use-off p window k t i apart, use_of-active p starts k t i active) in
+    omega (arith, over, answers.fits.within k t r, sum_below-more (length p.jobs) (core_use p window k t) (use_of p starts k t) i (request p i k) (λ j m. core_use-use p window starts k t j answers.lies m) l more)
