@@ -35,7 +35,8 @@ pub(crate) fn narrow_at(
     requires capacities { length capacities.now ≡ net.now.resources }
     requires bounds { HasBounds net.now window.old }
     requires later { time < next }
-    ensures { IsNarrowedOrNo net.now capacities.now window.old window.new result }
+    ensures { (from : ℕ) → from ≤ time →
+        IsNarrowedOrNo net.now capacities.now from window.old window.new result }
 {
     let core = core_at(net, window, time, next);
     if !are_within(net, capacities, &core.loads) {
@@ -53,7 +54,8 @@ pub(crate) fn narrow_at(
 fn core_at(net: &Network, window: &Narrowing, time: u32, next: u32) -> Core
     requires bounds { HasBounds net.now window.now }
     requires later { time < next }
-    ensures { IsCore net.now window.now result }
+    ensures time { result.time ≡ time }
+    ensures core { IsCore net.now window.now result }
 {
     let mut loads = [0; MOST_RESOURCES];
     let mut until = next;
@@ -112,7 +114,8 @@ fn narrow_job(
     requires bounds { HasBounds net.now window.old }
     requires job { i < length net.now.jobs }
     requires core { IsCoreAround net.now window.old core.now }
-    ensures { IsNarrowedOrNo net.now capacities.now window.old window.new result }
+    ensures { (from : ℕ) → from ≤ core.now.time →
+        IsNarrowedOrNo net.now capacities.now from window.old window.new result }
 {
     let (first, last) = (window.lower(i), window.upper(i));
     let duration = net.duration(i);

@@ -23,14 +23,17 @@
 //!
 //! `tighten(&net, &capacities, window, from, &mut times)` moves bounds until none moves any more, and answers the
 //! tightened window, or that nothing in the window answers. A search that has no conflict before a time looks at core
-//! usages from that time on: it passes it as `from`. Whatever is passed, nothing is lost.
+//! usages from that time on: it passes it as `from`. Lower bounds that are still before it have then moved along
+//! precedence alone, so there is no conflict before it in the tightened window either. Whatever is passed, nothing is
+//! lost.
 //!
 //! Core usages are looked at only where core times begin or end, so far horizons cost what near ones cost: going over
 //! them once takes about the time of looking at all jobs for each of these times. `times` is a row that is used again
 //! from call to call; else no memory is taken. The rows of the window are written over and given back.
 //!
 //! Proved: the tightened window is inside the window, and each start vector in the window that keeps precedence and the
-//! capacities lies in it; where `tighten` answers `No`, there is none. In `laws`: a job does not run at a time at which
+//! capacities lies in it; where `tighten` answers `No`, there is none. Starts that keep precedence and are at or above the
+//! lower bounds before `from` are so in the tightened window too. In `laws`: a job does not run at a time at which
 //! the core usage leaves no room for it, unless it is one of its core times. Tested alone: how far bounds move, and that
 //! memory is not refused without need.
 #![tactic(auto)]

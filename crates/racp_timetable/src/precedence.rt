@@ -12,7 +12,8 @@ use racp_model::Network;
 /// them. Says whether something may still lie in the window.
 pub(crate) fn settle(net: &Network, window: &mut Narrowing) -> bool
     requires { HasBounds net.now window.old }
-    ensures { (capacities : List ℕ) → IsNarrowedOrNo net.now capacities window.old window.new result }
+    ensures { (capacities : List ℕ) (from : ℕ) →
+        IsNarrowedOrNo net.now capacities from window.old window.new result }
 {
     raise_along(net, window) && reduce_along(net, window)
 }
@@ -20,7 +21,8 @@ pub(crate) fn settle(net: &Network, window: &mut Narrowing) -> bool
 /// Raises lower bounds, in one sweep.
 fn raise_along(net: &Network, window: &mut Narrowing) -> bool
     requires { HasBounds net.now window.old }
-    ensures { (capacities : List ℕ) → IsNarrowedOrNo net.now capacities window.old window.new result }
+    ensures { (capacities : List ℕ) (from : ℕ) →
+        IsNarrowedOrNo net.now capacities from window.old window.new result }
 {
     for &(i, j) in net.topological_arcs() {
         if !raise_behind(net, window, i as usize, j as usize) {
@@ -36,7 +38,8 @@ fn raise_behind(net: &Network, window: &mut Narrowing, i: usize, j: usize) -> bo
     requires from { i < length net.now.jobs }
     requires to { j < length net.now.jobs }
     requires order { Precedes net.now i j }
-    ensures { (capacities : List ℕ) → IsNarrowedOrNo net.now capacities window.old window.new result }
+    ensures { (capacities : List ℕ) (from : ℕ) →
+        IsNarrowedOrNo net.now capacities from window.old window.new result }
 {
     let end = end_of(net, i, window.lower(i));
     if end <= window.lower(j) {
@@ -48,7 +51,8 @@ fn raise_behind(net: &Network, window: &mut Narrowing, i: usize, j: usize) -> bo
 /// Lowers upper bounds, in one sweep from the end.
 fn reduce_along(net: &Network, window: &mut Narrowing) -> bool
     requires { HasBounds net.now window.old }
-    ensures { (capacities : List ℕ) → IsNarrowedOrNo net.now capacities window.old window.new result }
+    ensures { (capacities : List ℕ) (from : ℕ) →
+        IsNarrowedOrNo net.now capacities from window.old window.new result }
 {
     let arcs = net.topological_arcs();
     for k in (0..arcs.len()).rev() {
@@ -66,7 +70,8 @@ fn reduce_before(net: &Network, window: &mut Narrowing, i: usize, j: usize) -> b
     requires from { i < length net.now.jobs }
     requires to { j < length net.now.jobs }
     requires order { Precedes net.now i j }
-    ensures { (capacities : List ℕ) → IsNarrowedOrNo net.now capacities window.old window.new result }
+    ensures { (capacities : List ℕ) (from : ℕ) →
+        IsNarrowedOrNo net.now capacities from window.old window.new result }
 {
     let (duration, end) = (net.duration(i), window.upper(j));
     if end < duration {

@@ -37,7 +37,7 @@ pub fn tighten(
 ) -> Result<Tightened, AllocError>
     requires capacities { length capacities.now ≡ net.now.resources }
     requires bounds { HasBounds net.now window }
-    ensures { IfOk result (IsTightened net.now capacities.now window) }
+    ensures { IfOk result (IsTightened net.now capacities.now from window) }
 {
     let mut window = Narrowing::of(window);
     if narrow(net, capacities.as_slice(), &mut window, from, times)? {
@@ -56,14 +56,14 @@ fn narrow(
 ) -> Result<bool, AllocError>
     requires capacities { length capacities.now ≡ net.now.resources }
     requires bounds { HasBounds net.now window.old }
-    ensures { IfOk result (IsNarrowedOrNo net.now capacities.now window.old window.new) }
+    ensures { IfOk result (IsNarrowedOrNo net.now capacities.now from window.old window.new) }
 {
     if !settle(net, window) {
         return Ok(false);
     }
     'rounds: for _ in 0..MOST_ROUNDS {
         put_times(net, window, from, times)?;
-        if !narrow_once(net, capacities, window, times) {
+        if !narrow_once(net, capacities, window, from, times) {
             return Ok(false);
         }
         if !window.has_moved() {
@@ -74,13 +74,19 @@ fn narrow(
 }
 
 /// Goes over all times and settles the window. From then on it tells whether a bound has moved.
-fn narrow_once(net: &Network, capacities: &[u32], window: &mut Narrowing, times: &[u32]) -> bool
+fn narrow_once(
+    net: &Network,
+    capacities: &[u32],
+    window: &mut Narrowing,
+    from: u32,
+    times: &[u32],
+) -> bool
     requires capacities { length capacities.now ≡ net.now.resources }
     requires bounds { HasBounds net.now window.old }
-    ensures { IsNarrowedOrNo net.now capacities.now window.old window.new result }
+    ensures { IsNarrowedOrNo net.now capacities.now from window.old window.new result }
 {
     window.watch();
-    narrow_between(net, capacities, window, times) && settle(net, window)
+    narrow_between(net, capacities, window, from, times) && settle(net, window)
 }
 
 /// Writes down, in rising order, when the core times of a job begin or end, from a time on.
@@ -106,15 +112,21 @@ fn put_times(
     Ok(())
 }
 
-/// Narrows a window by the core usage at each time, until the next one.
-fn narrow_between(net: &Network, capacities: &[u32], window: &mut Narrowing, times: &[u32]) -> bool
+/// Narrows a window by the core usage at each time from one on, until the next one.
+fn narrow_between(
+    net: &Network,
+    capacities: &[u32],
+    window: &mut Narrowing,
+    from: u32,
+    times: &[u32],
+) -> bool
     requires capacities { length capacities.now ≡ net.now.resources }
     requires bounds { HasBounds net.now window.old }
-    ensures { IsNarrowedOrNo net.now capacities.now window.old window.new result }
+    ensures { IsNarrowedOrNo net.now capacities.now from window.old window.new result }
 {
     for k in 1..times.len() {
         let (time, next) = (times[k - 1], times[k]);
-        if time < next && !narrow_at(net, capacities, window, time, next) {
+        if from <= time && time < next && !narrow_at(net, capacities, window, time, next) {
             return false;
         }
     }

@@ -3,4 +3,4 @@ use Rattle.racp_timetable.specs.Narrowing.{IsNarrowed}
 use Rattle.racp_timetable.proofs.precedence.raise_along.Given as goal
 
 abbrev pub invariant-loop-i : goal.invariant-loop-i
-invariant-loop-i l = (capacities : List ℕ) → IsNarrowed l.net capacities l.fn.window l.window
+invariant-loop-i l = (capacities : List ℕ) (from : ℕ) → IsNarrowed l.net capacities from l.fn.window l.window

@@ -8,6 +8,6 @@ pub returns-then-narrow_between : goal.returns-then-narrow_between
 returns-then-narrow_between c =
     let p = c.args.net.now in
     let capacities = c.args.capacities.now in
-    let first : IsNarrowed p capacities c.watch.new.self c.narrow_between.new.window = subst (λ (b : Bool). IsNarrowedOrNo p capacities c.watch.new.self c.narrow_between.new.window b) c.if-narrow_between.true c.narrow_between.ensures in
-    subst (λ (w : Bounds). IsNarrowedOrNo p capacities w c.settle.new.window c.settle.result) c.watch.ensures
-    (narrowed-again p capacities c.watch.new.self c.narrow_between.new.window c.settle.new.window c.settle.result first (c.settle.ensures capacities))
+    let first : IsNarrowed p capacities c.args.from c.watch.new.self c.narrow_between.new.window = subst (λ (b : Bool). IsNarrowedOrNo p capacities c.args.from c.watch.new.self c.narrow_between.new.window b) c.if-narrow_between.true c.narrow_between.ensures in
+    subst (λ (w : Bounds). IsNarrowedOrNo p capacities c.args.from w c.settle.new.window c.settle.result) c.watch.ensures
+    (narrowed-again p capacities c.args.from c.watch.new.self c.narrow_between.new.window c.settle.new.window c.settle.result first (c.settle.ensures capacities c.args.from))
