@@ -1,17 +1,13 @@
 -- Core usage: it is greatest at some late start, and no starts in the window avoid it.
-use Rattle.std.proofs.Common.{◌≡◌, ℕ, ◌+◌, ◌<◌, ◌≤◌, List, length, slice_index, arith, refl, subst}
+use Rattle.std.proofs.Common.{◌≡◌, ℕ, ◌+◌, ◌<◌, ◌≤◌, List, length, slice_index, arith, subst}
 use Rattle.racp_model.specs.Project.{Project, duration, request}
 use Rattle.racp_model.specs.Plan.{IsLeast}
 use Rattle.racp_model.specs.Window.{Bounds}
 use Rattle.racp_model.proofs.lemmas.Parts.{part, parts-within}
-use Rattle.racp_bounds.specs.Floors.{core_use, core_usage, IsAtCore}
+use Rattle.racp_model.specs.Core.{core_use, core_usage}
+use Rattle.racp_bounds.specs.Floors.{IsAtCore}
 
--- a core use is the weight of the part from the late start to the early finish
-pub core_use-part : (p : Project) (root : Bounds) (k t i : ℕ) → core_use p root k t i ≡ part (slice_index root.upper) (λ i. slice_index root.lower i + duration p i) (λ i. request p i k) t i
-unfolding core_use part
-core_use-part p root k t i = refl
-
--- so a core usage is within a bound where it is at each late start
+-- a core usage is within a bound where it is at each late start
 pub core-within : (p : Project) (root : Bounds) (k most : ℕ) → ((j : ℕ) → j < length p.jobs → core_usage p root k (slice_index root.upper j) ≤ most) → IsAtCore p root k most
 unfolding core_use part
 core-within p root k most = parts-within (slice_index root.upper) (λ i. slice_index root.lower i + duration p i) (λ i. request p i k) (length p.jobs) most

@@ -1,32 +1,15 @@
 -- Floors and roofs: how many units of each resource there have to be at the least, and how many are ever of use.
-use Rattle.std.specs.Prelude.{◌≡◌, ℕ, ◌+◌, ◌*◌, ◌<◌, ◌≤◌, ◌&&◌, Bool, List, length, slice_index, nat_le, nat_lt, if◌then◌else◌}
+use Rattle.std.specs.Prelude.{◌≡◌, ℕ, ◌*◌, ◌<◌, ◌≤◌, List, length, slice_index}
 use Rattle.std.specs.Int.{div_ceil}
 use Rattle.racp_model.specs.Project.{Project, duration, request}
 use Rattle.racp_model.specs.Schedule.{sum_below, roof}
 use Rattle.racp_model.specs.Plan.{IsLeast}
 use Rattle.racp_model.specs.Window.{Bounds}
+use Rattle.racp_model.specs.Core.{core_usage}
 
 -- the energy of resource k: the sum, over all jobs, of duration times request
 abbrev pub energy : Project → ℕ → ℕ
 energy p k = sum_below (length p.jobs) (λ i. duration p i * request p i k)
-
--- t is a core time of job i: it is active at t wherever it starts in its window, since t is not before its late start and is
--- before its early finish
-pub record IsCoreTime (p : Project) (root : Bounds) (t i : ℕ) : Type 0 where
-  pub started : slice_index root.upper i ≤ t
-  pub runs : t < slice_index root.lower i + duration p i
-
--- the test of that
-abbrev pub is_core_time : Project → Bounds → ℕ → ℕ → Bool
-is_core_time p root t i = nat_le (slice_index root.upper i) t && nat_lt t (slice_index root.lower i + duration p i)
-
--- what job i uses of resource k at time t wherever it starts: its request at its core times
-unfoldable pub core_use : Project → Bounds → ℕ → ℕ → ℕ → ℕ
-core_use p root k t i = if is_core_time p root t i then request p i k else 0
-
--- what all jobs together use of resource k at time t wherever they start
-abbrev pub core_usage : Project → Bounds → ℕ → ℕ → ℕ
-core_usage p root k t = sum_below (length p.jobs) (core_use p root k t)
 
 -- so many units of resource k are at or above the requests of the jobs that run for some time
 abbrev pub IsAtRequests : Project → ℕ → ℕ → Type 0

@@ -7,7 +7,8 @@ use Rattle.racp_model.specs.Plan.{IsLeast, IsEnough}
 use Rattle.racp_model.specs.Window.{Bounds, LiesIn, IsRootWindow}
 use Rattle.racp_prices.specs.Units.{AreMostUnits}
 use Rattle.racp_candidates.specs.Box.{IsInBox}
-use Rattle.racp_bounds.specs.Floors.{IsCoreTime, energy, AreFloors, AreRoofs}
+use Rattle.racp_model.specs.Core.{IsCoreTime}
+use Rattle.racp_bounds.specs.Floors.{energy, AreFloors, AreRoofs}
 use Rattle.racp_bounds.specs.Sharp.{AreSharpened, AreRefutedPairs, AreSharpenedBefore}
 
 -- over all times before the deadline, starts that end by it use the energy

@@ -2,7 +2,8 @@ ghost use Rattle.std.specs.Prelude.{◌≡◌, ◌<◌, ◌≤◌, IfOk, length}
 ghost use Rattle.racp_model.specs.Project.{IsSound};
 ghost use Rattle.racp_model.specs.Schedule.{EndsBy};
 ghost use Rattle.racp_model.specs.Plan.{IsLeast};
-ghost use Rattle.racp_bounds.specs.Floors.{energy, core_use, core_usage, IsAtRequests, IsAtEnergy, IsAtCore, IsFloor, AreFloors};
+ghost use Rattle.racp_model.specs.Core.{core_use, core_usage};
+ghost use Rattle.racp_bounds.specs.Floors.{energy, IsAtRequests, IsAtEnergy, IsAtCore, IsFloor, AreFloors};
 
 use racp_model::{Capacities, Network, Window};
 use std::alloc::{AllocError, Global};
@@ -108,7 +109,7 @@ fn greatest_core_usage(net: &Network, root: &Window, k: usize) -> u32
 }
 
 /// What the jobs use of a resource at a time wherever they start in their windows.
-#[tactic(auto, using(crate::proofs::Sums::sums))]
+#[tactic(auto, using(racp_model::proofs::lemmas::CoreTimes::core_uses))]
 fn core_usage_at(net: &Network, root: &Window, k: usize, time: u32) -> u32
     requires resource { k < net.now.resources }
     requires lower { length root.now.lower ≡ length net.now.jobs }
@@ -123,7 +124,7 @@ fn core_usage_at(net: &Network, root: &Window, k: usize, time: u32) -> u32
 }
 
 /// What one job uses of a resource at a time wherever it starts in its window.
-#[tactic(auto, unfolding(crate::specs::Floors::core_use))]
+#[tactic(auto, unfolding(racp_model::specs::Core::core_use))]
 fn core_use_at(net: &Network, root: &Window, k: usize, time: u32, i: usize) -> u32
     requires resource { k < net.now.resources }
     requires job { i < length net.now.jobs }

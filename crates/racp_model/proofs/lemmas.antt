@@ -1,9 +1,11 @@
 -- Lemmas on the definitions of this crate, which the crates above may cite too. What else stands in proofs/ is about the
 -- code of this crate.
 pub mod Lists
+pub mod Rows
 pub mod Zeros
 pub mod Sums
 pub mod Usage
+pub mod CoreTimes
 pub mod Parts
 pub mod Latest
 pub mod Arcs

@@ -5,6 +5,7 @@ pub mod Path
 pub mod Terms
 pub mod Plan
 pub mod Window
+pub mod Core
 pub mod Formed
 pub mod Made
 pub mod Steps

@@ -1,4 +1,4 @@
-//! Tests of networks, early and late starts, conflicts and bounds, over their public functions.
+//! Tests of networks, early and late starts, tightened windows, conflicts and bounds, over their public functions.
 #![tactic(auto)]
 
 #[cfg(test)]
@@ -13,3 +13,5 @@ mod paths;
 mod profiles;
 #[cfg(test)]
 mod samples;
+#[cfg(test)]
+mod timetables;

@@ -1,39 +1,23 @@
 -- Capacities that admit are at or above each lower bound, and so at or above the floors; cut to the roofs they still admit.
-use Rattle.std.proofs.Common.{ℕ, ◌+◌, ◌<◌, ◌≤◌, inl, inr, List, length, slice_index, arith}
+use Rattle.std.proofs.Common.{ℕ, ◌<◌, ◌≤◌, inl, inr, List, length, slice_index, arith}
 use Rattle.std.proofs.lemmas.Bool.{cases_lt}
 use Rattle.racp_model.specs.Project.{Project, duration, request}
 use Rattle.racp_model.specs.Schedule.{IsActive, EndsBy, FitsInTime, Admits, use_of, usage}
 use Rattle.racp_model.specs.Window.{Bounds, LiesIn, IsRootWindow}
 use Rattle.racp_model.proofs.lemmas.Sums.{sum_below-mono, sum_below-bound, sum_below-term}
-use Rattle.racp_model.proofs.lemmas.Parts.{on_cases, part-on, part-off}
 use Rattle.racp_model.proofs.lemmas.Usage.{use_of-active, usage-roof}
+use Rattle.racp_model.proofs.lemmas.CoreTimes.{active_at_core, core_use-use}
 use Rattle.racp_model.proofs.lemmas.Cuts.{cut_admitting}
 use Rattle.racp_cpm.proofs.lemmas.Roots.{root_in_time}
-use Rattle.racp_bounds.specs.Floors.{core_use, energy, IsAtBounds, IsFloor, AreRoofs}
+use Rattle.racp_model.specs.Core.{core_use}
+use Rattle.racp_bounds.specs.Floors.{energy, IsAtBounds, IsFloor, AreRoofs}
 use Rattle.racp_bounds.specs.Laws.{CoreIsActive, AdmittingIsAboveFloors, CutToRoofsAdmits, FloorsAreBelowRoofs}
-use Rattle.racp_bounds.proofs.Cores.{core_use-part}
 use Rattle.racp_bounds.proofs.Energy.{div_ceil-le}
 use Rattle.racp_bounds.proofs.Used.{energy_used}
 
 -- at its core times a job is active in all starts in the window
 pub core_active : CoreIsActive
-core_active p root starts t i lies l core = record {
-  started = omega (arith, lies.below i l, core.started);
-  runs = omega (arith, lies.above i l, core.runs);
-}
-
--- so in all starts in the window it uses at least its core use
-pub core_use-use : (p : Project) (root : Bounds) (starts : List ℕ) (k t i : ℕ) → LiesIn p root starts → i < length p.jobs → core_use p root k t i ≤ use_of p starts k t i
-core_use-use p root starts k t i lies l = elim (on_cases (slice_index root.upper) (λ i. slice_index root.lower i + duration p i) (λ i. request p i k) t i) [
-  | inl on ↦
-      omega (
-        arith,
-        core_use-part p root k t i,
-        part-on (slice_index root.upper) (λ i. slice_index root.lower i + duration p i) (λ i. request p i k) t i on,
-        use_of-active p starts k t i (core_active p root starts t i lies l (record { started = on.0; runs = on.1 })),
-      )
-  | inr off ↦ omega (arith, core_use-part p root k t i, part-off (slice_index root.upper) (λ i. slice_index root.lower i + duration p i) (λ i. request p i k) t i off)
-]
+core_active = active_at_core
 
 -- a job that runs for some time uses its request at its start
 pub request-used : (p : Project) (starts : List ℕ) (k i : ℕ) → i < length p.jobs → 0 < duration p i → request p i k ≤ usage p starts k (slice_index starts i)

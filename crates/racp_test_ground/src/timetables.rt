@@ -1,0 +1,156 @@
+//! Windows that are tightened by core usage, with bounds worked out by hand.
+
+use crate::samples::{Sample, sampled};
+use racp_model::{Network, Question};
+use racp_samples::{SampleFault, question};
+use racp_timetable::{Tightened, tighten};
+use std::alloc::Global;
+use std::test::Fail;
+
+/// Lower bounds, and upper bounds.
+type Bounds<'a> = (&'a [u32], &'a [u32]);
+
+/// In words, a network with capacities, a window and a time from which core usages are looked at; and the tightened
+/// window, or that nothing in it answers.
+const WINDOWS: [(&str, Sample, &[u32], Bounds, u32, Option<Bounds>); 13] = [
+    (
+        "a job waits until a core usage is over",
+        Sample::Chained,
+        &[2],
+        (&[0, 0, 0, 1, 4, 8], &[0, 4, 0, 1, 4, 8]),
+        0,
+        Some((&[0, 4, 0, 1, 4, 8], &[0, 4, 0, 1, 4, 8])),
+    ),
+    (
+        "the core usage before a time is not looked at",
+        Sample::Chained,
+        &[2],
+        (&[0, 0, 0, 1, 4, 8], &[0, 4, 0, 1, 4, 8]),
+        5,
+        Some((&[0, 0, 0, 1, 4, 8], &[0, 4, 0, 1, 4, 8])),
+    ),
+    (
+        "enough units",
+        Sample::Chained,
+        &[3],
+        (&[0, 0, 0, 1, 4, 8], &[0, 4, 0, 1, 4, 8]),
+        0,
+        Some((&[0, 0, 0, 1, 4, 8], &[0, 4, 0, 1, 4, 8])),
+    ),
+    (
+        "the core usage itself exceeds the capacity",
+        Sample::Chained,
+        &[1],
+        (&[0, 0, 0, 1, 4, 8], &[0, 4, 0, 1, 4, 8]),
+        0,
+        None,
+    ),
+    (
+        "both bounds follow along precedence",
+        Sample::Chained,
+        &[9],
+        (&[0, 0, 0, 0, 0, 0], &[9, 9, 9, 9, 9, 9]),
+        0,
+        Some((&[0, 0, 0, 1, 4, 8], &[1, 5, 1, 2, 5, 9])),
+    ),
+    (
+        "along precedence nothing is left",
+        Sample::Chained,
+        &[9],
+        (&[0, 0, 1, 0, 0, 0], &[9, 9, 9, 1, 9, 9]),
+        0,
+        None,
+    ),
+    (
+        "a job ends before a core usage",
+        Sample::Free(1, &[(2, &[1]), (2, &[1])]),
+        &[1],
+        (&[3, 0], &[3, 3]),
+        0,
+        Some((&[3, 0], &[3, 1])),
+    ),
+    (
+        "a job has no room before, between and behind two core usages",
+        Sample::Free(1, &[(2, &[1]), (2, &[1]), (3, &[1])]),
+        &[1],
+        (&[2, 5, 0], &[2, 5, 6]),
+        0,
+        None,
+    ),
+    (
+        "a bound that moves makes core times, which move another",
+        Sample::Free(1, &[(2, &[1]), (3, &[1]), (2, &[1])]),
+        &[1],
+        (&[0, 0, 2], &[0, 3, 9]),
+        0,
+        Some((&[0, 2, 5], &[0, 3, 9])),
+    ),
+    (
+        "only the second resource has no room",
+        Sample::Free(2, &[(2, &[1, 2]), (2, &[1, 1])]),
+        &[2, 2],
+        (&[0, 0], &[0, 9]),
+        0,
+        Some((&[0, 2], &[0, 9])),
+    ),
+    (
+        "a job of duration 0 never runs",
+        Sample::Free(1, &[(2, &[1]), (0, &[1])]),
+        &[1],
+        (&[3, 0], &[3, 4]),
+        0,
+        Some((&[3, 0], &[3, 4])),
+    ),
+    (
+        "a job does not stand in its own way",
+        Sample::Free(1, &[(4, &[1])]),
+        &[1],
+        (&[0], &[2]),
+        0,
+        Some((&[0], &[2])),
+    ),
+    (
+        "far times",
+        Sample::Free(1, &[(10_000, &[1]), (10_000, &[1])]),
+        &[1],
+        (&[9_990_000, 9_985_000], &[9_990_000, 10_000_000]),
+        9_000_000,
+        Some((&[9_990_000, 10_000_000], &[9_990_000, 10_000_000])),
+    ),
+];
+
+/// Whether what was told of a window is this.
+fn is_told(told: &Tightened, expected: Option<Bounds>) -> bool {
+    match told {
+        Tightened::No(_) => expected.is_none(),
+        Tightened::Open(window) => match expected {
+            Some((lower, upper)) => window.lower() == lower && window.upper() == upper,
+            None => false,
+        },
+    }
+}
+
+/// Whether a window is tightened to this one.
+fn is_tightened(
+    alloc: Global,
+    net: &Network,
+    capacities: &[u32],
+    (lower, upper): Bounds,
+    from: u32,
+    expected: Option<Bounds>,
+) -> Result<bool, SampleFault> {
+    let Question { capacities, window } = question(alloc, net, capacities, lower, upper)?;
+    let mut times = Vec::new(alloc);
+    let told = tighten(net, &capacities, window, from, &mut times)?;
+    Ok(is_told(&told, expected))
+}
+
+#[test]
+fn tightens_windows(rt: HostRuntime) -> Result<(), Fail> {
+    for (name, sample, capacities, bounds, from, expected) in WINDOWS {
+        let net = sampled(rt.alloc(), sample)?;
+        let tightened = is_tightened(rt.alloc(), &net, capacities, bounds, from, expected)?;
+        assert!(rt; tightened, "{name}");
+    }
+    Ok(())
+}

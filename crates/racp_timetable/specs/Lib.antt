@@ -1,0 +1,4 @@
+pub mod Narrowing
+pub mod Moving
+pub mod Cores
+pub mod Laws
