@@ -1,35 +1,41 @@
-//! The first capacities that are enough, by boxes of vectors below a known one.
+//! The first capacities that are enough, by halves of a box of vectors below a known one.
 //!
 //! Resources stand by place, from 0. Units are whole numbers.
 //!
-//! Asking the vectors of a box one by one, in the order of their costs, asks a question for each vector that costs less
-//! than the plan. Two facts save most of these questions. A vector with which nothing fits refutes each vector that is
-//! at most it, resource by resource. And starts that were found for a vector use at most their peaks, which may cost
-//! much less: from then on only vectors that stand before these peaks are of interest.
+//! Whoever asks the vectors of a box one by one, in the order of their costs, asks a question for each vector that
+//! stands before the plan's. Two facts save most of these questions. A vector with which nothing fits refutes each
+//! vector that is at most it, resource by resource. And starts that were found for a vector use at most their peaks,
+//! which may cost much less: from then on only what stands before these peaks is of interest.
 //!
-//! So `first_enough` keeps the best vector that is known to be enough, at first the roofs, and searches a box of
-//! vectors, from a low to a high one:
+//! So `first_enough(alloc, &net, &order, &root, &floors, &roofs, asker)` keeps the best vector that is known to be enough,
+//! at first the roofs, and searches the box from the floors to the roofs by halves:
+//!
+//! 1. Each high number is lowered to the most units of a vector of the box that stands before the best one. Where not
+//!    even the low vector does, the box has nothing to offer.
+//! 2. The high vector is asked for. Where nothing fits, nothing in the box does. Where starts are found, their peaks may
+//!    be the best vector from then on.
+//! 3. Where the box has more vectors than one, it is halved along the resource whose width costs most; the half with
+//!    fewer units is searched, and then the other one.
+//!
+//! With the prices 3 and 2, the floors 0 0 and the roofs 2 3, where 1 2 is enough and 1 1, 0 3 and 2 0 are not:
 //!
 //! ```text
-//! lower each high number to the most units with which the box has something to offer; if not even the low vector
-//!     stands before the best, there is nothing in the box
-//! ask for the high vector: where nothing fits, there is nothing in the box
-//! where the box has one vector, that was it; else halve it along the resource whose width costs most, and search the
-//!     half with fewer units, and then the other one
+//! box            best   high vector after 1    asked
+//! 0 0 to 2 3     2 3    2 3                    no, since it is the best one itself
+//! 0 0 to 1 3     2 3    1 3                    yes, with the peaks 1 2
+//! 0 0 to 1 1     1 2    1 1                    no, so there is nothing in the box
+//! 0 2 to 1 3     1 2    0 3                    no
+//! 2 0 to 2 3     1 2    2 0                    no
 //! ```
 //!
-//! With the prices 3 and 2, floors 0 0 and roofs 2 3, where 1 2 and all above it are enough, the vector 2 3 is the best
-//! at first, and costs 12. The high vector is cut to 2 2, and starts are found with the peaks 1 2, which cost 7. Of
-//! what stands before that, 2 3 is the high vector again, but at most 2 units of the first resource and none of the
-//! second, or 3 of the second and none of the first, so halves without the other resource are refuted by one question.
+//! So four questions are asked for the first of twelve vectors, where asking in order takes eight. A vector that is at
+//! most a refuted one is not asked for. A question about a box of more than one vector ends after 64,000 nodes: where
+//! that is not enough, nothing is learnt, and the halves are searched. Demeulemeester (1995), too, searches capacities by
+//! scheduling problems with given ones, from vectors that are not enough on to dearer ones.
 //!
-//! A question for a box of more than one vector ends after 64,000 nodes at the latest; what is then not known is asked
-//! of the halves. Halving a resource over and over goes back to the binary search over one resource; Demeulemeester
-//! (1995) asks for minimal vectors that cost ever more.
-//!
-//! Proved: the answer is the first vector, by cost and then lexicographically, of all that are within the roofs and
-//! with which some starts in the window fit; whatever the asker tells of questions that it did not search to the end.
-//! Not proved: how many questions that takes.
+//! Proved: the answer is the first, by cost and then lexicographically, of all vectors within the roofs with which some
+//! starts in the window fit, whatever is not known of questions that ended early. Not proved: how many questions are
+//! asked.
 #![tactic(auto)]
 
 mod cut;

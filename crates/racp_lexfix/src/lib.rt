@@ -24,6 +24,9 @@
 //! cut, it lies in the box, and it does not stand later than before. Why the starts are least: whatever answers in the
 //! root window lies in the window so far, or is greater at some job that is fixed and equal before it.
 //!
+//! Where stage 4 has more than 64 vectors, they are not asked in order: the box is searched by halves (racp_boxes), and
+//! the vector that this leads to is asked for once more, so that its records serve the starts.
+//!
 //! Each stage asks through `Asker`, so the same planner runs over one thread or more. `Alone` is an asker on the
 //! calling thread, over a collector of one seat: it asks a question, takes its one piece, searches that to its end and
 //! hands it in. Records of a question that was a yes serve those after it; those of a no are forgotten. The vector of

@@ -15,7 +15,7 @@ use std::process::Abort;
 use std::test::Fail;
 
 /// Whether the capacities are a yes of the window.
-fn is_yes(
+pub(crate) fn is_yes(
     alloc: Global,
     net: &Network,
     capacities: &Capacities,
