@@ -6,6 +6,7 @@ mod Weights
 mod Popping
 mod Frames
 mod Going
+mod Tightening
 mod Entering
 mod Leaving
 mod Resting
