@@ -7,6 +7,7 @@ mod Popping
 mod Frames
 mod Going
 mod Freeing
+mod Tightening
 mod Entering
 mod Leaving
 mod Resting

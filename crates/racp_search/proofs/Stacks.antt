@@ -105,7 +105,7 @@ module _ (p : Project) (capacities : List ℕ) (whole : Bounds) where
   }
 
   -- what covers the one part covers each of the list
-  one : (w : Bounds) (new : List Part) → PartsCover p capacities (all_of w) new → (v : Part) → Contains (all_of w ∷ []) v → PartsCover p capacities v new
+  pub one : (w : Bounds) (new : List Part) → PartsCover p capacities (all_of w) new → (v : Part) → Contains (all_of w ∷ []) v → PartsCover p capacities v new
   one w new h v c = elim (member_cases (all_of w) [] v c) [
     | inl same ↦ subst (λ (x : Part). PartsCover p capacities x new) same h
     | inr none ↦ absurd (no_member v none)

@@ -12,6 +12,7 @@ use crate::subject::Subject;
 use crate::workspace::Workspace;
 use racp_cutset::{Local, Nogood};
 use racp_model::{OfNetwork, Starts, Window};
+use racp_timetable::{Tightened, tighten};
 use std::alloc::{AllocError, Global};
 
 /// Searches the question's window by depth, until starts are found, nothing is left, as many nodes were entered as the
@@ -104,9 +105,33 @@ impl<N: OfNetwork> Stack<N> {
         }
     }
 
-    /// Enters the node of a window: answers the early starts where they answer, and takes up a frame where they have a
-    /// conflict.
+    /// Enters a window: tightens it, and looks into what is left of it.
     fn enter(
+        &mut self,
+        subject: &Subject<N>,
+        window: Window,
+        from: u32,
+        local: &mut Local<N>,
+    ) -> Result<Option<Starts>, AllocError>
+        requires { IsSearchingNext N.network subject.now.capacities subject.now.window
+            self.old.frames.items window from }
+        ensures entered { IfOk result (IsEntered N.network subject.now.capacities subject.now.window
+            self.old.frames.items window self.new.frames.items) }
+        ensures kept { local.new ≡ local.old }
+    {
+        let (net, capacities) = (subject.network(), subject.capacities());
+        match tighten(net, capacities, window, from, &mut self.workspace.times)? {
+            Tightened::Open(window) => self.look_into(subject, window, from, local),
+            Tightened::No(window) => {
+                self.workspace.spare.give_window(window);
+                Ok(None)
+            }
+        }
+    }
+
+    /// Looks into the node of a window: answers the early starts where they answer, and takes up a frame where they
+    /// have a conflict.
+    fn look_into(
         &mut self,
         subject: &Subject<N>,
         window: Window,

@@ -3,18 +3,21 @@
 //!
 //! Jobs and resources are numbered from 1; their places in lists count from 0. Times are whole time units.
 //!
-//! A node is a window with its early starts. Where one of these exceeds its upper bound, or a record covers the node,
-//! nothing in the window answers. Where they keep the capacities, they answer. Else there is a first conflict, and for
-//! each minimal delaying alternative, other than all active jobs, a child window is searched. The six jobs of
-//! examples/c.sm, with 2 units in the root window of the deadline 8, in which job 2 may start from 0 to 4 and all
-//! others have one start:
+//! Each window is tightened by core usage before it is looked into. A node is a window with its early starts. Where one
+//! of these exceeds its upper bound, or a record covers the node, nothing in the window answers. Where they keep the
+//! capacities, they answer. Else there is a first conflict, and for each minimal delaying alternative, other than all
+//! active jobs, a child window is searched. The five jobs of examples/a.sm, with 2 units in the root window of the
+//! deadline 5, in which job 2 may start from 0 to 2, and jobs 3 and 4 from 0 to 3:
 //!
 //! ```text
-//! window                early starts          what is found
-//! root                  0, 0, 0, 1, 4, 8      at time 1 the jobs 2 and 4 need 3 units
-//!   job 4 from 4 on     0, 0, 0, 4, 7, 11     4 is above the upper bound of job 4: a no
-//!   job 2 from 4 on     0, 4, 0, 1, 4, 8      they fit: the answer
+//! window                  early starts       what is found
+//! root                    0, 0, 0, 0, 3      at time 0 the jobs 2, 3 and 4 need 4 units
+//!   jobs 3, 4 from 3 on   0, 0, 3, 3, 5      they fit: the answer
+//!   job 2 from 2 on       0, 2, 0, 0, 5      jobs 3 and 4 have to end by 2, and so they do: one more
 //! ```
+//!
+//! The window of a node, of its record and of its child windows is the tightened one. No answer is lost by that, so where
+//! it is refuted, so is the window that it was made of.
 //!
 //! `decide(alloc, &net, &question)` answers a question whole. `explore` searches a `Piece`, the part of a question in a
 //! window, and tells a `Finding`: starts that answer, or the windows in which is still to be looked. A quantum bounds

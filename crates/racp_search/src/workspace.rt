@@ -8,13 +8,14 @@ use racp_delay::{Alternative, DelayingAlternatives};
 use racp_model::{OfNetwork, Starts, Window};
 use std::alloc::{AllocError, Global};
 
-/// The memory of a search: of the alternative that was looked at last, of those that were listed last, and of what is
-/// not in use.
+/// The memory of a search: of the alternative that was looked at last, of those that were listed last, of what is not
+/// in use, and of the times at which core usages are looked at.
 #[derive(Drop)]
 pub(crate) struct Workspace {
     pub(crate) next: Alternative,
     pub(crate) all: DelayingAlternatives,
     pub(crate) spare: Spare,
+    pub(crate) times: Vec<u32>,
 }
 
 impl Workspace {
@@ -23,6 +24,7 @@ impl Workspace {
         Workspace {
             next: Alternative::new(alloc),
             all: DelayingAlternatives::new(alloc),
+            times: Vec::new(alloc),
             spare: Spare {
                 alloc,
                 rows: Vec::new(alloc),
