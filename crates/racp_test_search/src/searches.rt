@@ -216,7 +216,9 @@ fn count_answers(
         let part = (window.lower(), window.upper());
         let next = searched(alloc, net, &[2], part, End::Nodes(u64::MAX))?;
         let other = match &next.found {
-            Some(starts) => ANSWERS.iter().all(|answer| starts.as_slice() != answer.as_slice()),
+            Some(starts) => ANSWERS
+                .iter()
+                .all(|answer| starts.as_slice() != answer.as_slice()),
             None => false,
         };
         if other || part.0 <= lower {

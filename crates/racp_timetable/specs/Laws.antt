@@ -5,8 +5,8 @@ use Rattle.racp_model.specs.Schedule.{IsActive}
 use Rattle.racp_model.specs.Window.{Bounds, Answers}
 use Rattle.racp_model.specs.Core.{IsCoreTime, core_usage}
 
--- where the core usage of a resource at a time and the request of a job exceed the capacity, and it is no core time of the
--- job, then the job is not active at that time in any answer
+-- where the core usage of a resource at a time and the request of a job exceed the capacity, and it is no core time of
+-- the job, then the job is not active at that time in any answer
 abbrev pub CoreLeavesNoRoom : Type 0
 CoreLeavesNoRoom =
     (p : Project) (capacities : List ℕ) (window : Bounds) (starts : List ℕ) (k t i : ℕ) →

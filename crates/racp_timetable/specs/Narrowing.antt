@@ -12,8 +12,8 @@ abbrev pub IsAboveBefore : Project → Bounds → ℕ → List ℕ → Type 0
 IsAboveBefore p window from starts =
     (i : ℕ) → i < length p.jobs → slice_index window.lower i < from → slice_index window.lower i ≤ slice_index starts i
 
--- a window that is narrowed to another, from a time on: that one has bounds for each job and is inside it, and each answer
--- in the window lies in it. Lower bounds that are still before the time have moved along precedence alone
+-- a window that is narrowed to another, from a time on: that one has bounds for each job and is inside it, and each
+-- answer in the window lies in it. Lower bounds that are still before the time have moved along precedence alone
 pub record IsNarrowed (p : Project) (capacities : List ℕ) (from : ℕ) (window narrow : Bounds) : Type 0 where
   pub bounds : HasBounds p narrow
   pub inside : IsInside p window narrow

@@ -32,10 +32,10 @@
 //! from call to call; else no memory is taken. The rows of the window are written over and given back.
 //!
 //! Proved: the tightened window is inside the window, and each start vector in the window that keeps precedence and the
-//! capacities lies in it; where `tighten` answers `No`, there is none. Starts that keep precedence and are at or above the
-//! lower bounds before `from` are so in the tightened window too. In `laws`: a job does not run at a time at which
-//! the core usage leaves no room for it, unless it is one of its core times. Tested alone: how far bounds move, and that
-//! memory is not refused without need.
+//! capacities lies in it; where `tighten` answers `No`, there is none. Starts that keep precedence and are at or above
+//! the lower bounds before `from` are so in the tightened window too. In `laws`: a job does not run at a time at which
+//! the core usage leaves no room for it, unless it is one of its core times. Tested alone: how far bounds move, and
+//! that memory is not refused without need.
 #![tactic(auto)]
 
 mod core_times;
