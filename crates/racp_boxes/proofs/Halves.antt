@@ -126,6 +126,7 @@ module _ (p : Project) (terms : Terms) (window : Bounds) (roofs : List ℕ) (spa
         where
           more_at : (q : ℕ) → q ≡ k → are.middle < slice_index vector k → are.middle < slice_index vector q
           more_at q e m = rw e m
+
           less_at : (q : ℕ) → q ≡ k → slice_index vector k ≤ are.middle → slice_index vector q ≤ are.middle
           less_at q e m = rw e m
 

@@ -116,7 +116,17 @@ fn halves<A: Asker>(
         return Ok(None);
     };
     let lane = widest(order, &low, &high);
-    let told = ask(alloc, net, order, root, roofs, known, &high, most_nodes(lane), asker)?;
+    let told = ask(
+        alloc,
+        net,
+        order,
+        root,
+        roofs,
+        known,
+        &high,
+        most_nodes(lane),
+        asker,
+    )?;
     if told.is_refuted() {
         return Ok(None);
     }
