@@ -1,13 +1,13 @@
 -- Where an alternative was put off, each of its jobs alone was put off behind the first end of all others.
-use Rattle.std.proofs.Common.{◌≡◌, ◌≢◌, ℕ, ◌+◌, ◌<◌, ◌≤◌, inl, inr, List, [], ◌∷◌, length, slice_index, arith, refl, ap, sym, subst, Contains, max}
+use Rattle.std.proofs.Common.{◌≡◌, ℕ, ◌≤◌, inl, inr, List, [], ◌∷◌, slice_index, arith, refl, ap, sym, subst, Contains}
 use Rattle.racp_model.specs.Project.{Project, number}
 use Rattle.racp_model.specs.Window.{Bounds, LiesIn}
 use Rattle.racp_model.proofs.lemmas.Relations.{member_cases, member_first, member_later, no_member}
-use Rattle.racp_delay.specs.Alternatives.{place, Splits}
+use Rattle.racp_delay.specs.Alternatives.{Splits}
 use Rattle.racp_delay.specs.Alternatives.Splits.{none, goes, stays}
-use Rattle.racp_delay.specs.Branching.{IsChild, IsFirstEnd, IsConflict, end_of}
+use Rattle.racp_delay.specs.Branching.{IsConflict, end_of}
 use Rattle.racp_delay.specs.Laws.{EachJobAloneCovers, LiesInSomeChild, LiesWhereOneGoes}
-use Rattle.racp_delay.proofs.Splitting.{splits-none, all_stay, stays_not_empty}
+use Rattle.racp_delay.proofs.Splitting.{splits-none}
 use Rattle.racp_delay.proofs.Subsets.{gone_in, kept_in}
 use Rattle.racp_delay.proofs.Each.{is_member}
 use Rattle.racp_delay.proofs.Children.{has_child}

@@ -20,6 +20,7 @@ mod ActiveSets
 mod Subsets
 mod Freed
 mod Children
+mod Chosen
 mod Ending
 mod Alone
 mod Raising

@@ -1,9 +1,11 @@
 -- Contracts of private functions: those that search for minimal delaying alternatives. Of the active jobs some are
 -- chosen to go, some are kept, of which only the loads are known, and the others are undecided.
-use Rattle.std.specs.Prelude.{◌≡◌, ◌⊎◌, ℕ, ◌+◌, ◌<◌, ◌≤◌, Bool, MatchBool, List, [], ◌∷◌, ◌++◌, length, slice_index, Contains, AllPairs, min, Option, Some, None}
-use Rattle.racp_model.specs.Project.{Project, request}
+use Rattle.std.specs.Prelude.{◌≡◌, ◌⊎◌, ℕ, ◌+◌, ◌<◌, ◌≤◌, Bool, MatchBool, List, [], ◌∷◌, ◌++◌, length, slice_index, All, Contains, AllPairs, min, Option, Some, None}
+use Rattle.std.specs.List.Sorted.{IsStrictlyIncreasing}
+use Rattle.racp_model.specs.Project.{Project, request, IsNumber}
 use Rattle.racp_model.specs.Terms.{IsLexBefore}
 use Rattle.racp_delay.specs.Alternatives.{place, Splits, load}
+use Rattle.racp_delay.specs.declared.choosing.Choice.{Choice}
 use Rattle.racp_model.specs.Limits.{most_load}
 
 -- loads that fit the capacities
@@ -33,6 +35,40 @@ Each P (job ∷ jobs) = P job × Each P jobs
 -- the loads of the kept, and of the jobs that stay beside them
 abbrev pub with_load : Project → (ℕ → ℕ) → List ℕ → ℕ → ℕ
 with_load p kept stay k = kept k + load p k stay
+
+-- the undecided are numbers of jobs, rising, and what is left is what the kept and the undecided request together of
+-- each resource, which is small
+pub record IsChoice (c : Choice) : Type 0 where
+  pub units : length c.capacities.now ≡ c.net.now.resources
+  pub jobs : All (IsNumber (length c.net.now.jobs)) c.undecided.now
+  pub rises : IsStrictlyIncreasing c.undecided.now
+  pub sums : (k : ℕ) → k < c.net.now.resources →
+      slice_index c.left k ≡ with_load c.net.now (slice_index c.kept) c.undecided.now k
+  pub small : (k : ℕ) → k < c.net.now.resources → slice_index c.left k ≤ most_load
+
+-- a choice in the same project among others than before
+pub record IsAmong (c : Choice) (others : List ℕ) (new : Choice) : Type 0 where
+  pub choice : IsChoice new
+  pub net : new.net.now ≡ c.net.now
+  pub capacities : new.capacities.now ≡ c.capacities.now
+  pub undecided : new.undecided.now ≡ others
+
+-- where a job goes: the same are kept
+pub record IsWhereGoes (c : Choice) (others : List ℕ) (new : Choice) : Type 0 where
+  pub among : IsAmong c others new
+  pub kept : new.kept ≡ c.kept
+
+-- where a job stays: it is kept too, and as much is left
+pub record IsWhereStays (c : Choice) (job : ℕ) (others : List ℕ) (new : Choice) : Type 0 where
+  pub among : IsAmong c others new
+  pub kept : (k : ℕ) → k < c.net.now.resources →
+      slice_index new.kept k ≡ slice_index c.kept k + request c.net.now (place job) k
+  pub left : new.left ≡ c.left
+
+-- a job cannot run with the kept
+abbrev pub CannotStay : Choice → ℕ → Type 0
+CannotStay c job =
+    AreWithin c.net.now c.capacities.now (λ k. slice_index c.kept k + request c.net.now (place job) k) → ⊥
 
 -- those that stay can run with the kept, and none that goes could stay with them
 pub record IsTight (p : Project) (capacities : List ℕ) (kept : ℕ → ℕ) (gone stay : List ℕ) : Type 0 where

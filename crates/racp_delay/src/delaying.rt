@@ -1,28 +1,23 @@
-ghost use Rattle.std.specs.Prelude.{◌≡◌, ◌↔◌, ℕ, ◌+◌, ◌*◌, ◌<◌, ◌≤◌, IsTrue, [], IfOk, OnOk, All, List, length, slice_index, vec_len};
-ghost use Rattle.std.specs.List.Sorted.{IsStrictlyIncreasing};
-ghost use Rattle.racp_model.specs.Project.{request, IsNumber, IsSound};
+ghost use Rattle.std.specs.Prelude.{◌≡◌, ◌↔◌, ℕ, ◌<◌, ◌≤◌, IsTrue, [], IfOk, OnOk, All, List, length, slice_index};
+ghost use Rattle.racp_model.specs.Project.{IsNumber};
 ghost use Rattle.racp_delay.specs.Alternatives.{place, AreAlternatives, Splits, job_lists};
-ghost use Rattle.racp_delay.specs.Found.{AreWithin, HasRoom, SomeHaveRoom, with_load, AreAdded, AreLoads, IsEarlier};
+ghost use Rattle.racp_delay.specs.Found.{AreWithin, HasRoom, SomeHaveRoom, AreAdded, IsChoice, AreLoads, IsEarlier};
 ghost use Rattle.racp_model.specs.Limits.{most_load};
 ghost use Rattle.racp_delay.specs.Branching.{IsFirstEndAnswer};
 ghost use Rattle.racp_delay.specs.JobSets.{AreJobs};
 
+use crate::choosing::Choice;
 use crate::conflicts::Clash;
 use crate::job_set::JobSet;
-use crate::loads::{Loads, with, without};
+use crate::loads::{Loads, are_within, with};
 use racp_model::limits::MOST_RESOURCES;
 use racp_model::{Capacities, Network, Starts};
 use smallvec::SmallVec;
 use std::alloc::{AllocError, Global};
 use std::marker::Model;
 
-/// Whether the loads fit the capacities.
-pub(crate) fn are_within(net: &Network, capacities: &[u32], loads: &Loads) -> bool
-    requires capacities { length capacities.now ≡ net.now.resources }
-    ensures { IsTrue result ↔ AreWithin net.now capacities.now (slice_index loads.now) }
-{
-    (0..net.resource_count()).all(|k| loads[k] <= capacities[k])
-}
+/// Jobs that go, by their numbers.
+type JobList = SmallVec<u32, 8>;
 
 /// Whether one job more has room beside these loads, of each resource that it requests.
 fn has_room(net: &Network, capacities: &[u32], loads: &Loads, job: u32) -> bool
@@ -51,39 +46,27 @@ pub(crate) fn some_have_room(net: &Network, capacities: &[u32], loads: &Loads, j
         .any(|job| has_room(net, capacities, loads, *job))
 }
 
-/// Adds, in lexicographic order, the alternatives in which the jobs of `gone` go and those that load `kept` stay, where
-/// the jobs of `undecided` may go or stay. `left` are the loads of the kept and the undecided together. Nothing is
-/// looked for where one of the gone has room beside all the others: it could then stay with any of them that run.
+/// Adds, in lexicographic order, the alternatives in which the jobs of `gone` go, and of the undecided those that have
+/// to. Nothing is looked for where one of the gone has room beside all the others: it could then stay with any of them
+/// that run.
 #[cycle(adding)]
-fn add(
-    net: &Network,
-    capacities: &[u32],
-    kept: &Loads,
-    left: &Loads,
-    gone: &mut Vec<u32>,
-    undecided: &[u32],
-    lists: &mut Vec<SmallVec<u32, 8>>,
-) -> Result<(), AllocError>
-    requires capacities { length capacities.now ≡ net.now.resources }
-    requires gone { All (IsNumber (length net.now.jobs)) gone.old.items }
-    requires undecided { All (IsNumber (length net.now.jobs)) undecided.now }
-    requires rises { IsStrictlyIncreasing undecided.now }
-    requires left { (k : ℕ) → k < net.now.resources →
-        slice_index left.now k ≡ with_load net.now (slice_index kept.now) undecided.now k }
-    requires small { (k : ℕ) → k < net.now.resources → slice_index left.now k ≤ most_load }
+fn add(choice: &Choice, gone: &mut Vec<u32>, lists: &mut Vec<JobList>) -> Result<(), AllocError>
+    requires choice { IsChoice choice.now }
+    requires gone { All (IsNumber (length choice.now.net.now.jobs)) gone.old.items }
     ensures gone { IfOk result (λ _. gone.new.items ≡ gone.old.items) }
-    ensures added { IfOk result (λ _. AreAdded net.now capacities.now
-        (slice_index kept.now) gone.old.items undecided.now (job_lists lists.old.items) (job_lists lists.new.items)) }
+    ensures added { IfOk result (λ _. AreAdded choice.now.net.now choice.now.capacities.now
+        (slice_index choice.now.kept) gone.old.items choice.now.undecided.now (job_lists lists.old.items)
+        (job_lists lists.new.items)) }
 {
-    if some_have_room(net, capacities, left, gone) {
+    if some_have_room(choice.net, choice.capacities, &choice.left, gone) {
         return Ok(());
     }
-    if are_within(net, capacities, left) {
+    if are_within(choice.net, choice.capacities, &choice.left) {
         let alternative = SmallVec::from_slice(*lists.allocator(), gone)?;
         lists.push(alternative)?;
         return Ok(());
     }
-    add_branches(net, capacities, kept, left, gone, undecided, lists)
+    add_branches(choice, gone, lists)
 }
 
 /// The same, where the kept and the undecided together exceed the capacities, so that one of the undecided has to go.
@@ -91,38 +74,29 @@ fn add(
 /// whether the others fit; where it stays, whether the kept fit.
 #[cycle(adding)]
 fn add_branches(
-    net: &Network,
-    capacities: &[u32],
-    kept: &Loads,
-    left: &Loads,
+    choice: &Choice,
     gone: &mut Vec<u32>,
-    undecided: &[u32],
-    lists: &mut Vec<SmallVec<u32, 8>>,
+    lists: &mut Vec<JobList>,
 ) -> Result<(), AllocError>
-    requires capacities { length capacities.now ≡ net.now.resources }
-    requires gone { All (IsNumber (length net.now.jobs)) gone.old.items }
-    requires undecided { All (IsNumber (length net.now.jobs)) undecided.now }
-    requires rises { IsStrictlyIncreasing undecided.now }
-    requires left { (k : ℕ) → k < net.now.resources →
-        slice_index left.now k ≡ with_load net.now (slice_index kept.now) undecided.now k }
-    requires small { (k : ℕ) → k < net.now.resources → slice_index left.now k ≤ most_load }
-    requires over { AreWithin net.now capacities.now (slice_index left.now) → ⊥ }
+    requires choice { IsChoice choice.now }
+    requires gone { All (IsNumber (length choice.now.net.now.jobs)) gone.old.items }
+    requires over { AreWithin choice.now.net.now choice.now.capacities.now (slice_index choice.now.left) → ⊥ }
     ensures gone { IfOk result (λ _. gone.new.items ≡ gone.old.items) }
-    ensures added { IfOk result (λ _. AreAdded net.now capacities.now
-        (slice_index kept.now) gone.old.items undecided.now (job_lists lists.old.items) (job_lists lists.new.items)) }
+    ensures added { IfOk result (λ _. AreAdded choice.now.net.now choice.now.capacities.now
+        (slice_index choice.now.kept) gone.old.items choice.now.undecided.now (job_lists lists.old.items)
+        (job_lists lists.new.items)) }
 {
-    let Some((job, others)) = undecided.split_first() else {
+    let Some((job, others)) = choice.undecided.split_first() else {
         return Ok(());
     };
     gone.push(*job)?;
-    let less = without(net, left, *job);
-    add(net, capacities, kept, &less, gone, others, lists)?;
+    let less = choice.where_goes(*job, others);
+    add(&less, gone, lists)?;
     gone.pop();
-    let more = with(net, kept, *job);
-    if !are_within(net, capacities, &more) {
+    let Some(more) = choice.where_stays(*job, others) else {
         return Ok(());
-    }
-    add_branches(net, capacities, &more, left, gone, others, lists)
+    };
+    add_branches(&more, gone, lists)
 }
 
 /// All minimal delaying alternatives of the active jobs of a conflict, each once: the lists of job numbers, from 1 and
@@ -197,16 +171,14 @@ impl DelayingAlternatives {
         self.gone.clear();
         self.lists.clear();
         let loads = load_of(net, &conflict.active, &mut self.active)?;
-        add(
+        let choice = Choice {
             net,
-            capacities.as_slice(),
-            &[0; MOST_RESOURCES],
-            &loads,
-            &mut self.gone,
-            &self.active,
-            &mut self.lists,
-        )?;
-        Ok(())
+            capacities: capacities.as_slice(),
+            kept: [0; MOST_RESOURCES],
+            left: loads,
+            undecided: &self.active,
+        };
+        add(&choice, &mut self.gone, &mut self.lists)
     }
 
     /// The lists of the alternatives.

@@ -1,159 +1,109 @@
-ghost use Rattle.std.specs.Prelude.{◌≡◌, ℕ, ◌<◌, ◌≤◌, [], IfOk, All, length, slice_index};
-ghost use Rattle.std.specs.List.Sorted.{IsStrictlyIncreasing};
+ghost use Rattle.std.specs.Prelude.{◌≡◌, ℕ, [], IfOk, All, length, slice_index};
 ghost use Rattle.racp_model.specs.Project.{IsNumber};
-ghost use Rattle.racp_model.specs.Limits.{most_load};
 ghost use Rattle.racp_model.specs.Terms.{IsLexBefore};
 ghost use Rattle.racp_delay.specs.Alternatives.{IsFollowing};
-ghost use Rattle.racp_delay.specs.Found.{AreWithin, with_load, IsAny, IsExtended, IsSplitByFree};
+ghost use Rattle.racp_delay.specs.Found.{AreWithin, IsAny, IsChoice, IsExtended, IsSplitByFree};
 ghost use Rattle.racp_delay.specs.JobSets.{AreJobs};
 
-use crate::delaying::{are_within, some_have_room};
+use crate::choosing::Choice;
+use crate::delaying::some_have_room;
 use crate::job_set::JobSet;
-use crate::loads::{Loads, with, without};
+use crate::loads::{Loads, are_within, with};
 use racp_model::limits::MOST_RESOURCES;
 use racp_model::{Capacities, Network};
 use std::alloc::{AllocError, Global};
 use std::marker::Model;
 
-/// Extends `gone` to the first alternative, in lexicographic order, in which its jobs go and those that load `kept`
-/// stay, where the jobs of `undecided` may go or stay. `left` are the loads of the kept and the undecided together.
-/// Answers whether there is one; else `gone` is as before.
+/// Extends `gone` to the first alternative, in lexicographic order, in which its jobs go, and of the undecided those
+/// that have to. Answers whether there is one; else `gone` is as before.
 #[cycle(extending)]
-fn extend(
-    net: &Network,
-    capacities: &[u32],
-    kept: &Loads,
-    left: &Loads,
-    gone: &mut Vec<u32>,
-    undecided: &[u32],
-) -> Result<bool, AllocError>
-    requires capacities { length capacities.now ≡ net.now.resources }
-    requires gone { All (IsNumber (length net.now.jobs)) gone.old.items }
-    requires undecided { All (IsNumber (length net.now.jobs)) undecided.now }
-    requires rises { IsStrictlyIncreasing undecided.now }
-    requires left { (k : ℕ) → k < net.now.resources →
-        slice_index left.now k ≡ with_load net.now (slice_index kept.now) undecided.now k }
-    requires small { (k : ℕ) → k < net.now.resources → slice_index left.now k ≤ most_load }
-    ensures { IfOk result (λ found. IsExtended net.now capacities.now
-        (slice_index kept.now) gone.old.items undecided.now IsAny found gone.new.items) }
+fn extend(choice: &Choice, gone: &mut Vec<u32>) -> Result<bool, AllocError>
+    requires choice { IsChoice choice.now }
+    requires gone { All (IsNumber (length choice.now.net.now.jobs)) gone.old.items }
+    ensures { IfOk result (λ found. IsExtended choice.now.net.now choice.now.capacities.now
+        (slice_index choice.now.kept) gone.old.items choice.now.undecided.now IsAny found gone.new.items) }
 {
-    if some_have_room(net, capacities, left, gone) {
+    if some_have_room(choice.net, choice.capacities, &choice.left, gone) {
         return Ok(false);
     }
-    if are_within(net, capacities, left) {
+    if are_within(choice.net, choice.capacities, &choice.left) {
         return Ok(true);
     }
-    branch(net, capacities, kept, left, gone, undecided)
+    branch(choice, gone)
 }
 
 /// The same, where the kept and the undecided together exceed the capacities, so that one of the undecided has to go.
 #[cycle(extending)]
-fn branch(
-    net: &Network,
-    capacities: &[u32],
-    kept: &Loads,
-    left: &Loads,
-    gone: &mut Vec<u32>,
-    undecided: &[u32],
-) -> Result<bool, AllocError>
-    requires capacities { length capacities.now ≡ net.now.resources }
-    requires gone { All (IsNumber (length net.now.jobs)) gone.old.items }
-    requires undecided { All (IsNumber (length net.now.jobs)) undecided.now }
-    requires rises { IsStrictlyIncreasing undecided.now }
-    requires left { (k : ℕ) → k < net.now.resources →
-        slice_index left.now k ≡ with_load net.now (slice_index kept.now) undecided.now k }
-    requires small { (k : ℕ) → k < net.now.resources → slice_index left.now k ≤ most_load }
-    requires over { AreWithin net.now capacities.now (slice_index left.now) → ⊥ }
-    ensures { IfOk result (λ found. IsExtended net.now capacities.now
-        (slice_index kept.now) gone.old.items undecided.now IsAny found gone.new.items) }
+fn branch(choice: &Choice, gone: &mut Vec<u32>) -> Result<bool, AllocError>
+    requires choice { IsChoice choice.now }
+    requires gone { All (IsNumber (length choice.now.net.now.jobs)) gone.old.items }
+    requires over { AreWithin choice.now.net.now choice.now.capacities.now (slice_index choice.now.left) → ⊥ }
+    ensures { IfOk result (λ found. IsExtended choice.now.net.now choice.now.capacities.now
+        (slice_index choice.now.kept) gone.old.items choice.now.undecided.now IsAny found gone.new.items) }
 {
-    let Some((job, others)) = undecided.split_first() else {
+    let Some((job, others)) = choice.undecided.split_first() else {
         return Ok(false);
     };
     gone.push(*job)?;
-    let less = without(net, left, *job);
-    if extend(net, capacities, kept, &less, gone, others)? {
+    let less = choice.where_goes(*job, others);
+    if extend(&less, gone)? {
         return Ok(true);
     }
     gone.pop();
-    let more = with(net, kept, *job);
-    if !are_within(net, capacities, &more) {
+    let Some(more) = choice.where_stays(*job, others) else {
         return Ok(false);
-    }
-    branch(net, capacities, &more, left, gone, others)
+    };
+    branch(&more, gone)
 }
 
 /// Extends `gone` as `extend` does, but to the first alternative whose further jobs stand behind `last`.
 #[cycle(extending_behind)]
-fn extend_behind(
-    net: &Network,
-    capacities: &[u32],
-    kept: &Loads,
-    left: &Loads,
-    gone: &mut Vec<u32>,
-    undecided: &[u32],
-    last: &[u32],
-) -> Result<bool, AllocError>
-    requires capacities { length capacities.now ≡ net.now.resources }
-    requires gone { All (IsNumber (length net.now.jobs)) gone.old.items }
-    requires undecided { All (IsNumber (length net.now.jobs)) undecided.now }
-    requires rises { IsStrictlyIncreasing undecided.now }
-    requires left { (k : ℕ) → k < net.now.resources →
-        slice_index left.now k ≡ with_load net.now (slice_index kept.now) undecided.now k }
-    requires small { (k : ℕ) → k < net.now.resources → slice_index left.now k ≤ most_load }
-    ensures { IfOk result (λ found. IsExtended net.now capacities.now
-        (slice_index kept.now) gone.old.items undecided.now (IsLexBefore last.now) found gone.new.items) }
+fn extend_behind(choice: &Choice, gone: &mut Vec<u32>, last: &[u32]) -> Result<bool, AllocError>
+    requires choice { IsChoice choice.now }
+    requires gone { All (IsNumber (length choice.now.net.now.jobs)) gone.old.items }
+    ensures { IfOk result (λ found. IsExtended choice.now.net.now choice.now.capacities.now
+        (slice_index choice.now.kept) gone.old.items choice.now.undecided.now (IsLexBefore last.now) found
+        gone.new.items) }
 {
-    if some_have_room(net, capacities, left, gone) || are_within(net, capacities, left) {
+    if some_have_room(choice.net, choice.capacities, &choice.left, gone)
+        || are_within(choice.net, choice.capacities, &choice.left)
+    {
         return Ok(false);
     }
-    branch_behind(net, capacities, kept, left, gone, undecided, last)
+    branch_behind(choice, gone, last)
 }
 
 /// The same, where the kept and the undecided together exceed the capacities, so that one of the undecided has to go.
 #[cycle(extending_behind)]
-fn branch_behind(
-    net: &Network,
-    capacities: &[u32],
-    kept: &Loads,
-    left: &Loads,
-    gone: &mut Vec<u32>,
-    undecided: &[u32],
-    last: &[u32],
-) -> Result<bool, AllocError>
-    requires capacities { length capacities.now ≡ net.now.resources }
-    requires gone { All (IsNumber (length net.now.jobs)) gone.old.items }
-    requires undecided { All (IsNumber (length net.now.jobs)) undecided.now }
-    requires rises { IsStrictlyIncreasing undecided.now }
-    requires left { (k : ℕ) → k < net.now.resources →
-        slice_index left.now k ≡ with_load net.now (slice_index kept.now) undecided.now k }
-    requires small { (k : ℕ) → k < net.now.resources → slice_index left.now k ≤ most_load }
-    requires over { AreWithin net.now capacities.now (slice_index left.now) → ⊥ }
-    ensures { IfOk result (λ found. IsExtended net.now capacities.now
-        (slice_index kept.now) gone.old.items undecided.now (IsLexBefore last.now) found gone.new.items) }
+fn branch_behind(choice: &Choice, gone: &mut Vec<u32>, last: &[u32]) -> Result<bool, AllocError>
+    requires choice { IsChoice choice.now }
+    requires gone { All (IsNumber (length choice.now.net.now.jobs)) gone.old.items }
+    requires over { AreWithin choice.now.net.now choice.now.capacities.now (slice_index choice.now.left) → ⊥ }
+    ensures { IfOk result (λ found. IsExtended choice.now.net.now choice.now.capacities.now
+        (slice_index choice.now.kept) gone.old.items choice.now.undecided.now (IsLexBefore last.now) found
+        gone.new.items) }
 {
     let Some((first, rest)) = last.split_first() else {
-        return branch(net, capacities, kept, left, gone, undecided);
+        return branch(choice, gone);
     };
-    let Some((job, others)) = undecided.split_first() else {
+    let Some((job, others)) = choice.undecided.split_first() else {
         return Ok(false);
     };
     if *first < *job {
-        return branch(net, capacities, kept, left, gone, undecided);
+        return branch(choice, gone);
     }
     if *first == *job {
         gone.push(*job)?;
-        let less = without(net, left, *job);
-        if extend_behind(net, capacities, kept, &less, gone, others, rest)? {
+        let less = choice.where_goes(*job, others);
+        if extend_behind(&less, gone, rest)? {
             return Ok(true);
         }
         gone.pop();
     }
-    let more = with(net, kept, *job);
-    if !are_within(net, capacities, &more) {
+    let Some(more) = choice.where_stays(*job, others) else {
         return Ok(false);
-    }
-    branch_behind(net, capacities, &more, left, gone, others, last)
+    };
+    branch_behind(&more, gone, last)
 }
 
 /// Puts the free jobs of a set into a list, in place of what was there, and sums up what the others request of each
@@ -232,15 +182,14 @@ impl Alternative {
     {
         self.gone.clear();
         let (kept, left) = split_free(net, active, free, &mut self.free)?;
-        extend_behind(
+        let choice = Choice {
             net,
-            capacities.as_slice(),
-            &kept,
-            &left,
-            &mut self.gone,
-            &self.free,
-            last,
-        )
+            capacities: capacities.as_slice(),
+            kept,
+            left,
+            undecided: &self.free,
+        };
+        extend_behind(&choice, &mut self.gone, last)
     }
 
     /// The numbers, from 1 and rising, of the jobs that go.

@@ -52,6 +52,7 @@
 //! time that all this takes.
 #![tactic(auto)]
 
+mod choosing;
 mod conflicts;
 mod delaying;
 mod following;

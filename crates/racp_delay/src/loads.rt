@@ -1,6 +1,7 @@
-ghost use Rattle.std.specs.Prelude.{◌≡◌, ℕ, ◌+◌, ◌<◌, ◌≤◌, length, slice_index};
+ghost use Rattle.std.specs.Prelude.{◌≡◌, ◌↔◌, ℕ, ◌+◌, ◌<◌, ◌≤◌, IsTrue, length, slice_index};
 ghost use Rattle.racp_model.specs.Project.{request, IsNumber, IsSound};
 ghost use Rattle.racp_delay.specs.Alternatives.{place};
+ghost use Rattle.racp_delay.specs.Found.{AreWithin};
 ghost use Rattle.racp_model.specs.Limits.{most_load};
 
 use racp_model::Network;
@@ -38,4 +39,12 @@ pub(crate) fn without(net: &Network, loads: &Loads, job: u32) -> Loads
         sums[k] -= requests[k];
     }
     sums
+}
+
+/// Whether the loads fit the capacities.
+pub(crate) fn are_within(net: &Network, capacities: &[u32], loads: &Loads) -> bool
+    requires capacities { length capacities.now ≡ net.now.resources }
+    ensures { IsTrue result ↔ AreWithin net.now capacities.now (slice_index loads.now) }
+{
+    (0..net.resource_count()).all(|k| loads[k] <= capacities[k])
 }

@@ -1,16 +1,14 @@
 //! Looking for conflicts from start to start. It goes over the jobs once for each start up to the conflict, and sorts
 //! nothing.
 
-ghost use Rattle.std.specs.Prelude.{◌≡◌, ◌↔◌, ℕ, ◌+◌, ◌<◌, ◌≤◌, IsTrue, length, slice_index};
-ghost use Rattle.racp_model.specs.Limits.{most_load};
-ghost use Rattle.racp_model.specs.Project.{request};
+ghost use Rattle.std.specs.Prelude.{◌≡◌, ◌↔◌, ℕ, ◌<◌, ◌≤◌, IsTrue, length, slice_index};
 ghost use Rattle.racp_model.specs.Schedule.{usage};
 ghost use Rattle.racp_delay.specs.Branching.{IsActiveSet, IsConflictAnswer};
 ghost use Rattle.racp_delay.specs.Scans.{AreTooMuch, IsNextStart};
 
 use crate::conflicts::Clash;
 use crate::job_set::JobSet;
-use crate::loads::Loads;
+use crate::loads::{Loads, with};
 use racp_model::Network;
 use racp_model::limits::MOST_RESOURCES;
 
@@ -69,27 +67,15 @@ fn running_at(net: &Network, starts: &[u32], time: u32) -> Running
                 next = start;
             }
         } else if time - start < net.duration(i) {
-            active.insert(i as u32 + 1);
-            add_to(net, &mut loads, i);
+            let job = i as u32 + 1;
+            active.insert(job);
+            loads = with(net, &loads, job);
         }
     }
     Running {
         active,
         loads,
         next,
-    }
-}
-
-/// Adds to loads what the job at a place requests.
-fn add_to(net: &Network, loads: &mut Loads, i: usize)
-    requires job { i < length net.now.jobs }
-    requires small { (k : ℕ) → k < net.now.resources → slice_index loads.old k ≤ most_load }
-    ensures { (k : ℕ) → k < net.now.resources →
-        slice_index loads.new k ≡ slice_index loads.old k + request net.now i k }
-{
-    let requests = net.requests(i);
-    for k in 0..requests.len() {
-        loads[k] += requests[k];
     }
 }
 

@@ -1,4 +1,5 @@
-use Rattle.std.proofs.Common.{◌<◌, ℕ, List, length, slice_index, arith, subst, sym, refl}
+use Rattle.std.proofs.Common.{◌≡◌, ◌+◌, ◌-◌, ◌<◌, ℕ, List, length, slice_index, arith, ap, subst, sym, refl}
+use Rattle.racp_model.specs.Project.{request}
 use Rattle.racp_model.specs.Schedule.{IsActive}
 use Rattle.racp_delay.proofs.ActiveSets.{AreActiveBelow, active-none, active-more, active-same, active-end}
 use Rattle.racp_delay.proofs.Scanning.{loads-none, loads-more, loads-same, loads-all, loads-small, not_yet, over_by, next-none, next-sooner, next-same, next-all}
@@ -21,8 +22,8 @@ returns-clause-sums c = loads-all c.args.net.now c.args.starts.now c.args.time c
 pub returns-clause-next : goal.returns-clause-next
 returns-clause-next c = next-all c.args.starts.now c.args.time c.loop-i.i c.loop-i.next c.loop-i.invariant.next (omega (arith, c.requires))
 
-pub add_to-requires-clause-small : goal.add_to-requires-clause-small
-add_to-requires-clause-small c k r =
+pub with-loads-requires-clause-small : goal.with-loads-requires-clause-small
+with-loads-requires-clause-small c k r =
     omega (arith, c.loop-i.invariant.sums k r, loads-small c.args.net.now c.args.starts.now c.args.time c.loop-i.i k c.job_count-i-end.ensures.sound (omega (arith, c.loop-i-test.true, c.job_count-i-end.ensures.count)) r)
 
 pub loop-i-preserved : goal.loop-i-preserved
@@ -46,9 +47,10 @@ loop-i-preserved c =
           }
       | else-time-start+then-time-start-2 w ↦
           let runs : IsActive c.args.net.now c.args.starts.now c.args.time c.loop-i.i = record { started = omega (arith, w.if-time-start.false); runs = omega (arith, w.if-time-start.false, w.if-time-start-2.true, w.duration.ensures) } in
+          let same : c.loop-i.i + 1 - 1 ≡ c.loop-i.i = omega arith in
           record {
             set = rw w.active-is (active-more c.args.net.now c.args.starts.now c.args.time c.loop-i.i _ c.loop-i.active _ c.loop-i.invariant.set refl runs w.insert.ensures.inserted w.insert.ensures.jobs);
-            sums = rw w.loads-is (loads-more c.args.net.now c.args.starts.now c.args.time c.loop-i.i c.loop-i.loads _ c.loop-i.invariant.sums runs w.add_to.ensures);
+            sums = rw w.loads-is (loads-more c.args.net.now c.args.starts.now c.args.time c.loop-i.i c.loop-i.loads _ c.loop-i.invariant.sums runs (λ k r. omega (arith, w.with-loads.ensures.sums k r, ap (λ (q : ℕ). request c.args.net.now q k) same)));
             next = next-same c.args.starts.now c.args.time c.loop-i.i c.loop-i.next c.loop-i.invariant.next _ w.next-is (λ late. absurd (omega (arith, w.if-time-start.false)));
           }
       | else-time-start+else-time-start-2 w ↦

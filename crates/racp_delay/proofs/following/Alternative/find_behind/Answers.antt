@@ -1,4 +1,4 @@
-use Rattle.std.proofs.Common.{◌≡◌, sym, subst, List, ℕ, slice_index}
+use Rattle.std.proofs.Common.{◌≡◌, ◌∙◌, ap, sym, subst, List, ℕ, length, slice_index}
 use Rattle.std.proofs.lemmas.Result.{IfOk-weaker}
 use Rattle.racp_model.specs.Terms.{IsLexBefore}
 use Rattle.racp_delay.specs.Alternatives.{IsFollowing}
@@ -6,20 +6,16 @@ use Rattle.racp_delay.specs.Found.{IsExtended, IsSplitByFree}
 use Rattle.racp_delay.proofs.Freed.{freed-left, freed-numbers, freed-rises, followed}
 use Rattle.racp_delay.proofs.following.Alternative.find_behind.Goals as goal
 
-pub extend_behind-requires-clause-undecided : goal.extend_behind-requires-clause-undecided
-extend_behind-requires-clause-undecided c =
+pub extend_behind-requires-clause-choice : goal.extend_behind-requires-clause-choice
+extend_behind-requires-clause-choice c =
     let s : IsSplitByFree c.args.net.now c.args.active.now c.args.free.now c.deref.result.now c.in_ok-kept.kept c.in_ok-kept.left = subst (λ (xs : List ℕ). IsSplitByFree c.args.net.now c.args.active.now c.args.free.now xs c.in_ok-kept.kept c.in_ok-kept.left) (sym c.deref.ensures.value) c.in_ok-kept.ensures.free in
-    freed-numbers c.args.net.now c.args.capacities.now c.args.active.now c.args.free.now c.deref.result.now c.in_ok-kept.kept c.in_ok-kept.left s _ c.requires.active
-
-pub extend_behind-requires-clause-rises : goal.extend_behind-requires-clause-rises
-extend_behind-requires-clause-rises c =
-    let s : IsSplitByFree c.args.net.now c.args.active.now c.args.free.now c.deref.result.now c.in_ok-kept.kept c.in_ok-kept.left = subst (λ (xs : List ℕ). IsSplitByFree c.args.net.now c.args.active.now c.args.free.now xs c.in_ok-kept.kept c.in_ok-kept.left) (sym c.deref.ensures.value) c.in_ok-kept.ensures.free in
-    freed-rises c.args.net.now c.args.capacities.now c.args.active.now c.args.free.now c.deref.result.now c.in_ok-kept.kept c.in_ok-kept.left s c.in_ok-kept.ensures.jobs.rises
-
-pub extend_behind-requires-clause-left : goal.extend_behind-requires-clause-left
-extend_behind-requires-clause-left c =
-    let s : IsSplitByFree c.args.net.now c.args.active.now c.args.free.now c.deref.result.now c.in_ok-kept.kept c.in_ok-kept.left = subst (λ (xs : List ℕ). IsSplitByFree c.args.net.now c.args.active.now c.args.free.now xs c.in_ok-kept.kept c.in_ok-kept.left) (sym c.deref.ensures.value) c.in_ok-kept.ensures.free in
-    freed-left c.args.net.now c.args.capacities.now c.args.active.now c.args.free.now c.deref.result.now c.in_ok-kept.kept c.in_ok-kept.left s
+    record {
+      units = ap length c.as_slice.ensures ∙ c.requires.capacities;
+      jobs = freed-numbers c.args.net.now c.args.capacities.now c.args.active.now c.args.free.now c.deref.result.now c.in_ok-kept.kept c.in_ok-kept.left s _ c.requires.active;
+      rises = freed-rises c.args.net.now c.args.capacities.now c.args.active.now c.args.free.now c.deref.result.now c.in_ok-kept.kept c.in_ok-kept.left s c.in_ok-kept.ensures.jobs.rises;
+      sums = freed-left c.args.net.now c.args.capacities.now c.args.active.now c.args.free.now c.deref.result.now c.in_ok-kept.kept c.in_ok-kept.left s;
+      small = s.left_sums.small;
+    }
 
 pub returns : goal.returns
 returns c =
