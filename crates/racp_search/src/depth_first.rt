@@ -11,7 +11,7 @@ use crate::stop::Stop;
 use crate::subject::Subject;
 use crate::workspace::Workspace;
 use racp_cutset::{Local, Nogood};
-use racp_model::{OfNetwork, Starts, Window};
+use racp_model::{Network, OfNetwork, Starts, Window};
 use racp_timetable::{Tightened, tighten};
 use std::alloc::{AllocError, Global};
 
@@ -33,7 +33,7 @@ pub(crate) fn search<N: OfNetwork, S: Stop>(
     ensures kept { StayKept local.old local.new }
 {
     let first = local.kept_count();
-    let mut stack = Stack::new(alloc);
+    let mut stack = Stack::new(alloc, subject.network());
     let mut window = stack.workspace.spare.window_of(subject.whole())?;
     let mut from = 0;
     'next: loop {
@@ -96,12 +96,12 @@ struct Stack<N: OfNetwork> {
 
 impl<N: OfNetwork> Stack<N> {
     /// A stack without frames. Takes no memory.
-    fn new(alloc: Global) -> Self
+    fn new(alloc: Global, net: &Network) -> Self
         ensures { result.frames.items ≡ [] }
     {
         Stack {
             frames: Vec::new(alloc),
-            workspace: Workspace::new(alloc),
+            workspace: Workspace::new(alloc, net),
         }
     }
 
@@ -120,7 +120,7 @@ impl<N: OfNetwork> Stack<N> {
         ensures kept { local.new ≡ local.old }
     {
         let (net, capacities) = (subject.network(), subject.capacities());
-        match tighten(net, capacities, window, from, &mut self.workspace.times)? {
+        match tighten(net, capacities, window, from, &mut self.workspace.scratch)? {
             Tightened::Open(window) => self.look_into(subject, window, from, local),
             Tightened::No(window) => {
                 self.workspace.spare.give_window(window);

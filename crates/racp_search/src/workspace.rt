@@ -5,26 +5,27 @@ ghost use Rattle.std.specs.Prelude.{◌≡◌, [], IfOk};
 use crate::child::Child;
 use racp_cutset::Node;
 use racp_delay::{Alternative, DelayingAlternatives};
-use racp_model::{OfNetwork, Starts, Window};
+use racp_model::{Network, OfNetwork, Starts, Window};
+use racp_timetable::Scratch;
 use std::alloc::{AllocError, Global};
 
 /// The memory of a search: of the alternative that was looked at last, of those that were listed last, of what is not
-/// in use, and of the times at which core usages are looked at.
+/// in use, and of what tightens windows.
 #[derive(Drop)]
 pub(crate) struct Workspace {
     pub(crate) next: Alternative,
     pub(crate) all: DelayingAlternatives,
     pub(crate) spare: Spare,
-    pub(crate) times: Vec<u32>,
+    pub(crate) scratch: Scratch,
 }
 
 impl Workspace {
-    /// Takes no memory until it is used.
-    pub(crate) fn new(alloc: Global) -> Self {
+    /// For searches in this network. Takes no memory until it is used.
+    pub(crate) fn new(alloc: Global, net: &Network) -> Self {
         Workspace {
             next: Alternative::new(alloc),
             all: DelayingAlternatives::new(alloc),
-            times: Vec::new(alloc),
+            scratch: Scratch::new(alloc, net),
             spare: Spare {
                 alloc,
                 rows: Vec::new(alloc),

@@ -3,7 +3,7 @@
 use crate::samples::{Sample, sampled};
 use racp_model::{Network, Question};
 use racp_samples::{SampleFault, question};
-use racp_timetable::{Tightened, tighten};
+use racp_timetable::{Scratch, Tightened, tighten};
 use std::alloc::Global;
 use std::test::Fail;
 
@@ -12,7 +12,7 @@ type Bounds<'a> = (&'a [u32], &'a [u32]);
 
 /// In words, a network with capacities, a window and a time from which core usages are looked at; and the tightened
 /// window, or that nothing in it answers.
-const WINDOWS: [(&str, Sample, &[u32], Bounds, u32, Option<Bounds>); 13] = [
+const WINDOWS: [(&str, Sample, &[u32], Bounds, u32, Option<Bounds>); 14] = [
     (
         "a job waits until a core usage is over",
         Sample::Chained,
@@ -46,12 +46,20 @@ const WINDOWS: [(&str, Sample, &[u32], Bounds, u32, Option<Bounds>); 13] = [
         None,
     ),
     (
-        "both bounds follow along precedence",
+        "lower bounds follow along precedence",
         Sample::Chained,
         &[9],
-        (&[0, 0, 0, 0, 0, 0], &[9, 9, 9, 9, 9, 9]),
+        (&[0, 0, 0, 0, 0, 0], &[1, 5, 1, 2, 5, 9]),
         0,
         Some((&[0, 0, 0, 1, 4, 8], &[1, 5, 1, 2, 5, 9])),
+    ),
+    (
+        "upper bounds follow along precedence once one has moved",
+        Sample::Chained,
+        &[2],
+        (&[0, 4, 0, 1, 4, 8], &[4, 4, 4, 5, 8, 12]),
+        0,
+        Some((&[0, 4, 0, 1, 4, 8], &[0, 4, 0, 1, 8, 12])),
     ),
     (
         "along precedence nothing is left",
@@ -140,8 +148,8 @@ fn is_tightened(
     expected: Option<Bounds>,
 ) -> Result<bool, SampleFault> {
     let Question { capacities, window } = question(alloc, net, capacities, lower, upper)?;
-    let mut times = Vec::new(alloc);
-    let told = tighten(net, &capacities, window, from, &mut times)?;
+    let mut scratch = Scratch::new(alloc, net);
+    let told = tighten(net, &capacities, window, from, &mut scratch)?;
     Ok(is_told(&told, expected))
 }
 

@@ -13,7 +13,7 @@ use racp_model::limits::MOST_RESOURCES;
 use std::cmp::min;
 
 /// What some jobs request together of each resource, by place from 0.
-type Loads = [u32; MOST_RESOURCES];
+pub(crate) type Loads = [u32; MOST_RESOURCES];
 
 /// The core usage of each resource at a time, and a later time until which the jobs that use it run on.
 #[derive(Drop)]
@@ -24,10 +24,11 @@ pub(crate) struct Core {
 }
 
 /// Narrows a window by its core usage at a time, for as long as the jobs run on, but no longer than until the next
-/// time. Says whether something may still lie in it.
+/// time. `largest` are the largest requests of a job. Says whether something may still lie in it.
 pub(crate) fn narrow_at(
     net: &Network,
     capacities: &[u32],
+    largest: &Loads,
     window: &mut Narrowing,
     time: u32,
     next: u32,
@@ -41,6 +42,9 @@ pub(crate) fn narrow_at(
     let core = core_at(net, window, time, next);
     if !are_within(net, capacities, &core.loads) {
         return false;
+    }
+    if have_room(net, capacities, &core.loads, largest) {
+        return true;
     }
     for i in 0..net.job_count() {
         if !narrow_job(net, capacities, window, &core, i) {
@@ -88,6 +92,13 @@ fn are_within(net: &Network, capacities: &[u32], loads: &Loads) -> bool
     ensures { IsTrue result ↔ AreWithin net.now capacities.now loads.now }
 {
     (0..net.resource_count()).all(|k| loads[k] <= capacities[k])
+}
+
+/// Whether the loads leave room for the largest requests, and so for each job.
+fn have_room(net: &Network, capacities: &[u32], loads: &Loads, largest: &Loads) -> bool
+    requires { length capacities.now ≡ net.now.resources }
+{
+    (0..net.resource_count()).all(|k| loads[k].saturating_add(largest[k]) <= capacities[k])
 }
 
 /// Whether the loads leave room for the job at a place.

@@ -21,15 +21,15 @@
 //! From time 1 to 4 job 4 uses both units. From its lower bound, job 2 would run at time 1; so it starts at 4 at the
 //! earliest, and its window is 4 4. With 1 unit nothing lies in the window, as the core usage at time 1 is 2.
 //!
-//! `tighten(&net, &capacities, window, from, &mut times)` moves bounds until none moves any more, and answers the
+//! `tighten(&net, &capacities, window, from, &mut scratch)` moves bounds until none moves any more, and answers the
 //! tightened window, or that nothing in the window answers. A search that has no conflict before a time looks at core
 //! usages from that time on: it passes it as `from`. Lower bounds that are still before it have then moved along
 //! precedence alone, so there is no conflict before it in the tightened window either. Whatever is passed, nothing is
 //! lost.
 //!
 //! Core usages are looked at only where core times begin or end, so far horizons cost what near ones cost: going over
-//! them once takes about the time of looking at all jobs for each of these times. `times` is a row that is used again
-//! from call to call; else no memory is taken. The rows of the window are written over and given back.
+//! them once takes about the time of looking at all jobs for each of these times. `scratch` is used again from
+//! call to call; else no memory is taken. The rows of the window are written over and given back.
 //!
 //! Proved: the tightened window is inside the window, and each start vector in the window that keeps precedence and the
 //! capacities lies in it; where `tighten` answers `No`, there is none. Starts that keep precedence and are at or above
@@ -42,6 +42,8 @@ mod core_times;
 pub mod laws;
 mod narrowing;
 mod precedence;
+mod scratch;
 mod tightening;
 
+pub use scratch::Scratch;
 pub use tightening::{Tightened, tighten};

@@ -8,12 +8,13 @@ ghost use Rattle.racp_timetable.specs.Moving.{IsRaised, IsReduced};
 use racp_model::{Network, Starts, Window};
 use std::marker::Model;
 
-/// A window that is being narrowed, and whether a bound of it has moved. Contracts see the window.
+/// A window that is being narrowed, and which kinds of its bounds have moved. Contracts see the window.
 #[derive(Drop)]
 pub(crate) struct Narrowing {
     lower: Vec<u32>,
     upper: Vec<u32>,
-    moved: bool,
+    raised: bool,
+    reduced: bool,
 }
 
 impl Model for Narrowing {
@@ -29,7 +30,8 @@ impl Model for Narrowing {
 }
 
 impl Narrowing {
-    /// A window of which no bound has moved yet. Takes no memory.
+    /// A window of which lower bounds were raised, and upper bounds leave room before the jobs behind them. Takes no
+    /// memory.
     pub(crate) fn of(window: Window) -> Self
         ensures { result ≡ window }
     {
@@ -41,7 +43,8 @@ impl Narrowing {
         Narrowing {
             lower: lower.into_vec(),
             upper: upper.into_vec(),
-            moved: false,
+            raised: true,
+            reduced: false,
         }
     }
 
@@ -81,7 +84,7 @@ impl Narrowing {
             return false;
         }
         self.lower[i] = time;
-        self.moved = true;
+        self.raised = true;
         true
     }
 
@@ -97,20 +100,31 @@ impl Narrowing {
             return false;
         }
         self.upper[i] = time;
-        self.moved = true;
+        self.reduced = true;
         true
     }
 
-    /// From now on it says whether a bound moves from now on.
+    /// From now on it says which bounds move from now on.
     pub(crate) fn watch(&mut self)
         ensures { self.new ≡ self.old }
     {
-        self.moved = false;
+        self.raised = false;
+        self.reduced = false;
+    }
+
+    /// Whether a lower bound has moved since then.
+    pub(crate) fn has_raised(&self) -> bool {
+        self.raised
+    }
+
+    /// Whether an upper bound has moved since then.
+    pub(crate) fn has_reduced(&self) -> bool {
+        self.reduced
     }
 
     /// Whether a bound has moved since then.
     pub(crate) fn has_moved(&self) -> bool {
-        self.moved
+        self.raised || self.reduced
     }
 }
 

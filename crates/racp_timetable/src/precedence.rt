@@ -18,12 +18,15 @@ pub(crate) fn settle(net: &Network, window: &mut Narrowing) -> bool
     raise_along(net, window) && reduce_along(net, window)
 }
 
-/// Raises lower bounds, in one sweep.
+/// Raises lower bounds, in one sweep; there is nothing to do where none has moved.
 fn raise_along(net: &Network, window: &mut Narrowing) -> bool
     requires { HasBounds net.now window.old }
     ensures { (capacities : List ℕ) (from : ℕ) →
         IsNarrowedOrNo net.now capacities from window.old window.new result }
 {
+    if !window.has_raised() {
+        return true;
+    }
     for &(i, j) in net.topological_arcs() {
         if !raise_behind(net, window, i as usize, j as usize) {
             return false;
@@ -48,12 +51,15 @@ fn raise_behind(net: &Network, window: &mut Narrowing, i: usize, j: usize) -> bo
     window.raise(j, end)
 }
 
-/// Lowers upper bounds, in one sweep from the end.
+/// Lowers upper bounds, in one sweep from the end; there is nothing to do where none has moved.
 fn reduce_along(net: &Network, window: &mut Narrowing) -> bool
     requires { HasBounds net.now window.old }
     ensures { (capacities : List ℕ) (from : ℕ) →
         IsNarrowedOrNo net.now capacities from window.old window.new result }
 {
+    if !window.has_reduced() {
+        return true;
+    }
     let arcs = net.topological_arcs();
     for k in (0..arcs.len()).rev() {
         let (i, j) = arcs[k];

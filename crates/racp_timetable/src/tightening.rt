@@ -5,6 +5,7 @@ ghost use Rattle.racp_timetable.specs.Narrowing.{IsNarrowedOrNo, IsTightened};
 use crate::core_times::narrow_at;
 use crate::narrowing::{Narrowing, end_of};
 use crate::precedence::settle;
+use crate::scratch::Scratch;
 use racp_model::{Capacities, Network, Window};
 use std::alloc::AllocError;
 use std::cmp::max;
@@ -23,7 +24,8 @@ pub enum Tightened {
 
 /// Tightens a window by the core usage from a time on, and along precedence, until no bound moves any more or all core
 /// times were gone over a few times. There is a capacity for each resource and a bound for each job, by place from 0.
-/// Whatever `times` held is written over.
+/// Upper bounds are taken to leave room before the jobs behind them, as they do in the windows of a search: they are
+/// looked at along precedence once one has moved. Whatever `scratch` held is written over.
 ///
 /// # Errors
 ///
@@ -33,14 +35,14 @@ pub fn tighten(
     capacities: &Capacities,
     window: Window,
     from: u32,
-    times: &mut Vec<u32>,
+    scratch: &mut Scratch,
 ) -> Result<Tightened, AllocError>
     requires capacities { length capacities.now ≡ net.now.resources }
     requires bounds { HasBounds net.now window }
     ensures { IfOk result (IsTightened net.now capacities.now from window) }
 {
     let mut window = Narrowing::of(window);
-    if narrow(net, capacities.as_slice(), &mut window, from, times)? {
+    if narrow(net, capacities.as_slice(), &mut window, from, scratch)? {
         return Ok(Tightened::Open(window.into_window()));
     }
     Ok(Tightened::No(window.into_window()))
@@ -52,7 +54,7 @@ fn narrow(
     capacities: &[u32],
     window: &mut Narrowing,
     from: u32,
-    times: &mut Vec<u32>,
+    scratch: &mut Scratch,
 ) -> Result<bool, AllocError>
     requires capacities { length capacities.now ≡ net.now.resources }
     requires bounds { HasBounds net.now window.old }
@@ -62,8 +64,8 @@ fn narrow(
         return Ok(false);
     }
     'rounds: for _ in 0..MOST_ROUNDS {
-        put_times(net, window, from, times)?;
-        if !narrow_once(net, capacities, window, from, times) {
+        put_times(net, window, from, &mut scratch.times)?;
+        if !narrow_once(net, capacities, window, from, scratch) {
             return Ok(false);
         }
         if !window.has_moved() {
@@ -79,14 +81,14 @@ fn narrow_once(
     capacities: &[u32],
     window: &mut Narrowing,
     from: u32,
-    times: &[u32],
+    scratch: &Scratch,
 ) -> bool
     requires capacities { length capacities.now ≡ net.now.resources }
     requires bounds { HasBounds net.now window.old }
     ensures { IsNarrowedOrNo net.now capacities.now from window.old window.new result }
 {
     window.watch();
-    narrow_between(net, capacities, window, from, times) && settle(net, window)
+    narrow_between(net, capacities, window, from, scratch) && settle(net, window)
 }
 
 /// Writes down, in rising order, when the core times of a job begin or end, from a time on.
@@ -118,15 +120,16 @@ fn narrow_between(
     capacities: &[u32],
     window: &mut Narrowing,
     from: u32,
-    times: &[u32],
+    scratch: &Scratch,
 ) -> bool
     requires capacities { length capacities.now ≡ net.now.resources }
     requires bounds { HasBounds net.now window.old }
     ensures { IsNarrowedOrNo net.now capacities.now from window.old window.new result }
 {
+    let Scratch { largest, times } = scratch;
     for k in 1..times.len() {
         let (time, next) = (times[k - 1], times[k]);
-        if from <= time && time < next && !narrow_at(net, capacities, window, time, next) {
+        if from <= time && time < next && !narrow_at(net, capacities, largest, window, time, next) {
             return false;
         }
     }
