@@ -6,7 +6,7 @@ ghost use Rattle.racp_candidates.specs.Box.{AreBounds};
 ghost use Rattle.racp_questions.specs.FirstYes.{MayGiveUp};
 ghost use Rattle.racp_bounds.specs.Sharp.{IsSharpened, AreSharpened, IsRefutedPair, AreRefutedPairs, IsSharp, pair_count, IsUnsharpened};
 
-use racp_candidates::{One, Singles};
+use racp_candidates::{AnySeries, One, Singles};
 use racp_model::{Capacities, Network, Window};
 use racp_questions::{AskStop, Asker, First};
 use std::alloc::{AllocError, Global};
@@ -31,7 +31,7 @@ pub struct Sharp {
 ///
 /// The asker gave up, or memory was refused. The floors that were reached come back: with each series that was answered
 /// one more is sharpened, from the first resource on, and the others are the first ones.
-pub fn sharpen<A: Asker>(
+pub fn sharpen<A: Asker<AnySeries>>(
     alloc: Global,
     net: &Network,
     root: &Window,
@@ -39,13 +39,13 @@ pub fn sharpen<A: Asker>(
     roofs: &Capacities,
     asker: &mut A,
 ) -> Result<Sharp, (Capacities, AskStop)>
-    requires named { net.now ≡ A.network asker.old }
+    requires named { A.about asker.old net.now }
     requires root { HasBounds net.now root.now }
     requires floors { length floors ≡ net.now.resources }
     requires roofs { length roofs.now ≡ net.now.resources }
     requires bounds { AreBounds floors roofs.now }
     requires admits { IsYes net.now roofs.now root.now }
-    ensures network { A.network asker.new ≡ A.network asker.old }
+    ensures network { A.about asker.new net.now }
     ensures sharp { IfOk result (IsSharp net.now root.now floors roofs.now) }
     ensures answered { OnOk result
         (A.answered asker.new ≡ A.answered asker.old + net.now.resources + pair_count net.now.resources) }
@@ -61,7 +61,7 @@ pub fn sharpen<A: Asker>(
 }
 
 /// The sharpened floors; or the floors that were reached, and why the others are not known.
-fn raise_all<A: Asker>(
+fn raise_all<A: Asker<AnySeries>>(
     alloc: Global,
     net: &Network,
     root: &Window,
@@ -69,13 +69,13 @@ fn raise_all<A: Asker>(
     roofs: &Capacities,
     asker: &mut A,
 ) -> Result<Capacities, (Capacities, AskStop)>
-    requires named { net.now ≡ A.network asker.old }
+    requires named { A.about asker.old net.now }
     requires root { HasBounds net.now root.now }
     requires floors { length floors ≡ net.now.resources }
     requires roofs { length roofs.now ≡ net.now.resources }
     requires bounds { AreBounds floors roofs.now }
     requires admits { IsYes net.now roofs.now root.now }
-    ensures network { A.network asker.new ≡ A.network asker.old }
+    ensures network { A.about asker.new net.now }
     ensures sharp { IfOk result (AreSharpened net.now root.now floors roofs.now) }
     ensures answered { OnOk result (A.answered asker.new ≡ A.answered asker.old + net.now.resources) }
     ensures no_fewer { A.answered asker.old ≤ A.answered asker.new }
@@ -93,7 +93,7 @@ fn raise_all<A: Asker>(
 }
 
 /// The sharpened floor of one resource.
-fn raised<A: Asker>(
+fn raised<A: Asker<AnySeries>>(
     alloc: Global,
     net: &Network,
     root: &Window,
@@ -102,21 +102,21 @@ fn raised<A: Asker>(
     k: usize,
     asker: &mut A,
 ) -> Result<u32, AskStop>
-    requires named { net.now ≡ A.network asker.old }
+    requires named { A.about asker.old net.now }
     requires root { HasBounds net.now root.now }
     requires floors { length floors.now ≡ net.now.resources }
     requires roofs { length roofs.now ≡ net.now.resources }
     requires resource { k < net.now.resources }
     requires bounds { slice_index floors.now k ≤ slice_index roofs.now k }
     requires admits { IsYes net.now roofs.now root.now }
-    ensures network { A.network asker.new ≡ A.network asker.old }
+    ensures network { A.about asker.new net.now }
     ensures sharp { IfOk result (IsSharpened net.now root.now floors.now roofs.now k) }
     ensures answered { OnOk result (A.answered asker.new ≡ A.answered asker.old + 1) }
     ensures unanswered { OnErr result (A.answered asker.new ≡ A.answered asker.old) }
     ensures stop { IfErr result (MayGiveUp (A.may_stop asker.new) (A.may_want_thread asker.new)) }
 {
     let singles = Singles::new(alloc, floors, roofs, k, root)?;
-    match asker.first(net, singles)? {
+    match asker.first(net, AnySeries::Singles(singles))? {
         First::Yes { index, .. } => Ok(units_at(floors.as_slice(), roofs.as_slice(), k, index)),
         First::None => unreachable!(),
     }
@@ -144,7 +144,7 @@ fn with_units(capacities: Capacities, k: usize, units: u32) -> Capacities
 }
 
 /// The refuted pairs of resources, by their numbers, in lexicographic order.
-fn refuted_pairs<A: Asker>(
+fn refuted_pairs<A: Asker<AnySeries>>(
     alloc: Global,
     net: &Network,
     root: &Window,
@@ -152,11 +152,11 @@ fn refuted_pairs<A: Asker>(
     roofs: &Capacities,
     asker: &mut A,
 ) -> Result<Vec<(u32, u32)>, AskStop>
-    requires named { net.now ≡ A.network asker.old }
+    requires named { A.about asker.old net.now }
     requires root { HasBounds net.now root.now }
     requires floors { length floors.now ≡ net.now.resources }
     requires roofs { length roofs.now ≡ net.now.resources }
-    ensures network { A.network asker.new ≡ A.network asker.old }
+    ensures network { A.about asker.new net.now }
     ensures refuted { IfOk result (λ pairs. AreRefutedPairs net.now root.now floors.now roofs.now pairs.items) }
     ensures answered { OnOk result (A.answered asker.new ≡ A.answered asker.old + pair_count net.now.resources) }
     ensures no_fewer { A.answered asker.old ≤ A.answered asker.new }
@@ -186,7 +186,7 @@ fn add_pair(pairs: &mut Vec<(u32, u32)>, k: usize, l: usize) -> Result<(), Alloc
 }
 
 /// Whether a pair of resources, by their places, is refuted.
-fn is_refuted<A: Asker>(
+fn is_refuted<A: Asker<AnySeries>>(
     alloc: Global,
     net: &Network,
     root: &Window,
@@ -195,13 +195,13 @@ fn is_refuted<A: Asker>(
     pair: (usize, usize),
     asker: &mut A,
 ) -> Result<bool, AskStop>
-    requires named { net.now ≡ A.network asker.old }
+    requires named { A.about asker.old net.now }
     requires root { HasBounds net.now root.now }
     requires floors { length floors.now ≡ net.now.resources }
     requires roofs { length roofs.now ≡ net.now.resources }
     requires first { pair.0 < net.now.resources }
     requires second { pair.1 < net.now.resources }
-    ensures network { A.network asker.new ≡ A.network asker.old }
+    ensures network { A.about asker.new net.now }
     ensures refuted { IfOk result (λ refuted. IsTrue refuted ↔
         IsRefutedPair net.now root.now floors.now roofs.now pair.0 pair.1) }
     ensures answered { OnOk result (A.answered asker.new ≡ A.answered asker.old + 1) }
@@ -210,7 +210,8 @@ fn is_refuted<A: Asker>(
 {
     let capacities = pair_capacities(alloc, floors, roofs, pair)?;
     let question = One::new(alloc, &capacities, root)?;
-    Ok(matches!(asker.first(net, question)?, First::None))
+    let first = asker.first(net, AnySeries::One(question))?;
+    Ok(matches!(first, First::None))
 }
 
 /// The roofs, with the floors of a pair of resources.

@@ -11,6 +11,7 @@ ghost use Rattle.racp_boxes.specs.Searched.{AreHalved, IsHalvesAnswer, IsKnown, 
 
 use crate::cut::cut;
 use crate::known::{Known, Told, ask};
+use racp_candidates::AnySeries;
 use racp_model::{Capacities, Network, Window};
 use racp_prices::Order;
 use racp_questions::{AskStop, Asker};
@@ -26,7 +27,7 @@ const MOST_NODES: u64 = 64000;
 /// # Errors
 ///
 /// The asker gave up, or memory was refused.
-pub fn first_enough<A: Asker>(
+pub fn first_enough<A: Asker<AnySeries>>(
     alloc: Global,
     net: &Network,
     order: &Order,
@@ -35,12 +36,12 @@ pub fn first_enough<A: Asker>(
     roofs: &Capacities,
     asker: &mut A,
 ) -> Result<Capacities, AskStop>
-    requires named { net.now ≡ A.network asker.old }
+    requires named { A.about asker.old net.now }
     requires terms { AreTermsOf net.now order.now }
     requires root { HasBounds net.now root.now }
     requires floors { AreFloorsOf net.now root.now floors.now roofs.now }
     requires roofs { IsEnoughWithin net.now root.now roofs.now roofs.now }
-    ensures network { A.network asker.new ≡ A.network asker.old }
+    ensures network { A.about asker.new net.now }
     ensures first { IfOk result (IsLeast (IsBefore order.now) (IsEnoughWithin net.now root.now roofs.now)) }
     ensures answered { A.answered asker.new ≡ A.answered asker.old }
     ensures stop { IfErr result (IsProbeStop (A.told asker.new) (A.may_stop asker.new) (A.may_want_thread asker.new)) }
@@ -63,7 +64,7 @@ struct Span {
 
 /// Searches a box of vectors: what is then known as the best vector is none that another one of the box, with which
 /// some starts fit, stands before.
-fn search<A: Asker>(
+fn search<A: Asker<AnySeries>>(
     alloc: Global,
     net: &Network,
     order: &Order,
@@ -73,12 +74,12 @@ fn search<A: Asker>(
     span: Span,
     asker: &mut A,
 ) -> Result<(), AskStop>
-    requires named { net.now ≡ A.network asker.old }
+    requires named { A.about asker.old net.now }
     requires terms { AreTermsOf net.now order.now }
     requires root { HasBounds net.now root.now }
     requires span { IsSpan net.now roofs.now span }
     requires known { IsKnown net.now order.now root.now roofs.now known.old }
-    ensures network { A.network asker.new ≡ A.network asker.old }
+    ensures network { A.about asker.new net.now }
     ensures searched { IfOk result (λ _. IsSearched net.now order.now root.now roofs.now span known.old known.new) }
     ensures answered { A.answered asker.new ≡ A.answered asker.old }
     ensures stop { IfErr result (IsProbeStop (A.told asker.new) (A.may_stop asker.new) (A.may_want_thread asker.new)) }
@@ -91,7 +92,7 @@ fn search<A: Asker>(
 }
 
 /// The two halves of a box, where something in it may stand before the best vector.
-fn halves<A: Asker>(
+fn halves<A: Asker<AnySeries>>(
     alloc: Global,
     net: &Network,
     order: &Order,
@@ -101,12 +102,12 @@ fn halves<A: Asker>(
     span: Span,
     asker: &mut A,
 ) -> Result<Option<(Span, Span)>, AskStop>
-    requires named { net.now ≡ A.network asker.old }
+    requires named { A.about asker.old net.now }
     requires terms { AreTermsOf net.now order.now }
     requires root { HasBounds net.now root.now }
     requires span { IsSpan net.now roofs.now span }
     requires known { IsKnown net.now order.now root.now roofs.now known.old }
-    ensures network { A.network asker.new ≡ A.network asker.old }
+    ensures network { A.about asker.new net.now }
     ensures halves { IfOk result (IsHalvesAnswer net.now order.now root.now roofs.now span known.old known.new) }
     ensures answered { A.answered asker.new ≡ A.answered asker.old }
     ensures stop { IfErr result (IsProbeStop (A.told asker.new) (A.may_stop asker.new) (A.may_want_thread asker.new)) }

@@ -8,6 +8,7 @@ ghost use Rattle.racp_candidates.specs.Questions.{question_of};
 ghost use Rattle.racp_boxes.specs.Enough.{IsAtMost, IsEnoughWithin};
 ghost use Rattle.racp_boxes.specs.Searched.{IsKnown, IsBetterKnown, IsLearnt, IsRefutedBy, IsTold, SaysRefuted};
 
+use racp_candidates::AnySeries;
 use racp_model::{Capacities, Network, Question, Window, peaks};
 use racp_prices::{Order, cost_of};
 use racp_questions::{AskStop, Asker, Probe};
@@ -123,7 +124,7 @@ fn is_at_most(low: &[u32], high: &[u32]) -> bool
 
 /// Asks for a vector within the roofs, and learns from what is told. A vector at most a refuted one is not asked for,
 /// and neither is one that the best one is at most.
-pub(crate) fn ask<A: Asker>(
+pub(crate) fn ask<A: Asker<AnySeries>>(
     alloc: Global,
     net: &Network,
     order: &Order,
@@ -134,13 +135,13 @@ pub(crate) fn ask<A: Asker>(
     most: Option<u64>,
     asker: &mut A,
 ) -> Result<Told, AskStop>
-    requires named { net.now ≡ A.network asker.old }
+    requires named { A.about asker.old net.now }
     requires terms { AreTermsOf net.now order.now }
     requires root { HasBounds net.now root.now }
     requires units { length units.now ≡ net.now.resources }
     requires within { IsAtMost net.now units.now roofs.now }
     requires known { IsKnown net.now order.now root.now roofs.now known.old }
-    ensures network { A.network asker.new ≡ A.network asker.old }
+    ensures network { A.about asker.new net.now }
     ensures better { IfOk result (λ _. IsBetterKnown net.now order.now root.now roofs.now known.old known.new) }
     ensures told { IfOk result (IsTold net.now order.now root.now units.now most known.new.best) }
     ensures answered { A.answered asker.new ≡ A.answered asker.old }
@@ -166,17 +167,17 @@ pub(crate) fn ask<A: Asker>(
 }
 
 /// What the asker tells of a vector with the root window.
-fn probe<A: Asker>(
+fn probe<A: Asker<AnySeries>>(
     net: &Network,
     root: &Window,
     units: &Capacities,
     most: Option<u64>,
     asker: &mut A,
 ) -> Result<Probe, AskStop>
-    requires named { net.now ≡ A.network asker.old }
+    requires named { A.about asker.old net.now }
     requires root { HasBounds net.now root.now }
     requires units { length units.now ≡ net.now.resources }
-    ensures network { A.network asker.new ≡ A.network asker.old }
+    ensures network { A.about asker.new net.now }
     ensures probed { IfOk result (IsProbed net.now (question_of units.now root.now) most) }
     ensures answered { A.answered asker.new ≡ A.answered asker.old }
     ensures stop { IfErr result (IsProbeStop (A.told asker.new) (A.may_stop asker.new) (A.may_want_thread asker.new)) }

@@ -3,3 +3,4 @@ pub mod Box
 pub mod Laws
 pub mod Vectors
 pub mod Frontier
+pub mod AnySeries

@@ -7,7 +7,8 @@
 //! A question is whether some starts in a window keep precedence and given capacities, and a series is a list of
 //! questions, given one by one (racp_questions). By the first yes of a series a planner learns the least number of
 //! units of a resource (`Singles`), the cheapest capacities (`Vectors`), the least start of a job (`Starts1`), or
-//! whether one question is a yes (`One`).
+//! whether one question is a yes (`One`). A planner asks one asker about all of these, so it hands each over as an
+//! `AnySeries`.
 //!
 //! The box has the capacity vectors between floors and roofs that are, of each refuted pair, above the floor of one of
 //! the two resources. `Vectors` asks them in the order of vectors: by cost, of which owned units have none, and at
@@ -35,6 +36,7 @@
 //! has at most one list of questions. Tested alone: that memory is not refused without need.
 #![tactic(auto)]
 
+mod any_series;
 mod children;
 mod copies;
 mod entry;
@@ -46,6 +48,7 @@ mod singles;
 mod start_values;
 mod vectors;
 
+pub use any_series::AnySeries;
 pub use one::One;
 pub use racp_questions::{AskStop, Asker, First, Series};
 pub use singles::Singles;

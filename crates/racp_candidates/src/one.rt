@@ -22,6 +22,15 @@ impl Model for One {
 }
 
 impl One {
+    /// The series of this question.
+    pub fn of(question: Question) -> Self
+        ensures { result ≡ question ∷ [] }
+    {
+        One {
+            question: Some(question),
+        }
+    }
+
     /// The question of these capacities and this window. Copies both.
     ///
     /// # Errors

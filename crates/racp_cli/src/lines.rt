@@ -30,7 +30,7 @@ pub(crate) fn early_lines(
 pub(crate) fn refused_line(alloc: Global, fault: SmFault) -> Result<Vec<u8>, AllocError>
     ensures { IfOk result (λ text. text.items ≡ refusal_line fault) }
 {
-    let (number, name, line) = (fault.kind.number(), fault.kind.name(), fault.line);
+    let (number, name, line) = (fault.kind as u8, fault.kind.name(), fault.line);
     Ok(format!(in alloc; "refused sm {number} {name} line {line}\n")?.into_bytes())
 }
 
@@ -38,7 +38,7 @@ pub(crate) fn refused_line(alloc: Global, fault: SmFault) -> Result<Vec<u8>, All
 pub(crate) fn order_refused_line(alloc: Global, fault: OrderFault) -> Result<Vec<u8>, AllocError>
     ensures { IfOk result (λ text. text.items ≡ order_refusal_line fault) }
 {
-    let (number, name) = (fault.number(), fault.name());
+    let (number, name) = (fault as u8, fault.name());
     Ok(format!(in alloc; "refused order {number} {name}\n")?.into_bytes())
 }
 
@@ -46,7 +46,7 @@ pub(crate) fn order_refused_line(alloc: Global, fault: OrderFault) -> Result<Vec
 pub(crate) fn plan_refused_line(alloc: Global, fault: TextFault) -> Result<Vec<u8>, AllocError>
     ensures { IfOk result (λ text. text.items ≡ plan_refusal_line fault) }
 {
-    let (number, name, line) = (fault.kind.number(), fault.kind.name(), fault.line);
+    let (number, name, line) = (fault.kind as u8, fault.kind.name(), fault.line);
     Ok(format!(in alloc; "refused plan {number} {name} line {line}\n")?.into_bytes())
 }
 

@@ -93,3 +93,7 @@ is_undecided least asked i = is_before least i && nat_lt 0 (length (row_at asked
 -- how many are not
 unfoldable pub undecided_count : Machine → ℕ
 undecided_count m = length (filter (is_undecided m.least m.asked) (range_with_len 0 (length m.asked)))
+
+-- a collector that asks: it runs, knows no yes, and its series has not ended
+abbrev pub IsAsking : Machine → Type 0
+IsAsking m = (m.halted ≡ false) × (m.least ≡ None) × (m.ended ≡ false)

@@ -3,7 +3,7 @@
 ghost use Rattle.std.specs.Prelude.{◌≡◌, ◌↔◌, ◌<◌, length, Some, None, IsTrue, true};
 ghost use Rattle.racp_model.specs.Formed.{AreFormed};
 ghost use Rattle.racp_questions.specs.FirstYes.{question_at};
-ghost use Rattle.racp_core.specs.Machine.{fresh, all_questions, is_before, undecided_count, IsSettled};
+ghost use Rattle.racp_core.specs.Machine.{fresh, all_questions, is_before, undecided_count, IsAsking, IsSettled};
 ghost use Rattle.racp_core.specs.Truth.{IsSoundState};
 ghost use Rattle.racp_core.specs.Runs.{Step, Halt};
 
@@ -111,6 +111,13 @@ impl<N: OfNetwork, S: Series> Core<N, S> {
         ensures { result ≡ undecided_count self.now }
     {
         self.undecided.len()
+    }
+
+    /// Whether a question can be asked: the collector runs, knows no yes, and its series has not ended. Takes no memory.
+    pub fn may_ask(&self) -> bool
+        ensures { IsTrue result ↔ IsAsking self.now }
+    {
+        !self.halted && self.least.is_none() && !self.ended
     }
 
     /// The question at a place, from 0, which was asked. Takes no memory.

@@ -1,10 +1,10 @@
 ghost use Rattle.std.specs.Prelude.{◌≡◌};
-ghost use Rattle.racp_plan.specs.TextFaults.{fault_name, fault_number};
+ghost use Rattle.racp_plan.specs.TextFaults.{fault_name};
 
 use racp_text::LineFault;
 use thiserror::Error;
 
-/// What is wrong with a text of a plan.
+/// What is wrong with a text of a plan. The number that is printed is that of the variant.
 #[derive(Debug, Clone, Copy, PartialEq, Eq, Drop, Error)]
 pub enum TextFaultKind {
     /// A line is missing or not of its form, or something stands after the last line.
@@ -22,13 +22,6 @@ pub enum TextFaultKind {
 pub type TextFault = LineFault<TextFaultKind>;
 
 impl TextFaultKind {
-    /// The fault's number, from 1 to 3.
-    pub fn number(self) -> u8
-        ensures { result ≡ fault_number self }
-    {
-        self as u8
-    }
-
     /// The fault's name, as `Syntax`.
     pub fn name(self) -> &'static str
         ensures { result.now ≡ fault_name self }

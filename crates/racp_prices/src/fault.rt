@@ -1,10 +1,11 @@
 ghost use Rattle.std.specs.Prelude.{◌≡◌};
-ghost use Rattle.racp_prices.specs.Faults.{fault_name, fault_number};
+ghost use Rattle.racp_prices.specs.Faults.{fault_name};
 
 use std::alloc::{AllocError, AllocFailed};
 use thiserror::Error;
 
-/// Why a text is no order: the first rule that it breaks, in the order in which the rules are tested.
+/// Why a text is no order: the first rule that it breaks, in the order in which the rules are tested. The number that is
+/// printed is that of the variant.
 #[derive(Debug, Clone, Copy, PartialEq, Eq, Drop, Error)]
 pub enum OrderFault {
     /// The text is not UTF-8, or not TOML.
@@ -34,13 +35,6 @@ pub enum OrderFault {
 }
 
 impl OrderFault {
-    /// The fault's number, from 1 to 8.
-    pub fn number(self) -> u8
-        ensures { result ≡ fault_number self }
-    {
-        self as u8
-    }
-
     /// The fault's name, as `NotToml`.
     pub fn name(self) -> &'static str
         ensures { result.now ≡ fault_name self }

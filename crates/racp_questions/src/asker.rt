@@ -49,15 +49,17 @@ impl From<AllocError> for AskStop {
     }
 }
 
-/// Finds the first yes of a series of questions about one network. Contracts see which network that is, how many series
-/// the asker has answered, what it told when it last stopped, and for which reasons it may give up.
-pub trait Asker {
+/// Finds the first yes of series of questions about one network. The series are of one type, `S`, so that an asker can
+/// hand them to threads of its own. Contracts see which network the asker is about, while it may be asked of it, how
+/// many series it has answered, what it told when it last stopped, and for which reasons it may give up.
+pub trait Asker<S: Series> {
     ghost use Rattle.std.specs.Prelude.{◌≡◌, ℕ, ◌+◌, List, Option, OnOk, OnErr, IfOk, IfErr};
     ghost use Rattle.racp_model.specs.Project.{Project};
     ghost use Rattle.racp_model.specs.Formed.{AreFormed, IsFormed};
     ghost use Rattle.racp_questions.specs.FirstYes.{IsFirst, IsProbed, IsProbeStop, IsStop};
 
-    ghost network: { Self → Project };
+    // It is about this network, and may be asked.
+    ghost about: { Self → Project → Type 0 };
 
     ghost answered: { Self → ℕ };
 
@@ -75,10 +77,10 @@ pub trait Asker {
     ///
     /// The search was stopped, or no thread could be started, each only where the asker's meaning after the call says
     /// that it may; or memory was refused. Such a series does not count as answered.
-    fn first<S: Series + Send>(&mut self, net: &Network, series: S) -> Result<First, AskStop>
-        requires named { net.now ≡ network self.old }
+    fn first(&mut self, net: &Network, series: S) -> Result<First, AskStop>
+        requires named { about self.old net.now }
         requires formed { AreFormed net.now (S.questions series) }
-        ensures network { network self.new ≡ network self.old }
+        ensures network { about self.new net.now }
         ensures answer { IfOk result (IsFirst net.now (S.questions series)) }
         ensures answered { OnOk result (answered self.new ≡ answered self.old + 1) }
         ensures unanswered { OnErr result (answered self.new ≡ answered self.old) }
@@ -97,9 +99,9 @@ pub trait Asker {
         question: Question,
         most: Option<u64>,
     ) -> Result<Probe, AskStop>
-        requires named { net.now ≡ network self.old }
+        requires named { about self.old net.now }
         requires formed { IsFormed net.now question }
-        ensures network { network self.new ≡ network self.old }
+        ensures network { about self.new net.now }
         ensures probed { IfOk result (IsProbed net.now question most) }
         ensures answered { answered self.new ≡ answered self.old }
         ensures stop { IfErr result (IsProbeStop (told self.new) (may_stop self.new) (may_want_thread self.new)) };

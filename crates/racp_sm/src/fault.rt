@@ -1,10 +1,11 @@
 ghost use Rattle.std.specs.Prelude.{◌≡◌};
-ghost use Rattle.racp_sm.specs.Faults.{fault_name, fault_number};
+ghost use Rattle.racp_sm.specs.Faults.{fault_name};
 
 use racp_text::LineFault;
 use thiserror::Error;
 
-/// Why a text is no network: the first rule that it breaks, in the order in which the text is read.
+/// Why a text is no network: the first rule that it breaks, in the order in which the text is read. The number that is
+/// printed is that of the variant.
 #[derive(Debug, Clone, Copy, PartialEq, Eq, Drop, Error)]
 pub enum SmFaultKind {
     /// The head does not say how many jobs there are.
@@ -58,13 +59,6 @@ pub enum SmFaultKind {
 pub type SmFault = LineFault<SmFaultKind>;
 
 impl SmFaultKind {
-    /// The fault's number, from 1 to 15.
-    pub fn number(self) -> u8
-        ensures { result ≡ fault_number self }
-    {
-        self as u8
-    }
-
     /// The fault's name, as `NoJobs`.
     pub fn name(self) -> &'static str
         ensures { result.now ≡ fault_name self }

@@ -21,7 +21,7 @@ loop-l-preserved g c =
     let last : c.loop-l.l < c.args.net.now.resources = omega (arith, c.loop-l-test.true, c.resource_count-l-end.ensures.count) in
     let before = λ (pairs : List (ℕ × ℕ)). ArePairsBefore c.args.net.now c.args.root.now c.args.floors.now c.args.roofs.now c.loop-k.k (c.loop-l.l + 1) pairs in
     record {
-      network = c.is_refuted.ensures.network ∙ c.loop-l.invariant.network;
+      network = c.is_refuted.ensures.network;
       answered = omega (arith, c.in_ok-is_refuted.ensures.answered, c.loop-l.invariant.answered, c.loop-l.auto.l);
       refuted = elim c.if-branch.branch [
         | then-branch+in_ok-add_pair w ↦
@@ -56,7 +56,7 @@ returns-clause-refuted g c = all_before c.args.net.now c.args.root.now c.args.fl
 
 pub loop-k-init : goal.loop-k-init
 loop-k-init g c = record {
-  network = refl;
+  network = c.requires.named;
   answered = omega (arith, sum_below-none (λ i. c.args.net.now.resources - (i + 1)));
   refuted = subst (λ (pairs : List (ℕ × ℕ)). ArePairsBefore c.args.net.now c.args.root.now c.args.floors.now c.args.roofs.now 0 0 pairs) (sym c.new-pairs.ensures.items)
       (none_before c.args.net.now c.args.root.now c.args.floors.now c.args.roofs.now);
