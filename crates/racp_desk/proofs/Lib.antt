@@ -1,0 +1,9 @@
+pub mod Logs
+pub mod Pieces
+pub mod Counted
+pub mod Allowed
+pub mod Desks
+pub mod Closings
+pub mod lemmas
+pub mod LegalRuns
+pub mod CameIn

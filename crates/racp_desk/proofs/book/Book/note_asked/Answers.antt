@@ -1,0 +1,12 @@
+use Rattle.std.proofs.Common.{◌≤◌, vec_capacity, subst, sym, arith}
+use Rattle.racp_desk.specs.Log.{Log, tally, MayFollow}
+use Rattle.racp_desk.specs.declared.log.Entry.TheVariants.{Asked}
+use Rattle.racp_desk.proofs.Logs.{book_asked}
+use Rattle.racp_desk.proofs.book.Book.note_asked.Goals as goal
+
+pub invariant_of-self : goal.invariant_of-self
+invariant_of-self g c =
+    let i = c.self.inside in
+    let may = subst (λ (l : Log). MayFollow g.M.Rules.turns g.M.Rules.quiet (tally l.entries) (Asked c.args.index)) (sym c.self.view_is) c.requires.legal in
+    let some = subst (λ (l : Log). 1 ≤ l.room) (sym c.self.view_is) c.requires.room in
+    book_asked g.M.Rules.turns g.M.Rules.quiet i.entries.items c.push_reserved.new.self.items i.pieces i.nodes i.out i.halt (vec_capacity i.entries) (vec_capacity c.push_reserved.new.self) c.self.invariant c.args.index c.push_reserved.ensures.items (sym c.push_reserved.ensures.capacity) may (omega (arith, some))

@@ -1,0 +1,12 @@
+use Rattle.std.proofs.Common.{vec_capacity, subst, sym}
+use Rattle.racp_desk.specs.Log.{Log, tally, MayFollow}
+use Rattle.racp_desk.specs.declared.log.Entry.TheVariants.{GivenBack}
+use Rattle.racp_desk.proofs.Logs.{book_given_back}
+use Rattle.racp_desk.proofs.book.Book.note_given_back.Goals as goal
+
+pub invariant_of-self : goal.invariant_of-self
+invariant_of-self g c =
+    let i = c.self.inside in
+    let a = c.args in
+    let may = subst (λ (l : Log). MayFollow g.M.Rules.turns g.M.Rules.quiet (tally l.entries) (GivenBack a.seat a.number)) (sym c.self.view_is) c.requires in
+    book_given_back g.M.Rules.turns g.M.Rules.quiet i.entries.items c.push_reserved.new.self.items i.pieces i.nodes i.out i.halt (vec_capacity i.entries) (vec_capacity c.push_reserved.new.self) c.self.invariant a.seat a.number c.push_reserved.ensures.items (sym c.push_reserved.ensures.capacity) may

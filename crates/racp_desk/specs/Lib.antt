@@ -1,0 +1,5 @@
+pub mod Log
+pub mod Desk
+pub mod Closing
+pub mod Turns
+pub mod Laws

@@ -1,0 +1,68 @@
+//! The desk: workers on threads of their own answer a series of questions about one network. Each takes a piece of a
+//! question, searches it, and hands in what it found, all under one lock; a log tells what happened.
+//!
+//! Questions stand by their place in the series, from 0, seats and pieces by their number, from 0.
+//!
+//! One pool of open parts, from which each idle worker takes the next, is the plain form of parallel branch and bound
+//! (Gendron and Crainic 1994). Here the pool is the collector of racp_core, for which the order of the calls is free:
+//! the first yes is told once each question before it is a no, whichever worker was faster. So which question that is
+//! does not depend on how many workers there are.
+//!
+//! Two workers and the numbers of units 0, 1, 2, 3 of the first resource of examples/b.sm, beside one unit of the
+//! second, by the deadline 3. Two units are the first that are enough:
+//!
+//! ```text
+//! seat 0                  seat 1                   log
+//! asks question 0                                  Asked(0)
+//! takes its window                                 Taken(0, 0, 0)
+//!                         asks question 1          Asked(1)
+//!                         takes its window         Taken(1, 1, 1)
+//! hands in a no                                    Handed(0, 0, 0, false, ..)
+//! asks question 2                                  Asked(2)
+//! takes its window                                 Taken(0, 2, 2)
+//! hands in starts                                  Handed(0, 2, 0, true, ..)
+//!                         hands in a no            Handed(1, 1, 0, false, ..)
+//! ```
+//!
+//! `run` starts the workers and joins them. A worker's turn: it takes a piece; where no window is open, fewer than two
+//! questions a worker are undecided, the series has not ended and no yes is known, it asks the next question and takes
+//! once more; else it waits until something has changed. With a piece it lets the lock go, enters the gate, searches as
+//! many nodes as the quantum allows, with the records of the board and its own, shares the records that it made, takes
+//! the lock and hands the finding in. It leaves where the answer is known or the desk is halted. It halts the desk
+//! where the user has asked to stop, where as many pieces were taken as there are turns, and where memory was refused.
+//! A hint, one number beside the lock, tells the least place of a yes that came in, so that a search of a later
+//! question, which is of no use, is left at its next node.
+//!
+//! A `State` is what lies under the lock: the collector, the `Book` of its log, and the total of a ledger. Each of its
+//! five calls is a step of the collector with at most one entry, and adds that entry to the share of who calls. All
+//! shares together count as many entries as the log has, and `close`, which alone makes a `Closed`, asks for that:
+//! where an earlier state was put back under the lock, the run cannot be closed. Each call makes room for its entry
+//! before it changes anything, and `take` also for the entry with which its piece comes back; so `give_back`, `halt`
+//! and `close` take no memory.
+//!
+//! In `specs/`, `Tally` is what a log counts, `IsLegal` which logs there are, `Counts` what a tally and a collector
+//! have in common, and `IsRunClosed` what a run answers.
+//!
+//! Proved: a log is legal, and its tally counts what the collector has. Where `run` answers, the outcome is the first
+//! yes of the series with starts that answer it, or that there is none, or a question before which each is a no. The
+//! log shows it, and it is open only where the desk was halted: for turns that are used up, or for a stop that is not
+//! quiet. In `laws`: the log that a run of a collector leaves is legal, and its tally counts what the collector has.
+//! Tested alone: that two workers search at once, that a stop and the end of the turns halt, and that memory and
+//! threads are not wanted without need. Not promised: that a run ends, that a worker is served, how work is shared, and
+//! which of two findings comes first.
+#![tactic(auto)]
+
+mod book;
+mod gate;
+pub mod laws;
+mod log;
+mod running;
+mod state;
+mod watch;
+mod worker;
+
+pub use book::{Book, Rules};
+pub use gate::{Gate, Open};
+pub use log::{Cause, Entry};
+pub use running::{DeskFault, run};
+pub use state::{Closed, Names, State};

@@ -1,0 +1,260 @@
+//! A run of a desk: its workers are started, and joined.
+
+ghost use Rattle.std.specs.Prelude.{◌≡◌, ◌+◌, ◌<◌, ◌≤◌, IfOk, IsTrue};
+ghost use Rattle.racp_model.specs.Formed.{AreFormed};
+ghost use Rattle.racp_desk.specs.Closing.{IsRunClosed, IsEnding};
+
+use crate::gate::Gate;
+use crate::log::Cause;
+use crate::state::{Closed, Names, State};
+use crate::watch::Hint;
+use crate::worker::{Job, Shared, Spent, work};
+use racp_cutset::Board;
+use racp_model::{Network, OfNetwork};
+use racp_questions::Series;
+use racp_search::Stop;
+use std::alloc::{AllocError, Global};
+use std::marker::Brand;
+use std::sync::ledger::{Blank, Share};
+use std::sync::{Condvar, Mutex, Wait};
+use std::thread;
+use std::thread::{Scope, Threads};
+use thiserror::Error;
+
+/// Why a run gave no answer.
+#[derive(Debug, Drop, Error)]
+pub enum DeskFault {
+    /// Memory was refused.
+    #[error("out of memory")]
+    Memory,
+    /// A worker could not be started.
+    #[error("no thread could be started")]
+    NoThread,
+}
+
+/// The share of all workers and of the calling thread, and whether a worker could not be started.
+#[derive(Drop)]
+struct Joined<M: Names> {
+    share: Share<M>,
+    refused: bool,
+}
+
+/// Joins the share of a worker.
+fn join_share<M: Names>(all: &mut Share<M>, spent: Spent<M>)
+    ensures { all.new.parts ≡ all.old.parts + 1 }
+{
+    let Spent { share } = spent;
+    all.merge(share);
+}
+
+/// Halts the desk, since a worker could not be started, and tells all that wait.
+fn refuse<'a, N: OfNetwork, M: Names, S: Series, G: Gate, P: Stop, R: Wait>(
+    rt: &R,
+    shared: &Shared<'a, N, M, S, G, P>,
+    mine: &mut Share<M>,
+)
+    requires { 0 < mine.old.parts }
+    ensures { mine.new.parts ≡ mine.old.parts }
+{
+    shared.desk.lock(rt).halt(Cause::Fault, mine);
+    shared.idle.notify_all();
+}
+
+/// Starts the workers, and joins them. Where one cannot be started, the desk is halted, no further one is started, and
+/// the work that it would have done ends at once on the calling thread.
+///
+/// # Errors
+///
+/// Memory was refused.
+fn crew<
+    's,
+    E,
+    N: OfNetwork + Send + Sync + 's,
+    M: Names + Send + Sync + 's,
+    S: Series + Send + 's,
+    G: Gate + Sync + 's,
+    P: Stop + Sync + 's,
+    R: Threads + Wait + Sync + 's,
+>(
+    scope: &'s Scope<'s, E>,
+    rt: &'s R,
+    shared: &'s Shared<'s, N, M, S, G, P>,
+    workers: usize,
+    all: Share<M>,
+) -> Result<Joined<M>, AllocError>
+    requires workers { workers ≤ 64 }
+    requires parts { all.parts ≡ workers + 1 }
+    ensures { IfOk result (λ joined. joined.share.parts ≡ workers + 1) }
+{
+    let mut share = all;
+    let mut running = Vec::with_capacity(shared.job.alloc, workers)?;
+    for seat in 0..workers {
+        let mine = share.split_off(1, 0);
+        let job = move || -> Spent<M>
+            requires { mine.parts ≡ 1 }
+        { work(rt, shared, seat, mine) };
+        match scope.spawn(job) {
+            Ok(handle) => running.push_reserved(handle),
+            Err(error) => {
+                refuse(rt, shared, &mut share);
+                join_share(&mut share, (error.value)());
+                break;
+            }
+        }
+    }
+    let refused = running.len() < workers;
+    while let Some(handle) = running.pop() {
+        join_share(&mut share, handle.join(rt));
+    }
+    Ok(Joined { share, refused })
+}
+
+/// The workers, in a scope.
+fn in_scope<
+    'a,
+    N: OfNetwork + Send + Sync,
+    M: Names + Send + Sync,
+    S: Series + Send,
+    G: Gate + Sync,
+    P: Stop + Sync,
+    R: Threads + Wait + Sync,
+>(
+    rt: &'a R,
+    shared: &'a Shared<'a, N, M, S, G, P>,
+    workers: usize,
+    all: Share<M>,
+) -> Result<Joined<M>, AllocError>
+    requires workers { workers ≤ 64 }
+    requires parts { all.parts ≡ workers + 1 }
+    ensures { IfOk result (λ joined. joined.share.parts ≡ workers + 1) }
+{
+    thread::scope(
+        thread::scope_env(),
+        rt,
+        move |scope| -> Result<Joined<M>, AllocError>
+            requires { (workers ≤ 64) × (all.parts ≡ workers + 1) }
+            ensures { IfOk result (λ joined. joined.share.parts ≡ workers + 1) }
+        { crew(scope, rt, shared, workers, all) },
+    )
+}
+
+/// What a run answers, after its workers were joined: how it ended, where the answer is known, or the desk was halted
+/// for a stop or for turns.
+///
+/// # Errors
+///
+/// A worker could not be started, or memory was refused.
+fn end<N: OfNetwork, M: Names, S: Series>(
+    state: State<N, M, S>,
+    all: Share<M>,
+    refused: bool,
+) -> Result<Closed, DeskFault>
+    requires { all.parts ≡ M.parts }
+    ensures { IfOk result (IsRunClosed N.network M.series M.turns M.quiet) }
+{
+    let mut state = state;
+    let mut all = all;
+    state.audit(&mut all);
+    if !state.is_settled() && !was_ended(state.cause()) {
+        return Err(if refused {
+            DeskFault::NoThread
+        } else {
+            DeskFault::Memory
+        });
+    }
+    Ok(state.close(all))
+}
+
+/// Whether a desk was halted for a stop or for turns.
+fn was_ended(cause: Option<Cause>) -> bool
+    ensures { IsTrue result → IsEnding cause }
+{
+    match cause {
+        Some(Cause::Stop) => true,
+        Some(Cause::Turns) => true,
+        Some(Cause::Fault) => false,
+        None => false,
+    }
+}
+
+/// A run about what `M` names.
+fn run_named<
+    N: OfNetwork + Send + Sync,
+    M: Names + Send + Sync,
+    S: Series + Send,
+    G: Gate + Sync,
+    P: Stop + Sync,
+    R: Threads + Wait + Sync,
+>(rt: &R, job: Job<'_, N, G, P>, series: S, blank: Blank) -> Result<Closed, DeskFault>
+    requires formed { AreFormed N.network (S.questions series) }
+    requires series { S.questions series ≡ M.series }
+    requires turns { job.turns ≡ M.turns }
+    requires quiet { P.QUIET ≡ M.quiet }
+    requires ledger { blank.name ≡ M.name }
+    requires whole { blank.parts ≡ M.parts }
+    requires parts { blank.parts ≡ job.workers + 1 }
+    ensures { IfOk result (IsRunClosed N.network M.series M.turns M.quiet) }
+{
+    let (total, all) = blank.open::<M>();
+    let workers = job.workers;
+    let Ok(state) = State::new(job.alloc, job.net, series, total) else {
+        return Err(DeskFault::Memory);
+    };
+    let shared = Shared {
+        job,
+        hint: Hint::new(),
+        desk: Mutex::new(state),
+        idle: Condvar::new(),
+    };
+    let Ok(joined) = in_scope(rt, &shared, workers, all) else {
+        return Err(DeskFault::Memory);
+    };
+    let Joined { share, refused } = joined;
+    end(shared.desk.into_inner(), share, refused)
+}
+
+/// Lets workers answer a series of questions about a network: the first yes, or that there is none, or, where they were
+/// stopped or no turn is left, before which question each is a no. A turn is a piece that is taken; a piece is searched
+/// over at most `quantum` nodes.
+///
+/// # Errors
+///
+/// Memory was refused, or a worker could not be started, and the answer is not known.
+pub fn run<
+    N: OfNetwork + Send + Sync,
+    S: Series + Send,
+    G: Gate + Sync,
+    P: Stop + Sync,
+    R: Threads + Wait + Sync,
+>(
+    rt: &R,
+    alloc: Global,
+    net: &Network,
+    series: S,
+    workers: usize,
+    quantum: u64,
+    turns: u64,
+    board: &Board<N>,
+    gate: &G,
+    stop: &P,
+) -> Result<Closed, DeskFault>
+    requires named { net.now ≡ N.network }
+    requires formed { AreFormed net.now (S.questions series) }
+    requires workers { workers ≤ 64 }
+    requires quantum { quantum ≤ 1000000 }
+    requires turns { turns ≤ 1000000000000 }
+    ensures { IfOk result (IsRunClosed net.now (S.questions series) turns P.QUIET) }
+{
+    let blank = Blank::new(workers as u64 + 1);
+    let job = Job {
+        alloc,
+        net,
+        workers,
+        quantum,
+        turns,
+        board,
+        gate,
+        stop,
+    };
+    run_named::<N, Brand, S, G, P, R>(rt, job, series, blank)
+}

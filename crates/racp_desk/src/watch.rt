@@ -1,0 +1,91 @@
+//! When a worker stops searching a piece.
+
+use racp_search::Stop;
+use std::cell::Cell;
+use std::sync::atomic::{AtomicU64, Ordering};
+
+/// A hint: the least place of a question of which a yes was merged, or the greatest number. Nothing rests on it but how
+/// soon a search is left that is of no use.
+#[derive(Drop)]
+pub(crate) struct Hint {
+    least: AtomicU64,
+}
+
+impl Hint {
+    /// No yes was merged.
+    pub(crate) fn new() -> Self {
+        Hint {
+            least: AtomicU64::new(u64::MAX),
+        }
+    }
+
+    /// A yes of the question at this place was merged.
+    pub(crate) fn note(&self, index: u64) {
+        self.least.fetch_min(index, Ordering::SeqCst);
+    }
+
+    /// Whether a yes of a question before this place was merged.
+    fn is_before(&self, index: u64) -> bool {
+        self.least.load(Ordering::SeqCst) < index
+    }
+}
+
+/// Why a worker is to leave its piece.
+pub(crate) trait Reasons {
+    /// Whether it is to leave it now.
+    fn ask(&self) -> bool;
+}
+
+/// The user's stop, and a yes of a question before this place that was merged.
+#[derive(Drop)]
+pub(crate) struct UserOrHint<'a, P: Stop> {
+    user: &'a P,
+    hint: &'a Hint,
+    index: u64,
+    by_user: Cell<bool>,
+}
+
+impl<'a, P: Stop> UserOrHint<'a, P> {
+    /// Nobody has asked to stop yet.
+    pub(crate) fn new(user: &'a P, hint: &'a Hint, index: u64) -> Self {
+        UserOrHint {
+            user,
+            hint,
+            index,
+            by_user: Cell::new(false),
+        }
+    }
+
+    /// Whether the user has asked to stop.
+    pub(crate) fn by_user(&self) -> bool {
+        self.by_user.get()
+    }
+}
+
+impl<'a, P: Stop> Reasons for UserOrHint<'a, P> {
+    fn ask(&self) -> bool {
+        if self.user.asked() {
+            self.by_user.set(true);
+            return true;
+        }
+        self.hint.is_before(self.index)
+    }
+}
+
+/// The stop of a worker's search.
+#[derive(Drop)]
+pub(crate) struct Watch<T: Reasons> {
+    pub(crate) reasons: T,
+}
+
+impl<T: Reasons> Stop for Watch<T> {
+    ghost use Rattle.std.specs.Prelude.{false};
+
+    ghost QUIET = { false };
+
+    const QUIET: bool = false;
+
+    fn asked(&self) -> bool {
+        self.reasons.ask()
+    }
+}

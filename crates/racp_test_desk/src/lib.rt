@@ -1,0 +1,11 @@
+//! Tests of the desk.
+#![tactic(auto)]
+
+#[cfg(test)]
+mod crews;
+#[cfg(test)]
+mod scripts;
+#[cfg(test)]
+mod series;
+#[cfg(test)]
+mod trial;

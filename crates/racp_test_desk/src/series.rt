@@ -1,0 +1,45 @@
+//! A series of four questions about the network of six jobs.
+
+ghost use Rattle.std.specs.Prelude.{◌≡◌, ◌<◌, length, IfOk};
+ghost use Rattle.racp_model.specs.Formed.{AreFormed, HasBounds};
+
+use racp_candidates::Singles;
+use racp_model::{Capacities, Network, Window};
+use racp_samples::{SampleFault, root_window};
+use std::alloc::{AllocError, Global};
+
+/// The questions of 0, 1, 2 and 3 units of the first resource beside so many of the second, for the deadline 3.
+pub(crate) fn units_of_the_first(
+    alloc: Global,
+    net: &Network,
+    second: u32,
+) -> Result<Singles, SampleFault>
+    ensures { IfOk result (λ series. AreFormed net.now series) }
+{
+    if net.resource_count() != 2 {
+        return Err(SampleFault::NoSample);
+    }
+    let window = root_window(alloc, net, 3)?;
+    let floors = Capacities::new([0, second].to_vec(alloc)?);
+    let roofs = Capacities::new([3, second].to_vec(alloc)?);
+    Ok(singles(alloc, net, &floors, &roofs, &window)?)
+}
+
+/// The questions of the units of the first resource from its floor to its roof.
+fn singles(
+    alloc: Global,
+    net: &Network,
+    floors: &Capacities,
+    roofs: &Capacities,
+    window: &Window,
+) -> Result<Singles, AllocError>
+    requires floors { 0 < length floors.now }
+    requires some { 0 < length roofs.now }
+    requires roofs { length roofs.now ≡ net.now.resources }
+    requires window { HasBounds net.now window.now }
+    ensures { IfOk result (λ series. AreFormed net.now series) }
+{
+    let _ = net;
+    let series = Singles::new(alloc, floors, roofs, 0, window)?;
+    Ok(series)
+}

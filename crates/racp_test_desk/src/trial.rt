@@ -1,0 +1,241 @@
+//! Calls of a desk on one thread, told one by one.
+
+ghost use Rattle.std.specs.Prelude.{◌≡◌, ◌<◌, ◌≤◌, length, IfOk};
+
+use racp_candidates::Singles;
+use racp_core::{Asked, Merged, Reply};
+use racp_cutset::{Board, Local};
+use racp_desk::{Cause, Names, State};
+use racp_model::{Network, OfNetwork, Question};
+use racp_samples::{SampleFault, question};
+use racp_search::{Collector, Finding, Never, Piece, Stop, explore};
+use std::alloc::{AllocError, Global};
+use std::sync::ledger::Share;
+use std::test::Fail;
+
+/// Asks a search to stop before its first node.
+#[derive(Clone, Copy)]
+pub(crate) struct AtOnce;
+
+impl Stop for AtOnce {
+    ghost use Rattle.std.specs.Prelude.{false};
+
+    ghost QUIET = { false };
+
+    const QUIET: bool = false;
+
+    fn asked(&self) -> bool {
+        true
+    }
+}
+
+/// How a piece is searched that is handed in.
+#[derive(Clone, Copy)]
+pub(crate) enum How {
+    /// To its end.
+    Whole,
+    /// It is stopped before the first node.
+    Stopped,
+    /// To its end, by a worker at the next seat.
+    NextSeat,
+}
+
+/// A call. Pieces are told by their number.
+#[derive(Clone, Copy)]
+pub(crate) enum Call {
+    Ask,
+    Take(usize),
+    Hand(usize, How),
+    GiveBack(usize),
+    Halt,
+}
+
+/// What a call answers: the place of a question, the number of a piece, or why there is none.
+#[derive(Clone, Copy, PartialEq)]
+pub(crate) enum Heard {
+    Question(usize),
+    End,
+    Enough,
+    Piece(u64),
+    Nothing,
+    Done,
+    Taken,
+    Stale,
+    Halted,
+}
+
+/// A piece that was taken, by its parts.
+#[derive(Drop)]
+pub(crate) struct Held {
+    number: u64,
+    seat: usize,
+    index: u64,
+    question: Question,
+}
+
+impl Collector for Held {}
+
+/// Makes a call. A piece that was never taken is stale.
+pub(crate) fn make<N: OfNetwork, M: Names>(
+    alloc: Global,
+    net: &Network,
+    state: &mut State<N, M, Singles>,
+    mine: &mut Share<M>,
+    pieces: &mut Vec<Held>,
+    call: Call,
+) -> Result<Heard, Fail>
+    requires named { net.now ≡ N.network }
+    requires parts { 0 < mine.old.parts }
+    requires turns { M.turns ≡ 100 }
+    ensures { mine.new.parts ≡ mine.old.parts }
+{
+    match call {
+        Call::Ask => Ok(ask(state, mine)?),
+        Call::Take(seat) => Ok(take(state, mine, pieces, seat)?),
+        Call::Hand(at, how) => hand(alloc, net, state, mine, pieces, at, how),
+        Call::GiveBack(at) => Ok(give_back(alloc, net, state, mine, pieces, at)?),
+        Call::Halt => {
+            state.halt(Cause::Fault, mine);
+            Ok(Heard::Halted)
+        }
+    }
+}
+
+fn ask<N: OfNetwork, M: Names>(
+    state: &mut State<N, M, Singles>,
+    mine: &mut Share<M>,
+) -> Result<Heard, AllocError>
+    requires { 0 < mine.old.parts }
+    ensures { mine.new.parts ≡ mine.old.parts }
+{
+    Ok(match state.ask(mine)? {
+        Asked::Question(index) => Heard::Question(index),
+        Asked::End => Heard::End,
+        Asked::Enough => Heard::Enough,
+        Asked::Halted => Heard::Halted,
+    })
+}
+
+fn take<N: OfNetwork, M: Names>(
+    state: &mut State<N, M, Singles>,
+    mine: &mut Share<M>,
+    pieces: &mut Vec<Held>,
+    seat: usize,
+) -> Result<Heard, AllocError>
+    requires parts { 0 < mine.old.parts }
+    requires turns { M.turns ≡ 100 }
+    ensures { mine.new.parts ≡ mine.old.parts }
+{
+    if state.pieces() >= 100 {
+        return Ok(Heard::Nothing);
+    }
+    match state.take(seat, mine)? {
+        Reply::Piece(piece) => {
+            let (number, seat, index) = (piece.number(), piece.seat(), piece.index());
+            let question = piece.into_question::<Held>();
+            pieces.push(Held {
+                number,
+                seat,
+                index,
+                question,
+            })?;
+            Ok(Heard::Piece(number))
+        }
+        Reply::Nothing => Ok(Heard::Nothing),
+        Reply::Done => Ok(Heard::Done),
+        Reply::Halted => Ok(Heard::Halted),
+    }
+}
+
+/// The piece once more, of a worker at this seat.
+fn again<N: OfNetwork>(
+    alloc: Global,
+    net: &Network,
+    held: &Held,
+    seat: usize,
+) -> Result<Piece<N>, SampleFault>
+    ensures capacities { IfOk result (λ piece. length piece.question.capacities ≡ net.now.resources) }
+    ensures lower { IfOk result (λ piece. length piece.question.window.lower ≡ length net.now.jobs) }
+    ensures upper { IfOk result (λ piece. length piece.question.window.upper ≡ length net.now.jobs) }
+{
+    let (units, window) = (held.question.capacities.as_slice(), &held.question.window);
+    let asked = question(alloc, net, units, window.lower(), window.upper())?;
+    Ok(Piece::new(held.number, seat, held.index, asked))
+}
+
+/// What a search of the piece finds.
+fn explored<N: OfNetwork>(
+    alloc: Global,
+    net: &Network,
+    held: &Held,
+    how: How,
+) -> Result<Finding<N>, SampleFault>
+    requires { net.now ≡ N.network }
+    ensures { IfOk result (λ finding. finding.nodes ≤ 1000000) }
+{
+    let board: Board<N> = Board::new(alloc, net)?;
+    let mut local: Local<N> = Local::new(alloc, net);
+    let seat = match how {
+        How::NextSeat => held.seat.wrapping_add(1),
+        How::Whole | How::Stopped => held.seat,
+    };
+    let piece = again(alloc, net, held, seat)?;
+    let most = Some(1_000_000);
+    Ok(match how {
+        How::Stopped => explore(alloc, net, piece, most, &board, &mut local, &AtOnce),
+        How::Whole | How::NextSeat => {
+            explore(alloc, net, piece, most, &board, &mut local, &Never)
+        }
+    })
+}
+
+fn hand<N: OfNetwork, M: Names>(
+    alloc: Global,
+    net: &Network,
+    state: &mut State<N, M, Singles>,
+    mine: &mut Share<M>,
+    pieces: &[Held],
+    at: usize,
+    how: How,
+) -> Result<Heard, Fail>
+    requires named { net.now ≡ N.network }
+    requires parts { 0 < mine.old.parts }
+    ensures { mine.new.parts ≡ mine.old.parts }
+{
+    let Some(held) = pieces.get(at) else {
+        return Ok(Heard::Stale);
+    };
+    let finding: Finding<N> = explored(alloc, net, held, how)?;
+    match state.hand(finding, mine) {
+        Ok(merged) => Ok(of_merged(merged)),
+        Err((finding, error)) => {
+            let _ = finding.into_found();
+            Err(Fail::from(error))
+        }
+    }
+}
+
+fn give_back<N: OfNetwork, M: Names>(
+    alloc: Global,
+    net: &Network,
+    state: &mut State<N, M, Singles>,
+    mine: &mut Share<M>,
+    pieces: &[Held],
+    at: usize,
+) -> Result<Heard, SampleFault>
+    requires { 0 < mine.old.parts }
+    ensures { mine.new.parts ≡ mine.old.parts }
+{
+    let Some(held) = pieces.get(at) else {
+        return Ok(Heard::Stale);
+    };
+    let piece = again(alloc, net, held, held.seat)?;
+    Ok(of_merged(state.give_back(piece, mine)))
+}
+
+fn of_merged(merged: Merged) -> Heard {
+    match merged {
+        Merged::Taken => Heard::Taken,
+        Merged::Stale => Heard::Stale,
+    }
+}
