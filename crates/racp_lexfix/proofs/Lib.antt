@@ -11,3 +11,4 @@ mod Deciding
 mod Existing
 mod ByLength
 mod SomeAnswer
+mod Asking

@@ -5,3 +5,4 @@ pub mod Working
 pub mod Fixing
 pub mod Stages
 pub mod Laws
+pub mod Crowds

@@ -43,10 +43,10 @@ impl<N: OfNetwork> Alone<N> {
     }
 }
 
-impl<N: OfNetwork> Asker for Alone<N> {
-    ghost use Rattle.std.specs.Prelude.{None};
+impl<N: OfNetwork, S: Series> Asker<S> for Alone<N> {
+    ghost use Rattle.std.specs.Prelude.{◌≡◌, None};
 
-    ghost network = { λ _. N.network };
+    ghost about = { λ _ p. p ≡ N.network };
 
     ghost answered = { λ alone. alone.answered };
 
@@ -56,7 +56,7 @@ impl<N: OfNetwork> Asker for Alone<N> {
 
     ghost may_want_thread = { λ _. ⊥ };
 
-    fn first<S: Series + Send>(&mut self, net: &Network, series: S) -> Result<First, AskStop> {
+    fn first(&mut self, net: &Network, series: S) -> Result<First, AskStop> {
         let answered = self.answered.checked_add(1).ok_or(AskStop::Memory)?;
         let mut core: Core<N, S> = Core::new(self.alloc, net, series);
         'questions: loop {

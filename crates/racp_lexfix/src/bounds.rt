@@ -12,7 +12,7 @@ ghost use Rattle.racp_lexfix.specs.Stages.{IsBounded, IsYesOrNo, given_up};
 
 use crate::answer::PlanStop;
 use racp_bounds::floors;
-use racp_candidates::One;
+use racp_candidates::{AnySeries, One};
 use racp_model::{Capacities, Network, Window};
 use racp_prices::{Order, most_units};
 use racp_questions::{AskStop, Asker, First};
@@ -24,17 +24,17 @@ use std::alloc::{AllocError, Global};
 /// # Errors
 ///
 /// The asker gave up, or memory was refused.
-pub(crate) fn floors_and_roofs<A: Asker>(
+pub(crate) fn floors_and_roofs<A: Asker<AnySeries>>(
     alloc: Global,
     net: &Network,
     order: &Order,
     root: &Window,
     asker: &mut A,
 ) -> Result<Option<(Capacities, Capacities)>, PlanStop>
-    requires named { net.now ≡ A.network asker.old }
+    requires named { A.about asker.old net.now }
     requires terms { AreTermsOf net.now order.now }
     requires root { IsRootWindow net.now (release_of order.now) (due_of order.now) root.now }
-    ensures network { A.network asker.new ≡ A.network asker.old }
+    ensures network { A.about asker.new net.now }
     ensures bounded { IfOk result (IsBounded net.now order.now root.now (A.answered asker.new - A.answered asker.old)) }
     ensures no_fewer { A.answered asker.old ≤ A.answered asker.new }
     ensures stop { IfErr result (IsPlanStop (IsStoppedAt net.now order.now
@@ -93,24 +93,24 @@ fn are_bounds(floors: &[u32], roofs: &[u32]) -> bool
 }
 
 /// Whether some starts in the window keep precedence and the capacities.
-fn is_yes<A: Asker>(
+fn is_yes<A: Asker<AnySeries>>(
     alloc: Global,
     net: &Network,
     capacities: &Capacities,
     window: &Window,
     asker: &mut A,
 ) -> Result<bool, AskStop>
-    requires named { net.now ≡ A.network asker.old }
+    requires named { A.about asker.old net.now }
     requires capacities { length capacities.now ≡ net.now.resources }
     requires window { HasBounds net.now window.now }
-    ensures network { A.network asker.new ≡ A.network asker.old }
+    ensures network { A.about asker.new net.now }
     ensures decided { IfOk result (IsYesOrNo net.now capacities.now window.now) }
     ensures answered { OnOk result (A.answered asker.new ≡ A.answered asker.old + 1) }
     ensures unanswered { OnErr result (A.answered asker.new ≡ A.answered asker.old) }
     ensures stop { IfErr result (MayGiveUp (A.may_stop asker.new) (A.may_want_thread asker.new)) }
 {
     let question = One::new(alloc, capacities, window)?;
-    match asker.first(net, question)? {
+    match asker.first(net, AnySeries::One(question))? {
         First::Yes { .. } => Ok(true),
         First::None => Ok(false),
     }

@@ -13,7 +13,7 @@ use crate::bounds::floors_and_roofs;
 use crate::starts::least_starts;
 use racp_bounds::{Sharp, sharpen};
 use racp_boxes::first_enough;
-use racp_candidates::{One, Vectors};
+use racp_candidates::{AnySeries, One, Vectors};
 use racp_check::{Opening, opening_of};
 use racp_model::{Capacities, Network, Starts, Window, peaks};
 use racp_plan::Plan;
@@ -32,15 +32,15 @@ const FEW_VECTORS: u64 = 64;
 /// # Errors
 ///
 /// The asker gave up, or memory was refused.
-pub fn plan<A: Asker>(
+pub fn plan<A: Asker<AnySeries>>(
     alloc: Global,
     net: &Network,
     order: &Order,
     asker: &mut A,
 ) -> Result<Answer, PlanStop>
-    requires named { net.now ≡ A.network asker.old }
+    requires named { A.about asker.old net.now }
     requires terms { AreTermsOf net.now order.now }
-    ensures network { A.network asker.new ≡ A.network asker.old }
+    ensures network { A.about asker.new net.now }
     ensures answer { IfOk result (IsAnswer net.now order.now) }
     ensures stop { IfErr result (IsPlanStop (IsStoppedAt net.now order.now
         (A.answered asker.new - A.answered asker.old) (A.told asker.new))
@@ -64,17 +64,17 @@ pub fn plan<A: Asker>(
 }
 
 /// The capacities and the starts of the plan, or none where no capacities are enough.
-fn chosen<A: Asker>(
+fn chosen<A: Asker<AnySeries>>(
     alloc: Global,
     net: &Network,
     order: &Order,
     root: &Window,
     asker: &mut A,
 ) -> Result<Option<(Capacities, Starts)>, PlanStop>
-    requires named { net.now ≡ A.network asker.old }
+    requires named { A.about asker.old net.now }
     requires terms { AreTermsOf net.now order.now }
     requires root { IsRootWindow net.now (release_of order.now) (due_of order.now) root.now }
-    ensures network { A.network asker.new ≡ A.network asker.old }
+    ensures network { A.about asker.new net.now }
     ensures chosen { IfOk result (IsChosen net.now order.now) }
     ensures stop { IfErr result (IsPlanStop (IsStoppedAt net.now order.now
         (A.answered asker.new - A.answered asker.old) (A.told asker.new))
@@ -96,7 +96,7 @@ fn chosen<A: Asker>(
 
 /// The first capacities of all that are enough: asked for in their order where they are among few vectors, and else
 /// found by halves of their box.
-fn cheapest<A: Asker>(
+fn cheapest<A: Asker<AnySeries>>(
     alloc: Global,
     net: &Network,
     order: &Order,
@@ -105,11 +105,11 @@ fn cheapest<A: Asker>(
     roofs: &Capacities,
     asker: &mut A,
 ) -> Result<Capacities, PlanStop>
-    requires named { net.now ≡ A.network asker.old }
+    requires named { A.about asker.old net.now }
     requires terms { AreTermsOf net.now order.now }
     requires root { IsRootWindow net.now (release_of order.now) (due_of order.now) root.now }
     requires sharp { AreSharpFloorsAndRoofs net.now order.now root.now sharp roofs.now }
-    ensures network { A.network asker.new ≡ A.network asker.old }
+    ensures network { A.about asker.new net.now }
     ensures least { IfOk result (IsLeast (IsBefore order.now) (IsEnough net.now order.now)) }
     ensures answered { OnOk result (A.answered asker.new ≡ A.answered asker.old + 1) }
     ensures stop { IfErr result (IsPlanStop (IsStoppedInBox net.now order.now sharp.floors (A.told asker.new))
@@ -123,7 +123,7 @@ fn cheapest<A: Asker>(
 
 /// The first capacities of all that are enough: those of the first question of the box that is a yes. They are the
 /// peaks of the starts that were found, since these peaks are enough too, and no others that are stand before them.
-fn cheapest_in_order<A: Asker>(
+fn cheapest_in_order<A: Asker<AnySeries>>(
     alloc: Global,
     net: &Network,
     order: &Order,
@@ -132,18 +132,18 @@ fn cheapest_in_order<A: Asker>(
     roofs: &Capacities,
     asker: &mut A,
 ) -> Result<Capacities, PlanStop>
-    requires named { net.now ≡ A.network asker.old }
+    requires named { A.about asker.old net.now }
     requires terms { AreTermsOf net.now order.now }
     requires root { IsRootWindow net.now (release_of order.now) (due_of order.now) root.now }
     requires sharp { AreSharpFloorsAndRoofs net.now order.now root.now sharp roofs.now }
-    ensures network { A.network asker.new ≡ A.network asker.old }
+    ensures network { A.about asker.new net.now }
     ensures least { IfOk result (IsLeast (IsBefore order.now) (IsEnough net.now order.now)) }
     ensures answered { OnOk result (A.answered asker.new ≡ A.answered asker.old + 1) }
     ensures stop { IfErr result (IsPlanStop (IsStoppedInBox net.now order.now sharp.floors (A.told asker.new))
         (A.may_stop asker.new × (A.answered asker.new ≡ A.answered asker.old)) (A.may_want_thread asker.new)) }
 {
     let series = vectors(alloc, net, order, root, &sharp, roofs)?;
-    let first = match asker.first(net, series) {
+    let first = match asker.first(net, AnySeries::Vectors(series)) {
         Ok(first) => first,
         Err(stop) => return Err(PlanStop::stopped_at(stop, sharp.floors)),
     };
@@ -166,7 +166,7 @@ fn is_small(floors: &Capacities, roofs: &Capacities) -> bool {
 
 /// The first capacities of all that are enough, found by boxes of vectors below known ones. They are asked for once
 /// more, by a series, for which an asker keeps what serves the starts.
-fn cheapest_by_halves<A: Asker>(
+fn cheapest_by_halves<A: Asker<AnySeries>>(
     alloc: Global,
     net: &Network,
     order: &Order,
@@ -175,11 +175,11 @@ fn cheapest_by_halves<A: Asker>(
     roofs: &Capacities,
     asker: &mut A,
 ) -> Result<Capacities, PlanStop>
-    requires named { net.now ≡ A.network asker.old }
+    requires named { A.about asker.old net.now }
     requires terms { AreTermsOf net.now order.now }
     requires root { IsRootWindow net.now (release_of order.now) (due_of order.now) root.now }
     requires sharp { AreSharpFloorsAndRoofs net.now order.now root.now sharp roofs.now }
-    ensures network { A.network asker.new ≡ A.network asker.old }
+    ensures network { A.about asker.new net.now }
     ensures least { IfOk result (IsLeast (IsBefore order.now) (IsEnough net.now order.now)) }
     ensures answered { OnOk result (A.answered asker.new ≡ A.answered asker.old + 1) }
     ensures stop { IfErr result (IsPlanStop (IsStoppedInBox net.now order.now sharp.floors (A.told asker.new))
@@ -190,7 +190,7 @@ fn cheapest_by_halves<A: Asker>(
         Err(stop) => return Err(PlanStop::given_up(stop, sharp.floors)),
     };
     let series = One::new(alloc, &first, root)?;
-    match asker.first(net, series) {
+    match asker.first(net, AnySeries::One(series)) {
         Ok(_) => Ok(first),
         Err(stop) => Err(PlanStop::given_up(stop, first)),
     }

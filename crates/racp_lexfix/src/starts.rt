@@ -11,7 +11,7 @@ ghost use Rattle.racp_questions.specs.FirstYes.{MayGiveUp};
 ghost use Rattle.racp_candidates.specs.Questions.{window_at};
 ghost use Rattle.racp_lexfix.specs.Fixing.{HasSchedule, IsSettledEarly, IsLeastStart};
 
-use racp_candidates::Starts1;
+use racp_candidates::{AnySeries, Starts1};
 use racp_cpm::settle_early;
 use racp_model::{Capacities, Network, Starts, Window};
 use racp_questions::{AskStop, Asker, First};
@@ -22,18 +22,18 @@ use std::alloc::{AllocError, Global};
 /// # Errors
 ///
 /// The asker gave up, or memory was refused.
-pub(crate) fn least_starts<A: Asker>(
+pub(crate) fn least_starts<A: Asker<AnySeries>>(
     alloc: Global,
     net: &Network,
     capacities: &Capacities,
     root: &Window,
     asker: &mut A,
 ) -> Result<Starts, AskStop>
-    requires named { net.now ≡ A.network asker.old }
+    requires named { A.about asker.old net.now }
     requires capacities { length capacities.now ≡ net.now.resources }
     requires root { HasBounds net.now root.now }
     requires yes { IsYes net.now capacities.now root.now }
-    ensures network { A.network asker.new ≡ A.network asker.old }
+    ensures network { A.about asker.new net.now }
     ensures least { IfOk result (IsLeast IsLexBefore (Answers net.now capacities.now root.now)) }
     ensures no_fewer { A.answered asker.old ≤ A.answered asker.new }
     ensures stop { IfErr result (MayGiveUp (A.may_stop asker.new) (A.may_want_thread asker.new)) }
@@ -71,7 +71,7 @@ fn early_of(net: &Network, lower: Starts) -> Starts
 }
 
 /// The least start of a job, by place from 0, with which the others can still be placed in the window.
-fn least_start<A: Asker>(
+fn least_start<A: Asker<AnySeries>>(
     alloc: Global,
     net: &Network,
     capacities: &Capacities,
@@ -79,18 +79,18 @@ fn least_start<A: Asker>(
     j: usize,
     asker: &mut A,
 ) -> Result<u32, AskStop>
-    requires named { net.now ≡ A.network asker.old }
+    requires named { A.about asker.old net.now }
     requires capacities { length capacities.now ≡ net.now.resources }
     requires window { HasBounds net.now window.now }
     requires job { j < length net.now.jobs }
     requires yes { IsYes net.now capacities.now window.now }
-    ensures network { A.network asker.new ≡ A.network asker.old }
+    ensures network { A.about asker.new net.now }
     ensures least { IfOk result (IsLeastStart net.now capacities.now window.now j) }
     ensures no_fewer { A.answered asker.old ≤ A.answered asker.new }
     ensures stop { IfErr result (MayGiveUp (A.may_stop asker.new) (A.may_want_thread asker.new)) }
 {
     let values = Starts1::new(alloc, capacities, window, j)?;
-    match asker.first(net, values)? {
+    match asker.first(net, AnySeries::Starts1(values))? {
         First::Yes { index, .. } => Ok(start_at(window, j, index)),
         First::None => unreachable!(),
     }

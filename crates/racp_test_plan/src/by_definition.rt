@@ -26,10 +26,10 @@ impl<N: OfNetwork> ByDefinition<N> {
     }
 }
 
-impl<N: OfNetwork> Asker for ByDefinition<N> {
-    ghost use Rattle.std.specs.Prelude.{⊤, None};
+impl<N: OfNetwork, S: Series> Asker<S> for ByDefinition<N> {
+    ghost use Rattle.std.specs.Prelude.{◌≡◌, ⊤, None};
 
-    ghost network = { λ _. N.network };
+    ghost about = { λ _ p. p ≡ N.network };
 
     ghost answered = { λ asker. asker.answered };
 
@@ -39,7 +39,7 @@ impl<N: OfNetwork> Asker for ByDefinition<N> {
 
     ghost may_want_thread = { λ _. ⊥ };
 
-    fn first<S: Series + Send>(&mut self, net: &Network, mut series: S) -> Result<First, AskStop> {
+    fn first(&mut self, net: &Network, mut series: S) -> Result<First, AskStop> {
         if self.series <= self.answered {
             return Err(AskStop::Stopped { reached: None });
         }

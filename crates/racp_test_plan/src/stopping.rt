@@ -23,10 +23,10 @@ struct Tired<N: OfNetwork> {
     told: Option<Capacities>,
 }
 
-impl<N: OfNetwork> Asker for Tired<N> {
-    ghost use Rattle.std.specs.Prelude.{⊤};
+impl<N: OfNetwork, S: Series> Asker<S> for Tired<N> {
+    ghost use Rattle.std.specs.Prelude.{◌≡◌, ⊤};
 
-    ghost network = { λ _. N.network };
+    ghost about = { λ _ p. p ≡ N.network };
 
     ghost answered = { λ tired. tired.answered };
 
@@ -36,7 +36,7 @@ impl<N: OfNetwork> Asker for Tired<N> {
 
     ghost may_want_thread = { λ _. ⊥ };
 
-    fn first<S: Series + Send>(&mut self, net: &Network, mut series: S) -> Result<First, AskStop> {
+    fn first(&mut self, net: &Network, mut series: S) -> Result<First, AskStop> {
         if self.answered < self.series {
             let first = self.alone.first(net, series)?;
             self.answered += 1;
@@ -62,7 +62,7 @@ impl<N: OfNetwork> Asker for Tired<N> {
         most: Option<u64>,
     ) -> Result<Probe, AskStop> {
         if self.answered < self.series {
-            return self.alone.probe(net, question, most);
+            return Asker::<S>::probe(&mut self.alone, net, question, most);
         }
         self.told = None;
         Err(AskStop::Stopped { reached: None })

@@ -13,7 +13,7 @@ pub loop-j-preserved : goal.loop-j-preserved
 loop-j-preserved g c =
     let more : c.loop-j.j < length c.args.net.now.jobs = omega (arith, c.loop-j-test.true, c.job_count-j-end.ensures.count) in
     record {
-      network = c.least_start.ensures.network ∙ c.loop-j.invariant.network;
+      network = c.least_start.ensures.network;
       no_fewer = omega (arith, c.loop-j.invariant.no_fewer, c.least_start.ensures.no_fewer);
       fixed = subst (λ (window : Bounds). IsFixedBefore c.args.net.now c.args.capacities.now c.args.root.now (c.loop-j.j + 1) window) (sym c.fixed-window.ensures)
           (fixed_one c.args.net.now c.args.capacities.now c.args.root.now c.loop-j.j c.loop-j.window c.settled-window.result c.loop-j.invariant.fixed c.settled-window.ensures c.in_ok-start.start more

@@ -4,7 +4,7 @@ use Rattle.racp_lexfix.proofs.starts.least_starts.Given as goal
 
 abbrev pub invariant-loop-j : goal.invariant-loop-j
 invariant-loop-j g l = record {
-  network : g.A.Asker.network l.asker ≡ g.A.Asker.network l.fn.asker;
+  network : g.A.Asker.about l.asker l.net;
   no_fewer : g.A.Asker.answered l.fn.asker ≤ g.A.Asker.answered l.asker;
   fixed : IsFixedBefore l.net l.capacities l.root l.j l.window;
 }

@@ -1,0 +1,109 @@
+-- What a run of a desk tells an asker.
+use Rattle.std.proofs.Common.{◌≡◌, ◌⊎◌, inl, inr, ℕ, ◌+◌, ◌<◌, ◌≤◌, Bool, true, false, List, [], ◌∷◌, length, Option, Some, None, Result, Ok, Err, IfOk, IfErr, refl, sym, subst, arith}
+use Rattle.std.proofs.lemmas.Bool.{false≢true}
+use Rattle.std.specs.Prelude.{◌↔◌, ⊤, IsTrue}
+use Rattle.racp_model.specs.Project.{Project}
+use Rattle.racp_model.specs.Window.{Answers}
+use Rattle.racp_model.specs.declared.question.Question.{Question}
+use Rattle.racp_questions.specs.FirstYes.{question_at, IsFirst, IsStop, IsReached, IsProbed, IsProbeStop}
+use Rattle.racp_questions.specs.declared.asker.First.{First}
+use Rattle.racp_questions.specs.declared.asker.Probe.{Probe}
+use Rattle.racp_questions.specs.declared.asker.AskStop.{AskStop}
+use Rattle.racp_questions.specs.declared.asker.AskStop.TheVariants.{Stopped, Memory, NoThread}
+use Rattle.racp_core.specs.Replies.{IsOutcomeKnown}
+use Rattle.racp_core.specs.declared.replies.Outcome.{Outcome}
+use Rattle.racp_core.specs.declared.replies.Outcome.TheVariants.{First as FirstOutcome, NoYes, Open}
+use Rattle.racp_desk.specs.declared.log.Cause.{Cause}
+use Rattle.racp_desk.specs.declared.log.Entry.{Entry}
+use Rattle.racp_desk.specs.declared.state.Closed.{Closed}
+use Rattle.racp_desk.specs.Log.{tally}
+use Rattle.racp_desk.specs.Closing.{IsRunClosed, IsOpenFor, IsEnding}
+use Rattle.racp_desk.proofs.lemmas.Legal.{HasCause, IsWithin, legal_within}
+use Rattle.racp_lexfix.specs.Crowds.{IsFirstBy, IsLeftOpen, IsAnsweredBy, IsOver, probe_by}
+
+-- what is known of the log of a run
+within : (p : Project) (questions : List Question) (turns : ℕ) (quiet : Bool) (closed : Closed) → IsRunClosed p questions turns quiet closed → IsWithin turns quiet (tally closed.log.items)
+within p questions turns quiet closed h = legal_within turns quiet closed.log.items h.closed_is.legal
+
+-- no more pieces than turns were taken
+pub pieces_few : (p : Project) (questions : List Question) (turns : ℕ) (quiet : Bool) (closed : Closed) → IsRunClosed p questions turns quiet closed → closed.pieces ≤ turns
+pieces_few p questions turns quiet closed h = (let w = (within p questions turns quiet closed h).few in let e = h.closed_is.pieces in omega (arith, w, e))
+
+-- where the answer is open no turn is left, or the stop is not quiet
+ending : (p : Project) (questions : List Question) (turns left : ℕ) (quiet : Bool) (closed : Closed) → IsRunClosed p questions turns quiet closed → left + closed.pieces ≡ turns →
+    IsEnding (tally closed.log.items).halt → (left ≡ 0) ⊎ (quiet ≡ false)
+ending p questions turns left quiet closed h sum (inl stop) =
+    let w = (within p questions turns quiet closed h).cause in
+    inr (subst (λ (c : Option Cause). HasCause turns quiet (length (tally closed.log.items).taken) c) stop w)
+ending p questions turns left quiet closed h sum (inr out) =
+    let w = (within p questions turns quiet closed h).cause in
+    let all = subst (λ (c : Option Cause). HasCause turns quiet (length (tally closed.log.items).taken) c) out w in
+    let e = h.closed_is.pieces in
+    inl (omega (arith, sum, e, all))
+
+open_ending : (p : Project) (questions : List Question) (turns left : ℕ) (quiet : Bool) (closed : Closed) (outcome : Outcome) → IsRunClosed p questions turns quiet closed →
+    left + closed.pieces ≡ turns → IsOpenFor (tally closed.log.items) outcome → IsLeftOpen outcome → (left ≡ 0) ⊎ (quiet ≡ false)
+open_ending p questions turns left quiet closed (Open index) h sum since left_open = ending p questions turns left quiet closed h sum since
+open_ending p questions turns left quiet closed (FirstOutcome index starts) h sum since left_open = absurd left_open
+open_ending p questions turns left quiet closed NoYes h sum since left_open = absurd left_open
+
+-- the first yes that a run tells
+first_known : (p : Project) (questions : List Question) (outcome : Outcome) (first : First) → IsOutcomeKnown p questions outcome → IsFirstBy outcome first → IsFirst p questions first
+first_known p questions (FirstOutcome index starts) first known is = subst (IsFirst p questions) (sym is) known
+first_known p questions NoYes first known is = subst (IsFirst p questions) (sym is) known
+first_known p questions (Open index) first known is = absurd is
+
+pub answer_right : (p n : Project) (questions : List Question) (turns : ℕ) (quiet : Bool) (closed : Closed) (told : Option (List ℕ)) (result : Result First AskStop) → p ≡ n →
+    IsRunClosed n questions turns quiet closed → IsAnsweredBy closed told result → IfOk result (IsFirst p questions)
+answer_right p n questions turns quiet closed told (Ok first) same h is = subst (λ (q : Project). IsFirst q questions first) (sym same) (first_known n questions closed.outcome first h.closed_is.known is)
+answer_right p n questions turns quiet closed told (Err stop) same h is = tt
+
+pub stop_right : (p n : Project) (questions : List Question) (turns left : ℕ) (quiet : Bool) (closed : Closed) (told : Option (List ℕ)) (result : Result First AskStop) → p ≡ n →
+    IsRunClosed n questions turns quiet closed → left + closed.pieces ≡ turns → IsAnsweredBy closed told result → IfErr result (IsStop p questions told ((left ≡ 0) ⊎ (quiet ≡ false)) ⊤)
+stop_right p n questions turns left quiet closed told (Ok first) same h sum is = tt
+stop_right p n questions turns left quiet closed told (Err (Stopped reached)) same h sum is =
+    let known : IsReached n questions reached = subst (IsReached n questions) (sym is.1) h.closed_is.reached in
+    (open_ending n questions turns left quiet closed closed.outcome h sum h.open_for is.0, (is.2, subst (λ (q : Project). IsReached q questions reached) (sym same) known))
+stop_right p n questions turns left quiet closed told (Err Memory) same h sum is = (tt, tt)
+stop_right p n questions turns left quiet closed told (Err NoThread) same h sum is = absurd is
+
+-- what a run about one question tells of it
+probed_by : (p : Project) (question : Question) (most : Option ℕ) (left : ℕ) (quiet : Bool) (log : List Entry) (outcome : Outcome) (is_over : Bool) → IsOutcomeKnown p (question ∷ []) outcome →
+    (IsTrue is_over ↔ IsOver most left quiet log) →
+    IfOk (probe_by outcome is_over) (IsProbed p question most)
+probed_by p question most left quiet log (FirstOutcome index starts) is_over known over =
+    let first : index ≡ 0 = (let low = known.0.0 in omega (arith, low)) in
+    subst (λ (i : ℕ). Answers p (question_at (question ∷ []) i).capacities (question_at (question ∷ []) i).window starts) first known.1
+probed_by p question most left quiet log NoYes is_over known over = known 0 (omega arith)
+probed_by p question most left quiet log (Open index) true known over = tt
+probed_by p question most left quiet log (Open index) false known over = λ none. absurd (false≢true (over.1 (inl none)))
+
+pub probe_right : (p n : Project) (question : Question) (questions : List Question) (most : Option ℕ) (turns left : ℕ) (quiet : Bool) (closed : Closed) (is_over : Bool) → p ≡ n →
+    questions ≡ question ∷ [] → IsRunClosed n questions turns quiet closed → (IsTrue is_over ↔ IsOver most left quiet closed.log.items) → IfOk (probe_by closed.outcome is_over) (IsProbed p question most)
+probe_right p n question questions most turns left quiet closed is_over same one h over =
+    let known : IsOutcomeKnown n (question ∷ []) closed.outcome = subst (λ (qs : List Question). IsOutcomeKnown n qs closed.outcome) one h.closed_is.known in
+    probed_by p question most left quiet closed.log.items closed.outcome is_over (subst (λ (q : Project). IsOutcomeKnown q (question ∷ []) closed.outcome) (sym same) known) over
+
+over_ending : (n : Project) (questions : List Question) (most : Option ℕ) (turns before left : ℕ) (quiet : Bool) (closed : Closed) (outcome : Outcome) →
+    IsRunClosed n questions turns quiet closed → left + closed.pieces ≡ before → (most ≡ None → turns ≡ before) → IsOpenFor (tally closed.log.items) outcome → IsLeftOpen outcome →
+    IsOver most left quiet closed.log.items → (left ≡ 0) ⊎ (quiet ≡ false)
+over_ending n questions most turns before left quiet closed outcome h sum all since left_open (inl none) =
+    let whole = all none in
+    open_ending n questions turns left quiet closed outcome h (omega (arith, sum, whole)) since left_open
+over_ending n questions most turns before left quiet closed outcome h sum all since left_open (inr (inl ends)) = inl ends
+over_ending n questions most turns before left quiet closed outcome h sum all since left_open (inr (inr stopped)) = inr stopped.0
+
+probe_ends : (n : Project) (questions : List Question) (most : Option ℕ) (turns before left : ℕ) (quiet : Bool) (closed : Closed) (outcome : Outcome) (is_over : Bool)
+    (told : Option (List ℕ)) → IsRunClosed n questions turns quiet closed → left + closed.pieces ≡ before → (most ≡ None → turns ≡ before) → IsOpenFor (tally closed.log.items) outcome →
+    (IsTrue is_over ↔ IsOver most left quiet closed.log.items) → told ≡ None → IfErr (probe_by outcome is_over) (IsProbeStop told ((left ≡ 0) ⊎ (quiet ≡ false)) ⊤)
+probe_ends n questions most turns before left quiet closed (FirstOutcome index starts) is_over told h sum all since over untold = tt
+probe_ends n questions most turns before left quiet closed NoYes is_over told h sum all since over untold = tt
+probe_ends n questions most turns before left quiet closed (Open index) true told h sum all since over untold =
+    (over_ending n questions most turns before left quiet closed (Open index) h sum all since tt (over.0 refl), untold)
+probe_ends n questions most turns before left quiet closed (Open index) false told h sum all since over untold = tt
+
+pub probe_stop_right : (n : Project) (questions : List Question) (most : Option ℕ) (turns before left : ℕ) (quiet : Bool) (closed : Closed) (is_over : Bool) (told : Option (List ℕ)) →
+    IsRunClosed n questions turns quiet closed → left + closed.pieces ≡ before → (most ≡ None → turns ≡ before) → (IsTrue is_over ↔ IsOver most left quiet closed.log.items) →
+    told ≡ None → IfErr (probe_by closed.outcome is_over) (IsProbeStop told ((left ≡ 0) ⊎ (quiet ≡ false)) ⊤)
+probe_stop_right n questions most turns before left quiet closed is_over told h sum all over untold =
+    probe_ends n questions most turns before left quiet closed closed.outcome is_over told h sum all h.open_for over untold

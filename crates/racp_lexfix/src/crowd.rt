@@ -1,0 +1,254 @@
+//! An asker that runs a desk of workers for each series.
+
+ghost use Rattle.std.specs.Prelude.{◌≡◌, ◌↔◌, ◌+◌, ◌*◌, ◌/◌, ◌≤◌, None, min, Contains, OnOk, OnErr, IfOk, IfErr, IfSome, IsTrue};
+ghost use Rattle.racp_model.specs.Formed.{AreFormed};
+ghost use Rattle.racp_candidates.specs.AnySeries.{any_questions};
+ghost use Rattle.racp_desk.specs.Closing.{IsRunClosed};
+ghost use Rattle.racp_desk.specs.declared.log.Cause.TheVariants.{Stop};
+ghost use Rattle.racp_desk.specs.declared.log.Entry.TheVariants.{Halted};
+ghost use Rattle.racp_lexfix.specs.Crowds.{IsAnsweredBy, IsFault, IsOver, RunsDesks, probe_by};
+
+use racp_candidates::{AnySeries, One};
+use racp_core::Outcome;
+use racp_desk::{Cause, Closed, DeskFault, Entry};
+use racp_model::{Capacities, Network, OfNetwork, Question};
+use racp_questions::{AskStop, Asker, First, Probe};
+use racp_search::Stop;
+use std::alloc::AllocError;
+use std::marker::PhantomData;
+
+/// How many nodes of a piece a worker searches in one turn.
+pub(crate) const QUANTUM: u64 = 1_000;
+
+/// How much work was done.
+#[derive(Clone, Copy)]
+pub struct Effort {
+    /// How many pieces were taken.
+    pub pieces: u64,
+    /// How many nodes were searched.
+    pub nodes: u64,
+}
+
+/// Answers series of questions about the network that `N` names, each by a run of a desk, and counts the turns over all
+/// of them: a turn is a piece that is taken. It is handed a call that runs a desk about a series with so many turns and
+/// a stop `P`. It stops only where no turn is left, or where its stop is not quiet.
+#[derive(Drop)]
+pub struct Crowd<N: OfNetwork, P: Stop, F: Fn(AnySeries, u64) -> Result<Closed, DeskFault> + Drop> {
+    run: F,
+    turns: u64,
+    left: u64,
+    pieces: u64,
+    nodes: u64,
+    answered: u64,
+    told: Option<Capacities>,
+    of: PhantomData<(N, P)>,
+    ghost turns_few: { turns ≤ 1000000000000 },
+    ghost counted: { left + pieces ≡ turns },
+    ghost nodes_few: { nodes ≤ 1000000 * pieces },
+}
+
+impl<N: OfNetwork, P: Stop, F: Fn(AnySeries, u64) -> Result<Closed, DeskFault> + Drop> Crowd<
+    N,
+    P,
+    F,
+> {
+    /// An asker with so many turns, which runs a desk by this call.
+    pub fn new(turns: u64, run: F) -> Self
+        requires { turns ≤ 1000000000000 }
+        ensures run { result.run ≡ run }
+        ensures left { result.left ≡ turns }
+        ensures effort { (result.pieces ≡ 0) × (result.nodes ≡ 0) }
+    {
+        Crowd {
+            run,
+            turns,
+            left: turns,
+            pieces: 0,
+            nodes: 0,
+            answered: 0,
+            told: None,
+            of: PhantomData,
+        }
+    }
+
+    /// How many turns are left.
+    pub fn left(&self) -> u64
+        ensures { result ≡ self.now.left }
+    {
+        self.left
+    }
+
+    /// How much work was done in the runs that ended.
+    pub fn effort(&self) -> Effort
+        ensures { (result.pieces ≡ self.now.pieces) × (result.nodes ≡ self.now.nodes) }
+    {
+        Effort {
+            pieces: self.pieces,
+            nodes: self.nodes,
+        }
+    }
+
+    /// Runs a desk about a series with so many of the turns that are left, and counts its work.
+    fn closed(&mut self, series: AnySeries, turns: u64) -> Result<Closed, AskStop>
+        requires turns { turns ≤ self.old.left }
+        requires formed { AreFormed N.network (any_questions series) }
+        requires run { RunsDesks N.network P.QUIET (F.pre self.old.run) (F.post self.old.run) }
+        ensures run { self.new.run ≡ self.old.run }
+        ensures answered { self.new.answered ≡ self.old.answered }
+        ensures told { self.new.told ≡ self.old.told }
+        ensures closed { IfOk result (IsRunClosed N.network (any_questions series) turns P.QUIET) }
+        ensures left { IfOk result (λ closed. self.new.left + closed.pieces ≡ self.old.left) }
+        ensures nodes { IfOk result (λ closed. self.new.nodes ≡ self.old.nodes + closed.nodes) }
+        ensures err { IfErr result IsFault }
+    {
+        let closed = match (self.run)(series, turns) {
+            Ok(closed) => closed,
+            Err(DeskFault::Memory) => return Err(AskStop::Memory),
+            Err(DeskFault::NoThread) => return Err(AskStop::NoThread),
+        };
+        self.count(closed.pieces, closed.nodes);
+        Ok(closed)
+    }
+
+    /// Counts the work of a run.
+    fn count(&mut self, pieces: u64, nodes: u64)
+        requires pieces { pieces ≤ self.old.left }
+        requires nodes { nodes ≤ 1000000 * pieces }
+        ensures run { self.new.run ≡ self.old.run }
+        ensures answered { self.new.answered ≡ self.old.answered }
+        ensures told { self.new.told ≡ self.old.told }
+        ensures left { self.new.left + pieces ≡ self.old.left }
+        ensures pieces { self.new.pieces ≡ self.old.pieces + pieces }
+        ensures nodes { self.new.nodes ≡ self.old.nodes + nodes }
+    {
+        self.left -= pieces;
+        self.pieces += pieces;
+        self.nodes += nodes;
+    }
+
+    /// Answers a series by the run about it. Where that is open, it keeps what was reached.
+    fn answer(&mut self, closed: Closed) -> Result<First, AskStop>
+        ensures run { self.new.run ≡ self.old.run }
+        ensures left { self.new.left ≡ self.old.left }
+        ensures answer { IsAnsweredBy closed self.new.told result }
+        ensures answered { OnOk result (self.new.answered ≡ self.old.answered + 1) }
+        ensures unanswered { OnErr result (self.new.answered ≡ self.old.answered) }
+    {
+        let answered = self.answered.checked_add(1).ok_or(AskStop::Memory)?;
+        let Closed {
+            outcome,
+            reached,
+            ..
+        } = closed;
+        let first = match outcome {
+            Outcome::First { index, starts } => First::Yes { index, starts },
+            Outcome::NoYes => First::None,
+            Outcome::Open { first_open: _ } => {
+                self.told = copy_of(&reached)?;
+                return Err(AskStop::Stopped { reached });
+            }
+        };
+        self.answered = answered;
+        Ok(first)
+    }
+
+    /// Whether no further run is to come after one that left its question open: the run had all turns, no turn is left,
+    /// or it was stopped.
+    fn is_over(&self, most: Option<u64>, log: &[Entry]) -> bool
+        ensures { IsTrue result ↔ IsOver most self.now.left P.QUIET log.now }
+    {
+        most.is_none() || self.left == 0 || (!P::QUIET && was_stopped(log))
+    }
+}
+
+/// How many turns the search of a question may take whose nodes have this bound, of those that are left.
+fn turns_for(most: Option<u64>, left: u64) -> u64
+    ensures most { result ≤ left }
+    ensures all { most ≡ None → result ≡ left }
+    ensures exact { IfSome most (λ nodes. result ≡ min ((nodes + 999) / 1000) left) }
+{
+    match most {
+        Some(nodes) => nodes.div_ceil(QUANTUM).min(left),
+        None => left,
+    }
+}
+
+/// Whether the desk was halted since a stop was asked for.
+fn was_stopped(log: &[Entry]) -> bool
+    ensures { IsTrue result ↔ Contains log.now (Halted Stop) }
+{
+    log.iter()
+        .any(|entry| matches!(entry, Entry::Halted(Cause::Stop)))
+}
+
+/// A copy of what was reached.
+fn copy_of(reached: &Option<Capacities>) -> Result<Option<Capacities>, AllocError>
+    ensures { IfOk result (λ copy. copy ≡ reached.now) }
+{
+    match reached {
+        Some(capacities) => Ok(Some(capacities.copy()?)),
+        None => Ok(None),
+    }
+}
+
+/// What the run about a question tells of it.
+fn probe_of(outcome: Outcome, is_over: bool) -> Result<Probe, AskStop>
+    ensures { result ≡ probe_by outcome is_over }
+{
+    match outcome {
+        Outcome::First { index: _, starts } => Ok(Probe::Yes(starts)),
+        Outcome::NoYes => Ok(Probe::No),
+        Outcome::Open { first_open: _ } => {
+            if is_over {
+                Err(AskStop::Stopped { reached: None })
+            } else {
+                Ok(Probe::Open)
+            }
+        }
+    }
+}
+
+impl<N: OfNetwork, P: Stop, F: Fn(AnySeries, u64) -> Result<Closed, DeskFault> + Drop> Asker<
+    AnySeries,
+> for Crowd<N, P, F> {
+    ghost use Rattle.std.specs.Prelude.{◌≡◌, ◌⊎◌, ⊤, false};
+    ghost use Rattle.racp_lexfix.specs.Crowds.{RunsDesks};
+
+    ghost about = { λ crowd p. (p ≡ N.network) × RunsDesks p P.QUIET (F.pre crowd.run) (F.post crowd.run) };
+
+    ghost answered = { λ crowd. crowd.answered };
+
+    ghost told = { λ crowd. crowd.told };
+
+    ghost may_stop = { λ crowd. (crowd.left ≡ 0) ⊎ (P.QUIET ≡ false) };
+
+    ghost may_want_thread = { λ _. ⊤ };
+
+    fn first(&mut self, _net: &Network, series: AnySeries) -> Result<First, AskStop> {
+        self.told = None;
+        let left = self.left;
+        if left == 0 {
+            return Err(AskStop::Stopped { reached: None });
+        }
+        let closed = self.closed(series, left)?;
+        self.answer(closed)
+    }
+
+    fn probe(
+        &mut self,
+        _net: &Network,
+        question: Question,
+        most: Option<u64>,
+    ) -> Result<Probe, AskStop> {
+        self.told = None;
+        if self.left == 0 {
+            return Err(AskStop::Stopped { reached: None });
+        }
+        let turns = turns_for(most, self.left);
+        let series = One::of(question);
+        let closed = self.closed(AnySeries::One(series), turns)?;
+        let Closed { outcome, log, .. } = closed;
+        let is_over = self.is_over(most, &log);
+        probe_of(outcome, is_over)
+    }
+}

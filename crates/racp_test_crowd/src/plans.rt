@@ -1,0 +1,186 @@
+//! Plans whose questions are answered by workers on threads of their own.
+
+ghost use Rattle.std.specs.Prelude.{◌≡◌, ◌≤◌, IfOk};
+ghost use Rattle.racp_model.specs.Formed.{AreFormed};
+ghost use Rattle.racp_model.specs.Terms.{AreTermsOf};
+ghost use Rattle.racp_candidates.specs.AnySeries.{any_questions};
+ghost use Rattle.racp_desk.specs.Closing.{IsRunClosed};
+
+use racp_candidates::AnySeries;
+use racp_cutset::Board;
+use racp_desk::{Closed, DeskFault, Open, run};
+use racp_lexfix::{Alone, Answer, Crowd, Effort, PlanStop, plan};
+use racp_model::{Network, OfNetwork};
+use racp_prices::{Order, OrderFault, read_order};
+use racp_samples::crossed;
+use racp_search::{Never, Stop};
+use std::alloc::Global;
+use std::marker::Brand;
+use std::sync::Wait;
+use std::test::Fail;
+use std::thread::Threads;
+
+/// The most turns that there are.
+const ALL_TURNS: u64 = 1_000_000_000_000;
+
+/// Numbers of workers.
+const WORKERS: [usize; 4] = [1, 2, 8, 64];
+
+/// Turns, and the capacities that one worker tells which has so many; a plan where it is true.
+const TURNS: [(u64, [u32; 2], bool); 7] = [
+    (0, [1, 1], false),
+    (1, [1, 1], false),
+    (3, [1, 1], false),
+    (4, [1, 2], false),
+    (10, [1, 2], false),
+    (11, [1, 2], true),
+    (ALL_TURNS, [1, 2], true),
+];
+
+/// The answer by so many workers with so many turns, and how much work they did.
+fn planned<N: OfNetwork + Send + Sync, P: Stop + Sync, R: Threads + Wait + Sync>(
+    rt: &R,
+    alloc: Global,
+    net: &Network,
+    order: &Order,
+    workers: usize,
+    turns: u64,
+    stop: &P,
+) -> Result<(Answer, Effort), PlanStop>
+    requires named { net.now ≡ N.network }
+    requires terms { AreTermsOf net.now order.now }
+    requires workers { workers ≤ 64 }
+    requires turns { turns ≤ 1000000000000 }
+{
+    let board: Board<N> = Board::new(alloc, net)?;
+    let mut crowd: Crowd<N, P, _> = Crowd::new(
+        turns,
+        |series: AnySeries, turns: u64| -> Result<Closed, DeskFault>
+            requires { (net.now ≡ N.network) × AreFormed net.now (any_questions series) ×
+                (workers ≤ 64) × (turns ≤ 1000000000000) }
+            ensures { IfOk result (IsRunClosed net.entry.now (any_questions series) turns P.QUIET) }
+        {
+            run(
+                rt, alloc, net, series, workers, 1000, turns, &board, &Open, stop,
+            )
+        },
+    );
+    let answer = plan(alloc, net, order, &mut crowd)?;
+    let effort = crowd.effort();
+    Ok((answer, effort))
+}
+
+/// The order with deadline 3 and prices 1 and 1.
+fn order(alloc: Global, net: &Network) -> Result<Order, OrderFault> {
+    let text = b"deadline = 3\nprices = [1, 1]";
+    read_order(alloc, text, net.resource_count(), net.job_count())
+}
+
+/// Whether two answers are the same plan.
+fn are_same(one: &Answer, other: &Answer) -> bool {
+    match (one, other) {
+        (Answer::Plan(one), Answer::Plan(other)) => {
+            one.cost == other.cost
+                && one.capacities.as_slice() == other.capacities.as_slice()
+                && one.starts.as_slice() == other.starts.as_slice()
+        }
+        _ => false,
+    }
+}
+
+/// Whether so many workers find the plan that the calling thread finds.
+fn finds_the_plan<N: OfNetwork + Send + Sync, R: Threads + Wait + Sync>(
+    rt: &R,
+    alloc: Global,
+    net: &Network,
+    workers: usize,
+) -> Result<bool, Fail>
+    requires named { net.now ≡ N.network }
+    requires workers { workers ≤ 64 }
+{
+    let order = order(alloc, net)?;
+    if !order.is_for(net) {
+        return Ok(false);
+    }
+    let mut alone: Alone<N> = Alone::new(alloc, net)?;
+    let wanted = plan(alloc, net, &order, &mut alone)?;
+    let (found, effort) = planned::<N, Never, R>(
+        rt, alloc, net, &order, workers, ALL_TURNS, &Never,
+    )?;
+    Ok(are_same(&found, &wanted) && 11 <= effort.pieces && 11 <= effort.nodes)
+}
+
+/// The first number of workers that do not find the plan.
+fn first_lost<N: OfNetwork + Send + Sync, R: Threads + Wait + Sync>(
+    rt: &R,
+    alloc: Global,
+    net: &Network,
+) -> Result<Option<usize>, Fail>
+    requires { net.now ≡ N.network }
+{
+    for workers in WORKERS {
+        let workers = workers.min(64);
+        if !finds_the_plan::<N, R>(rt, alloc, net, workers)? {
+            return Ok(Some(workers));
+        }
+    }
+    Ok(None)
+}
+
+#[test]
+fn any_number_of_workers_finds_the_plan(rt: HostRuntime) -> Result<(), Fail> {
+    let net = crossed(rt.alloc())?;
+    assert_eq!(rt;
+        first_lost::<Brand, HostRuntime>(&rt, rt.alloc(), &net)?,
+        None
+    );
+    Ok(())
+}
+
+/// Whether one worker with so many turns tells these capacities, of a plan or where it stops.
+fn tells<N: OfNetwork + Send + Sync, R: Threads + Wait + Sync>(
+    rt: &R,
+    alloc: Global,
+    net: &Network,
+    row: (u64, [u32; 2], bool),
+) -> Result<bool, Fail>
+    requires { net.now ≡ N.network }
+{
+    let (turns, capacities, is_plan) = row;
+    let order = order(alloc, net)?;
+    if !order.is_for(net) || ALL_TURNS < turns {
+        return Ok(false);
+    }
+    let units = capacities.as_slice();
+    match planned::<N, Never, R>(rt, alloc, net, &order, 1, turns, &Never) {
+        Ok((Answer::Plan(plan), _)) => Ok(is_plan && plan.capacities.as_slice() == units),
+        Err(PlanStop::Stopped { not_before }) => Ok(!is_plan && not_before.as_slice() == units),
+        _ => Ok(false),
+    }
+}
+
+/// The first number of turns with which others are told.
+fn first_other<N: OfNetwork + Send + Sync, R: Threads + Wait + Sync>(
+    rt: &R,
+    alloc: Global,
+    net: &Network,
+) -> Result<Option<u64>, Fail>
+    requires { net.now ≡ N.network }
+{
+    for row in TURNS {
+        if !tells::<N, R>(rt, alloc, net, row)? {
+            return Ok(Some(row.0));
+        }
+    }
+    Ok(None)
+}
+
+#[test]
+fn turns_run_out(rt: HostRuntime) -> Result<(), Fail> {
+    let net = crossed(rt.alloc())?;
+    assert_eq!(rt;
+        first_other::<Brand, HostRuntime>(&rt, rt.alloc(), &net)?,
+        None
+    );
+    Ok(())
+}
