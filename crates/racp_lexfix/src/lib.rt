@@ -61,4 +61,4 @@ pub use alone::Alone;
 pub use answer::{Answer, PlanStop};
 pub use crowd::{Crowd, Effort};
 pub use planning::plan;
-pub use printed::{Printed, Refusal, plan_alone};
+pub use printed::{Printed, Refusal, plan_alone, plan_crowd};
