@@ -45,6 +45,7 @@
 mod check;
 mod check_fault;
 mod cpm;
+mod crowd;
 mod fault;
 pub mod laws;
 mod lines;
@@ -56,6 +57,7 @@ mod streams;
 
 pub use check::check_over;
 pub use cpm::cpm_over;
+pub use crowd::crowd_over;
 pub use fault::StreamFault;
 pub use plan::run_over;
-pub use status::{CHECK_FAILED, DONE, OUT_OF_MEMORY, REFUSED, STREAM_FAILED};
+pub use status::{CHECK_FAILED, DONE, OUT_OF_MEMORY, REFUSED, STOPPED, STREAM_FAILED};
