@@ -52,3 +52,10 @@ abbrev pub LogsAreLegal : Type 0
 LogsAreLegal =
     (turns : ℕ) (quiet : Bool) (questions : List Question) (events : List Event) (m : Machine) (log : List Entry) →
     LoggedRun turns quiet (fresh questions) events m log → IsLegal turns quiet log × Counts (tally log) m
+
+-- each legal log is the one that some calls of a desk leave which a collector of some series has had
+abbrev pub LegalLogsAreLeft : Type 0
+LegalLogsAreLeft =
+    (turns : ℕ) (quiet : Bool) (log : List Entry) → IsLegal turns quiet log →
+    (questions : List Question) × (events : List Event) × (m : Machine) ×
+    LoggedRun turns quiet (fresh questions) events m log
