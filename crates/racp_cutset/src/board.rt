@@ -1,6 +1,6 @@
 ghost use Rattle.std.specs.Prelude.{◌≡◌};
 
-use crate::local::Local;
+use crate::local::{Local, most_records};
 use crate::nogood::Nogood;
 use racp_model::{Network, OfNetwork};
 use std::alloc::{AllocError, Global};
@@ -13,6 +13,8 @@ use std::sync::{Mutex, Wait};
 pub struct Board<N: OfNetwork> {
     records: boxcar::Vec<Nogood<N>>,
     parts: Mutex<Vec<Local<N>>>,
+    /// How many records it takes at most.
+    limit: usize,
 }
 
 impl<N: OfNetwork> Board<N> {
@@ -24,11 +26,16 @@ impl<N: OfNetwork> Board<N> {
     pub fn new(alloc: Global, net: &Network) -> Result<Self, AllocError>
         requires { net.now ≡ N.network }
     {
-        let _ = net;
         Ok(Board {
             records: boxcar::Vec::new(alloc)?,
             parts: Mutex::new(Vec::new(alloc)),
+            limit: most_records(net),
         })
+    }
+
+    /// Whether it has as many records as it takes at most: about 1 GiB, with their places in the index of a thread.
+    pub fn is_full(&self) -> bool {
+        self.limit <= self.count()
     }
 
     /// Shares a record; it is dropped where there is no room. May wait for another thread that is making room.

@@ -33,7 +33,7 @@
 //! the first yes of stage 4 is not told by the asker: it is the peaks of the starts that were found, since these peaks
 //! are enough too, and none that are stand before it. `Crowd` is an asker with workers: for each series it runs a desk
 //! (racp_desk), by a call that it is handed, and counts over all series the turns, of which a desk takes one for each
-//! piece. A question with a bound on its nodes has as many turns as these are pieces of 1,000.
+//! piece. A question with a bound on its nodes has as many turns as these are pieces of 250.
 //!
 //! `plan_alone(alloc, net_bytes, order_text)` answers the text of examples/b3.plan for the texts of b.sm and b3.toml,
 //! with the status 0; for a.sm and a2.toml it answers `impossible critical 3 deadline 2` with the status 3.
