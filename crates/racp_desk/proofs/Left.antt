@@ -1,5 +1,5 @@
 -- Each legal log is left by a run: what a collector can do next.
-use Rattle.std.proofs.Common.{◌≡◌, ◌∙◌, inl, inr, ℕ, zero, suc, ◌+◌, ◌-◌, ◌^◌, ◌<◌, ◌≤◌, Bool, true, false, if◌then◌else◌, IsTrue, List, [], ◌∷◌, ◌++◌, length, map, slice_index, slice_index_or, slice_set, Option, Some, None, Contains, IsPermutation, refl, sym, ap, subst, arith, length-append}
+use Rattle.std.proofs.Common.{◌≡◌, ◌∙◌, inl, inr, ℕ, zero, suc, ◌+◌, ◌^◌, ◌<◌, ◌≤◌, Bool, true, false, IsTrue, List, [], ◌∷◌, ◌++◌, length, slice_index_or, slice_set, Option, Some, None, Contains, IsPermutation, refl, sym, ap, subst, arith, length-append}
 use Rattle.std.specs.Option.{option_map, is_some}
 use Rattle.std.specs.List.{swap_remove}
 use Rattle.std.proofs.lemmas.List.{length-set, get_or-set_same, get_or-set_other, get_or_append_left, get_or_push}
@@ -10,12 +10,12 @@ use denote.RawPtr.{null_ptr}
 use Rattle.racp_model.specs.Window.{Bounds}
 use Rattle.racp_model.specs.declared.question.Question.{Question}
 use Rattle.racp_model.proofs.lemmas.Relations.{member_cases, member_first}
-use Rattle.racp_search.specs.Truth.{SearchPiece, SearchFinding}
+use Rattle.racp_search.specs.Truth.{SearchPiece}
 use Rattle.racp_search.specs.declared.finding.Rest.{Rest}
 use Rattle.racp_search.specs.declared.finding.Rest.TheVariants.{Windows}
 use Rattle.racp_core.specs.Machine.{PieceOut, QuestionRow, KnownYes, Machine, IsSettled, IsSettledBy, opened, row_at, no_row, is_before}
-use Rattle.racp_core.specs.Steps.{IsSent, IsBack, IsNextAsked, IsPieceTaken, IsLeastOpen, IsOut, IsReturned, IsAnswered, AreShutFrom, out_of, shut, windows_before, lesser}
-use Rattle.racp_desk.specs.Log.{TakenPiece, Tally, no_piece, piece_at, stands_before, IsLeastReady, IsAway}
+use Rattle.racp_core.specs.Steps.{IsNextAsked, IsPieceTaken, IsLeastOpen, IsReturned, IsAnswered, AreShutFrom, out_of, shut, windows_before, lesser}
+use Rattle.racp_desk.specs.Log.{TakenPiece, Tally, no_piece, piece_at, stands_before, IsLeastReady}
 use Rattle.racp_desk.specs.Desk.{Counts}
 use Rattle.racp_desk.proofs.Counted.{same_test, below_yes}
 use Rattle.racp_desk.proofs.Allowed.{earlier}
@@ -169,12 +169,12 @@ shut_from n [] = []
 shut_from zero (r ∷ rs) = shut r ∷ shut_from zero rs
 shut_from (suc n) (r ∷ rs) = r ∷ shut_from n rs
 
-shut_places : (n : ℕ) (rows : List QuestionRow) → length (shut_from n rows) ≡ length rows
+pub shut_places : (n : ℕ) (rows : List QuestionRow) → length (shut_from n rows) ≡ length rows
 shut_places n [] = refl
 shut_places zero (r ∷ rs) = ap suc (shut_places zero rs)
 shut_places (suc n) (r ∷ rs) = ap suc (shut_places n rs)
 
-shut_before : (n : ℕ) (rows : List QuestionRow) (i : ℕ) → i < n → row_at (shut_from n rows) i ≡ row_at rows i
+pub shut_before : (n : ℕ) (rows : List QuestionRow) (i : ℕ) → i < n → row_at (shut_from n rows) i ≡ row_at rows i
 shut_before n [] i l = refl
 shut_before zero (r ∷ rs) i l = absurd (omega (arith, l))
 shut_before (suc n) (r ∷ rs) zero l = refl
@@ -194,6 +194,12 @@ shut_out : (n : ℕ) (rows : List QuestionRow) (i : ℕ) → i < length rows →
 shut_out n rows i l = elim (cases_lt i n) [
   | inl below ↦ ap (λ (r : QuestionRow). r.out) (shut_before n rows i below)
   | inr from ↦ ap (λ (r : QuestionRow). r.out) (shut_after n rows i from l)
+]
+
+pub shut_question : (n : ℕ) (rows : List QuestionRow) (i : ℕ) → i < length rows → (row_at (shut_from n rows) i).question ≡ (row_at rows i).question
+shut_question n rows i l = elim (cases_lt i n) [
+  | inl below ↦ ap (λ (r : QuestionRow). r.question) (shut_before n rows i below)
+  | inr from ↦ ap (λ (r : QuestionRow). r.question) (shut_after n rows i from l)
 ]
 
 -- a piece that is out comes in

@@ -9,3 +9,5 @@ pub mod LegalRuns
 pub mod CameIn
 pub mod Left
 pub mod LeftRuns
+pub mod Idle
+pub mod Needs

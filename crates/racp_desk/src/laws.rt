@@ -8,8 +8,8 @@ pub fn logs_are_legal()
     ensures { LogsAreLegal }
 {}
 
-/// Each legal log is left by some calls of a desk that a collector of some series has had. So its tally counts what that
-/// collector has.
+/// Each legal log is left by calls of a desk that a collector of the questions of some project has had, whose findings
+/// are true. So its tally counts what that collector has.
 pub fn legal_logs_are_left()
     ensures { LegalLogsAreLeft }
 {}

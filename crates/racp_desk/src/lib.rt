@@ -46,11 +46,11 @@
 //! Proved: a log is legal, and its tally counts what the collector has. Where `run` answers, the outcome is the first
 //! yes of the series with starts that answer it, or that there is none, or a question before which each is a no. The
 //! log shows it, and it is open only where the desk was halted: for turns that are used up, or for a stop that is not
-//! quiet. In `laws`: the log that a run of a collector leaves is legal, and its tally counts what the collector has; and
-//! each legal log is left by such a run.
+//! quiet. In `laws`: the log that a run of a collector leaves is legal, and its tally counts what the collector has;
+//! and each legal log is left by a run with true findings.
 //! Tested alone: that two workers search at once, that a stop and the end of the turns halt, and that memory and
-//! threads are not wanted without need. Not promised: that a run ends, that a worker is served, how work is shared, and
-//! which of two findings comes first.
+//! threads are not wanted without need. Not promised: that a run ends, that a worker is served, how work is shared,
+//! and which of two findings comes first.
 #![tactic(auto)]
 
 mod book;

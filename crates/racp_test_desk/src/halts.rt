@@ -19,7 +19,7 @@ use std::thread::Threads;
 /// resource. By the third turn the first yes is found, of the question at place 2.
 const TURNS: [(u64, Option<usize>); 4] = [(0, Some(0)), (1, Some(1)), (2, Some(2)), (3, None)];
 
-/// The numbers of turns after which a run ends otherwise.
+/// The first number of turns with which a run ends otherwise.
 fn first_other_turns<N: OfNetwork + Send + Sync, R: Threads + Wait + Sync>(
     rt: &R,
     alloc: Global,
