@@ -1,6 +1,6 @@
-ghost use Rattle.std.specs.Prelude.{◌≡◌, ℕ, ◌↔◌, ◌≤◌, ◌++◌, ◌∷◌, [], IsTrue, IsFalse, IfOk, OnOk, IfSome, Contains, take};
+ghost use Rattle.std.specs.Prelude.{◌≡◌, ℕ, ◌≤◌, ◌++◌, [], IsTrue, IsFalse, IfOk, OnOk, IfSome, take};
 ghost use Rattle.racp_cutset.specs.Kept.{StayKept};
-ghost use Rattle.racp_search.specs.DepthFirst.{IsHigher, IsSearching, IsSearchingNext};
+ghost use Rattle.racp_search.specs.DepthFirst.{IsSearching, IsSearchingNext};
 ghost use Rattle.racp_search.specs.Ends.{IsEnd, IsSpent};
 ghost use Rattle.racp_search.specs.Steps.{IsEntered, IsLeft, IsNextAnswer};
 
