@@ -1,7 +1,7 @@
 use Rattle.std.proofs.Common.{ℕ, List, ◌+◌, arith, sym, subst}
 use Rattle.racp_bounds.specs.Sharp.{AreSharpenedBefore}
 use Rattle.racp_bounds.proofs.Raising.{one_sharpened}
-use Rattle.racp_bounds.proofs.sharp.raise_all.Goals as goal
+use Rattle.racp_bounds.proofs.sharp.sharpen.Goals as goal
 
 pub loop-k-preserved : goal.loop-k-preserved
 loop-k-preserved g c = record {

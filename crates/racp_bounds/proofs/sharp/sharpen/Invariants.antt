@@ -1,6 +1,6 @@
 use Rattle.std.proofs.Common.{◌≡◌, ◌+◌}
 use Rattle.racp_bounds.specs.Sharp.{AreSharpenedBefore}
-use Rattle.racp_bounds.proofs.sharp.raise_all.Given as goal
+use Rattle.racp_bounds.proofs.sharp.sharpen.Given as goal
 
 abbrev pub invariant-loop-k : goal.invariant-loop-k
 invariant-loop-k g l = record {
