@@ -18,9 +18,7 @@ use std::thread::Threads;
 use std::{env, io};
 
 /// Runs the program, and answers its status.
-pub(crate) fn status<
-    R: Env + Files + Input + Print + Eprint + AllocGlobal + Threads + Wait + Sync,
->(
+pub(crate) fn status<R: Env + Files + Input + Print + Eprint + AllocGlobal + Threads + Wait + Sync>(
     rt: &R,
 ) -> u8
     ensures { IsStatus result }

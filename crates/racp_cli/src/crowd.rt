@@ -90,8 +90,6 @@ fn refused(alloc: Global, refusal: Refusal) -> Result<(u8, Vec<u8>), AllocError>
             Ok((STOPPED, stopped_line(alloc, not_before.as_slice())?))
         }
         Refusal::Stop(PlanStop::Memory) => Err(AllocError),
-        Refusal::Stop(PlanStop::NoThread) => {
-            Ok((STREAM_FAILED, b"no thread\n".to_vec(alloc)?))
-        }
+        Refusal::Stop(PlanStop::NoThread) => { Ok((STREAM_FAILED, b"no thread\n".to_vec(alloc)?)) }
     }
 }

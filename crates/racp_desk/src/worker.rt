@@ -299,7 +299,10 @@ pub(crate) fn work<'a, N: OfNetwork, M: Names, S: Series, G: Gate, P: Stop, R: W
 {
     let mut mine = mine;
     let Job {
-        alloc, net, board, ..
+        alloc,
+        net,
+        board,
+        ..
     } = &shared.job;
     let mut local: Local<N> = board.take_part(rt, *alloc, net);
     let count = local.kept_count();

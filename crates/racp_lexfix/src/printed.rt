@@ -183,12 +183,7 @@ struct Crew<'a, G: Gate, P: Stop> {
 
 /// The plan of an order, or why there is none, made by workers, and how much work they did. The network is the one that
 /// `N` names.
-fn plan_by<
-    N: OfNetwork + Send + Sync,
-    G: Gate + Sync,
-    P: Stop + Sync,
-    R: Threads + Wait + Sync,
->(
+fn plan_by<N: OfNetwork + Send + Sync, G: Gate + Sync, P: Stop + Sync, R: Threads + Wait + Sync>(
     rt: &R,
     alloc: Global,
     net: &Network,
