@@ -4,7 +4,7 @@ use Rattle.clap.specs.Words.{kind_of}
 use Rattle.clap.specs.declared.error.kind.ErrorKind.{ErrorKind}
 use Rattle.clap.specs.declared.error.kind.ErrorKind.TheVariants.{DisplayHelp, DisplayVersion, OutOfMemory}
 use Rattle.racp_cli.specs.Answers.{IsCpmAnswer}
-use Rattle.racp_cli.specs.Plans.{IsPlanAnswer}
+use Rattle.racp_cli.specs.Crowds.{IsCrowdAnswer}
 use Rattle.racp_cli.specs.Checks.{IsCheckAnswer}
 use Rattle.racp_cli.specs.Streams.{fault_status}
 use Rattle.racp_cli.specs.declared.fault.StreamFault.TheVariants as stream
@@ -29,7 +29,7 @@ IsStatusOf (Stream fault) status = status ≡ fault_status fault
 abbrev pub IsStatusOfAnswer : ℕ → Type 0
 IsStatusOfAnswer status =
     ((input : List ℕ) × (text : List ℕ) × IsCpmAnswer input status text) ⊎
-    ((net order : List ℕ) × (text : List ℕ) × IsPlanAnswer net order status text) ⊎
+    ((net order : List ℕ) × (text : List ℕ) × IsCrowdAnswer net order status text) ⊎
     ((net order plan : List ℕ) × (text : List ℕ) × IsCheckAnswer net order plan status text)
 
 -- some answer, or some reason why there is none, has this status

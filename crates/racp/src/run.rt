@@ -6,15 +6,21 @@ ghost use Rattle.racp.specs.declared.failure.Failure.TheVariants as failures;
 ghost use Rattle.racp_cli.specs.declared.fault.StreamFault.TheVariants as streams;
 
 use crate::failure::{Failure, report};
-use racp_cli::{StreamFault, check_over, cpm_over, run_over};
-use racp_words::{OrderFiles, PlanFiles, Request, Source, asked};
+use racp_cli::{StreamFault, check_over, cpm_over, crowd_over, run_over};
+use racp_desk::Open;
+use racp_search::Never;
+use racp_words::{Crew, OrderFiles, PlanFiles, Request, Source, asked};
 use std::fs::File;
 use std::io::ErrorKind;
 use std::rt::{Env, Files};
+use std::sync::Wait;
+use std::thread::Threads;
 use std::{env, io};
 
 /// Runs the program, and answers its status.
-pub(crate) fn status<R: Env + Files + Input + Print + Eprint + AllocGlobal>(rt: &R) -> u8
+pub(crate) fn status<R: Env + Files + Input + Print + Eprint + AllocGlobal + Threads + Wait + Sync>(
+    rt: &R,
+) -> u8
     ensures { IsStatus result }
 {
     match answer(rt) {
@@ -24,13 +30,16 @@ pub(crate) fn status<R: Env + Files + Input + Print + Eprint + AllocGlobal>(rt: 
 }
 
 /// Writes the answer to what the command line asks for.
-fn answer<R: Env + Files + Input + Print + AllocGlobal>(rt: &R) -> Result<u8, Failure>
+fn answer<R: Env + Files + Input + Print + Eprint + AllocGlobal + Threads + Wait + Sync>(
+    rt: &R,
+) -> Result<u8, Failure>
     ensures { IfOk result IsStatusOfAnswer }
 {
     let words = words(rt)?;
     match asked(rt.alloc(), words.as_slice())? {
         Request::Cpm(network) => Ok(cpm(rt, network)?),
-        Request::Plan(files) => Ok(plan(rt, files)?),
+        Request::Plan(files, None) => Ok(plan(rt, files)?),
+        Request::Plan(files, Some(crew)) => Ok(plan_by(rt, files, crew)?),
         Request::Check(files) => Ok(check(rt, files)?),
     }
 }
@@ -60,6 +69,34 @@ fn cpm<R: Files + Input + Print + AllocGlobal>(
         Source::StandardInput => cpm_over(rt.alloc(), &mut rt.reader(), &mut out),
         Source::File(path) => { cpm_over(rt.alloc(), &mut open(rt, path)?, &mut out) }
     }
+}
+
+/// Writes the plan for these files, made by workers, or why there is none. With an answer, the work that was done goes
+/// to standard error where that is asked for.
+fn plan_by<R: Files + Print + Eprint + AllocGlobal + Threads + Wait + Sync>(
+    rt: &R,
+    files: OrderFiles<'_>,
+    crew: Crew,
+) -> Result<u8, StreamFault>
+    ensures { IfOk result IsStatusOfAnswer }
+{
+    let mut net = open(rt, files.net)?;
+    let mut order = open(rt, files.order)?;
+    let (status, effort) = crowd_over(
+        rt,
+        rt.alloc(),
+        &mut net,
+        &mut order,
+        &mut io::writer(rt),
+        crew.workers,
+        crew.turns,
+        &Open,
+        &Never,
+    )?;
+    if let (true, Some(effort)) = (crew.stats, effort) {
+        let _ = rt.eprintln(format_args!("stats pieces {} nodes {}", effort.pieces, effort.nodes));
+    }
+    Ok(status)
 }
 
 /// Writes the plan for these files, or why there is none.

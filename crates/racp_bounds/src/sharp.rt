@@ -4,7 +4,7 @@ ghost use Rattle.racp_model.specs.Formed.{HasBounds};
 ghost use Rattle.racp_model.specs.Window.{IsYes};
 ghost use Rattle.racp_candidates.specs.Box.{AreBounds};
 ghost use Rattle.racp_questions.specs.FirstYes.{MayGiveUp};
-ghost use Rattle.racp_bounds.specs.Sharp.{IsSharpened, AreSharpened, IsRefutedPair, AreRefutedPairs, IsSharp, pair_count, IsUnsharpened};
+ghost use Rattle.racp_bounds.specs.Sharp.{IsSharpened, IsRefutedPair, AreRefutedPairs, IsSharp, pair_count, IsUnsharpened};
 
 use racp_candidates::{AnySeries, One, Singles};
 use racp_model::{Capacities, Network, Window};
@@ -53,43 +53,20 @@ pub fn sharpen<A: Asker<AnySeries>>(
     ensures refusal { IfErr result (IsUnsharpened net.now root.now floors roofs.now
         (A.answered asker.new - A.answered asker.old) (A.may_stop asker.new) (A.may_want_thread asker.new)) }
 {
-    let floors = raise_all(alloc, net, root, floors, roofs, asker)?;
-    match refuted_pairs(alloc, net, root, &floors, roofs, asker) {
-        Ok(pairs) => Ok(Sharp { floors, pairs }),
-        Err(stop) => Err((floors, stop)),
-    }
-}
-
-/// The sharpened floors; or the floors that were reached, and why the others are not known.
-fn raise_all<A: Asker<AnySeries>>(
-    alloc: Global,
-    net: &Network,
-    root: &Window,
-    floors: Capacities,
-    roofs: &Capacities,
-    asker: &mut A,
-) -> Result<Capacities, (Capacities, AskStop)>
-    requires named { A.about asker.old net.now }
-    requires root { HasBounds net.now root.now }
-    requires floors { length floors ≡ net.now.resources }
-    requires roofs { length roofs.now ≡ net.now.resources }
-    requires bounds { AreBounds floors roofs.now }
-    requires admits { IsYes net.now roofs.now root.now }
-    ensures network { A.about asker.new net.now }
-    ensures sharp { IfOk result (AreSharpened net.now root.now floors roofs.now) }
-    ensures answered { OnOk result (A.answered asker.new ≡ A.answered asker.old + net.now.resources) }
-    ensures no_fewer { A.answered asker.old ≤ A.answered asker.new }
-    ensures refusal { IfErr result (IsUnsharpened net.now root.now floors roofs.now
-        (A.answered asker.new - A.answered asker.old) (A.may_stop asker.new) (A.may_want_thread asker.new)) }
-{
     let mut reached = floors;
     for k in 0..net.resource_count() {
         match raised(alloc, net, root, &reached, roofs, k, asker) {
-            Ok(units) => reached = with_units(reached, k, units),
+            Ok(units) => reached = reached.with_units(k, units),
             Err(stop) => return Err((reached, stop)),
         }
     }
-    Ok(reached)
+    match refuted_pairs(alloc, net, root, &reached, roofs, asker) {
+        Ok(pairs) => Ok(Sharp {
+            floors: reached,
+            pairs,
+        }),
+        Err(stop) => Err((reached, stop)),
+    }
 }
 
 /// The sharpened floor of one resource.
@@ -131,16 +108,6 @@ fn units_at(floors: &[u32], roofs: &[u32], k: usize, index: usize) -> u32
 {
     prove!(index <= roofs[k] as usize);
     floors[k] + index as u32
-}
-
-/// These capacities with other units of one resource.
-fn with_units(capacities: Capacities, k: usize, units: u32) -> Capacities
-    requires { k < length capacities }
-    ensures { result ≡ set capacities k units }
-{
-    let mut list = capacities.into_vec();
-    list[k] = units;
-    Capacities::new(list)
 }
 
 /// The refuted pairs of resources, by their numbers, in lexicographic order.

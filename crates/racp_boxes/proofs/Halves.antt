@@ -1,22 +1,36 @@
 -- A box and its halves.
-use Rattle.std.proofs.Common.{◌≡◌, ◌≢◌, ◌∙◌, ◌⊎◌, ℕ, ◌+◌, ◌-◌, ◌<◌, ◌≤◌, List, length, slice_index, set, Bool, true, false, Option, Some, None, inl, inr, arith, refl, sym, subst}
+use Rattle.std.proofs.Common.{◌≡◌, ◌≢◌, ◌∙◌, ◌⊎◌, ℕ, ◌+◌, ◌-◌, ◌<◌, ◌≤◌, List, length, slice_index, set, Bool, true, false, Option, Some, None, inl, inr, arith, refl, subst}
 use Rattle.std.proofs.lemmas.Bool.{cases_lt}
 use Rattle.std.proofs.lemmas.List.{length-set}
 use Rattle.racp_model.specs.Project.{Project}
 use Rattle.racp_model.specs.Schedule.{sum_below}
 use Rattle.racp_model.specs.Terms.{Terms, AreTermsOf, IsBefore}
-use Rattle.racp_model.specs.Window.{Bounds, IsYes, IsNo}
+use Rattle.racp_model.specs.Window.{Bounds, IsNo}
 use Rattle.racp_model.proofs.lemmas.Lists.{at_set}
 use Rattle.racp_model.proofs.lemmas.Sums.{sum_below-lt}
 use Rattle.racp_candidates.specs.Box.{IsBetween}
-use Rattle.racp_boxes.specs.Enough.{IsAtMost, IsEnoughWithin}
-use Rattle.racp_boxes.specs.Searched.{AreHalved, AreHalves, IsBetterKnown, IsCut, IsCutAnswer, IsHalvesAnswer, IsKnown, IsSearched, IsSpan, IsTold, IsWidest, SaysRefuted, width}
+use Rattle.racp_boxes.specs.Enough.{IsAtMost}
+use Rattle.racp_boxes.specs.Searched.{AreHalved, IsBetterKnown, IsCut, IsCutAnswer, IsKnown, IsSearched, IsSpan, IsTold, IsWidest, SaysRefuted}
 use Rattle.racp_boxes.specs.declared.halving.Span.{Span}
 use Rattle.racp_boxes.specs.declared.known.Known.{Known}
 use Rattle.racp_boxes.specs.declared.known.Told.{Told}
 use Rattle.racp_boxes.specs.declared.known.Told.TheVariants.{Enough, Refuted, Open}
 use Rattle.racp_boxes.proofs.Learning.{fewer_no, known-same}
 use Rattle.racp_boxes.proofs.lemmas.AtMost.{at_most-before}
+
+-- how wide a box is: over all resources, how many units the high vector has above the low one
+abbrev pub width : Project → Span → ℕ
+width p span = sum_below p.resources (λ k. slice_index span.high k - slice_index span.low k)
+
+-- two narrower boxes that have all of a box that stands before the best vector
+pub record AreHalves (p : Project) (terms : Terms) (roofs : List ℕ) (span : Span) (best : List ℕ) (halves : Span × Span)
+    : Type 0 where
+  pub below : IsSpan p roofs halves.0
+  pub above : IsSpan p roofs halves.1
+  pub narrower_below : width p halves.0 < width p span
+  pub narrower_above : width p halves.1 < width p span
+  pub cover : (vector : List ℕ) → IsBetween span.low span.high vector → IsBefore terms vector best →
+      IsBetween halves.0.low halves.0.high vector ⊎ IsBetween halves.1.low halves.1.high vector
 
 -- what is learnt in two steps
 pub better-trans : (p : Project) (terms : Terms) (window : Bounds) (roofs : List ℕ) (a b c : Known) → IsBetterKnown p terms window roofs a b → IsBetterKnown p terms window roofs b c → IsBetterKnown p terms window roofs a c
@@ -160,7 +174,3 @@ widest_some low high answer k h is = subst (IsWidest (length low) low high) is h
 
 pub widest_none : (low high : List ℕ) (answer : Option ℕ) → IsWidest (length low) low high answer → answer ≡ None → (k : ℕ) → k < length low → slice_index high k ≤ slice_index low k
 widest_none low high answer h is = subst (IsWidest (length low) low high) is h
-
-pub halves_some : (p : Project) (terms : Terms) (window : Bounds) (roofs : List ℕ) (span : Span) (old new : Known) (answer : Option (Span × Span)) (halves : Span × Span) → IsHalvesAnswer p terms window roofs span old new answer → answer ≡ Some halves →
-    IsBetterKnown p terms window roofs old new × AreHalves p terms roofs span new.best halves
-halves_some p terms window roofs span old new answer halves h is = subst (IsHalvesAnswer p terms window roofs span old new) is h

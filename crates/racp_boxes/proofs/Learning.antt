@@ -1,10 +1,10 @@
 -- What is known after a question.
-use Rattle.std.proofs.Common.{◌≡◌, ◌⊎◌, ℕ, ◌<◌, ◌≤◌, List, [], ◌∷◌, ◌++◌, length, slice_index, Contains, Bool, true, IsTrue, Option, inl, inr, arith, refl, sym, subst, ◌∙◌}
+use Rattle.std.proofs.Common.{◌≡◌, ℕ, ◌<◌, ◌≤◌, List, [], ◌∷◌, ◌++◌, length, slice_index, Contains, Option, inl, inr, arith, sym, subst, ◌∙◌}
 use Rattle.std.proofs.lemmas.List.Elements.{Contains-push_cases}
 use Rattle.racp_model.specs.Project.{Project}
 use Rattle.racp_model.specs.Schedule.{ArePeaks}
 use Rattle.racp_model.specs.Terms.{Terms, AreTermsOf, cost, IsBefore}
-use Rattle.racp_model.specs.Window.{Bounds, Answers, IsYes, IsNo}
+use Rattle.racp_model.specs.Window.{Bounds, Answers, IsNo}
 use Rattle.racp_model.specs.declared.question.Question.{Question}
 use Rattle.racp_questions.specs.FirstYes.{IsProbed}
 use Rattle.racp_questions.specs.declared.asker.Probe.{Probe}
@@ -12,7 +12,7 @@ use Rattle.racp_questions.specs.declared.asker.Probe.TheVariants.{Yes, No}
 use Rattle.racp_model.proofs.lemmas.Costs.{before_trans}
 use Rattle.racp_model.proofs.lemmas.Usage.{fits-peaks, peaks-below}
 use Rattle.racp_boxes.specs.Enough.{IsAtMost, IsEnoughWithin}
-use Rattle.racp_boxes.specs.Searched.{IsKnown, IsBetterKnown, IsLearnt, IsNoLater, IsRefutedBy}
+use Rattle.racp_boxes.specs.Searched.{IsKnown, IsBetterKnown, IsLearnt, IsRefutedBy}
 use Rattle.racp_boxes.specs.declared.known.Known.{Known}
 use Rattle.racp_boxes.proofs.lemmas.AtMost.{at_most-before, at_most-not_after}
 

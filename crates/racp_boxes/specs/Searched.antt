@@ -1,7 +1,6 @@
 -- Contracts of private functions: the search of a box of vectors below one that is known to be enough.
-use Rattle.std.specs.Prelude.{◌≡◌, ◌≢◌, ◌↔◌, ◌⊎◌, ℕ, ◌+◌, ◌-◌, ◌<◌, ◌≤◌, Bool, IsTrue, IsFalse, List, length, slice_index, set, Contains, Option, Some, None}
+use Rattle.std.specs.Prelude.{◌≡◌, ◌≢◌, ◌⊎◌, ℕ, ◌+◌, ◌<◌, ◌≤◌, Bool, IsTrue, IsFalse, List, length, slice_index, set, Contains, Option, Some, None}
 use Rattle.racp_model.specs.Project.{Project}
-use Rattle.racp_model.specs.Schedule.{sum_below}
 use Rattle.racp_model.specs.Terms.{Terms, cost, IsBefore}
 use Rattle.racp_model.specs.Window.{Bounds, IsYes, IsNo}
 use Rattle.racp_candidates.specs.Box.{IsBetween}
@@ -68,26 +67,6 @@ pub record IsSearched (p : Project) (terms : Terms) (window : Bounds) (roofs : L
     : Type 0 where
   pub better : IsBetterKnown p terms window roofs old new
   pub none : HasNoneBefore p terms window span new.best
-
--- how wide a box is: over all resources, how many units the high vector has above the low one
-abbrev pub width : Project → Span → ℕ
-width p span = sum_below p.resources (λ k. slice_index span.high k - slice_index span.low k)
-
--- two narrower boxes that have all of a box that stands before the best vector
-pub record AreHalves (p : Project) (terms : Terms) (roofs : List ℕ) (span : Span) (best : List ℕ) (halves : Span × Span)
-    : Type 0 where
-  pub below : IsSpan p roofs halves.0
-  pub above : IsSpan p roofs halves.1
-  pub narrower_below : width p halves.0 < width p span
-  pub narrower_above : width p halves.1 < width p span
-  pub cover : (vector : List ℕ) → IsBetween span.low span.high vector → IsBefore terms vector best →
-      IsBetween halves.0.low halves.0.high vector ⊎ IsBetween halves.1.low halves.1.high vector
-
--- these, or that the box was searched
-abbrev pub IsHalvesAnswer : Project → Terms → Bounds → List ℕ → Span → Known → Known → Option (Span × Span) → Type 0
-IsHalvesAnswer p terms window roofs span old new (Some halves) =
-    IsBetterKnown p terms window roofs old new × AreHalves p terms roofs span new.best halves
-IsHalvesAnswer p terms window roofs span old new None = IsSearched p terms window roofs span old new
 
 -- a box was halved between two numbers of units of the resource at place k
 pub record AreHalved (low high : List ℕ) (k : ℕ) (halves : Span × Span) : Type 0 where

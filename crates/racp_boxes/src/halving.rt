@@ -1,16 +1,15 @@
 //! The search of a box by halves.
 
-ghost use Rattle.std.specs.Prelude.{◌≡◌, ℕ, ◌<◌, ◌≤◌, None, IfOk, IfErr, length, set, slice_index};
+ghost use Rattle.std.specs.Prelude.{◌≡◌, ℕ, ◌<◌, ◌≤◌, None, IfOk, IfErr, length, slice_index};
 ghost use Rattle.racp_model.specs.Formed.{HasBounds};
 ghost use Rattle.racp_model.specs.Plan.{IsLeast};
 ghost use Rattle.racp_model.specs.Terms.{AreTermsOf, IsBefore};
-ghost use Rattle.racp_model.specs.Window.{IsYes};
 ghost use Rattle.racp_questions.specs.FirstYes.{IsProbeStop};
-ghost use Rattle.racp_boxes.specs.Enough.{AreFloorsOf, IsAtMost, IsEnoughWithin};
-ghost use Rattle.racp_boxes.specs.Searched.{AreHalved, IsHalvesAnswer, IsKnown, IsSearched, IsSpan, IsWidest};
+ghost use Rattle.racp_boxes.specs.Enough.{AreFloorsOf, IsEnoughWithin};
+ghost use Rattle.racp_boxes.specs.Searched.{AreHalved, IsKnown, IsSearched, IsSpan, IsWidest};
 
 use crate::cut::cut;
-use crate::known::{Known, Told, ask};
+use crate::known::Known;
 use racp_candidates::AnySeries;
 use racp_model::{Capacities, Network, Window};
 use racp_prices::Order;
@@ -84,57 +83,22 @@ fn search<A: Asker<AnySeries>>(
     ensures answered { A.answered asker.new ≡ A.answered asker.old }
     ensures stop { IfErr result (IsProbeStop (A.told asker.new) (A.may_stop asker.new) (A.may_want_thread asker.new)) }
 {
-    let Some((below, above)) = halves(alloc, net, order, root, roofs, known, span, asker)? else {
-        return Ok(());
-    };
-    search(alloc, net, order, root, roofs, known, below, asker)?;
-    search(alloc, net, order, root, roofs, known, above, asker)
-}
-
-/// The two halves of a box, where something in it may stand before the best vector.
-fn halves<A: Asker<AnySeries>>(
-    alloc: Global,
-    net: &Network,
-    order: &Order,
-    root: &Window,
-    roofs: &Capacities,
-    known: &mut Known,
-    span: Span,
-    asker: &mut A,
-) -> Result<Option<(Span, Span)>, AskStop>
-    requires named { A.about asker.old net.now }
-    requires terms { AreTermsOf net.now order.now }
-    requires root { HasBounds net.now root.now }
-    requires span { IsSpan net.now roofs.now span }
-    requires known { IsKnown net.now order.now root.now roofs.now known.old }
-    ensures network { A.about asker.new net.now }
-    ensures halves { IfOk result (IsHalvesAnswer net.now order.now root.now roofs.now span known.old known.new) }
-    ensures answered { A.answered asker.new ≡ A.answered asker.old }
-    ensures stop { IfErr result (IsProbeStop (A.told asker.new) (A.may_stop asker.new) (A.may_want_thread asker.new)) }
-{
     let Span { low, high } = span;
     let Some(high) = cut(alloc, net, order, known, &low, &high)? else {
-        return Ok(None);
+        return Ok(());
     };
     let lane = widest(order, &low, &high);
-    let told = ask(
-        alloc,
-        net,
-        order,
-        root,
-        roofs,
-        known,
-        &high,
-        most_nodes(lane),
-        asker,
-    )?;
+    let most = most_nodes(lane);
+    let told = known.ask(alloc, net, order, root, roofs, &high, most, asker)?;
     if told.is_refuted() {
-        return Ok(None);
+        return Ok(());
     }
     let Some(k) = lane else {
-        return Ok(None);
+        return Ok(());
     };
-    Ok(Some(halved(low, high, k)?))
+    let (below, above) = halved(low, high, k)?;
+    search(alloc, net, order, root, roofs, known, below, asker)?;
+    search(alloc, net, order, root, roofs, known, above, asker)
 }
 
 /// The two halves of a box along the resource at place `k`: that with fewer units, and the other one.
@@ -148,10 +112,10 @@ fn halved(low: Capacities, high: Capacities, k: usize) -> Result<(Span, Span), A
     prove!(middle < high.as_slice()[k]);
     let below = Span {
         low: low.copy()?,
-        high: with_units(high.copy()?, k, middle),
+        high: high.copy()?.with_units(k, middle),
     };
     let above = Span {
-        low: with_units(low, k, middle + 1),
+        low: low.with_units(k, middle + 1),
         high,
     };
     Ok((below, above))
@@ -197,14 +161,4 @@ fn middle_of(low: &[u32], high: &[u32], k: usize) -> u32
     ensures to { result < slice_index high.now k }
 {
     low[k] + (high[k] - low[k]) / 2
-}
-
-/// These capacities with other units of one resource.
-fn with_units(capacities: Capacities, k: usize, units: u32) -> Capacities
-    requires { k < length capacities }
-    ensures { result ≡ set capacities k units }
-{
-    let mut list = capacities.into_vec();
-    list[k] = units;
-    Capacities::new(list)
 }

@@ -5,7 +5,7 @@ ghost use Rattle.racp_model.specs.Formed.{HasBounds};
 ghost use Rattle.racp_model.specs.Terms.{AreTermsOf, IsBefore, cost};
 ghost use Rattle.racp_questions.specs.FirstYes.{IsProbed, IsProbeStop};
 ghost use Rattle.racp_candidates.specs.Questions.{question_of};
-ghost use Rattle.racp_boxes.specs.Enough.{IsAtMost, IsEnoughWithin};
+ghost use Rattle.racp_boxes.specs.Enough.{IsAtMost};
 ghost use Rattle.racp_boxes.specs.Searched.{IsKnown, IsBetterKnown, IsLearnt, IsRefutedBy, IsTold, SaysRefuted};
 
 use racp_candidates::AnySeries;
@@ -112,6 +112,51 @@ impl Known {
             self.best = units;
         }
     }
+
+    /// Asks for a vector within the roofs, and learns from what is told. A vector at most a refuted one is not asked
+    /// for, and neither is one that the best one is at most.
+    pub(crate) fn ask<A: Asker<AnySeries>>(
+        &mut self,
+        alloc: Global,
+        net: &Network,
+        order: &Order,
+        root: &Window,
+        roofs: &Capacities,
+        units: &Capacities,
+        most: Option<u64>,
+        asker: &mut A,
+    ) -> Result<Told, AskStop>
+        requires named { A.about asker.old net.now }
+        requires terms { AreTermsOf net.now order.now }
+        requires root { HasBounds net.now root.now }
+        requires units { length units.now ≡ net.now.resources }
+        requires within { IsAtMost net.now units.now roofs.now }
+        requires known { IsKnown net.now order.now root.now roofs.now self.old }
+        ensures network { A.about asker.new net.now }
+        ensures better { IfOk result (λ _. IsBetterKnown net.now order.now root.now roofs.now self.old self.new) }
+        ensures told { IfOk result (IsTold net.now order.now root.now units.now most self.new.best) }
+        ensures answered { A.answered asker.new ≡ A.answered asker.old }
+        ensures stop { IfErr result (IsProbeStop (A.told asker.new) (A.may_stop asker.new)
+            (A.may_want_thread asker.new)) }
+    {
+        if self.refutes(units) {
+            return Ok(Told::Refuted);
+        }
+        if is_at_most(self.best.as_slice(), units.as_slice()) {
+            return Ok(Told::Enough);
+        }
+        match probe(net, root, units, most, asker)? {
+            Probe::Open => Ok(Told::Open),
+            Probe::No => {
+                self.keep(units.copy()?)?;
+                Ok(Told::Refuted)
+            }
+            Probe::Yes(starts) => {
+                self.learn(net, order, peaks(alloc, net, &starts)?);
+                Ok(Told::Enough)
+            }
+        }
+    }
 }
 
 /// Whether one vector is at most another, resource by resource.
@@ -120,50 +165,6 @@ fn is_at_most(low: &[u32], high: &[u32]) -> bool
     ensures { IsTrue result ↔ ((k : ℕ) → k < length low.now → slice_index low.now k ≤ slice_index high.now k) }
 {
     (0..low.len()).all(|k| low[k] <= high[k])
-}
-
-/// Asks for a vector within the roofs, and learns from what is told. A vector at most a refuted one is not asked for,
-/// and neither is one that the best one is at most.
-pub(crate) fn ask<A: Asker<AnySeries>>(
-    alloc: Global,
-    net: &Network,
-    order: &Order,
-    root: &Window,
-    roofs: &Capacities,
-    known: &mut Known,
-    units: &Capacities,
-    most: Option<u64>,
-    asker: &mut A,
-) -> Result<Told, AskStop>
-    requires named { A.about asker.old net.now }
-    requires terms { AreTermsOf net.now order.now }
-    requires root { HasBounds net.now root.now }
-    requires units { length units.now ≡ net.now.resources }
-    requires within { IsAtMost net.now units.now roofs.now }
-    requires known { IsKnown net.now order.now root.now roofs.now known.old }
-    ensures network { A.about asker.new net.now }
-    ensures better { IfOk result (λ _. IsBetterKnown net.now order.now root.now roofs.now known.old known.new) }
-    ensures told { IfOk result (IsTold net.now order.now root.now units.now most known.new.best) }
-    ensures answered { A.answered asker.new ≡ A.answered asker.old }
-    ensures stop { IfErr result (IsProbeStop (A.told asker.new) (A.may_stop asker.new) (A.may_want_thread asker.new)) }
-{
-    if known.refutes(units) {
-        return Ok(Told::Refuted);
-    }
-    if is_at_most(known.best.as_slice(), units.as_slice()) {
-        return Ok(Told::Enough);
-    }
-    match probe(net, root, units, most, asker)? {
-        Probe::Open => Ok(Told::Open),
-        Probe::No => {
-            known.keep(units.copy()?)?;
-            Ok(Told::Refuted)
-        }
-        Probe::Yes(starts) => {
-            known.learn(net, order, peaks(alloc, net, &starts)?);
-            Ok(Told::Enough)
-        }
-    }
 }
 
 /// What the asker tells of a vector with the root window.

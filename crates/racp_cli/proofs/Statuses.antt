@@ -6,14 +6,15 @@ use Rattle.racp_lexfix.specs.declared.answer.Answer.{Answer}
 use Rattle.racp_lexfix.specs.declared.answer.Answer.TheVariants.{Plan as ThePlan, Impossible, Due, Ceiling}
 use Rattle.racp_sm.specs.Faults.{SmFault}
 use Rattle.racp_prices.specs.declared.fault.OrderFault.{OrderFault}
-use Rattle.racp_cli.specs.Texts.{refusal_line, order_refusal_line, memory_line}
+use Rattle.racp_cli.specs.Texts.{refusal_line, order_refusal_line, memory_line, stopped_line, no_thread_line}
+use Rattle.racp_cli.specs.Crowds.{IsCrowdAnswer}
 use Rattle.racp_cli.specs.Plans.{IsPlanAnswer}
 
 -- the status of a text, by its first letter
 status_by : List ℕ → ℕ
 status_by text =
     let letter = get_or text 0 0 in
-    if letter == 100 then 0 else if letter == 105 then 3 else if letter == 114 then 5 else 6
+    if letter == 100 then 0 else if letter == 105 then 3 else if letter == 115 then 4 else if letter == 114 then 5 else if letter == 110 then 7 else 6
 
 -- the first letter tells the status of an answer, and of each other line
 answer_tells : (deadline : ℕ) (answer : Answer) → status_by (answer_text deadline answer) ≡ answer_status answer
@@ -35,6 +36,14 @@ memory_tells : status_by memory_line ≡ 6
 unfolding status_by line memory_line
 memory_tells = refl
 
+stopped_tells : (capacities : List ℕ) → status_by (stopped_line capacities) ≡ 4
+unfolding status_by line stopped_line
+stopped_tells capacities = refl
+
+no_thread_tells : status_by no_thread_line ≡ 7
+unfolding status_by line no_thread_line
+no_thread_tells = refl
+
 told : (net order text : List ℕ) (status : ℕ) → IsPlanAnswer net order status text → status_by text ≡ status
 told net order text status h = elim h [
   | inl p ↦ ap status_by p.with_text ∙ answer_tells p.terms.deadline p.answer ∙ sym p.with_status
@@ -47,6 +56,15 @@ told net order text status h = elim h [
   ]
 ]
 
+told_by_all : (net order text : List ℕ) (status : ℕ) → IsCrowdAnswer net order status text → status_by text ≡ status
+told_by_all net order text status h = elim h [
+  | inl p ↦ told net order text status p
+  | inr later ↦ elim later [
+    | inl p ↦ ap status_by p.with_text ∙ stopped_tells p.not_before ∙ sym p.with_status
+    | inr p ↦ ap status_by p.1 ∙ no_thread_tells ∙ sym p.0
+  ]
+]
+
 -- one text has one status
-pub same_status : (net order other_net other_order text : List ℕ) (a b : ℕ) → IsPlanAnswer net order a text → IsPlanAnswer other_net other_order b text → a ≡ b
-same_status net order other_net other_order text a b first second = sym (told net order text a first) ∙ told other_net other_order text b second
+pub same_status : (net order other_net other_order text : List ℕ) (a b : ℕ) → IsCrowdAnswer net order a text → IsCrowdAnswer other_net other_order b text → a ≡ b
+same_status net order other_net other_order text a b first second = sym (told_by_all net order text a first) ∙ told_by_all other_net other_order text b second

@@ -1,7 +1,7 @@
 -- Laws of the texts. Each is the contract of a public function.
 use Rattle.std.specs.Prelude.{◌≡◌, ℕ, ◌^◌, ◌<◌, List, All}
 use Rattle.racp_cli.specs.Answers.{CpmOutcome, Early, Refused, OutOfMemory, cpm_text}
-use Rattle.racp_cli.specs.Plans.{IsPlanAnswer}
+use Rattle.racp_cli.specs.Crowds.{IsCrowdAnswer}
 
 -- the numbers of an answer fit 64 bits
 abbrev pub IsWithin64Bits : CpmOutcome → Type 0
@@ -13,8 +13,8 @@ IsWithin64Bits OutOfMemory = Unit {0}
 abbrev pub OneTextOneAnswer : Type 0
 OneTextOneAnswer = (a b : CpmOutcome) → IsWithin64Bits a → IsWithin64Bits b → cpm_text a ≡ cpm_text b → a ≡ b
 
--- no text that `plan` writes goes with two statuses
+-- no text that `plan` writes, on one thread or by workers, goes with two statuses
 abbrev pub OneTextOneStatus : Type 0
 OneTextOneStatus =
-    (net order other_net other_order text : List ℕ) (a b : ℕ) → IsPlanAnswer net order a text →
-    IsPlanAnswer other_net other_order b text → a ≡ b
+    (net order other_net other_order text : List ℕ) (a b : ℕ) → IsCrowdAnswer net order a text →
+    IsCrowdAnswer other_net other_order b text → a ≡ b

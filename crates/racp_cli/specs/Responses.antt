@@ -9,7 +9,10 @@ use Rattle.racp_prices.specs.declared.fault.OrderFault.{OrderFault}
 use Rattle.racp_prices.specs.declared.fault.OrderFault.TheVariants as order
 use Rattle.racp_plan.specs.TextFaults.{TextFault}
 use Rattle.racp_plan.specs.declared.text_fault.TextFaultKind.TheVariants as plan
-use Rattle.racp_cli.specs.Texts.{refusal_line, order_refusal_line, memory_line}
+use Rattle.racp_lexfix.specs.declared.answer.PlanStop.TheVariants.{Stopped, Memory as MemoryIs, NoThread}
+use Rattle.racp_lexfix.specs.declared.printed.Refusal.{Refusal}
+use Rattle.racp_lexfix.specs.declared.printed.Refusal.TheVariants.{Sm, Order as OrderIs, Stop}
+use Rattle.racp_cli.specs.Texts.{refusal_line, order_refusal_line, memory_line, stopped_line, no_thread_line}
 use Rattle.racp_cli.specs.declared.check_fault.CheckFault.{CheckFault}
 use Rattle.racp_cli.specs.declared.check_fault.CheckFault.TheVariants.{Network, Order, PlanText, OutOfMemory}
 
@@ -32,6 +35,14 @@ IsNetworkRefused fault status text = (fault.kind ≢ network.Memory) × (5 ≡ s
 
 abbrev pub IsOrderRefused : OrderFault → ℕ → List ℕ → Type 0
 IsOrderRefused fault status text = (fault ≢ order.Memory) × (5 ≡ status) × (order_refusal_line fault ≡ text)
+
+-- the status and the text where there is no answer, but not where memory ran out
+abbrev pub IsRefusedLine : Refusal → ℕ → List ℕ → Type 0
+IsRefusedLine (Sm fault) status text = IsNetworkRefused fault status text
+IsRefusedLine (OrderIs fault) status text = IsOrderRefused fault status text
+IsRefusedLine (Stop (Stopped not_before)) status text = (4 ≡ status) × (stopped_line not_before ≡ text)
+IsRefusedLine (Stop MemoryIs) status text = ⊥
+IsRefusedLine (Stop NoThread) status text = (7 ≡ status) × (no_thread_line ≡ text)
 
 -- the status and the text of an answer, or those of lack of memory where it could not be made
 abbrev pub IsMade : Result (ℕ × Vec ℕ Global) AllocError → ℕ → List ℕ → Type 0

@@ -1,5 +1,5 @@
 -- The lines that are written, in ASCII. Each ends with a line feed; numbers are decimal, without leading zeros.
-use Rattle.std.specs.Prelude.{ℕ, List, ◌++◌, codes}
+use Rattle.std.specs.Prelude.{ℕ, List, [], ◌∷◌, ◌++◌, codes}
 use Rattle.std.specs.Fmt.{decimal}
 use Rattle.racp_sm.specs.Faults.{fault_number, fault_name, SmFault}
 use Rattle.racp_prices.specs.Faults.{fault_number as order_fault_number, fault_name as order_fault_name}
@@ -27,6 +27,19 @@ order_refusal_line fault = line (codes "refused order " ++ decimal (order_fault_
 unfoldable pub plan_refusal_line : TextFault → List ℕ
 plan_refusal_line fault = line (codes "refused plan " ++ decimal (text_fault_number fault.kind) ++ codes " " ++
     text_fault_name fault.kind ++ codes " line " ++ decimal fault.line)
+
+-- each of these numbers behind a blank
+abbrev pub spaced : List ℕ → List ℕ
+spaced [] = []
+spaced (number ∷ numbers) = (codes " " ++ decimal number) ++ spaced numbers
+
+-- `stopped a1 a2 ..`, with the capacity of each resource
+unfoldable pub stopped_line : List ℕ → List ℕ
+stopped_line capacities = line (codes "stopped" ++ spaced capacities)
+
+-- what is written where a worker could not be started
+unfoldable pub no_thread_line : List ℕ
+no_thread_line = line (codes "no thread")
 
 -- what is written where memory ran out
 unfoldable pub memory_line : List ℕ

@@ -7,7 +7,7 @@ pub fn one_text_one_answer()
     ensures { OneTextOneAnswer }
 {}
 
-/// No text that `plan` writes goes with two statuses.
+/// No text that `plan` writes, on one thread or by workers, goes with two statuses.
 pub fn one_text_one_status()
     ensures { OneTextOneStatus }
 {}

@@ -5,7 +5,7 @@
 //!
 //! Each command is a function over readers and a writer, so that what it does can be proved and tested without files.
 //! `cpm_over` answers a network with its critical length and early starts, `run_over` a network and an order with the
-//! plan or why there is none, and `check_over` a network, an order and a plan with `ok` or what is wrong. Each returns
+//! plan or why there is none, `crowd_over` the same by workers, and `check_over` a network, an order and a plan with `ok` or what is wrong. Each returns
 //! the status with which the program ends. docs/FORMATS.md has every line and every status.
 //!
 //! Two jobs, 1 before 2, run for 2 time units and 1, and use 1 unit and 3; the order has the deadline 4 and the price
@@ -29,8 +29,8 @@
 //! runs out, the text is the line `memory`, which takes none. Then the text is written by a loop over `write`, and
 //! flushed once. A call that takes no byte, or fails, is `Write`; a call that is interrupted counts as failed.
 //!
-//! In `specs/`, an answer is a value, with the text and the status that stand for it. `IsCpmAnswer`, `IsPlanAnswer` and
-//! `IsCheckAnswer` say when text and status are right for the bytes of one, two and three inputs, and `IsRun` ties
+//! In `specs/`, an answer is a value, with the text and the status that stand for it. `IsCpmAnswer`, `IsPlanAnswer`,
+//! `IsCrowdAnswer` and `IsCheckAnswer` say when text and status are right for the bytes of one, two and three inputs, and `IsRun` ties
 //! answers to what the readers had and what the writer holds, for all commands.
 //!
 //! Proved: where a command returns a status, all of each reader was read, and what was written is exactly the text of a
@@ -45,6 +45,7 @@
 mod check;
 mod check_fault;
 mod cpm;
+mod crowd;
 mod fault;
 pub mod laws;
 mod lines;
@@ -56,6 +57,7 @@ mod streams;
 
 pub use check::check_over;
 pub use cpm::cpm_over;
+pub use crowd::crowd_over;
 pub use fault::StreamFault;
 pub use plan::run_over;
-pub use status::{CHECK_FAILED, DONE, OUT_OF_MEMORY, REFUSED, STREAM_FAILED};
+pub use status::{CHECK_FAILED, DONE, OUT_OF_MEMORY, REFUSED, STOPPED, STREAM_FAILED};

@@ -1,9 +1,9 @@
 //! The texts that are written, line by line.
 
-ghost use Rattle.std.specs.Prelude.{◌≡◌, ◌++◌, IfOk, codes};
+ghost use Rattle.std.specs.Prelude.{◌≡◌, ◌++◌, IfOk, OnOk, codes};
 ghost use Rattle.std.specs.Fmt.{decimal};
 ghost use Rattle.racp_plan.specs.Texts.{line};
-ghost use Rattle.racp_cli.specs.Texts.{early_text, order_refusal_line, plan_fault_line, plan_refusal_line, refusal_line};
+ghost use Rattle.racp_cli.specs.Texts.{early_text, order_refusal_line, plan_fault_line, plan_refusal_line, refusal_line, stopped_line};
 
 use racp_check::PlanFault;
 use racp_plan::TextFault;
@@ -40,6 +40,25 @@ pub(crate) fn order_refused_line(alloc: Global, fault: OrderFault) -> Result<Vec
 {
     let (number, name) = (fault as u8, fault.name());
     Ok(format!(in alloc; "refused order {number} {name}\n")?.into_bytes())
+}
+
+/// The line that tells capacities, by place from 0, where planning was stopped.
+pub(crate) fn stopped_line(alloc: Global, capacities: &[u32]) -> Result<Vec<u8>, AllocError>
+    ensures { IfOk result (λ text. text.items ≡ stopped_line capacities.now) }
+{
+    let mut text = b"stopped".to_vec(alloc)?;
+    for (place, units) in capacities.iter().enumerate() {
+        push_number(alloc, &mut text, *units)?;
+    }
+    text.push(b'\n')?;
+    Ok(text)
+}
+
+/// Adds a number behind a blank.
+fn push_number(alloc: Global, text: &mut Vec<u8>, number: u32) -> Result<(), AllocError>
+    ensures { OnOk result (text.new.items ≡ text.old.items ++ (codes " " ++ decimal number)) }
+{
+    text.extend_from_slice(format!(in alloc; " {number}")?.as_bytes())
 }
 
 /// The line that says why a plan text is refused.

@@ -3,13 +3,16 @@
 /// An answer was written.
 pub const DONE: u8 = 0;
 
+/// Planning was stopped.
+pub const STOPPED: u8 = 4;
+
 /// The input is refused, and the line that was written says why.
 pub const REFUSED: u8 = 5;
 
 /// Memory ran out.
 pub const OUT_OF_MEMORY: u8 = 6;
 
-/// The input could not be read, or the answer could not be written.
+/// The input could not be read, the answer could not be written, or a thread could not be started.
 pub const STREAM_FAILED: u8 = 7;
 
 /// The plan that was checked has a fault.

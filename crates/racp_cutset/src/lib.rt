@@ -31,6 +31,8 @@
 //! they are compared place by place: the times first, then the capacities, the started jobs, the third rows and the
 //! upper bounds. `Board` has the records that threads share; it only grows, and is read without waiting. `Local` has
 //! one thread's own records and an index, by a hash of the started jobs, of these and of what it has read of the board.
+//! A thread that ends gives its `Local` to the board (`give_part`), and one that begins takes such a one (`take_part`),
+//! and so need not read the whole board again.
 //! What the index leads to is tested by `covers` before it is answered. A place of the board stays empty where the push
 //! to it was refused; reading goes on past it. The index keeps at most the 16 newest places for one hash, and none of a
 //! record that a newer one covers. A kept record that it keeps no more gives its place in `Local` to a further one, but
@@ -42,8 +44,8 @@
 //! is a no. What `find` finds covers the node. A thread keeps at most `most_records` records. A further one comes behind
 //! them, or takes the place of one that is not among the first ones, and no other changes; `forget_behind` leaves exactly
 //! the first ones. In `laws`: why covering keeps a yes, step by step. Not proved: which records are found or give way, so
-//! a body that never finds one would do; that records are found is tested. `Board::push` may wait for another thread, and
-//! is the only function of which it is not claimed that it returns.
+//! a body that never finds one would do; that records are found is tested. `push`, `take_part` and `give_part` of `Board`
+//! may wait for another thread, and are the only functions of which it is not claimed that they return.
 #![tactic(auto)]
 
 mod board;

@@ -66,7 +66,6 @@ impl<N: OfNetwork> Local<N> {
         requires { net.now ≡ N.network }
         ensures { result ≡ [] }
     {
-        let numbers = 2 * net.job_count() + net.resource_count() + OTHER_NUMBERS;
         Local {
             kept: Vec::new(alloc),
             index: Index::new(alloc),
@@ -74,7 +73,7 @@ impl<N: OfNetwork> Local<N> {
                 next: 0,
                 records: 0,
             },
-            limit: MOST_NUMBERS / numbers,
+            limit: most_records(net),
         }
     }
 
@@ -174,6 +173,14 @@ impl<N: OfNetwork> Local<N> {
             Place::Kept(i) => self.kept.get(i),
         }
     }
+}
+
+/// How many records of a network take about 1 GiB, with their places in an index.
+pub(crate) fn most_records(net: &Network) -> usize
+    ensures { result ≡ most_records net.now }
+{
+    let numbers = 2 * net.job_count() + net.resource_count() + OTHER_NUMBERS;
+    MOST_NUMBERS / numbers
 }
 
 /// Enters the records of the board that were not read, and answers how far it has been read. Places that are empty are

@@ -63,29 +63,18 @@ impl<N: OfNetwork> Nogood<N> {
         ensures lower { result.1 ≡ node.window.lower }
         ensures early { result.2 ≡ node.early }
     {
-        let Node {
-            question,
-            early,
-            ends,
-            bounds,
-            started,
-            key,
-            time,
-            of,
-        } = node;
-        let Question { capacities, window } = question;
+        let Question { capacities, window } = node.question;
         let (lower, upper) = window.into_bounds();
-        let capacities = trimmed(capacities);
         let nogood = Nogood {
-            capacities,
+            capacities: trimmed(capacities),
             upper,
-            bounds,
-            started,
-            key,
-            time,
-            of,
+            bounds: node.bounds,
+            started: node.started,
+            key: node.key,
+            time: node.time,
+            of: node.of,
         };
-        (nogood, lower, early, ends)
+        (nogood, lower, node.early, node.ends)
     }
 
     /// A hash of the started jobs: equal for records with the same started jobs.

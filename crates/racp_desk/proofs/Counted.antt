@@ -240,7 +240,7 @@ counts_returned t old piece windows new nodes step h =
     (counts_back t old piece.index nodes (out_of piece) windows step.row.0 step.out.0 step.out.2 step.row.1 h))
 
 -- the lesser of two yeses, in both
-lesser_same : (least : Option KnownYes) (y : KnownYes) → (lesser least y).index ≡ lesser_place (option_map (λ (z : KnownYes). z.index) least) y.index
+pub lesser_same : (least : Option KnownYes) (y : KnownYes) → (lesser least y).index ≡ lesser_place (option_map (λ (z : KnownYes). z.index) least) y.index
 lesser_same None y = refl
 lesser_same (Some x) y = go (nat_le x.index y.index)
   where
@@ -249,7 +249,7 @@ lesser_same (Some x) y = go (nat_le x.index y.index)
     go false = refl
 
 -- what stands before it stands before both
-before_lesser : (least : Option KnownYes) (y : KnownYes) (i : ℕ) → IsTrue (is_before (Some (lesser least y)) i) → (i < y.index) × IsTrue (is_before least i)
+pub before_lesser : (least : Option KnownYes) (y : KnownYes) (i : ℕ) → IsTrue (is_before (Some (lesser least y)) i) → (i < y.index) × IsTrue (is_before least i)
 before_lesser None y i b = (below_yes y i b, refl)
 before_lesser (Some x) y i b = go (nat_le x.index y.index) refl (below_yes (lesser (Some x) y) i b)
   where

@@ -1,5 +1,5 @@
 -- What is kept of a desk stays true at each call.
-use Rattle.std.proofs.Common.{◌≡◌, ◌∙◌, ℕ, ◌+◌, true, false, List, [], ◌∷◌, ◌++◌, length, Option, Some, None, refl, sym, ap, subst, length-append}
+use Rattle.std.proofs.Common.{◌≡◌, ◌∙◌, ℕ, ◌+◌, ◌^◌, ◌<◌, true, false, List, [], ◌∷◌, ◌++◌, length, Option, Some, None, refl, sym, ap, subst, arith, length-append}
 use Rattle.std.specs.Option.{is_some}
 use Rattle.racp_model.specs.Window.{Bounds}
 use Rattle.racp_model.specs.declared.question.Question.{Question}
@@ -101,3 +101,8 @@ pub leaves_none : (p : Project) (capacities : List ℕ) (window : Bounds) (found
 leaves_none p capacities window None rest h = tt
 leaves_none p capacities window (Some starts) Whole h = absurd (let none = h.1 in cc none)
 leaves_none p capacities window (Some starts) (Windows list) h = ap (λ ws. length ws) h.1
+
+-- no more windows are left than memory may hold
+pub few_left : (rest : Rest) → windows_left rest < 2 ^ 63
+few_left Whole = omega arith
+few_left (Windows list) = (let long = list.ok.0 in let room = list.ok.1 in let small = list.small in omega (arith, long, room, small))

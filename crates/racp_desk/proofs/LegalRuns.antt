@@ -13,7 +13,7 @@ use Rattle.racp_desk.specs.Desk.{Counts}
 use Rattle.racp_desk.specs.Laws.{Event, entries_of, IsCause, IsMade, LoggedRun, LogsAreLegal}
 use Rattle.racp_desk.proofs.Counted.{counts_fresh, counts_asked, counts_taken, counts_returned, counts_halted}
 use Rattle.racp_desk.proofs.Allowed.{may_ask, may_take, is_away, none_halted}
-use Rattle.racp_desk.proofs.Desks.{merged_out, counts_handed}
+use Rattle.racp_desk.proofs.Desks.{merged_out, counts_handed, few_left}
 
 -- the counts after two logs, one behind the other; both are legal
 counted_both : (t : Tally) (xs ys : List Entry) → counted t (xs ++ ys) ≡ counted (counted t xs) ys
@@ -67,7 +67,7 @@ halt_counted turns quiet t m cause true is h why = (
 halt_counted turns quiet t m cause false is h why = (((none_halted t.halt m.halted h.halted is, may_halt turns quiet t m cause h why), tt), counts_halted t m cause h)
 
 -- a step
-step_counted : (turns : ℕ) (quiet : Bool) (t : Tally) (old new : Machine) (call : Call) (cause : Cause) → Counts t old → IsMade turns quiet old.taken call cause → Step old call new →
+pub step_counted : (turns : ℕ) (quiet : Bool) (t : Tally) (old new : Machine) (call : Call) (cause : Cause) → Counts t old → IsMade turns quiet old.taken call cause → Step old call new →
     AreLegal turns quiet t (entries_of old.halted call cause) × Counts (counted t (entries_of old.halted call cause)) new
 step_counted turns quiet t old new (Ask (Next index)) cause h made step = ((may_ask turns quiet t old new index h step, tt), counts_asked t old new index step h)
 step_counted turns quiet t old new (Ask End) cause h made step = (tt, ended_counted t old new step.3 h)
@@ -78,7 +78,7 @@ step_counted turns quiet t old new (Take seat Nothing) cause h made step = (tt, 
 step_counted turns quiet t old new (Take seat Done) cause h made step = (tt, stays_counted t old new step.1 h)
 step_counted turns quiet t old new (Take seat TakeHalted) cause h made step = (tt, stays_counted t old new step.2 h)
 step_counted turns quiet t old new (Hand finding WasTaken) cause h made step =
-    (((is_away t old finding.piece h (merged_out old finding finding.found new step), made.0, made.1), tt), counts_handed t old new finding step h)
+    (((is_away t old finding.piece h (merged_out old finding finding.found new step), made.0, made.1, few_left finding.rest), tt), counts_handed t old new finding step h)
 step_counted turns quiet t old new (Hand finding Stale) cause h made step = (tt, stays_counted t old new step.1 h)
 step_counted turns quiet t old new (GiveBack piece WasTaken) cause h made step = ((is_away t old piece h step.out, tt), counts_returned t old piece (piece.question.window ∷ []) new 0 step h)
 step_counted turns quiet t old new (GiveBack piece Stale) cause h made step = (tt, stays_counted t old new step.1 h)

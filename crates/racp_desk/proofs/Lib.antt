@@ -7,3 +7,7 @@ pub mod Closings
 pub mod lemmas
 pub mod LegalRuns
 pub mod CameIn
+pub mod Left
+pub mod LeftRuns
+pub mod Idle
+pub mod Needs

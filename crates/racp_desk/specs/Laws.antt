@@ -1,8 +1,10 @@
 -- The log that a run of a collector leaves.
-use Rattle.std.specs.Prelude.{◌≡◌, ℕ, ◌<◌, ◌≤◌, Bool, false, List, [], ◌∷◌, ◌++◌, is_some}
+use Rattle.std.specs.Prelude.{◌≡◌, ℕ, ◌<◌, ◌≤◌, Bool, false, List, [], ◌∷◌, ◌++◌, map, is_some}
+use Rattle.racp_model.specs.Project.{Project}
+use Rattle.racp_model.specs.Formed.{AreFormed}
 use Rattle.racp_model.specs.declared.question.Question.{Question}
 use Rattle.racp_core.specs.Machine.{Machine, fresh}
-use Rattle.racp_core.specs.Runs.{Call, Ask, Take, Hand, GiveBack, Halt, Step}
+use Rattle.racp_core.specs.Runs.{Call, Ask, Take, Hand, GiveBack, Halt, Step, AreTrueFindings}
 use Rattle.racp_desk.specs.declared.log.Cause.{Cause}
 use Rattle.racp_desk.specs.declared.log.Cause.TheVariants.{Stop, Turns, Fault}
 use Rattle.racp_desk.specs.declared.log.Entry.{Entry}
@@ -52,3 +54,10 @@ abbrev pub LogsAreLegal : Type 0
 LogsAreLegal =
     (turns : ℕ) (quiet : Bool) (questions : List Question) (events : List Event) (m : Machine) (log : List Entry) →
     LoggedRun turns quiet (fresh questions) events m log → IsLegal turns quiet log × Counts (tally log) m
+
+-- each legal log is left by calls that a collector of some project's questions has had, with true findings
+abbrev pub LegalLogsAreLeft : Type 0
+LegalLogsAreLeft =
+    (turns : ℕ) (quiet : Bool) (log : List Entry) → IsLegal turns quiet log →
+    (p : Project) × (questions : List Question) × (events : List Event) × (m : Machine) × AreFormed p questions ×
+    AreTrueFindings p (map (λ e. e.call) events) × LoggedRun turns quiet (fresh questions) events m log

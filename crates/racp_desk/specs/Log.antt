@@ -1,5 +1,5 @@
 -- The log of what happened at a desk, and the counts that it tells.
-use Rattle.std.specs.Prelude.{◌≡◌, ℕ, ◌+◌, ◌-◌, ◌*◌, ◌<◌, ◌≤◌, nat_lt, nat_le, Bool, true, false, if◌then◌else◌, IsTrue, List, [], ◌∷◌, ◌++◌, length, slice_index, slice_index_or, slice_set, Option, Some, None}
+use Rattle.std.specs.Prelude.{◌≡◌, ℕ, ◌+◌, ◌-◌, ◌*◌, ◌^◌, ◌<◌, ◌≤◌, nat_lt, nat_le, Bool, true, false, if◌then◌else◌, IsTrue, List, [], ◌∷◌, ◌++◌, length, slice_index, slice_index_or, slice_set, Option, Some, None}
 use Rattle.std.specs.List.{sum_by}
 use Rattle.racp_desk.specs.declared.log.Cause.{Cause}
 use Rattle.racp_desk.specs.declared.log.Cause.TheVariants.{Stop, Turns, Fault}
@@ -119,14 +119,14 @@ abbrev pub LeavesNone : Bool → ℕ → Type 0
 LeavesNone true rest = rest ≡ 0
 LeavesNone false rest = Unit {0}
 
--- an entry may follow: it is one that a collector allows whose counts are these, with so many turns and such a stop,
--- and at most 1,000,000 nodes were searched of a piece
+-- an entry may follow: it is one that a collector allows whose counts are these, with so many turns and such a stop; at
+-- most 1,000,000 nodes were searched of a piece, and a piece leaves less than 2^63 windows, as many as memory may hold
 abbrev pub MayFollow : ℕ → Bool → Tally → Entry → Type 0
 MayFollow turns quiet t (Asked index) = (index ≡ length t.ready) × (t.least ≡ None) × (t.halt ≡ None)
 MayFollow turns quiet t (Taken seat number index) =
     (number ≡ length t.taken) × (length t.taken < turns) × (t.halt ≡ None) × IsLeastReady t index
 MayFollow turns quiet t (Handed seat number rest found nodes) =
-    IsAway t seat number × LeavesNone found rest × (nodes ≤ 1000000)
+    IsAway t seat number × LeavesNone found rest × (nodes ≤ 1000000) × (rest < 2 ^ 63)
 MayFollow turns quiet t (GivenBack seat number) = IsAway t seat number
 MayFollow turns quiet t (Halted cause) = (t.halt ≡ None) × MayHalt turns quiet t cause
 

@@ -27,10 +27,11 @@
 //! `run` starts the workers and joins them. A worker's turn: it takes a piece; where no window is open, fewer than two
 //! questions a worker are undecided, the series has not ended and no yes is known, it asks the next question and takes
 //! once more; else it waits until something has changed. With a piece it lets the lock go, enters the gate, searches as
-//! many nodes as the quantum allows, with the records of the board and its own, shares the records that it made, takes
-//! the lock and hands the finding in. It leaves where the answer is known or the desk is halted. It halts the desk
+//! many nodes as the quantum allows, with the records of the board and its own, shares the records that it made (where
+//! it is not alone, and the board has room), takes the lock and hands the finding in. It leaves where the answer is known or the desk is halted. It halts the desk
 //! where the user has asked to stop, where as many pieces were taken as there are turns, and where memory was refused.
-//! A hint, one number beside the lock, tells the least place of a yes that came in, so that a search of a later
+//! What it kept of its own goes to the board when it leaves, for the workers of the next run; where each question was a
+//! no, what it kept in this run is forgotten. A hint, one number beside the lock, tells the least place of a yes that came in, so that a search of a later
 //! question, which is of no use, is left at its next node.
 //!
 //! A `State` is what lies under the lock: the collector, the `Book` of its log, and the total of a ledger. Each of its
@@ -46,10 +47,11 @@
 //! Proved: a log is legal, and its tally counts what the collector has. Where `run` answers, the outcome is the first
 //! yes of the series with starts that answer it, or that there is none, or a question before which each is a no. The
 //! log shows it, and it is open only where the desk was halted: for turns that are used up, or for a stop that is not
-//! quiet. In `laws`: the log that a run of a collector leaves is legal, and its tally counts what the collector has.
+//! quiet. In `laws`: the log that a run of a collector leaves is legal, and its tally counts what the collector has;
+//! and each legal log is left by a run with true findings.
 //! Tested alone: that two workers search at once, that a stop and the end of the turns halt, and that memory and
-//! threads are not wanted without need. Not promised: that a run ends, that a worker is served, how work is shared, and
-//! which of two findings comes first.
+//! threads are not wanted without need. Not promised: that a run ends, that a worker is served, how work is shared,
+//! and which of two findings comes first.
 #![tactic(auto)]
 
 mod book;

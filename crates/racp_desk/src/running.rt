@@ -1,6 +1,6 @@
 //! A run of a desk: its workers are started, and joined.
 
-ghost use Rattle.std.specs.Prelude.{◌≡◌, ◌+◌, ◌<◌, ◌≤◌, IfOk, IsTrue};
+ghost use Rattle.std.specs.Prelude.{◌≡◌, ◌+◌, ◌<◌, ◌≤◌, length, IfOk, IsTrue};
 ghost use Rattle.racp_model.specs.Formed.{AreFormed};
 ghost use Rattle.racp_desk.specs.Closing.{IsRunClosed, IsEnding};
 
@@ -18,7 +18,7 @@ use std::marker::Brand;
 use std::sync::ledger::{Blank, Share};
 use std::sync::{Condvar, Mutex, Wait};
 use std::thread;
-use std::thread::{Scope, Threads};
+use std::thread::{JoinHandle, Scope, Threads};
 use thiserror::Error;
 
 /// Why a run gave no answer.
@@ -30,6 +30,13 @@ pub enum DeskFault {
     /// A worker could not be started.
     #[error("no thread could be started")]
     NoThread,
+}
+
+/// Workers that were started, and the share that is left beside theirs.
+#[derive(Drop)]
+struct Started<M: Names> {
+    handles: Vec<JoinHandle<Spent<M>>>,
+    share: Share<M>,
 }
 
 /// The share of all workers and of the calling thread, and whether a worker could not be started.
@@ -60,13 +67,13 @@ fn refuse<'a, N: OfNetwork, M: Names, S: Series, G: Gate, P: Stop, R: Wait>(
     shared.idle.notify_all();
 }
 
-/// Starts the workers, and joins them. Where one cannot be started, the desk is halted, no further one is started, and
-/// the work that it would have done ends at once on the calling thread.
+/// Starts the workers. Where one cannot be started, the desk is halted, no further one is started, and the work that it
+/// would have done ends at once on the calling thread.
 ///
 /// # Errors
 ///
 /// Memory was refused.
-fn crew<
+fn start<
     's,
     E,
     N: OfNetwork + Send + Sync + 's,
@@ -79,22 +86,22 @@ fn crew<
     scope: &'s Scope<'s, E>,
     rt: &'s R,
     shared: &'s Shared<'s, N, M, S, G, P>,
-    workers: usize,
     all: Share<M>,
-) -> Result<Joined<M>, AllocError>
-    requires workers { workers ≤ 64 }
-    requires parts { all.parts ≡ workers + 1 }
-    ensures { IfOk result (λ joined. joined.share.parts ≡ workers + 1) }
+) -> Result<Started<M>, AllocError>
+    requires { all.parts ≡ shared.now.job.workers + 1 }
+    ensures { IfOk result (λ started.
+        started.share.parts + length started.handles.items ≡ shared.now.job.workers + 1) }
 {
+    let workers = shared.job.workers;
     let mut share = all;
-    let mut running = Vec::with_capacity(shared.job.alloc, workers)?;
+    let mut handles = Vec::with_capacity(shared.job.alloc, workers)?;
     for seat in 0..workers {
         let mine = share.split_off(1, 0);
         let job = move || -> Spent<M>
             requires { mine.parts ≡ 1 }
         { work(rt, shared, seat, mine) };
         match scope.spawn(job) {
-            Ok(handle) => running.push_reserved(handle),
+            Ok(handle) => handles.push_reserved(handle),
             Err(error) => {
                 refuse(rt, shared, &mut share);
                 join_share(&mut share, (error.value)());
@@ -102,14 +109,28 @@ fn crew<
             }
         }
     }
-    let refused = running.len() < workers;
-    while let Some(handle) = running.pop() {
-        join_share(&mut share, handle.join(rt));
-    }
-    Ok(Joined { share, refused })
+    Ok(Started { handles, share })
 }
 
-/// The workers, in a scope.
+/// Joins those of so many workers that were started.
+fn join_all<M: Names, R: Threads + Wait>(rt: &R, started: Started<M>, workers: usize) -> Joined<M>
+    ensures { result.share.parts ≡ started.share.parts + length started.handles.items }
+{
+    let Started { handles, share } = started;
+    let refused = handles.len() < workers;
+    let mut handles = handles;
+    let mut share = share;
+    while let Some(handle) = handles.pop() {
+        join_share(&mut share, handle.join(rt));
+    }
+    Joined { share, refused }
+}
+
+/// Starts the workers in a scope, and joins them.
+///
+/// # Errors
+///
+/// Memory was refused.
 fn in_scope<
     'a,
     N: OfNetwork + Send + Sync,
@@ -118,23 +139,20 @@ fn in_scope<
     G: Gate + Sync,
     P: Stop + Sync,
     R: Threads + Wait + Sync,
->(
-    rt: &'a R,
-    shared: &'a Shared<'a, N, M, S, G, P>,
-    workers: usize,
-    all: Share<M>,
-) -> Result<Joined<M>, AllocError>
-    requires workers { workers ≤ 64 }
-    requires parts { all.parts ≡ workers + 1 }
-    ensures { IfOk result (λ joined. joined.share.parts ≡ workers + 1) }
+>(rt: &'a R, shared: &'a Shared<'a, N, M, S, G, P>, all: Share<M>) -> Result<Joined<M>, AllocError>
+    requires { all.parts ≡ shared.now.job.workers + 1 }
+    ensures { IfOk result (λ joined. joined.share.parts ≡ shared.now.job.workers + 1) }
 {
     thread::scope(
         thread::scope_env(),
         rt,
         move |scope| -> Result<Joined<M>, AllocError>
-            requires { (workers ≤ 64) × (all.parts ≡ workers + 1) }
-            ensures { IfOk result (λ joined. joined.share.parts ≡ workers + 1) }
-        { crew(scope, rt, shared, workers, all) },
+            requires { all.parts ≡ shared.now.job.workers + 1 }
+            ensures { IfOk result (λ joined. joined.share.parts ≡ shared.entry.now.job.workers + 1) }
+        {
+            let started = start(scope, rt, shared, all)?;
+            Ok(join_all(rt, started, shared.job.workers))
+        },
     )
 }
 
@@ -146,14 +164,14 @@ fn in_scope<
 /// A worker could not be started, or memory was refused.
 fn end<N: OfNetwork, M: Names, S: Series>(
     state: State<N, M, S>,
-    all: Share<M>,
-    refused: bool,
+    joined: Joined<M>,
 ) -> Result<Closed, DeskFault>
-    requires { all.parts ≡ M.parts }
+    requires { joined.share.parts ≡ M.parts }
     ensures { IfOk result (IsRunClosed N.network M.series M.turns M.quiet) }
 {
+    let Joined { share, refused } = joined;
     let mut state = state;
-    let mut all = all;
+    let mut all = share;
     state.audit(&mut all);
     if !state.is_settled() && !was_ended(state.cause()) {
         return Err(if refused {
@@ -196,7 +214,6 @@ fn run_named<
     ensures { IfOk result (IsRunClosed N.network M.series M.turns M.quiet) }
 {
     let (total, all) = blank.open::<M>();
-    let workers = job.workers;
     let Ok(state) = State::new(job.alloc, job.net, series, total) else {
         return Err(DeskFault::Memory);
     };
@@ -206,11 +223,10 @@ fn run_named<
         desk: Mutex::new(state),
         idle: Condvar::new(),
     };
-    let Ok(joined) = in_scope(rt, &shared, workers, all) else {
+    let Ok(joined) = in_scope(rt, &shared, all) else {
         return Err(DeskFault::Memory);
     };
-    let Joined { share, refused } = joined;
-    end(shared.desk.into_inner(), share, refused)
+    end(shared.desk.into_inner(), joined)
 }
 
 /// Lets workers answer a series of questions about a network: the first yes, or that there is none, or, where they were

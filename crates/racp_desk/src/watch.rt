@@ -24,6 +24,11 @@ impl Hint {
         self.least.fetch_min(index, Ordering::SeqCst);
     }
 
+    /// Whether a yes was merged.
+    pub(crate) fn is_noted(&self) -> bool {
+        self.least.load(Ordering::SeqCst) < u64::MAX
+    }
+
     /// Whether a yes of a question before this place was merged.
     fn is_before(&self, index: u64) -> bool {
         self.least.load(Ordering::SeqCst) < index

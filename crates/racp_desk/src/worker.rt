@@ -188,11 +188,29 @@ fn search<'a, N: OfNetwork, M: Names, S: Series, G: Gate, P: Stop>(
     Searched { finding, by_user }
 }
 
-/// Shares the records that the worker kept.
+/// Shares the records that the worker kept, while the board has room.
 fn publish<N: OfNetwork, R: Wait>(rt: &R, board: &Board<N>, local: &mut Local<N>) {
-    while let Some(nogood) = local.take_kept() {
+    while !board.is_full() {
+        let Some(nogood) = local.take_kept() else {
+            return;
+        };
         board.push(rt, nogood);
     }
+}
+
+/// Puts the worker's own part of the records away, for the workers of later runs. Where all questions are a no, what it
+/// kept behind the first `count` records is forgotten: a planner asks no later question that it would serve.
+fn put_away<'a, N: OfNetwork, M: Names, S: Series, G: Gate, P: Stop, R: Wait>(
+    rt: &R,
+    shared: &Shared<'a, N, M, S, G, P>,
+    local: Local<N>,
+    count: usize,
+) {
+    let mut local = local;
+    if !shared.hint.is_noted() && shared.desk.lock(rt).is_settled() {
+        local.forget_behind(count);
+    }
+    shared.job.board.give_part(rt, local);
 }
 
 /// Hands a finding in, and tells all that wait.
@@ -280,17 +298,27 @@ pub(crate) fn work<'a, N: OfNetwork, M: Names, S: Series, G: Gate, P: Stop, R: W
     requires { mine.parts ≡ 1 }
 {
     let mut mine = mine;
-    let mut local: Local<N> = Local::new(shared.job.alloc, shared.job.net);
+    let Job {
+        alloc,
+        net,
+        board,
+        ..
+    } = &shared.job;
+    let mut local: Local<N> = board.take_part(rt, *alloc, net);
+    let count = local.kept_count();
     for _round in rt.forever() {
         let Some(piece) = next_piece(rt, shared, seat, &mut mine) else {
             break;
         };
         shared.job.gate.enter(seat, piece.number());
         let searched = search(shared, piece, &mut local);
-        publish(rt, shared.job.board, &mut local);
+        if shared.job.workers > 1 {
+            publish(rt, board, &mut local);
+        }
         hand_in(rt, shared, searched, &mut mine);
     }
     shared.idle.notify_all();
+    put_away(rt, shared, local, count);
     bring_back(mine)
 }
 

@@ -2,7 +2,7 @@
 use Rattle.std.proofs.Common.{◌≡◌, ◌∙◌, ℕ, ◌+◌, ◌<◌, ◌≤◌, List, length, slice_index, set, inl, inr, Option, Some, None, IfSome, is_some, Bool, true, false, if◌then◌else◌, refl, sym, ap, subst, arith}
 use Rattle.std.proofs.lemmas.Bool.{cases_lt}
 use Rattle.std.proofs.lemmas.List.{length-set, set-get_or}
-use Rattle.racp_model.specs.Project.{Project, duration, request}
+use Rattle.racp_model.specs.Project.{Project}
 use Rattle.racp_model.specs.Schedule.{ArePeaks}
 use Rattle.racp_model.specs.Terms.{Terms, AreTermsOf, release_of, due_of, IsLexBefore, IsBefore}
 use Rattle.racp_model.specs.Plan.{IsLeast, IsEnough, IsPlan, IsOverCeilings}
@@ -20,7 +20,7 @@ use Rattle.racp_candidates.specs.Box.{AreBounds, AreBoxQuestions}
 use Rattle.racp_bounds.specs.Floors.{AreFloors}
 use Rattle.racp_bounds.specs.Sharp.{IsSharpened, AreSharpened, AreSharpenedBefore, pair_count, IsUnsharpened}
 use Rattle.racp_bounds.specs.declared.sharp.Sharp.{Sharp}
-use Rattle.racp_lexfix.specs.Answers.{ceiling_series, IsStoppedAt, IsPlanStop}
+use Rattle.racp_lexfix.specs.Answers.{ceiling_series, AreAboveFloors, IsStoppedAt, IsPlanStop}
 use Rattle.racp_lexfix.specs.declared.answer.PlanStop.{PlanStop}
 use Rattle.racp_lexfix.specs.declared.answer.PlanStop.TheVariants.{Stopped, Memory, NoThread}
 use Rattle.racp_lexfix.specs.Stages.{AreFloorsAndRoofs, AreSharpFloorsAndRoofs, IsNotAfterEnough, IsStoppedInBox, HasNoEnough, given_up, stopped_at}
@@ -92,7 +92,7 @@ module _ (p : Project) (terms : Terms) (root : Bounds) (t : AreTermsOf p terms) 
   stopped_first floors roofs answered told lowest most none asked = record {
     places = lowest.places;
     none = (reached_first p terms root floors roofs t h lowest most 0 floors (first_reached p terms root floors roofs t h lowest most)).none;
-    requests = λ i k job l runs. (lowest.each k l).is.requests i job runs;
+    floors = record { root = root; floors = floors; is_root = h; are_floors = lowest; above = λ k l. omega arith };
     sharpened = λ k l more. absurd (omega (arith, more, none));
     in_box = λ e. absurd (omega (arith, e, none, asked));
     after_box = λ more. absurd (omega (arith, more, none));
@@ -115,10 +115,9 @@ module _ (p : Project) (terms : Terms) (root : Bounds) (t : AreTermsOf p terms) 
     reached_above : (n : ℕ) (reached : List ℕ) → AreSharpenedBefore p root floors roofs n reached → (k : ℕ) → k < p.resources → slice_index floors k ≤ slice_index reached k
     reached_above n reached are k l = elim (cases_lt k n) [ inl low ↦ (are.sharpened k low l).is.from_floor | inr high ↦ omega (arith, are.first k high l) ]
 
-    -- so no job that runs requests more than what is at or above them
-    no_more : (capacities : List ℕ) → ((k : ℕ) → k < p.resources → slice_index floors k ≤ slice_index capacities k) →
-        (i k : ℕ) → i < length p.jobs → k < p.resources → 0 < duration p i → request p i k ≤ slice_index capacities k
-    no_more capacities above i k job l runs = omega (arith, (ends.lowest.each k l).is.requests i job runs, above k l)
+    -- capacities at or above the first floors
+    above_floors : (capacities : List ℕ) → ((k : ℕ) → k < p.resources → slice_index floors k ≤ slice_index capacities k) → AreAboveFloors p terms capacities
+    above_floors capacities above = record { root = root; floors = floors; is_root = h; are_floors = ends.lowest; above = above }
 
     module _ (answered : ℕ) (told : Option (List ℕ)) (capacities : List ℕ) where
       -- before the series of the box, at floors of which some are sharpened
@@ -127,7 +126,7 @@ module _ (p : Project) (terms : Terms) (root : Bounds) (t : AreTermsOf p terms) 
       stopped_early n most left are = record {
         places = are.places;
         none = (reached_first p terms root floors roofs t h ends.lowest ends.most n capacities are).none;
-        requests = no_more capacities (reached_above n capacities are);
+        floors = above_floors capacities (reached_above n capacities are);
         sharpened = λ k l asked. sharpened_enough k (slice_index capacities k) l (are.sharpened k (omega (arith, asked, most)) l);
         in_box = λ e. absurd (omega (arith, e, left));
         after_box = λ more. absurd (omega (arith, more, left));
@@ -139,7 +138,7 @@ module _ (p : Project) (terms : Terms) (root : Bounds) (t : AreTermsOf p terms) 
       stopped_in_box sharp e are is = record {
         places = is.none.places;
         none = is.none.none;
-        requests = no_more capacities (λ k l. omega (arith, (are.each k l).is.from_floor, is.above k l));
+        floors = above_floors capacities (λ k l. omega (arith, (are.each k l).is.from_floor, is.above k l));
         sharpened = λ k l asked. let some = sharpened_enough k (slice_index sharp k) l (are.each k l) in (some.0, some.1, omega (arith, some.2, is.above k l));
         in_box = λ same. is.as_told;
         after_box = λ more. absurd (omega (arith, more, e));
@@ -150,7 +149,7 @@ module _ (p : Project) (terms : Terms) (root : Bounds) (t : AreTermsOf p terms) 
       stopped_behind more first = record {
         places = first.is.places;
         none = first.least;
-        requests = no_more capacities (enough_above p terms root floors roofs t h ends.lowest ends.most capacities first.is);
+        floors = above_floors capacities (enough_above p terms root floors roofs t h ends.lowest ends.most capacities first.is);
         sharpened = λ k l asked. (capacities, first.is, omega arith);
         in_box = λ e. absurd (omega (arith, e, more));
         after_box = λ past. first;

@@ -1,8 +1,10 @@
 -- What planning answers, and why it ends early.
 use Rattle.std.specs.Prelude.{◌≡◌, ℕ, ◌+◌, ◌<◌, ◌≤◌, if◌then◌else◌, List, length, slice_index, Option, is_some, IfSome, ⊤}
-use Rattle.racp_model.specs.Project.{Project, number, duration, request}
-use Rattle.racp_model.specs.Terms.{Terms, IsBefore}
+use Rattle.racp_model.specs.Project.{Project, number}
+use Rattle.racp_model.specs.Terms.{Terms, release_of, due_of, IsBefore}
 use Rattle.racp_model.specs.Plan.{IsLeast, IsEnough, IsTooLong, IsTooLateAt, IsOverCeilings}
+use Rattle.racp_model.specs.Window.{Bounds, IsRootWindow}
+use Rattle.racp_bounds.specs.Floors.{AreFloors}
 use Rattle.racp_bounds.specs.Sharp.{pair_count}
 use Rattle.racp_plan.specs.Plans.{IsPlanOf}
 use Rattle.racp_lexfix.specs.declared.answer.Answer.{Answer}
@@ -21,15 +23,22 @@ IsAnswer p terms Ceiling = IsOverCeilings p terms
 abbrev pub ceiling_series : Terms → ℕ
 ceiling_series terms = if is_some terms.ceilings then 1 else 0
 
+-- capacities at or above the floor of each resource, by the root window
+pub record AreAboveFloors (p : Project) (terms : Terms) (capacities : List ℕ) : Type 0 where
+  pub root : Bounds
+  pub floors : List ℕ
+  pub is_root : IsRootWindow p (release_of terms) (due_of terms) root
+  pub are_floors : AreFloors p root terms.deadline floors
+  pub above : (k : ℕ) → k < p.resources → slice_index floors k ≤ slice_index capacities k
+
 -- capacities that are told where planning stops, by how many series were answered, and by what the asker told. None that are enough
--- stand before them; no job that runs requests more; of each resource that was sharpened there are at least as many units as in some
+-- stand before them; they are at or above the floors; of each resource that was sharpened there are at least as many units as in some
 -- that are enough. Where the vectors of the box were asked they are what the asker told, if it told any; after that they are the plan's
 pub record IsStoppedAt (p : Project) (terms : Terms) (answered : ℕ) (told : Option (List ℕ)) (capacities : List ℕ)
     : Type 0 where
   pub places : length capacities ≡ p.resources
   pub none : (enough : List ℕ) → IsEnough p terms enough → IsBefore terms enough capacities → ⊥
-  pub requests : (i k : ℕ) → i < length p.jobs → k < p.resources → 0 < duration p i →
-      request p i k ≤ slice_index capacities k
+  pub floors : AreAboveFloors p terms capacities
   pub sharpened : (k : ℕ) → k < p.resources → ceiling_series terms + k < answered →
       (enough : List ℕ) × IsEnough p terms enough × (slice_index enough k ≤ slice_index capacities k)
   pub in_box : answered ≡ ceiling_series terms + p.resources + pair_count p.resources →

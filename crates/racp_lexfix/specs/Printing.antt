@@ -1,13 +1,15 @@
 -- What is printed for the texts of a network and an order.
-use Rattle.std.specs.Prelude.{◌≡◌, ℕ, List, length, Result, Ok, Err, ⊤}
+use Rattle.std.specs.Prelude.{◌≡◌, ℕ, List, length, Option, Result, Ok, Err, ⊤}
 use Rattle.racp_model.specs.Project.{Project}
 use Rattle.racp_model.specs.Terms.{Terms}
 use Rattle.racp_sm.specs.Reading.{IsReading, IsReadingOrMemory}
 use Rattle.racp_prices.specs.Orders.{IsOrder, IsOrderOrMemory}
-use Rattle.racp_lexfix.specs.Answers.{IsAnswer}
+use Rattle.racp_lexfix.specs.Answers.{IsAnswer, IsStoppedAt}
 use Rattle.racp_lexfix.specs.Texts.{answer_text, answer_status}
 use Rattle.racp_lexfix.specs.declared.answer.Answer.{Answer}
+use Rattle.racp_lexfix.specs.declared.answer.PlanStop.{PlanStop}
 use Rattle.racp_lexfix.specs.declared.answer.PlanStop.TheVariants.{Stopped, Memory, NoThread}
+use Rattle.racp_lexfix.specs.declared.crowd.Effort.{Effort}
 use Rattle.racp_lexfix.specs.declared.printed.Printed.{Printed}
 use Rattle.racp_lexfix.specs.declared.printed.Refusal.{Refusal}
 use Rattle.racp_lexfix.specs.declared.printed.Refusal.TheVariants.{Sm, Order, Stop}
@@ -27,13 +29,32 @@ pub record IsPrinted (net order text : List ℕ) (status : ℕ) : Type 0 where
   pub with_text : text ≡ answer_text terms.deadline answer
   pub with_status : status ≡ answer_status answer
 
--- what is printed for two texts, or which of them is refused, the network's first; memory may run out at any texts
-abbrev pub IsPrinting : List ℕ → List ℕ → Result Printed Refusal → Type 0
-IsPrinting net order (Ok printed) = IsPrinted net order printed.text.items printed.status
-IsPrinting net order (Err (Sm fault)) = IsReadingOrMemory net (Err fault)
-IsPrinting net order (Err (Order fault)) =
+-- which of two texts is refused, the network's first, or why planning ended early; memory may run out at any texts
+abbrev pub IsRefusal : (PlanStop → Type 0) → List ℕ → List ℕ → Refusal → Type 0
+IsRefusal IsEnd net order (Sm fault) = IsReadingOrMemory net (Err fault)
+IsRefusal IsEnd net order (Order fault) =
     (network : Project) × IsReading net (Ok network) × IsOrderOrMemory network.resources (length network.jobs) order
     (Err fault)
-IsPrinting net order (Err (Stop Memory)) = ⊤
-IsPrinting net order (Err (Stop (Stopped not_before))) = ⊥
-IsPrinting net order (Err (Stop NoThread)) = ⊥
+IsRefusal IsEnd net order (Stop stop) = IsEnd stop
+
+-- what is printed for two texts on one thread, or why nothing is
+abbrev pub IsPrinting : List ℕ → List ℕ → Result Printed Refusal → Type 0
+IsPrinting net order (Ok printed) = IsPrinted net order printed.text.items printed.status
+IsPrinting net order (Err refusal) = IsRefusal (λ stop. stop ≡ Memory) net order refusal
+
+-- why workers ended early: they stopped, and tell capacities; memory was refused; or one could not be started
+abbrev pub IsCrowdStop : Project → Terms → PlanStop → Type 0
+IsCrowdStop network terms (Stopped not_before) =
+    (answered : ℕ) × (told : Option (List ℕ)) × IsStoppedAt network terms answered told not_before
+IsCrowdStop network terms Memory = ⊤
+IsCrowdStop network terms NoThread = ⊤
+
+-- the same, for the network and the order that two texts are read as
+abbrev pub IsCrowdEnd : List ℕ → List ℕ → PlanStop → Type 0
+IsCrowdEnd net order stop = (network : Project) × (terms : Terms) × AreTextsOf net order network terms ×
+    IsCrowdStop network terms stop
+
+-- what is printed for two texts by workers, with their effort, or why nothing is
+abbrev pub IsCrowdPrinting : List ℕ → List ℕ → Result (Printed × Effort) Refusal → Type 0
+IsCrowdPrinting net order (Ok printed) = IsPrinted net order printed.0.text.items printed.0.status
+IsCrowdPrinting net order (Err refusal) = IsRefusal (IsCrowdEnd net order) net order refusal

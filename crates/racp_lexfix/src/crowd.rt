@@ -18,7 +18,7 @@ use std::alloc::AllocError;
 use std::marker::PhantomData;
 
 /// How many nodes of a piece a worker searches in one turn.
-pub(crate) const QUANTUM: u64 = 1_000;
+pub(crate) const QUANTUM: u64 = 250;
 
 /// How much work was done.
 #[derive(Clone, Copy)]
@@ -165,7 +165,7 @@ impl<N: OfNetwork, P: Stop, F: Fn(AnySeries, u64) -> Result<Closed, DeskFault> +
 fn turns_for(most: Option<u64>, left: u64) -> u64
     ensures most { result ≤ left }
     ensures all { most ≡ None → result ≡ left }
-    ensures exact { IfSome most (λ nodes. result ≡ min ((nodes + 999) / 1000) left) }
+    ensures exact { IfSome most (λ nodes. result ≡ min ((nodes + 249) / 250) left) }
 {
     match most {
         Some(nodes) => nodes.div_ceil(QUANTUM).min(left),

@@ -33,14 +33,16 @@
 //! the first yes of stage 4 is not told by the asker: it is the peaks of the starts that were found, since these peaks
 //! are enough too, and none that are stand before it. `Crowd` is an asker with workers: for each series it runs a desk
 //! (racp_desk), by a call that it is handed, and counts over all series the turns, of which a desk takes one for each
-//! piece. A question with a bound on its nodes has as many turns as these are pieces of 1,000.
+//! piece. A question with a bound on its nodes has as many turns as these are pieces of 250.
 //!
 //! `plan_alone(alloc, net_bytes, order_text)` answers the text of examples/b3.plan for the texts of b.sm and b3.toml,
-//! with the status 0; for a.sm and a2.toml it answers `impossible critical 3 deadline 2` with the status 3.
+//! with the status 0; for a.sm and a2.toml it answers `impossible critical 3 deadline 2` with the status 3. `plan_crowd`
+//! has workers make the plan: it hands `Crowd` a call that runs them over one board of records, for all series.
 //!
 //! Proved: the answer of `plan` is right (`IsAnswer`): the plan, without any bound on the numbers of units, or the
 //! first reason for which there is none. `plan_alone` prints that answer for what the texts are read as, or tells the
-//! fault of the first text that is refused, or that memory was refused (`IsPrinting`). Where an asker stops, `plan`
+//! fault of the first text that is refused, or that memory was refused (`IsPrinting`). `plan_crowd` prints the same,
+//! whatever the workers, or tells capacities before which none are enough (`IsCrowdPrinting`). Where an asker stops, `plan`
 //! tells capacities before which none are enough: the floors so far, the vector that was reached, or the plan's own.
 //! `Crowd` stops only where no turn is left, or where its stop may ask at all. In `laws`: an order for a network has an
 //! answer, and only one. Tested alone: that memory is not refused without need. How long planning takes is measured
@@ -61,4 +63,4 @@ pub use alone::Alone;
 pub use answer::{Answer, PlanStop};
 pub use crowd::{Crowd, Effort};
 pub use planning::plan;
-pub use printed::{Printed, Refusal, plan_alone};
+pub use printed::{Printed, Refusal, plan_alone, plan_crowd};

@@ -1,19 +1,29 @@
-ghost use Rattle.std.specs.Prelude.{◌≡◌, IfOk, IfErr};
+ghost use Rattle.std.specs.Prelude.{◌≡◌, ◌≤◌, IfOk, IfErr};
+ghost use Rattle.racp_model.specs.Formed.{AreFormed};
 ghost use Rattle.racp_model.specs.Terms.{AreTermsOf};
+ghost use Rattle.racp_candidates.specs.AnySeries.{any_questions};
+ghost use Rattle.racp_desk.specs.Closing.{IsRunClosed};
 ghost use Rattle.racp_lexfix.specs.Answers.{IsAnswer};
-ghost use Rattle.racp_lexfix.specs.Printing.{IsPrinting};
-ghost use Rattle.racp_lexfix.specs.Texts.{answer_status};
+ghost use Rattle.racp_lexfix.specs.Printing.{IsPrinting, IsCrowdPrinting, IsCrowdStop};
+ghost use Rattle.racp_lexfix.specs.Texts.{answer_text, answer_status};
 ghost use Rattle.racp_lexfix.specs.declared.answer.PlanStop.TheVariants.{Memory};
 
 use crate::alone::Alone;
 use crate::answer::{Answer, PlanStop};
+use crate::crowd::{Crowd, Effort, QUANTUM};
 use crate::lines::answer_lines;
 use crate::planning::plan;
+use racp_candidates::AnySeries;
+use racp_cutset::Board;
+use racp_desk::{Closed, DeskFault, Gate, run};
 use racp_model::{Network, OfNetwork};
 use racp_prices::{Order, OrderFault, read_order};
+use racp_search::Stop;
 use racp_sm::{SmFault, read_sm};
 use std::alloc::{AllocError, Global};
 use std::marker::Brand;
+use std::sync::Wait;
+use std::thread::Threads;
 use thiserror::Error;
 
 /// The status of a plan.
@@ -102,10 +112,53 @@ pub fn plan_alone(alloc: Global, net_bytes: &[u8], order_text: &[u8]) -> Result<
     let net = read_sm(alloc, net_bytes)?;
     let order = read_order(alloc, order_text, net.resource_count(), net.job_count())?;
     let answer = plan_named::<Brand>(alloc, &net, &order)?;
-    let text = answer_lines(alloc, order.deadline, &answer)?;
+    Ok(print_answer(alloc, &order, &answer)?)
+}
+
+/// The answer to the texts of a network and an order, made by 1 to 64 workers on threads of their own with so many
+/// turns, at most 1,000,000,000,000: the same text as that of `plan_alone`, and how much work was done. A turn is a
+/// piece that a worker takes. It enters the gate before it searches the piece, and leaves it where the stop is asked
+/// for.
+///
+/// # Errors
+///
+/// A text is refused, the network's first; no turn is left, or the stop was asked for; memory was refused; or a worker
+/// could not be started.
+pub fn plan_crowd<G: Gate + Sync, P: Stop + Sync, R: Threads + Wait + Sync>(
+    rt: &R,
+    alloc: Global,
+    net_bytes: &[u8],
+    order_text: &[u8],
+    workers: usize,
+    turns: u64,
+    gate: &G,
+    stop: &P,
+) -> Result<(Printed, Effort), Refusal>
+    requires workers { workers ≤ 64 }
+    requires turns { turns ≤ 1000000000000 }
+    ensures { IsCrowdPrinting net_bytes.now order_text.now result }
+{
+    let net = read_sm(alloc, net_bytes)?;
+    let order = read_order(alloc, order_text, net.resource_count(), net.job_count())?;
+    let crew = Crew {
+        workers,
+        turns,
+        gate,
+        stop,
+    };
+    let (answer, effort) = plan_by::<Brand, G, P, R>(rt, alloc, &net, &order, crew)?;
+    Ok((print_answer(alloc, &order, &answer)?, effort))
+}
+
+/// The text of an answer on the terms of an order, with its status.
+fn print_answer(alloc: Global, order: &Order, answer: &Answer) -> Result<Printed, AllocError>
+    ensures text { IfOk result (λ printed. printed.text.items ≡ answer_text order.now.deadline answer.now) }
+    ensures status { IfOk result (λ printed. printed.status ≡ answer_status answer.now) }
+{
+    let text = answer_lines(alloc, order.deadline, answer)?;
     Ok(Printed {
         text,
-        status: status_of(&answer),
+        status: status_of(answer),
     })
 }
 
@@ -118,6 +171,54 @@ fn plan_named<N: OfNetwork>(alloc: Global, net: &Network, order: &Order) -> Resu
 {
     let mut alone: Alone<N> = Alone::new(alloc, net)?;
     plan(alloc, net, order, &mut alone)
+}
+
+/// How many workers answer with how many turns, the gate that they enter and the stop that they heed.
+struct Crew<'a, G: Gate, P: Stop> {
+    workers: usize,
+    turns: u64,
+    gate: &'a G,
+    stop: &'a P,
+}
+
+/// The plan of an order, or why there is none, made by workers, and how much work they did. The network is the one that
+/// `N` names.
+fn plan_by<N: OfNetwork + Send + Sync, G: Gate + Sync, P: Stop + Sync, R: Threads + Wait + Sync>(
+    rt: &R,
+    alloc: Global,
+    net: &Network,
+    order: &Order,
+    crew: Crew<'_, G, P>,
+) -> Result<(Answer, Effort), PlanStop>
+    requires named { net.now ≡ N.network }
+    requires terms { AreTermsOf net.now order.now }
+    requires workers { crew.workers ≤ 64 }
+    requires turns { crew.turns ≤ 1000000000000 }
+    ensures answer { IfOk result (λ done. IsAnswer net.now order.now done.0) }
+    ensures stop { IfErr result (IsCrowdStop net.now order.now) }
+{
+    let Crew {
+        workers,
+        turns,
+        gate,
+        stop,
+    } = crew;
+    let board: Board<N> = Board::new(alloc, net)?;
+    let mut crowd: Crowd<N, P, _> = Crowd::new(
+        turns,
+        |series: AnySeries, turns: u64| -> Result<Closed, DeskFault>
+            requires { (net.now ≡ N.network) × AreFormed net.now (any_questions series) ×
+                (workers ≤ 64) × (turns ≤ 1000000000000) }
+            ensures { IfOk result (IsRunClosed net.entry.now (any_questions series) turns P.QUIET) }
+        {
+            run(
+                rt, alloc, net, series, workers, QUANTUM, turns, &board, gate, stop,
+            )
+        },
+    );
+    let answer = plan(alloc, net, order, &mut crowd)?;
+    let effort = crowd.effort();
+    Ok((answer, effort))
 }
 
 /// The status that belongs to an answer.

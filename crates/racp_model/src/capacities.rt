@@ -1,4 +1,4 @@
-ghost use Rattle.std.specs.Prelude.{◌≡◌, ℕ, length, IfOk};
+ghost use Rattle.std.specs.Prelude.{◌≡◌, ◌<◌, IfOk, length, set};
 
 use std::alloc::AllocError;
 use std::marker::Model;
@@ -38,6 +38,17 @@ impl Capacities {
     {
         self.items
     }
+
+    /// These capacities with other units of the resource at place `k`. Takes no memory.
+    pub fn with_units(self, k: usize, units: u32) -> Self
+        requires { k < length self }
+        ensures { result ≡ set self k units }
+    {
+        let mut list = self.items;
+        list[k] = units;
+        Capacities::new(list)
+    }
+
     /// The same capacities once more. `Clone` does the same, but does not promise that they are the same.
     ///
     /// # Errors

@@ -1,6 +1,6 @@
-ghost use Rattle.std.specs.Prelude.{◌≡◌, ℕ, ◌↔◌, ◌≤◌, ◌++◌, ◌∷◌, [], IsTrue, IsFalse, IfOk, OnOk, IfSome, Contains, take};
+ghost use Rattle.std.specs.Prelude.{◌≡◌, ℕ, ◌≤◌, ◌++◌, [], IsTrue, IsFalse, IfOk, OnOk, IfSome, take};
 ghost use Rattle.racp_cutset.specs.Kept.{StayKept};
-ghost use Rattle.racp_search.specs.DepthFirst.{IsHigher, IsSearching, IsSearchingNext};
+ghost use Rattle.racp_search.specs.DepthFirst.{IsSearching, IsSearchingNext};
 ghost use Rattle.racp_search.specs.Ends.{IsEnd, IsSpent};
 ghost use Rattle.racp_search.specs.Steps.{IsEntered, IsLeft, IsNextAnswer};
 
@@ -105,7 +105,8 @@ impl<N: OfNetwork> Stack<N> {
         }
     }
 
-    /// Enters a window: tightens it, and looks into what is left of it.
+    /// Enters a window: tightens it, and looks into the node of what is left of it. Answers the early starts where they
+    /// answer, and takes up a frame where they have a conflict.
     fn enter(
         &mut self,
         subject: &Subject<N>,
@@ -120,32 +121,14 @@ impl<N: OfNetwork> Stack<N> {
         ensures kept { local.new ≡ local.old }
     {
         let (net, capacities) = (subject.network(), subject.capacities());
-        match tighten(net, capacities, window, from, &mut self.workspace.scratch)? {
-            Tightened::Open(window) => self.look_into(subject, window, from, local),
-            Tightened::No(window) => {
-                self.workspace.spare.give_window(window);
-                Ok(None)
-            }
-        }
-    }
-
-    /// Looks into the node of a window: answers the early starts where they answer, and takes up a frame where they
-    /// have a conflict.
-    fn look_into(
-        &mut self,
-        subject: &Subject<N>,
-        window: Window,
-        from: u32,
-        local: &mut Local<N>,
-    ) -> Result<Option<Starts>, AllocError>
-        requires { IsSearchingNext N.network subject.now.capacities subject.now.window
-            self.old.frames.items window from }
-        ensures entered { IfOk result (IsEntered N.network subject.now.capacities subject.now.window
-            self.old.frames.items window self.new.frames.items) }
-        ensures kept { local.new ≡ local.old }
-    {
-        let (net, capacities) = (subject.network(), subject.capacities());
         let workspace = &mut self.workspace;
+        let window = match tighten(net, capacities, window, from, &mut workspace.scratch)? {
+            Tightened::Open(window) => window,
+            Tightened::No(window) => {
+                workspace.spare.give_window(window);
+                return Ok(None);
+            }
+        };
         match look_at(&mut workspace.spare, net, capacities, &window, from)? {
             Glance::Refuted => {
                 workspace.spare.give_window(window);
@@ -153,13 +136,10 @@ impl<N: OfNetwork> Stack<N> {
             }
             Glance::Found(starts) => Ok(Some(starts)),
             Glance::Conflict(starts, first) => {
-                match expand(workspace, subject, window, starts, first, local)? {
-                    Some(frame) => {
-                        self.frames.push(frame)?;
-                        Ok(None)
-                    }
-                    None => Ok(None),
+                if let Some(frame) = expand(workspace, subject, window, starts, first, local)? {
+                    self.frames.push(frame)?;
                 }
+                Ok(None)
             }
         }
     }

@@ -1,4 +1,5 @@
-ghost use Rattle.std.specs.Prelude.{◌≡◌, IsTrue, IsFalse, IfOk, length};
+ghost use Rattle.std.specs.Prelude.{◌≡◌, IsTrue, IsFalse, IfOk};
+ghost use Rattle.racp_model.specs.Formed.{IsFormed};
 ghost use Rattle.racp_cutset.specs.Kept.{StayKept};
 ghost use Rattle.racp_search.specs.Truth.{IsExplored, IsDecision};
 ghost use Rattle.racp_search.specs.Ends.{AllowsNone};
@@ -31,9 +32,7 @@ pub fn explore<N: OfNetwork, S: Stop>(
     stop: &S,
 ) -> Finding<N>
     requires named { net.now ≡ N.network }
-    requires capacities { length piece.question.capacities ≡ net.now.resources }
-    requires lower { length piece.question.window.lower ≡ length net.now.jobs }
-    requires upper { length piece.question.window.upper ≡ length net.now.jobs }
+    requires formed { IsFormed net.now piece.question }
     ensures explored { IsExplored N.network piece quantum result }
     ensures quiet { IsTrue S.QUIET → IsFalse result.stopped }
     ensures kept { StayKept local.old local.new }
@@ -68,9 +67,7 @@ pub fn decide(
     net: &Network,
     question: &Question,
 ) -> Result<Option<Starts>, AllocError>
-    requires capacities { length question.now.capacities ≡ net.now.resources }
-    requires lower { length question.now.window.lower ≡ length net.now.jobs }
-    requires upper { length question.now.window.upper ≡ length net.now.jobs }
+    requires { IsFormed net.now question.now }
     ensures { IfOk result (IsDecision net.now question.now.capacities question.now.window) }
 {
     decide_named::<Brand>(alloc, net, question)
@@ -83,9 +80,7 @@ fn decide_named<N: OfNetwork>(
     question: &Question,
 ) -> Result<Option<Starts>, AllocError>
     requires named { net.now ≡ N.network }
-    requires capacities { length question.now.capacities ≡ net.now.resources }
-    requires lower { length question.now.window.lower ≡ length net.now.jobs }
-    requires upper { length question.now.window.upper ≡ length net.now.jobs }
+    requires formed { IsFormed net.now question.now }
     ensures { IfOk result (IsDecision net.now question.now.capacities question.now.window) }
 {
     let board: Board<N> = Board::new(alloc, net)?;

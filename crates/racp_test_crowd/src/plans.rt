@@ -17,6 +17,7 @@ use racp_search::{Never, Stop};
 use std::alloc::Global;
 use std::marker::Brand;
 use std::sync::Wait;
+use std::sync::atomic::{AtomicU64, Ordering};
 use std::test::Fail;
 use std::thread::Threads;
 
@@ -24,12 +25,13 @@ use std::thread::Threads;
 const ALL_TURNS: u64 = 1_000_000_000_000;
 
 /// Numbers of workers.
-const WORKERS: [usize; 4] = [1, 2, 8, 64];
+const WORKERS: [usize; 5] = [1, 2, 3, 8, 64];
 
 /// Turns, and the capacities that one worker tells which has so many; a plan where it is true.
-const TURNS: [(u64, [u32; 2], bool); 7] = [
+const TURNS: [(u64, [u32; 2], bool); 8] = [
     (0, [1, 1], false),
     (1, [1, 1], false),
+    (2, [1, 1], false),
     (3, [1, 1], false),
     (4, [1, 2], false),
     (10, [1, 2], false),
@@ -137,25 +139,36 @@ fn any_number_of_workers_finds_the_plan(rt: HostRuntime) -> Result<(), Fail> {
     Ok(())
 }
 
-/// Whether one worker with so many turns tells these capacities, of a plan or where it stops.
-fn tells<N: OfNetwork + Send + Sync, R: Threads + Wait + Sync>(
+/// The capacities that so many workers with so many turns tell, and whether they are those of a plan. The place of none
+/// is held by zeros.
+fn told<N: OfNetwork + Send + Sync, P: Stop + Sync, R: Threads + Wait + Sync>(
     rt: &R,
     alloc: Global,
     net: &Network,
-    row: (u64, [u32; 2], bool),
-) -> Result<bool, Fail>
-    requires { net.now ≡ N.network }
+    workers: usize,
+    turns: u64,
+    stop: &P,
+) -> Result<([u32; 2], bool), Fail>
+    requires named { net.now ≡ N.network }
+    requires workers { workers ≤ 64 }
+    requires turns { turns ≤ 1000000000000 }
 {
-    let (turns, capacities, is_plan) = row;
     let order = order(alloc, net)?;
-    if !order.is_for(net) || ALL_TURNS < turns {
-        return Ok(false);
+    if !order.is_for(net) {
+        return Ok(([0, 0], false));
     }
-    let units = capacities.as_slice();
-    match planned::<N, Never, R>(rt, alloc, net, &order, 1, turns, &Never) {
-        Ok((Answer::Plan(plan), _)) => Ok(is_plan && plan.capacities.as_slice() == units),
-        Err(PlanStop::Stopped { not_before }) => Ok(!is_plan && not_before.as_slice() == units),
-        _ => Ok(false),
+    match planned::<N, P, R>(rt, alloc, net, &order, workers, turns, stop) {
+        Ok((Answer::Plan(plan), _)) => Ok((two_of(plan.capacities.as_slice()), true)),
+        Err(PlanStop::Stopped { not_before }) => Ok((two_of(not_before.as_slice()), false)),
+        _ => Ok(([0, 0], false)),
+    }
+}
+
+/// The numbers of a list of two.
+fn two_of(units: &[u32]) -> [u32; 2] {
+    match units {
+        [first, second] => [*first, *second],
+        _ => [0, 0],
     }
 }
 
@@ -167,9 +180,10 @@ fn first_other<N: OfNetwork + Send + Sync, R: Threads + Wait + Sync>(
 ) -> Result<Option<u64>, Fail>
     requires { net.now ≡ N.network }
 {
-    for row in TURNS {
-        if !tells::<N, R>(rt, alloc, net, row)? {
-            return Ok(Some(row.0));
+    for (turns, capacities, is_plan) in TURNS {
+        let turns = turns.min(ALL_TURNS);
+        if told::<N, Never, R>(rt, alloc, net, 1, turns, &Never)? != (capacities, is_plan) {
+            return Ok(Some(turns));
         }
     }
     Ok(None)
@@ -180,6 +194,59 @@ fn turns_run_out(rt: HostRuntime) -> Result<(), Fail> {
     let net = crossed(rt.alloc())?;
     assert_eq!(rt;
         first_other::<Brand, HostRuntime>(&rt, rt.alloc(), &net)?,
+        None
+    );
+    Ok(())
+}
+
+/// A stop that is asked for once, at the call of this number, from 1.
+#[derive(Drop)]
+struct AtCall {
+    number: u64,
+    calls: AtomicU64,
+}
+
+impl Stop for AtCall {
+    ghost use Rattle.std.specs.Prelude.{false};
+
+    ghost QUIET = { false };
+
+    const QUIET: bool = false;
+
+    fn asked(&self) -> bool {
+        self.calls.fetch_add(1, Ordering::SeqCst).wrapping_add(1) == self.number
+    }
+}
+
+/// What two workers may tell to which a stop comes: the plan, or how far they came.
+const PERMITTED: [([u32; 2], bool); 3] = [([1, 2], true), ([1, 1], false), ([1, 2], false)];
+
+/// The first call at which a stop is asked for so that something else is told.
+fn first_other_call<N: OfNetwork + Send + Sync, R: Threads + Wait + Sync>(
+    rt: &R,
+    alloc: Global,
+    net: &Network,
+) -> Result<Option<u64>, Fail>
+    requires { net.now ≡ N.network }
+{
+    for number in 1..=20 {
+        let stop = AtCall {
+            number,
+            calls: AtomicU64::new(0),
+        };
+        let heard = told::<N, AtCall, R>(rt, alloc, net, 2, ALL_TURNS, &stop)?;
+        if !PERMITTED.contains(&heard) {
+            return Ok(Some(number));
+        }
+    }
+    Ok(None)
+}
+
+#[test]
+fn one_stop_tells_how_far_they_came(rt: HostRuntime) -> Result<(), Fail> {
+    let net = crossed(rt.alloc())?;
+    assert_eq!(rt;
+        first_other_call::<Brand, HostRuntime>(&rt, rt.alloc(), &net)?,
         None
     );
     Ok(())

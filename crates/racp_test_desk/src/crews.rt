@@ -1,15 +1,12 @@
-//! Runs of a desk with workers on threads of their own.
+//! Any number of workers finds the first yes, in whichever order they hand in what they found.
 
 ghost use Rattle.std.specs.Prelude.{◌≡◌, ◌≤◌};
 
-use crate::series::units_of_the_first;
-use crate::trial::AtOnce;
-use racp_core::Outcome;
-use racp_cutset::Board;
-use racp_desk::{Cause, Closed, DeskFault, Entry, Gate, Open, run};
+use crate::runs::{ALL_TURNS, Ended, Numbers, ROWS, run_with};
+use racp_desk::{Gate, Open};
 use racp_model::{Network, OfNetwork};
 use racp_samples::crossed;
-use racp_search::{Never, Stop};
+use racp_search::Never;
 use std::alloc::Global;
 use std::marker::Brand;
 use std::sync::Wait;
@@ -24,83 +21,14 @@ const WORKERS: [usize; 5] = [1, 2, 3, 8, 64];
 /// How many nodes a piece is searched at most.
 const QUANTA: [u64; 2] = [1, 1000];
 
-/// Units of the second resource, and the place of the first number of units of the first that is enough.
-const ROWS: [(u32, Option<usize>); 3] = [(0, None), (1, Some(2)), (2, Some(1))];
-
-/// The most turns that there are.
-const ALL_TURNS: u64 = 1_000_000_000_000;
-
-/// What a run is about: the units of the second resource, and how many workers, nodes a piece and turns there are.
-#[derive(Clone, Copy)]
-struct Numbers {
-    second: u32,
-    workers: usize,
-    quantum: u64,
-    turns: u64,
-}
-
-/// How a run ended: the place of the first yes, or of the first open question, or neither where all are a no; and for
-/// what it was halted.
-#[derive(Clone, Copy, PartialEq)]
-struct Ended {
-    yes: Option<usize>,
-    open: Option<usize>,
-    halted: Option<Cause>,
-}
-
-fn end_of(closed: &Closed) -> Ended {
-    let (yes, open) = match &closed.outcome {
-        Outcome::First { index, starts: _ } => (Some(*index), None),
-        Outcome::NoYes => (None, None),
-        Outcome::Open { first_open } => (None, Some(*first_open)),
-    };
-    let mut halted = None;
-    for entry in &closed.log {
-        if let Entry::Halted(cause) = entry {
-            halted = Some(*cause);
-        }
-    }
-    Ended { yes, open, halted }
-}
-
-/// A run with these numbers.
-fn run_with<N: OfNetwork + Send + Sync, G: Gate + Sync, P: Stop + Sync, R: Threads + Wait + Sync>(
-    rt: &R,
-    alloc: Global,
-    net: &Network,
-    numbers: Numbers,
-    gate: &G,
-    stop: &P,
-) -> Result<Ended, Fail>
-    requires named { net.now ≡ N.network }
-    requires workers { numbers.workers ≤ 64 }
-    requires quantum { numbers.quantum ≤ 1000000 }
-    requires turns { numbers.turns ≤ 1000000000000 }
-{
-    let series = units_of_the_first(alloc, net, numbers.second)?;
-    let board: Board<N> = Board::new(alloc, net)?;
-    let Numbers {
-        workers,
-        quantum,
-        turns,
-        second: _,
-    } = numbers;
-    match run(
-        rt, alloc, net, series, workers, quantum, turns, &board, gate, stop,
-    ) {
-        Ok(closed) => Ok(end_of(&closed)),
-        Err(DeskFault::Memory) => Err(Fail::from("out of memory")),
-        Err(DeskFault::NoThread) => Err(Fail::from("no thread")),
-    }
-}
-
 /// Whether a run with these numbers of workers and of nodes a piece finds the first yes of each row.
-fn finds_each<N: OfNetwork + Send + Sync, R: Threads + Wait + Sync>(
+fn finds_each<N: OfNetwork + Send + Sync, G: Gate + Sync, R: Threads + Wait + Sync>(
     rt: &R,
     alloc: Global,
     net: &Network,
     workers: usize,
     quantum: u64,
+    gate: &G,
 ) -> Result<bool, Fail>
     requires named { net.now ≡ N.network }
     requires workers { workers ≤ 64 }
@@ -118,7 +46,7 @@ fn finds_each<N: OfNetwork + Send + Sync, R: Threads + Wait + Sync>(
             open: None,
             halted: None,
         };
-        if run_with::<N, Open, Never, R>(rt, alloc, net, numbers, &Open, &Never)? != wanted {
+        if run_with::<N, G, Never, R>(rt, alloc, net, numbers, gate, &Never)? != wanted {
             return Ok(false);
         }
     }
@@ -136,7 +64,7 @@ fn first_lost<N: OfNetwork + Send + Sync, R: Threads + Wait + Sync>(
     for workers in WORKERS {
         for quantum in QUANTA {
             let workers = workers.min(64);
-            if !finds_each::<N, R>(rt, alloc, net, workers, quantum.min(1000))? {
+            if !finds_each::<N, Open, R>(rt, alloc, net, workers, quantum.min(1000), &Open)? {
                 return Ok(Some(workers));
             }
         }
@@ -149,6 +77,73 @@ fn any_number_of_workers_finds_the_first_yes(rt: HostRuntime) -> Result<(), Fail
     let net = crossed(rt.alloc())?;
     assert_eq!(rt;
         first_lost::<Brand, HostRuntime>(&rt, rt.alloc(), &net)?,
+        None
+    );
+    Ok(())
+}
+
+/// Seeds: bit k, counted from 0, holds up the pieces of the numbers k, k + 64, and so on. Of the fourth question, which
+/// is a yes in two rows, the piece is number 3.
+const SEEDS: [u64; 9] = [
+    0b0001,
+    0b0010,
+    0b0100,
+    0b0110,
+    0b0111,
+    0b1010,
+    0x5555_5555_5555_5555,
+    0xAAAA_AAAA_AAAA_AAAA,
+    0x9E37_79B9_7F4A_7C15,
+];
+
+/// How often a worker looks that is held up.
+const HELD: u64 = 3000;
+
+/// Holds up the workers of some pieces, so that others hand in before them.
+#[derive(Drop)]
+struct Seeded {
+    seed: u64,
+    looks: AtomicU64,
+}
+
+impl Gate for Seeded {
+    fn enter(&self, _seat: usize, number: u64) {
+        if (self.seed >> (number % 64)) & 1 == 1 {
+            for _look in 0..HELD {
+                self.looks.fetch_add(1, Ordering::SeqCst);
+                thread::yield_now();
+            }
+        }
+    }
+}
+
+/// The first seed, and the number of workers, with which a first yes is not found.
+fn first_out_of_order<N: OfNetwork + Send + Sync, R: Threads + Wait + Sync>(
+    rt: &R,
+    alloc: Global,
+    net: &Network,
+) -> Result<Option<(u64, usize)>, Fail>
+    requires { net.now ≡ N.network }
+{
+    for seed in SEEDS {
+        for workers in [2, 3, 8] {
+            let gate = Seeded {
+                seed,
+                looks: AtomicU64::new(0),
+            };
+            if !finds_each::<N, Seeded, R>(rt, alloc, net, workers, 1000, &gate)? {
+                return Ok(Some((seed, workers)));
+            }
+        }
+    }
+    Ok(None)
+}
+
+#[test]
+fn held_up_workers_change_no_answer(rt: HostRuntime) -> Result<(), Fail> {
+    let net = crossed(rt.alloc())?;
+    assert_eq!(rt;
+        first_out_of_order::<Brand, HostRuntime>(&rt, rt.alloc(), &net)?,
         None
     );
     Ok(())
@@ -232,45 +227,5 @@ fn two_pieces_at_once(rt: HostRuntime) -> Result<(), Fail> {
     let net = crossed(rt.alloc())?;
     assert!(rt; are_two_at_once::<Brand, HostRuntime>(&rt, rt.alloc(), &net, 2)?);
     assert!(rt; are_two_at_once::<Brand, HostRuntime>(&rt, rt.alloc(), &net, 8)?);
-    Ok(())
-}
-
-/// Whether a run ends open where one turn is there, and where a stop is asked for.
-fn are_stopped<N: OfNetwork + Send + Sync, R: Threads + Wait + Sync>(
-    rt: &R,
-    alloc: Global,
-    net: &Network,
-) -> Result<bool, Fail>
-    requires { net.now ≡ N.network }
-{
-    let numbers = Numbers {
-        second: 1,
-        workers: 1,
-        quantum: 1000,
-        turns: 1,
-    };
-    let one_turn = run_with::<N, Open, Never, R>(rt, alloc, net, numbers, &Open, &Never)?;
-    let numbers = Numbers {
-        workers: 2,
-        turns: ALL_TURNS,
-        ..numbers
-    };
-    let stopped = run_with::<N, Open, AtOnce, R>(rt, alloc, net, numbers, &Open, &AtOnce)?;
-    Ok(one_turn == open_for(1, Cause::Turns) && stopped == open_for(0, Cause::Stop))
-}
-
-/// The end of a run that was halted before a question was decided.
-fn open_for(first_open: usize, cause: Cause) -> Ended {
-    Ended {
-        yes: None,
-        open: Some(first_open),
-        halted: Some(cause),
-    }
-}
-
-#[test]
-fn turns_and_stops_halt(rt: HostRuntime) -> Result<(), Fail> {
-    let net = crossed(rt.alloc())?;
-    assert!(rt; are_stopped::<Brand, HostRuntime>(&rt, rt.alloc(), &net)?);
     Ok(())
 }

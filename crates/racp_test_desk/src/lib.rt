@@ -4,6 +4,10 @@
 #[cfg(test)]
 mod crews;
 #[cfg(test)]
+mod halts;
+#[cfg(test)]
+mod runs;
+#[cfg(test)]
 mod scripts;
 #[cfg(test)]
 mod series;

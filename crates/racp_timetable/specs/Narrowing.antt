@@ -26,7 +26,12 @@ abbrev pub IsNarrowedOrNo : Project → List ℕ → ℕ → Bounds → Bounds �
 IsNarrowedOrNo p capacities from window narrow true = IsNarrowed p capacities from window narrow
 IsNarrowedOrNo p capacities from window narrow false = IsNo p capacities window
 
--- the same, of what `tighten` answers
+-- what narrowing along precedence tells: that, whatever the capacities, and from any time on
+abbrev pub IsNarrowedAlong : Project → Bounds → Bounds → Bool → Type 0
+IsNarrowedAlong p window narrow result =
+    (capacities : List ℕ) (from : ℕ) → IsNarrowedOrNo p capacities from window narrow result
+
+-- what `tighten` answers: the narrowed window, or that nothing in the window answers
 abbrev pub IsTightened : Project → List ℕ → ℕ → Bounds → Tightened → Type 0
 IsTightened p capacities from window (Open narrow) = IsNarrowed p capacities from window narrow
 IsTightened p capacities from window (No _) = IsNo p capacities window

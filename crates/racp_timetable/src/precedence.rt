@@ -1,9 +1,9 @@
 //! Bounds that follow along precedence.
 
-ghost use Rattle.std.specs.Prelude.{List, ℕ, ◌<◌, length};
+ghost use Rattle.std.specs.Prelude.{◌<◌, length};
 ghost use Rattle.racp_model.specs.Formed.{HasBounds};
 ghost use Rattle.racp_model.specs.Project.{Precedes};
-ghost use Rattle.racp_timetable.specs.Narrowing.{IsNarrowedOrNo};
+ghost use Rattle.racp_timetable.specs.Narrowing.{IsNarrowedAlong};
 
 use crate::narrowing::{Narrowing, end_of};
 use racp_model::Network;
@@ -12,8 +12,7 @@ use racp_model::Network;
 /// them. Says whether something may still lie in the window.
 pub(crate) fn settle(net: &Network, window: &mut Narrowing) -> bool
     requires { HasBounds net.now window.old }
-    ensures { (capacities : List ℕ) (from : ℕ) →
-        IsNarrowedOrNo net.now capacities from window.old window.new result }
+    ensures { IsNarrowedAlong net.now window.old window.new result }
 {
     raise_along(net, window) && reduce_along(net, window)
 }
@@ -21,8 +20,7 @@ pub(crate) fn settle(net: &Network, window: &mut Narrowing) -> bool
 /// Raises lower bounds, in one sweep; there is nothing to do where none has moved.
 fn raise_along(net: &Network, window: &mut Narrowing) -> bool
     requires { HasBounds net.now window.old }
-    ensures { (capacities : List ℕ) (from : ℕ) →
-        IsNarrowedOrNo net.now capacities from window.old window.new result }
+    ensures { IsNarrowedAlong net.now window.old window.new result }
 {
     if !window.has_raised() {
         return true;
@@ -41,8 +39,7 @@ fn raise_behind(net: &Network, window: &mut Narrowing, i: usize, j: usize) -> bo
     requires from { i < length net.now.jobs }
     requires to { j < length net.now.jobs }
     requires order { Precedes net.now i j }
-    ensures { (capacities : List ℕ) (from : ℕ) →
-        IsNarrowedOrNo net.now capacities from window.old window.new result }
+    ensures { IsNarrowedAlong net.now window.old window.new result }
 {
     let end = end_of(net, i, window.lower(i));
     if end <= window.lower(j) {
@@ -54,8 +51,7 @@ fn raise_behind(net: &Network, window: &mut Narrowing, i: usize, j: usize) -> bo
 /// Lowers upper bounds, in one sweep from the end; there is nothing to do where none has moved.
 fn reduce_along(net: &Network, window: &mut Narrowing) -> bool
     requires { HasBounds net.now window.old }
-    ensures { (capacities : List ℕ) (from : ℕ) →
-        IsNarrowedOrNo net.now capacities from window.old window.new result }
+    ensures { IsNarrowedAlong net.now window.old window.new result }
 {
     if !window.has_reduced() {
         return true;
@@ -76,8 +72,7 @@ fn reduce_before(net: &Network, window: &mut Narrowing, i: usize, j: usize) -> b
     requires from { i < length net.now.jobs }
     requires to { j < length net.now.jobs }
     requires order { Precedes net.now i j }
-    ensures { (capacities : List ℕ) (from : ℕ) →
-        IsNarrowedOrNo net.now capacities from window.old window.new result }
+    ensures { IsNarrowedAlong net.now window.old window.new result }
 {
     let (duration, end) = (net.duration(i), window.upper(j));
     if end < duration {

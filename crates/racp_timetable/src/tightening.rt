@@ -65,7 +65,8 @@ fn narrow(
     }
     'rounds: for _ in 0..MOST_ROUNDS {
         put_times(net, window, from, &mut scratch.times)?;
-        if !narrow_once(net, capacities, window, from, scratch) {
+        window.watch();
+        if !narrow_between(net, capacities, window, from, scratch) || !settle(net, window) {
             return Ok(false);
         }
         if !window.has_moved() {
@@ -73,22 +74,6 @@ fn narrow(
         }
     }
     Ok(true)
-}
-
-/// Goes over all times and settles the window. From then on it tells whether a bound has moved.
-fn narrow_once(
-    net: &Network,
-    capacities: &[u32],
-    window: &mut Narrowing,
-    from: u32,
-    scratch: &Scratch,
-) -> bool
-    requires capacities { length capacities.now ≡ net.now.resources }
-    requires bounds { HasBounds net.now window.old }
-    ensures { IsNarrowedOrNo net.now capacities.now from window.old window.new result }
-{
-    window.watch();
-    narrow_between(net, capacities, window, from, scratch) && settle(net, window)
 }
 
 /// Writes down, in rising order, when the core times of a job begin or end, from a time on.

@@ -4,7 +4,8 @@ use Rattle.std.proofs.lemmas.Bool.{eqb-true, ne_eqb}
 use Rattle.std.proofs.lemmas.Option.{same_Some}
 use Rattle.clap.specs.Words.{Row, Text, fault_of, first_of, subcommand_of}
 use Rattle.clap.proofs.OnLiterals.{clap_on_literals}
-use Rattle.racp_words.specs.CommandLine.{IsCpmLine, AsksForCpm, IsPlanLine, AsksForPlan, IsCheckLine, AsksForCheck, IsPlain, IsRequested, path_at, racp}
+use Rattle.racp_words.specs.CommandLine.{IsCpmLine, AsksForCpm, IsPlanLine, AsksForPlan, IsCheckLine, AsksForCheck, IsCrew, IsPlain, IsRequested, has_crew_option, path_at, racp}
+use Rattle.racp_words.specs.declared.request.Crew.{Crew}
 use Rattle.racp_words.specs.declared.request.Request.{Request}
 use Rattle.racp_words.specs.declared.request.Request.TheVariants.{Cpm, Plan, Check}
 
@@ -50,7 +51,7 @@ cpm_word name (first ∷ rest) plain = by_first (first == 45) refl
 none_asked : (command : Option (Text × List Row)) (request : Request) → with_network command ≡ None → IsRequested command request → AsksForCpm None request
 unfolding with_network
 none_asked None (Cpm network) e asked = asked
-none_asked None (Plan files) e asked = asked
+none_asked None (Plan files crew) e asked = asked
 none_asked None (Check files) e asked = asked
 none_asked (Some command) request e asked = absurd (search rules)
 
@@ -59,31 +60,37 @@ cpm_asked : (command : Option (Text × List Row)) (word : Option Text) (request 
 unfolding with_network
 cpm_asked None word request e asked = absurd (search rules)
 cpm_asked (Some command) word (Cpm network) e asked = rw (← ap (λ c. c.1) (same_Some _ _ e)) asked.2
-cpm_asked (Some command) word (Plan files) e asked =
+cpm_asked (Some command) word (Plan files crew) e asked =
     let same : codes "cpm" ≡ codes "plan" = sym (ap (λ c. c.0) (same_Some _ _ e)) ∙ asked.0 in
     let letter : 99 ≡ 112 = ap (λ t. slice_index t 0) same in absurd (omega (arith, letter))
 cpm_asked (Some command) word (Check files) e asked =
     let same : codes "cpm" ≡ codes "check" = sym (ap (λ c. c.0) (same_Some _ _ e)) ∙ asked.0 in
     let letter : 112 ≡ 104 = ap (λ t. slice_index t 1) same in absurd (omega (arith, letter))
 
--- the command that is named, and the paths of its words for a network and an order
-with_two_paths : Option (Text × List Row) → Option (Text × (Text × Text))
-with_two_paths = option_map (λ command. (command.0, (path_at (codes "NET") command.1, path_at (codes "ORDER") command.1)))
+-- the command that is named, the paths of its words for a network and an order, and whether an option about workers is given
+with_two_paths : Option (Text × List Row) → Option (Text × (Text × (Text × Bool)))
+with_two_paths = option_map (λ command. (command.0, (path_at (codes "NET") command.1, (path_at (codes "ORDER") command.1, has_crew_option command.1))))
 
 plan_paths : (name : Text) (a b : ℕ) (net order : Text) → (a == 45) ≡ false → (b == 45) ≡ false →
     (fault_of racp (name ∷ codes "plan" ∷ (a ∷ net) ∷ (b ∷ order) ∷ []) ≡ []) ×
-    (with_two_paths (subcommand_of racp (name ∷ codes "plan" ∷ (a ∷ net) ∷ (b ∷ order) ∷ [])) ≡ Some (codes "plan", (a ∷ net, b ∷ order)))
+    (with_two_paths (subcommand_of racp (name ∷ codes "plan" ∷ (a ∷ net) ∷ (b ∷ order) ∷ [])) ≡ Some (codes "plan", (a ∷ net, (b ∷ order, false))))
 unfolding racp clap_on_literals with_two_paths
 plan_paths name a b net order p q = (rw (p, p, q, q) refl, rw (p, p, q, q) refl)
 
+-- without an option about workers none are asked for
+no_crew : (words : List Row) (crew : Option Crew) → has_crew_option words ≡ false → IsCrew words crew → crew ≡ None
+no_crew words None none asked = refl
+no_crew words (Some crew) none asked = absurd (search (rules, none, asked.0))
+
 -- `plan` asks for the files with these paths
-plan_asked : (command : Option (Text × List Row)) (net order : Text) (request : Request) → with_two_paths command ≡ Some (codes "plan", (net, order)) → IsRequested command request →
+plan_asked : (command : Option (Text × List Row)) (net order : Text) (request : Request) → with_two_paths command ≡ Some (codes "plan", (net, (order, false))) → IsRequested command request →
     AsksForPlan net order request
 unfolding with_two_paths
 plan_asked None net order request e asked = absurd (search rules)
 plan_asked (Some command) net order (Cpm network) e asked = absurd (asked.0 (ap (λ c. c.0) (same_Some _ _ e)))
-plan_asked (Some command) net order (Plan files) e asked =
-    let same = same_Some _ _ e in (asked.1 ∙ ap (λ c. c.1.0) same, asked.2 ∙ ap (λ c. c.1.1) same)
+plan_asked (Some command) net order (Plan files crew) e asked =
+    let same = same_Some _ _ e in
+    (asked.1 ∙ ap (λ c. c.1.0) same, asked.2 ∙ ap (λ c. c.1.1.0) same, no_crew command.1 crew (ap (λ c. c.1.1.1) same) asked.3)
 plan_asked (Some command) net order (Check files) e asked =
     let same : codes "plan" ≡ codes "check" = sym (ap (λ c. c.0) (same_Some _ _ e)) ∙ asked.0 in
     let letter : 112 ≡ 99 = ap (λ t. slice_index t 0) same in absurd (omega (arith, letter))
@@ -104,7 +111,7 @@ check_asked : (command : Option (Text × List Row)) (net order plan : Text) (req
 unfolding with_paths
 check_asked None net order plan request e asked = absurd (search rules)
 check_asked (Some command) net order plan (Cpm network) e asked = absurd (asked.1 (ap (λ c. c.0) (same_Some _ _ e)))
-check_asked (Some command) net order plan (Plan files) e asked =
+check_asked (Some command) net order plan (Plan files crew) e asked =
     let same : codes "check" ≡ codes "plan" = sym (ap (λ c. c.0) (same_Some _ _ e)) ∙ asked.0 in
     let letter : 99 ≡ 112 = ap (λ t. slice_index t 0) same in absurd (omega (arith, letter))
 check_asked (Some command) net order plan (Check files) e asked =

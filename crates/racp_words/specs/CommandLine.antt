@@ -1,6 +1,14 @@
 -- The words that the program takes, and what they ask for.
-use Rattle.std.specs.Prelude.{◌≡◌, ◌≢◌, ◌⊎◌, List, [], ◌∷◌, Option, Some, None, codes, true, unwrap_or}
-use Rattle.clap.specs.Words.{App, Row, Rule, Text, first_of, new_app, new_rule, subcommand_of, with_rule, with_subcommand}
+use Rattle.std.specs.Prelude.{◌≡◌, ◌≢◌, ◌⊎◌, ◌||◌, Bool, ℕ, List, [], ◌∷◌, Option, Some, None, codes, false, true}
+use Rattle.std.specs.Prelude.{is_some, unwrap_or}
+use Rattle.std.specs.Option.{option_map_or}
+use Rattle.std.specs.Str.{bytes_eq}
+use Rattle.std.specs.Str.Parse.{digits_value, without_leading_plus}
+use Rattle.clap.specs.Words.{App, IsUnsignedIn, Row, Rule, Text, first_of, new_app, new_rule, subcommand_of, with_rule}
+use Rattle.clap.specs.Words.{with_subcommand}
+use Rattle.clap.specs.declared.builder.action.ArgAction.TheVariants.{SetTrue}
+use Rattle.clap.specs.declared.builder.value_parser.ValueParser.TheVariants.{Unsigned}
+use Rattle.racp_words.specs.declared.request.Crew.{Crew}
 use Rattle.racp_words.specs.declared.request.Request.{Request}
 use Rattle.racp_words.specs.declared.request.Request.TheVariants.{Cpm, Plan, Check}
 use Rattle.racp_words.specs.declared.request.Source.{Source}
@@ -14,9 +22,22 @@ cpm = with_rule (new_app (codes "cpm")) (new_rule (codes "NET"))
 abbrev pub file_rule : Text → Rule
 file_rule id = record (new_rule id) { required = true }
 
+-- `--ID N`, where N is a number from 1 to `most`
+abbrev pub number_rule : Text → ℕ → Rule
+number_rule id most = record (new_rule id) { long = Some id; parser = Some (Unsigned 1 most); value_names = 1 }
+
+-- `--ID`
+abbrev pub flag_rule : Text → Rule
+flag_rule id = record (new_rule id) { long = Some id; action = Some SetTrue }
+
 -- `plan NET ORDER`
+abbrev pub plan_of_files : App
+plan_of_files = with_rule (with_rule (new_app (codes "plan")) (file_rule (codes "NET"))) (file_rule (codes "ORDER"))
+
+-- `plan NET ORDER [--workers N] [--turns N] [--stats]`
 abbrev pub plan : App
-plan = with_rule (with_rule (new_app (codes "plan")) (file_rule (codes "NET"))) (file_rule (codes "ORDER"))
+plan = with_rule (with_rule (with_rule plan_of_files (number_rule (codes "workers") 64))
+    (number_rule (codes "turns") 1000000000000)) (flag_rule (codes "stats"))
 
 -- `check NET ORDER PLAN`
 abbrev pub check : App
@@ -27,7 +48,7 @@ check = with_rule (with_rule (with_rule (new_app (codes "check")) (file_rule (co
 abbrev pub with_version : App → App
 with_version a = record a { top = record a.top { has_version = true } }
 
--- `racp [cpm [NET] | plan NET ORDER | check NET ORDER PLAN]`
+-- `racp [cpm [NET] | plan NET ORDER [--workers N] [--turns N] [--stats] | check NET ORDER PLAN]`
 unfoldable pub racp : App
 racp = with_subcommand (with_subcommand (with_subcommand (with_version (new_app (codes "racp"))) cpm.top) plan.top)
     check.top
@@ -41,16 +62,40 @@ IsSource word (File path) = (word ≡ Some path.now) × (path.now ≢ codes "-")
 abbrev pub path_at : Text → List Row → Text
 path_at name words = unwrap_or (first_of name words) []
 
+-- the flag with this name is given
+abbrev pub is_set : Text → List Row → Bool
+is_set name words = option_map_or (λ text. bytes_eq text (codes "true")) (first_of name words) false
+
+-- an option that is about workers is given
+abbrev pub has_crew_option : List Row → Bool
+has_crew_option words =
+    is_some (first_of (codes "workers") words) ||
+    (is_some (first_of (codes "turns") words) || is_set (codes "stats") words)
+
+-- This number is told by a word that has to be a number from 1 to `most`; without a word it is `otherwise`.
+abbrev pub IsNumberOf : ℕ → ℕ → Option Text → ℕ → Type 0
+IsNumberOf most otherwise None number = number ≡ otherwise
+IsNumberOf most otherwise (Some word) number =
+    IsUnsignedIn 1 most word → number ≡ digits_value 10 (without_leading_plus word)
+
+-- these workers are asked for; or none, and so one thread
+abbrev pub IsCrew : List Row → Option Crew → Type 0
+IsCrew words None = has_crew_option words ≡ false
+IsCrew words (Some crew) = (has_crew_option words ≡ true) ×
+    IsNumberOf 64 1 (first_of (codes "workers") words) crew.workers ×
+    IsNumberOf 1000000000000 1000000000000 (first_of (codes "turns") words) crew.turns ×
+    (crew.stats ≡ is_set (codes "stats") words)
+
 -- the command that is named, with its words, asks for this; without a command, `cpm` of standard input is asked for
 abbrev pub IsRequested : Option (Text × List Row) → Request → Type 0
 IsRequested None (Cpm network) = IsSource None network
-IsRequested None (Plan files) = ⊥
+IsRequested None (Plan files crew) = ⊥
 IsRequested None (Check files) = ⊥
 IsRequested (Some command) (Cpm network) =
     (command.0 ≢ codes "plan") × (command.0 ≢ codes "check") × IsSource (first_of (codes "NET") command.1) network
-IsRequested (Some command) (Plan files) =
+IsRequested (Some command) (Plan files crew) =
     (command.0 ≡ codes "plan") × (files.net.now ≡ path_at (codes "NET") command.1) ×
-    (files.order.now ≡ path_at (codes "ORDER") command.1)
+    (files.order.now ≡ path_at (codes "ORDER") command.1) × IsCrew command.1 crew
 IsRequested (Some command) (Check files) =
     (command.0 ≡ codes "check") × (files.net.now ≡ path_at (codes "NET") command.1) ×
     (files.order.now ≡ path_at (codes "ORDER") command.1) × (files.plan.now ≡ path_at (codes "PLAN") command.1)
@@ -72,7 +117,7 @@ IsCpmLine words (Some word) = (name : Text) × IsPlain word × (words ≡ name �
 -- `cpm` of the network that the word names
 abbrev pub AsksForCpm : Option Text → Request → Type 0
 AsksForCpm word (Cpm network) = IsSource word network
-AsksForCpm word (Plan files) = ⊥
+AsksForCpm word (Plan files crew) = ⊥
 AsksForCpm word (Check files) = ⊥
 
 -- a word that is not empty, and no option
@@ -85,10 +130,10 @@ abbrev pub IsPlanLine : List Text → Text → Text → Type 0
 IsPlanLine words net order = (name : Text) × IsPath net × IsPath order ×
     (words ≡ name ∷ codes "plan" ∷ net ∷ order ∷ [])
 
--- `plan` of the files with these paths
+-- `plan` of the files with these paths, on one thread
 abbrev pub AsksForPlan : Text → Text → Request → Type 0
 AsksForPlan net order (Cpm network) = ⊥
-AsksForPlan net order (Plan files) = (files.net.now ≡ net) × (files.order.now ≡ order)
+AsksForPlan net order (Plan files crew) = (files.net.now ≡ net) × (files.order.now ≡ order) × (crew ≡ None)
 AsksForPlan net order (Check files) = ⊥
 
 -- After the program's name come `check` and these three paths.
@@ -100,6 +145,6 @@ IsCheckLine words net order plan_path =
 -- `check` of the files with these paths
 abbrev pub AsksForCheck : Text → Text → Text → Request → Type 0
 AsksForCheck net order plan_path (Cpm network) = ⊥
-AsksForCheck net order plan_path (Plan files) = ⊥
+AsksForCheck net order plan_path (Plan files crew) = ⊥
 AsksForCheck net order plan_path (Check files) = (files.net.now ≡ net) × (files.order.now ≡ order) ×
     (files.plan.now ≡ plan_path)

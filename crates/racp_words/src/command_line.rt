@@ -1,14 +1,21 @@
 //! The words of the command line, and what they ask for.
 
-ghost use Rattle.std.specs.Prelude.{◌≡◌, ℕ, List, Option, Some, IfOk, MatchResult, map, option_map, string_bytes, codes, false};
-ghost use Rattle.clap.specs.Words.{FailsBy, app_of, fault_of, first_value, found_of, kind_of, rows_of, rule_of, subcommand_rows_of};
+ghost use Rattle.std.specs.Prelude.{◌≡◌, ◌≤◌, ℕ, List, Option, Some, IfOk, MatchResult, map, option_map, string_bytes, codes, false};
+ghost use Rattle.clap.specs.Words.{FailsBy, app_of, fault_of, first_of, first_value, found_of, kind_of, rows_of, rule_of, subcommand_rows_of};
 ghost use Rattle.clap.specs.declared.error.kind.ErrorKind.TheVariants.{OutOfMemory};
-ghost use Rattle.racp_words.specs.CommandLine.{AskFor, IsCheckLine, AsksForCheck, IsCpmLine, AsksForCpm, IsPlanLine, AsksForPlan, IsRequested, IsSource, check, cpm, file_rule, path_at, plan, racp};
+ghost use Rattle.racp_words.specs.CommandLine.{AskFor, IsCheckLine, AsksForCheck, IsCpmLine, AsksForCpm, IsPlanLine, AsksForPlan, IsCrew, IsNumberOf, IsRequested, IsSource, check, cpm, file_rule, flag_rule, is_set, number_rule, path_at, plan, plan_of_files, racp};
 ghost use Rattle.racp_words.specs.Commands.{IsCommandOf};
 
-use crate::request::{OrderFiles, PlanFiles, Request, Source};
-use clap::{Arg, ArgMatches, Command, Error};
+use crate::request::{Crew, OrderFiles, PlanFiles, Request, Source};
+use clap::builder::ValueParser;
+use clap::{Arg, ArgAction, ArgMatches, Command, Error};
 use std::alloc::{AllocError, Global};
+
+/// The most workers that can be asked for.
+const MOST_WORKERS: u64 = 64;
+
+/// The most pieces that workers can be asked to take.
+const MOST_TURNS: u64 = 1_000_000_000_000;
 
 /// What the words ask for. The first of them is the program's name.
 ///
@@ -48,10 +55,11 @@ fn request_named<'a>(name: &str, words: &ArgMatches<'a>) -> Request<'a>
     ensures { IsRequested (Some (name.now, rows_of (found_of words.now))) result }
 {
     if name == "plan" {
-        Request::Plan(OrderFiles {
+        let files = OrderFiles {
             net: path_of(words, "NET"),
             order: path_of(words, "ORDER"),
-        })
+        };
+        Request::Plan(files, crew_of(words))
     } else if name == "check" {
         Request::Check(PlanFiles {
             net: path_of(words, "NET"),
@@ -95,9 +103,22 @@ fn cpm_command<'a>(alloc: Global) -> Result<Command<'a>, AllocError>
         .arg(network)
 }
 
-/// `plan`, with its words.
+/// `plan`, with its words and options.
 fn plan_command<'a>(alloc: Global) -> Result<Command<'a>, AllocError>
     ensures { IfOk result (IsCommandOf plan) }
+{
+    let workers = "How many workers make the plan, 1 to 64";
+    let turns = "How many pieces they take at most, 1 to 1,000,000,000,000";
+    let stats = "Tells on standard error how many pieces and nodes were searched";
+    plan_of_files(alloc)?
+        .arg(number_option(alloc, "workers", MOST_WORKERS, workers))?
+        .arg(number_option(alloc, "turns", MOST_TURNS, turns))?
+        .arg(flag(alloc, "stats", stats))
+}
+
+/// `plan`, with its words alone.
+fn plan_of_files<'a>(alloc: Global) -> Result<Command<'a>, AllocError>
+    ensures { IfOk result (IsCommandOf plan_of_files) }
 {
     Command::new(alloc, "plan")
         .about("Prints the cheapest capacities that meet an order, with the least starts")
@@ -124,6 +145,29 @@ fn file_word<'a>(alloc: Global, id: &'a str, help: &'a str) -> Arg<'a>
     Arg::new(alloc, id).required(true).help(help)
 }
 
+/// An option whose word is a number from 1 to `most`.
+fn number_option<'a>(alloc: Global, id: &'a str, most: u64, help: &'a str) -> Arg<'a>
+    ensures rule { rule_of result ≡ number_rule id.entry.now most }
+    ensures own { result.global ≡ false }
+{
+    Arg::new(alloc, id)
+        .long(id)
+        .value_name("N")
+        .value_parser(ValueParser::unsigned(1, most))
+        .help(help)
+}
+
+/// An option without a word.
+fn flag<'a>(alloc: Global, id: &'a str, help: &'a str) -> Arg<'a>
+    ensures rule { rule_of result ≡ flag_rule id.entry.now }
+    ensures own { result.global ≡ false }
+{
+    Arg::new(alloc, id)
+        .long(id)
+        .action(ArgAction::SetTrue)
+        .help(help)
+}
+
 /// Where the network is read from.
 fn network_of<'a>(cpm: &ArgMatches<'a>) -> Source<'a>
     ensures { IsSource (first_value (found_of cpm.now) (codes "NET")) result }
@@ -141,5 +185,51 @@ fn path_of<'a>(words: &ArgMatches<'a>, id: &str) -> &'a str
     match words.get_str(id) {
         Some(path) => path,
         None => "",
+    }
+}
+
+/// How workers are to make the plan, where an option says so.
+fn crew_of(words: &ArgMatches<'_>) -> Option<Crew>
+    ensures { IsCrew (rows_of (found_of words.now)) result }
+{
+    let workers = text_of(words, "workers");
+    let turns = text_of(words, "turns");
+    let stats = is_set(words, "stats");
+    if workers.is_none() && turns.is_none() && !stats {
+        return None;
+    }
+    Some(Crew {
+        workers: number_of(workers, MOST_WORKERS, 1) as usize,
+        turns: number_of(turns, MOST_TURNS, MOST_TURNS),
+        stats,
+    })
+}
+
+/// The word of an option.
+fn text_of<'a>(words: &ArgMatches<'a>, id: &str) -> Option<&'a str>
+    ensures { option_map (λ word. word.now) result ≡ first_of id.now (rows_of (found_of words.now)) }
+{
+    words.get_str(id)
+}
+
+/// Whether a flag is given.
+fn is_set(words: &ArgMatches<'_>, id: &str) -> bool
+    ensures { result ≡ is_set id.now (rows_of (found_of words.now)) }
+{
+    match text_of(words, id) {
+        Some(word) => word == "true",
+        None => false,
+    }
+}
+
+/// The number that a word tells, which has to be one from 1 to `most`; `otherwise` without a word.
+fn number_of(word: Option<&str>, most: u64, otherwise: u64) -> u64
+    requires { otherwise ≤ most }
+    ensures number { IsNumberOf most otherwise (option_map (λ word. word.now) word.entry) result }
+    ensures few { result ≤ most }
+{
+    match word {
+        Some(word) => word.parse().unwrap_or(otherwise).min(most),
+        None => otherwise,
     }
 }

@@ -5,24 +5,31 @@
 //! help text leaves them as they were proved. The first of the words is the program's name; words are UTF-8.
 //!
 //! ```text
-//! words                          asked(alloc, &words) answers
-//! racp                           Cpm(StandardInput)
-//! racp cpm -                     Cpm(StandardInput)
-//! racp cpm a.sm                  Cpm(File) with the path a.sm
-//! racp plan b.sm b3.toml         Plan with the paths b.sm and b3.toml
-//! racp check a.sm a4.toml p      Check with the paths a.sm, a4.toml and p
-//! racp plan b.sm                 an error: a word is missing
-//! racp --help                    an error of the kind DisplayHelp
+//! words                                    asked(alloc, &words) answers
+//! racp                                     Cpm(StandardInput)
+//! racp cpm -                               Cpm(StandardInput)
+//! racp cpm a.sm                            Cpm(File) with the path a.sm
+//! racp plan b.sm b3.toml                   Plan with the paths b.sm and b3.toml, and None: one thread
+//! racp plan b.sm b3.toml --workers 4       the same, and a Crew of 4 workers
+//! racp check a.sm a4.toml p                Check with the paths a.sm, a4.toml and p
+//! racp plan b.sm b3.toml --workers 65      an error: this is no number from 1 to 64
+//! racp plan b.sm                           an error: a word is missing
+//! racp --help                              an error of the kind DisplayHelp
 //! ```
+//!
+//! Each of the options `--workers N`, `--turns N` and `--stats` asks for a crew: 1 worker, 1,000,000,000,000 pieces and
+//! nothing told, where the others do not say otherwise.
 //!
 //! The commands stand in `specs/` a second time, as values of the library's definitions: `racp`, `cpm`, `plan` and
 //! `check`. What `clap` is proved to do with them says what any words ask for.
 //!
 //! Proved: without words, with `cpm`, and with `cpm` and a word that does not begin with a hyphen or is a hyphen alone,
 //! `cpm` is asked for, of standard input or of the file with that path; with `plan` and two paths, and `check` and
-//! three, that command of these files. In these cases only memory can fail. A path here is a word that is not empty and
-//! does not begin with a hyphen. For any other words `asked` answers what `clap` is proved to find, or refuses with the
-//! kind of error that it is proved to give. Tested alone, over the built program: the texts of help, of the version and
+//! three, that command of these files, and `plan` on one thread. In these cases only memory can fail. A path here is a
+//! word that is not empty and does not begin with a hyphen. For any other words `asked` answers what `clap` is proved to
+//! find, or refuses with the kind of error that it is proved to give: `plan` asks for a crew exactly where `clap` finds
+//! one of its three options, and of each number in range that is found the crew has this number. No crew has more than
+//! 64 workers or 1,000,000,000,000 pieces. Tested alone, over the built program: the texts of help, of the version and
 //! of errors.
 #![tactic(auto)]
 
@@ -30,4 +37,4 @@ mod command_line;
 mod request;
 
 pub use command_line::asked;
-pub use request::{OrderFiles, PlanFiles, Request, Source};
+pub use request::{Crew, OrderFiles, PlanFiles, Request, Source};

@@ -1,9 +1,13 @@
+//! What the command line may ask for.
+
+ghost use Rattle.std.specs.Prelude.{◌≤◌};
+
 /// What the command line asks for.
 pub enum Request<'a> {
     /// The critical length and the early starts of a network.
     Cpm(Source<'a>),
-    /// The plan of a network on the terms of an order.
-    Plan(OrderFiles<'a>),
+    /// The plan of a network on the terms of an order: made on one thread, or by workers where an option is given.
+    Plan(OrderFiles<'a>, Option<Crew>),
     /// Whether a plan is one of a network on the terms of an order.
     Check(PlanFiles<'a>),
 }
@@ -15,6 +19,19 @@ pub struct OrderFiles<'a> {
     pub net: &'a str,
     /// The path of the order.
     pub order: &'a str,
+}
+
+/// How workers make a plan.
+#[derive(Clone, Copy)]
+pub struct Crew {
+    /// How many workers there are, 1 to 64; 1 where no option says so.
+    pub workers: usize,
+    /// How many pieces they take at most, 1 to 1,000,000,000,000; so many where no option says so.
+    pub turns: u64,
+    /// Whether the work that was done is told.
+    pub stats: bool,
+    pub ghost workers_few: { workers ≤ 64 },
+    pub ghost turns_few: { turns ≤ 1000000000000 },
 }
 
 /// The paths of the files of a network, an order and a plan.

@@ -1,5 +1,4 @@
-use Rattle.std.proofs.Common.{◌≡◌, ◌∙◌, List, ℕ, arith, slice_index, ap, sym, subst}
-use Rattle.racp_model.specs.Terms.{IsBefore}
+use Rattle.std.proofs.Common.{◌∙◌, List, ℕ, arith, slice_index, ap, subst}
 use Rattle.racp_boxes.specs.Searched.{IsMostBefore}
 use Rattle.racp_boxes.proofs.Cutting.{cutting-next, none-before}
 use Rattle.racp_boxes.proofs.cut.cut.Goals as goal

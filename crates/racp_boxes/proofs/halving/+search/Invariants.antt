@@ -1,4 +1,4 @@
-use Rattle.racp_boxes.specs.Searched.{width}
+use Rattle.racp_boxes.proofs.Halves.{width}
 use Rattle.racp_boxes.proofs.halving.+search.Given as goal
 
 abbrev pub decreases-search : goal.decreases-search

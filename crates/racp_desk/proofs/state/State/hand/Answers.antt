@@ -6,7 +6,7 @@ use Rattle.racp_desk.specs.declared.log.Entry.TheVariants.{Handed}
 use Rattle.racp_desk.specs.Log.{tally, IsAway, LeavesNone}
 use Rattle.racp_desk.specs.Desk.{windows_left}
 use Rattle.racp_desk.proofs.Allowed.{is_away}
-use Rattle.racp_desk.proofs.Desks.{longer, desk_handed, merged_out, leaves_none}
+use Rattle.racp_desk.proofs.Desks.{longer, desk_handed, merged_out, leaves_none, few_left}
 use Rattle.racp_desk.proofs.CameIn.{handed_in}
 use Rattle.racp_desk.proofs.state.State.hand.Goals.{in-Taken, in-Stale}
 use Rattle.racp_desk.proofs.state.State.hand.Goals as goal
@@ -22,6 +22,7 @@ note_handed-requires g c =
       subst (λ (s : ℕ). IsAway (tally i.book.entries) s c.number-number.result) (sym seat) (subst (λ (n : ℕ). IsAway (tally i.book.entries) f.piece.seat n) (sym number) (is_away (tally i.book.entries) i.core f.piece c.self.invariant.1.counts (merged_out i.core f f.found c.hand.new.self step))),
       subst (λ (b : Bool). LeavesNone b c.windows_left-rest.result) (sym c.is_found-found.ensures) (subst (λ (n : ℕ). LeavesNone (is_some f.found) n) (sym rest) (leaves_none g.N.OfNetwork.network f.piece.question.capacities f.piece.question.window f.found f.rest c.piece.ensures.is_true)),
       (let n = c.nodes-nodes.ensures in omega (arith, n, c.requires.nodes)),
+      (let few = few_left f.rest in omega (arith, few, rest)),
     )
 
 pub invariant_of-self-in-Taken : goal.invariant_of-self-in-Taken

@@ -1,0 +1,26 @@
+-- The status of a plan is that of an answer.
+use Rattle.std.proofs.Common.{ℕ, List, [], ◌∷◌, Option, Ok, Err, IfOk, inl, inr}
+use Rattle.std.specs.Prelude.{Result}
+use Rattle.racp_cli.specs.Crowds.{IsCrowdAnswer}
+use Rattle.racp_cli.specs.Plans.{IsPlanAnswer}
+use Rattle.racp_cli.specs.Streams.{Reader, ToTwo, IsPlanRun}
+use Rattle.racp_cli.specs.declared.fault.StreamFault.{StreamFault}
+use Rattle.racp.specs.Statuses.{IsStatusOfAnswer}
+
+-- what workers answer to two texts
+pub by_workers : (inputs : List (List ℕ)) (status : ℕ) (text : List ℕ) → ToTwo IsCrowdAnswer inputs status text → IsStatusOfAnswer status
+by_workers [] status text answer = absurd answer
+by_workers (net ∷ []) status text answer = absurd answer
+by_workers (net ∷ (order ∷ [])) status text answer = inr (inl (net, order, text, answer))
+by_workers (net ∷ (order ∷ (other ∷ inputs))) status text answer = absurd answer
+
+-- what one thread answers
+on_one_thread : (inputs : List (List ℕ)) (status : ℕ) (text : List ℕ) → ToTwo IsPlanAnswer inputs status text → IsStatusOfAnswer status
+on_one_thread [] status text answer = absurd answer
+on_one_thread (net ∷ []) status text answer = absurd answer
+on_one_thread (net ∷ (order ∷ [])) status text answer = inr (inl (net, order, text, inl answer))
+on_one_thread (net ∷ (order ∷ (other ∷ inputs))) status text answer = absurd answer
+
+pub planned_alone : (net order : Reader) (old new : Option (List ℕ)) (result : Result ℕ StreamFault) → IsPlanRun net order old new result → IfOk result IsStatusOfAnswer
+planned_alone net order old new (Ok status) run = on_one_thread run.0 status run.2.0 run.2.1
+planned_alone net order old new (Err fault) run = tt

@@ -1,0 +1,95 @@
+//! `plan` by workers: the plan of a network on the terms of an order, made on threads of their own.
+
+ghost use Rattle.std.specs.Prelude.{ℕ, ◌≤◌, List, IfOk};
+ghost use Rattle.racp_lexfix.specs.Printing.{IsCrowdPrinting};
+ghost use Rattle.racp_cli.specs.Crowds.{IsCrowdAnswer, IsCrowdRun, IsEffortOf};
+ghost use Rattle.racp_cli.specs.Responses.{IsMade, IsRefusedLine};
+
+use crate::fault::StreamFault;
+use crate::lines::stopped_line;
+use crate::refusal::{network_refused, order_refused};
+use crate::respond::respond;
+use crate::status::{STOPPED, STREAM_FAILED};
+use crate::streams::read_whole;
+use racp_desk::Gate;
+use racp_lexfix::{Effort, PlanStop, Printed, Refusal, plan_crowd};
+use racp_search::Stop;
+use std::alloc::{AllocError, Global};
+use std::io::{Read, Write};
+use std::sync::Wait;
+use std::thread::Threads;
+
+/// Reads a network text and an order text, all of each before the next, has 1 to 64 workers make the plan with at most
+/// so many turns, up to 1,000,000,000,000, and writes to `out` the text that `run_over` writes, or that planning was
+/// stopped, or that no thread could be started. Returns the status that belongs to what was written: 0 for a plan, 3
+/// where there is none, 4 where planning was stopped, 5 where a text is refused, 6 where memory ran out, 7 where a
+/// worker could not be started; and, with a plan or where there is none, how much work was done.
+///
+/// # Errors
+///
+/// After these nothing was written: `Read`, a read failed; `TooLong`, a reader has more than 16,777,216 bytes;
+/// `Memory`, memory for an input was refused. After `Write`, a write failed or took no byte, and what is out is a
+/// beginning of the text.
+pub fn crowd_over<
+    N: Read,
+    O: Read,
+    W: Write,
+    G: Gate + Sync,
+    P: Stop + Sync,
+    R: Threads + Wait + Sync,
+>(
+    rt: &R,
+    alloc: Global,
+    net: &mut N,
+    order: &mut O,
+    out: &mut W,
+    workers: usize,
+    turns: u64,
+    gate: &G,
+    stop: &P,
+) -> Result<(u8, Option<Effort>), StreamFault>
+    requires workers { workers ≤ 64 }
+    requires turns { turns ≤ 1000000000000 }
+    ensures run { IsCrowdRun (record { unread = N.remaining net.old; left = N.remaining net.new })
+        (record { unread = O.remaining order.old; left = O.remaining order.new })
+        (W.contents out.old) (W.contents out.new) result }
+    ensures effort { IfOk result (λ done. IsEffortOf done.0 done.1) }
+{
+    let net = read_whole(alloc, net)?;
+    let order = read_whole(alloc, order)?;
+    let planned = plan_crowd(rt, alloc, &net, &order, workers, turns, gate, stop);
+    let (answer, effort) = answer(alloc, planned);
+    let status = respond(answer, out)?;
+    Ok((status, effort))
+}
+
+/// The status and the text of what planning told, and its effort.
+fn answer(
+    alloc: Global,
+    planned: Result<(Printed, Effort), Refusal>,
+) -> (Result<(u8, Vec<u8>), AllocError>, Option<Effort>)
+    ensures right { (net order : List ℕ) → IsCrowdPrinting net order planned →
+        IfOk result.0 (λ answer. IsCrowdAnswer net order answer.0 answer.1.items) }
+    ensures effort { (net order text : List ℕ) (status : ℕ) → IsCrowdPrinting net order planned →
+        IsMade result.0 status text → IsEffortOf status result.1 }
+{
+    match planned {
+        Ok((printed, effort)) => (Ok((printed.status, printed.text)), Some(effort)),
+        Err(refusal) => (refused(alloc, refusal), None),
+    }
+}
+
+/// The status and the line where there is no answer.
+fn refused(alloc: Global, refusal: Refusal) -> Result<(u8, Vec<u8>), AllocError>
+    ensures { IfOk result (λ line. IsRefusedLine refusal line.0 line.1.items) }
+{
+    match refusal {
+        Refusal::Sm(fault) => network_refused(alloc, fault),
+        Refusal::Order(fault) => order_refused(alloc, fault),
+        Refusal::Stop(PlanStop::Stopped { not_before }) => {
+            Ok((STOPPED, stopped_line(alloc, not_before.as_slice())?))
+        }
+        Refusal::Stop(PlanStop::Memory) => Err(AllocError),
+        Refusal::Stop(PlanStop::NoThread) => { Ok((STREAM_FAILED, b"no thread\n".to_vec(alloc)?)) }
+    }
+}

@@ -1,0 +1,5 @@
+use Rattle.std.proofs.Common.{◌≡◌, ◌+◌, ◌≤◌, length, vec_capacity}
+use Rattle.racp_desk.proofs.running.start.Given as goal
+
+abbrev pub invariant-loop-seat : goal.invariant-loop-seat
+invariant-loop-seat g l = record { parts : l.share.parts + l.seat ≡ l.workers + 1; handles : length l.handles.items ≡ l.seat; room : l.workers ≤ vec_capacity l.handles }
