@@ -1,8 +1,7 @@
 -- Words that the parser takes.
-use Rattle.std.proofs.Common.{if◌then◌else◌, ◌≡◌, ◌==◌, ◌∙◌, ℕ, Bool, ap, sym, subst, refl, true, false, List, [], ◌∷◌, Option, Some, None, option_map, codes, inl, inr, slice_index, arith, rules}
+use Rattle.std.proofs.Common.{if◌then◌else◌, ◌≡◌, ◌==◌, ◌||◌, ◌∙◌, ℕ, Bool, ap, sym, subst, refl, true, false, List, [], ◌∷◌, Option, Some, None, option_map, codes, inl, inr, slice_index, cond, drop, is_some, arith, rules}
 use Rattle.std.proofs.lemmas.Bool.{eqb-true, ne_eqb}
 use Rattle.std.proofs.lemmas.Option.{same_Some}
-use Rattle.std.proofs.Common.{◌||◌, cond, drop, is_some}
 use Rattle.std.specs.Str.Parse.{AllDigits}
 use Rattle.std.proofs.lemmas.Str.Parse.{digit_from_value}
 use Rattle.clap.proofs.ValueTestLemmas.{Accepts-accepts}

@@ -76,11 +76,11 @@ has_crew_option words =
 abbrev pub number_in : Text → ℕ
 number_in word = digits_value 10 (without_leading_plus word)
 
--- This number is told by a word that has to be a number from 1 to `most`; without a word it is `otherwise`.
+-- The number of an option is what its word writes, which the option's rule has be from 1 to `most`; without a word it is
+-- `otherwise`.
 abbrev pub IsNumberOf : ℕ → ℕ → Option Text → ℕ → Type 0
 IsNumberOf most otherwise None number = number ≡ otherwise
-IsNumberOf most otherwise (Some word) number =
-    IsUnsignedIn 1 most word → number ≡ number_in word
+IsNumberOf most otherwise (Some word) number = IsUnsignedIn 1 most word → number ≡ number_in word
 
 -- these workers are asked for; or none, and so one thread
 abbrev pub IsCrew : List Row → Option Crew → Type 0

@@ -225,7 +225,8 @@ fn is_set(words: &ArgMatches<'_>, id: &str) -> bool
     }
 }
 
-/// The number that a word tells, which has to be one from 1 to `most`; `otherwise` without a word.
+/// The number that the word of an option writes, at most `most`; `otherwise` without a word. The option's rule refuses
+/// words that are no numbers from 1 to `most`.
 fn number_of(word: Option<&str>, most: u64, otherwise: u64) -> u64
     requires { otherwise ≤ most }
     ensures number { IsNumberOf most otherwise (option_map (λ word. word.now) word.entry) result }
