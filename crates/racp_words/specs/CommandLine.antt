@@ -76,7 +76,7 @@ has_crew_option words =
 abbrev pub number_in : Text → ℕ
 number_in word = digits_value 10 (without_leading_plus word)
 
--- The number of an option is what its word writes, which the option's rule has be from 1 to `most`; without a word it is
+-- The number of an option is the one that its word writes, from 1 to `most` by the option's rule; without a word it is
 -- `otherwise`.
 abbrev pub IsNumberOf : ℕ → ℕ → Option Text → ℕ → Type 0
 IsNumberOf most otherwise None number = number ≡ otherwise
