@@ -1,10 +1,17 @@
 -- Words that the parser takes.
-use Rattle.std.proofs.Common.{◌≡◌, ◌==◌, ◌∙◌, ℕ, Bool, ap, sym, subst, refl, true, false, List, [], ◌∷◌, Option, Some, None, option_map, codes, inl, inr, slice_index, arith, rules}
+use Rattle.std.proofs.Common.{if◌then◌else◌, ◌≡◌, ◌==◌, ◌||◌, ◌∙◌, ℕ, Bool, ap, sym, subst, refl, true, false, List, [], ◌∷◌, Option, Some, None, option_map, codes, inl, inr, slice_index, cond, drop, is_some, arith, rules}
 use Rattle.std.proofs.lemmas.Bool.{eqb-true, ne_eqb}
 use Rattle.std.proofs.lemmas.Option.{same_Some}
-use Rattle.clap.specs.Words.{Row, Text, fault_of, first_of, subcommand_of}
+use Rattle.std.specs.Str.Parse.{AllDigits}
+use Rattle.std.proofs.lemmas.Str.Parse.{digit_from_value}
+use Rattle.clap.proofs.ValueTestLemmas.{Accepts-accepts}
+use Rattle.clap.specs.declared.builder.value_parser.ValueParser.TheVariants.{Unsigned}
+use Rattle.clap.specs.Words.{IsUnsignedIn, Row, Text, fault_of, first_of, subcommand_of}
 use Rattle.clap.proofs.OnLiterals.{clap_on_literals}
-use Rattle.racp_words.specs.CommandLine.{IsCpmLine, AsksForCpm, IsPlanLine, AsksForPlan, IsCheckLine, AsksForCheck, IsCrew, IsPlain, IsRequested, has_crew_option, path_at, racp}
+use Rattle.racp_words.specs.CommandLine.{IsCpmLine, AsksForCpm, IsPlanLine, AsksForPlan, IsWorkersLine, AsksForWorkers, IsOfWorkers, IsNumberOf, number_in, IsCheckLine, AsksForCheck, IsCrew, IsPlain, IsRequested, has_crew_option, is_set, path_at, racp}
+use Rattle.clap.specs.Kinds.{Kinds, or_else}
+use Rattle.clap.specs.ValueTests.{is_unsigned_in}
+use Rattle.clap.specs.declared.error.kind.ErrorKind.TheVariants.{ValueValidation}
 use Rattle.racp_words.specs.declared.request.Crew.{Crew}
 use Rattle.racp_words.specs.declared.request.Request.{Request}
 use Rattle.racp_words.specs.declared.request.Request.TheVariants.{Cpm, Plan, Check}
@@ -77,6 +84,31 @@ plan_paths : (name : Text) (a b : ℕ) (net order : Text) → (a == 45) ≡ fals
 unfolding racp clap_on_literals with_two_paths
 plan_paths name a b net order p q = (rw (p, p, q, q) refl, rw (p, p, q, q) refl)
 
+-- the command that is named, and what `plan` reads of its words
+with_crew : Option (Text × List Row) → Option (Text × (Text × (Text × (Option Text × (Option Text × Bool)))))
+with_crew = option_map (λ command. (
+  command.0,
+  (
+    path_at (codes "NET") command.1,
+    (path_at (codes "ORDER") command.1, (first_of (codes "workers") command.1, (first_of (codes "turns") command.1, is_set (codes "stats") command.1))),
+  ),
+))
+
+-- the fault of a value that passes or does not, where nothing else is wrong
+fault_of_value : Bool → Kinds
+fault_of_value passes = or_else (or_else (or_else (if passes then [] else ValueValidation ∷ []) []) []) []
+
+workers_fault : (name : Text) (a b d : ℕ) (net order digits : Text) → (a == 45) ≡ false → (b == 45) ≡ false → (d == 45) ≡ false →
+    fault_of racp (name ∷ codes "plan" ∷ (a ∷ net) ∷ (b ∷ order) ∷ codes "--workers" ∷ (d ∷ digits) ∷ []) ≡ fault_of_value (is_unsigned_in 1 64 (d ∷ digits))
+unfolding racp clap_on_literals fault_of_value
+workers_fault name a b d net order digits p q r = rw (p, p, q, q, r, r) refl
+
+workers_words : (name : Text) (a b d : ℕ) (net order digits : Text) → (a == 45) ≡ false → (b == 45) ≡ false → (d == 45) ≡ false →
+    with_crew (subcommand_of racp (name ∷ codes "plan" ∷ (a ∷ net) ∷ (b ∷ order) ∷ codes "--workers" ∷ (d ∷ digits) ∷ [])) ≡
+    Some (codes "plan", (a ∷ net, (b ∷ order, (Some (d ∷ digits), (None, false)))))
+unfolding racp clap_on_literals with_crew
+workers_words name a b d net order digits p q r = rw (p, p, q, q, r, r) refl
+
 -- without an option about workers none are asked for
 no_crew : (words : List Row) (crew : Option Crew) → has_crew_option words ≡ false → IsCrew words crew → crew ≡ None
 no_crew words None none asked = refl
@@ -92,6 +124,48 @@ plan_asked (Some command) net order (Plan files crew) e asked =
     let same = same_Some _ _ e in
     (asked.1 ∙ ap (λ c. c.1.0) same, asked.2 ∙ ap (λ c. c.1.1.0) same, no_crew command.1 crew (ap (λ c. c.1.1.1) same) asked.3)
 plan_asked (Some command) net order (Check files) e asked =
+    let same : codes "plan" ≡ codes "check" = sym (ap (λ c. c.0) (same_Some _ _ e)) ∙ asked.0 in
+    let letter : 112 ≡ 99 = ap (λ t. slice_index t 0) same in absurd (omega (arith, letter))
+
+-- a number begins with no hyphen
+no_hyphen : (d : ℕ) (digits : Text) → IsUnsignedIn 1 64 (d ∷ digits) → (d == 45) ≡ false
+no_hyphen d digits in_range = by_sign (d == 43) refl
+  where
+    by_sign : (b : Bool) → (d == 43) ≡ b → (d == 45) ≡ false
+    by_sign true plus = let is : d ≡ 43 = eqb-true d 43 plus in ne_eqb d 45 (λ e. absurd (omega (arith, is, e)))
+    by_sign false other =
+        let all : AllDigits 10 (d ∷ digits) = subst (λ (b : Bool). AllDigits 10 (drop (cond b 1 0) (d ∷ digits))) other in_range.0.1 in
+        let digit = digit_from_value d all.0 in ne_eqb d 45 (λ e. absurd (omega (arith, digit.0, e)))
+
+-- a number is not empty
+some_number : IsUnsignedIn 1 64 [] → ⊥
+some_number in_range = omega (arith, in_range.0.0)
+
+-- where `--workers` alone is given, so many workers are asked for
+workers_crew : (words : List Row) (crew : Option Crew) (number : Text) → first_of (codes "workers") words ≡ Some number → first_of (codes "turns") words ≡ None →
+    is_set (codes "stats") words ≡ false → IsUnsignedIn 1 64 number → IsCrew words crew → IsOfWorkers (number_in number) crew
+workers_crew words None number workers turns stats in_range asked =
+    let given : has_crew_option words ≡ true = ap (λ (w : Option Text). is_some w || (is_some (first_of (codes "turns") words) || is_set (codes "stats") words)) workers in
+    absurd (search (rules, given, asked))
+workers_crew words (Some crew) number workers turns stats in_range asked = (
+  subst (λ (w : Option Text). IsNumberOf 64 1 w crew.workers) workers asked.1 in_range,
+  subst (λ (w : Option Text). IsNumberOf 1000000000000 1000000000000 w crew.turns) turns asked.2,
+  asked.3 ∙ stats,
+)
+
+-- `plan` asks for the files with these paths, and for so many workers
+workers_asked : (command : Option (Text × List Row)) (net order number : Text) (request : Request) → IsUnsignedIn 1 64 number →
+    with_crew command ≡ Some (codes "plan", (net, (order, (Some number, (None, false))))) → IsRequested command request → AsksForWorkers net order (number_in number) request
+unfolding with_crew
+workers_asked None net order number request in_range e asked = absurd (search rules)
+workers_asked (Some command) net order number (Cpm network) in_range e asked = absurd (asked.0 (ap (λ c. c.0) (same_Some _ _ e)))
+workers_asked (Some command) net order number (Plan files crew) in_range e asked =
+    let same = same_Some _ _ e in (
+      asked.1 ∙ ap (λ c. c.1.0) same,
+      asked.2 ∙ ap (λ c. c.1.1.0) same,
+      workers_crew command.1 crew number (ap (λ c. c.1.1.1.0) same) (ap (λ c. c.1.1.1.1.0) same) (ap (λ c. c.1.1.1.1.1) same) in_range asked.3,
+    )
+workers_asked (Some command) net order number (Check files) in_range e asked =
     let same : codes "plan" ≡ codes "check" = sym (ap (λ c. c.0) (same_Some _ _ e)) ∙ asked.0 in
     let letter : 112 ≡ 99 = ap (λ t. slice_index t 0) same in absurd (omega (arith, letter))
 
@@ -137,6 +211,23 @@ plan_line words (a ∷ net) (b ∷ order) (name, first, second, is) =
     let taken = plan_paths name a b net order (ne_eqb a 45 first) (ne_eqb b 45 second) in (
       ap (λ (ws : List Text). fault_of racp ws) is ∙ taken.0,
       λ request. plan_asked (subcommand_of racp words) (a ∷ net) (b ∷ order) request (ap (λ (ws : List Text). with_two_paths (subcommand_of racp ws)) is ∙ taken.1),
+    )
+
+-- the parser takes each line that asks for `plan` by workers, and what is asked for is that
+pub workers_line : (words : List Text) (net order number : Text) → IsWorkersLine words net order number →
+    (fault_of racp words ≡ []) × ((request : Request) → IsRequested (subcommand_of racp words) request → AsksForWorkers net order (number_in number) request)
+unfolding fault_of_value
+workers_line words [] order number (name, none, second, in_range, is) = absurd none
+workers_line words (a ∷ net) [] number (name, first, none, in_range, is) = absurd none
+workers_line words (a ∷ net) (b ∷ order) [] (name, first, second, in_range, is) = absurd (some_number in_range)
+workers_line words (a ∷ net) (b ∷ order) (d ∷ digits) (name, first, second, in_range, is) =
+    let p : (a == 45) ≡ false = ne_eqb a 45 first in
+    let q : (b == 45) ≡ false = ne_eqb b 45 second in
+    let r : (d == 45) ≡ false = no_hyphen d digits in_range in
+    let passes : is_unsigned_in 1 64 (d ∷ digits) ≡ true = Accepts-accepts false (Unsigned 1 64) (d ∷ digits) in_range in (
+      ap (λ (ws : List Text). fault_of racp ws) is ∙ (workers_fault name a b d net order digits p q r ∙ ap fault_of_value passes),
+      λ request. workers_asked (subcommand_of racp words) (a ∷ net) (b ∷ order) (d ∷ digits) request in_range
+          (ap (λ (ws : List Text). with_crew (subcommand_of racp ws)) is ∙ workers_words name a b d net order digits p q r),
     )
 
 -- the parser takes each line that asks for `check`, and what is asked for is that

@@ -72,11 +72,15 @@ has_crew_option words =
     is_some (first_of (codes "workers") words) ||
     (is_some (first_of (codes "turns") words) || is_set (codes "stats") words)
 
--- This number is told by a word that has to be a number from 1 to `most`; without a word it is `otherwise`.
+-- the number that a word of digits writes
+abbrev pub number_in : Text → ℕ
+number_in word = digits_value 10 (without_leading_plus word)
+
+-- The number of an option is the one that its word writes, from 1 to `most` by the option's rule; without a word it is
+-- `otherwise`.
 abbrev pub IsNumberOf : ℕ → ℕ → Option Text → ℕ → Type 0
 IsNumberOf most otherwise None number = number ≡ otherwise
-IsNumberOf most otherwise (Some word) number =
-    IsUnsignedIn 1 most word → number ≡ digits_value 10 (without_leading_plus word)
+IsNumberOf most otherwise (Some word) number = IsUnsignedIn 1 most word → number ≡ number_in word
 
 -- these workers are asked for; or none, and so one thread
 abbrev pub IsCrew : List Row → Option Crew → Type 0
@@ -135,6 +139,24 @@ abbrev pub AsksForPlan : Text → Text → Request → Type 0
 AsksForPlan net order (Cpm network) = ⊥
 AsksForPlan net order (Plan files crew) = (files.net.now ≡ net) × (files.order.now ≡ order) × (crew ≡ None)
 AsksForPlan net order (Check files) = ⊥
+
+-- After the program's name come `plan`, these two paths, `--workers` and this number from 1 to 64.
+abbrev pub IsWorkersLine : List Text → Text → Text → Text → Type 0
+IsWorkersLine words net order number = (name : Text) × IsPath net × IsPath order × IsUnsignedIn 1 64 number ×
+    (words ≡ name ∷ codes "plan" ∷ net ∷ order ∷ codes "--workers" ∷ number ∷ [])
+
+-- so many workers, as many pieces as there may be, and nothing is told of them
+abbrev pub IsOfWorkers : ℕ → Option Crew → Type 0
+IsOfWorkers workers None = ⊥
+IsOfWorkers workers (Some crew) =
+    (crew.workers ≡ workers) × (crew.turns ≡ 1000000000000) × (crew.stats ≡ false)
+
+-- `plan` of the files with these paths, by so many workers
+abbrev pub AsksForWorkers : Text → Text → ℕ → Request → Type 0
+AsksForWorkers net order workers (Cpm network) = ⊥
+AsksForWorkers net order workers (Plan files crew) =
+    (files.net.now ≡ net) × (files.order.now ≡ order) × IsOfWorkers workers crew
+AsksForWorkers net order workers (Check files) = ⊥
 
 -- After the program's name come `check` and these three paths.
 abbrev pub IsCheckLine : List Text → Text → Text → Text → Type 0

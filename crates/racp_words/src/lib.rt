@@ -25,12 +25,12 @@
 //!
 //! Proved: without words, with `cpm`, and with `cpm` and a word that does not begin with a hyphen or is a hyphen alone,
 //! `cpm` is asked for, of standard input or of the file with that path; with `plan` and two paths, and `check` and
-//! three, that command of these files, and `plan` on one thread. In these cases only memory can fail. A path here is a
-//! word that is not empty and does not begin with a hyphen. For any other words `asked` answers what `clap` is proved to
-//! find, or refuses with the kind of error that it is proved to give: `plan` asks for a crew exactly where `clap` finds
-//! one of its three options, and of each number in range that is found the crew has this number. No crew has more than
-//! 64 workers or 1,000,000,000,000 pieces. Tested alone, over the built program: the texts of help, of the version and
-//! of errors.
+//! three, that command of these files, and `plan` on one thread; with `--workers` and a number from 1 to 64 behind the
+//! two paths, `plan` by a crew of so many. In these cases only memory can fail. A path here is a word that is not empty
+//! and does not begin with a hyphen. For any other words `asked` answers what `clap` is proved to find, or refuses with
+//! the kind of error that it is proved to give: `plan` asks for a crew exactly where `clap` finds one of its three
+//! options, and where it finds a number that is in range the crew has it. No crew has more than 64 workers or
+//! 1,000,000,000,000 pieces. Tested alone, over the built program: the texts of help, of the version and of errors.
 #![tactic(auto)]
 
 mod command_line;

@@ -4,7 +4,7 @@ use Rattle.clap.specs.Words.{App, HasKind, Kinds, Row, Text, app_of, fault_of, i
 use Rattle.clap.specs.declared.error.Error.{Error}
 use Rattle.clap.specs.declared.error.kind.ErrorKind.TheVariants.{OutOfMemory}
 use Rattle.racp_words.specs.CommandLine.{IsRequested, racp}
-use Rattle.racp_words.proofs.Words.{cpm_line, plan_line, check_line}
+use Rattle.racp_words.proofs.Words.{cpm_line, plan_line, workers_line, check_line}
 use Rattle.racp_words.proofs.command_line.asked.Goals as goal
 
 simple : is_simple racp ≡ true
@@ -47,6 +47,9 @@ returns-clause-cpm c network line = (cpm_line (map string_bytes c.args.words.now
 pub returns-clause-plan : goal.returns-clause-plan
 returns-clause-plan c net order line = (plan_line (map string_bytes c.args.words.now) net order line).1 c.request_of.result (returns-clause-asked c)
 
+pub returns-clause-workers : goal.returns-clause-workers
+returns-clause-workers c net order number line = (workers_line (map string_bytes c.args.words.now) net order number line).1 c.request_of.result (returns-clause-asked c)
+
 pub returns-clause-check : goal.returns-clause-check
 returns-clause-check c net order plan line = (check_line (map string_bytes c.args.words.now) net order plan line).1 c.request_of.result (returns-clause-asked c)
 
@@ -68,6 +71,11 @@ pub returns-in_err-matches-clause-plan : goal.returns-in_err-matches-clause-plan
 returns-in_err-matches-clause-plan c net order line =
     let p = err_from_is_err_and c.from_residual-in_err-matches.result c.from_residual-in_err-matches.ensures.1 in
     rw (p.1, p.2) (free_of_fault c (plan_line (map string_bytes c.args.words.now) net order line).0)
+
+pub returns-in_err-matches-clause-workers : goal.returns-in_err-matches-clause-workers
+returns-in_err-matches-clause-workers c net order number line =
+    let p = err_from_is_err_and c.from_residual-in_err-matches.result c.from_residual-in_err-matches.ensures.1 in
+    rw (p.1, p.2) (free_of_fault c (workers_line (map string_bytes c.args.words.now) net order number line).0)
 
 pub returns-in_err-matches-clause-check : goal.returns-in_err-matches-clause-check
 returns-in_err-matches-clause-check c net order plan line =
