@@ -26,6 +26,7 @@
 #![tactic(auto)]
 
 mod failure;
+mod limit;
 mod run;
 
 use std::process::ExitCode;

@@ -6,21 +6,22 @@ ghost use Rattle.racp.specs.declared.failure.Failure.TheVariants as failures;
 ghost use Rattle.racp_cli.specs.declared.fault.StreamFault.TheVariants as streams;
 
 use crate::failure::{Failure, report};
-use racp_cli::{StreamFault, check_over, cpm_over, crowd_over, run_over};
+use crate::limit::Limit;
+use racp_cli::{StreamFault, check_over, cpm_over, crowd_over_by, run_over_within};
 use racp_desk::Open;
-use racp_search::Never;
-use racp_words::{Crew, OrderFiles, PlanFiles, Request, Source, asked};
+use racp_words::{Crew, Memory, OrderFiles, PlanFiles, Request, Source, asked};
 use std::fs::File;
 use std::io::ErrorKind;
 use std::rt::{Env, Files};
 use std::sync::Wait;
 use std::thread::Threads;
+use std::time::Clock;
 use std::{env, io};
 
 /// Runs the program, and answers its status.
-pub(crate) fn status<R: Env + Files + Input + Print + Eprint + AllocGlobal + Threads + Wait + Sync>(
-    rt: &R,
-) -> u8
+pub(crate) fn status<
+    R: Clock + Env + Files + Input + Print + Eprint + AllocGlobal + Threads + Wait + Sync,
+>(rt: &R) -> u8
     ensures { IsStatus result }
 {
     match answer(rt) {
@@ -30,7 +31,7 @@ pub(crate) fn status<R: Env + Files + Input + Print + Eprint + AllocGlobal + Thr
 }
 
 /// Writes the answer to what the command line asks for.
-fn answer<R: Env + Files + Input + Print + Eprint + AllocGlobal + Threads + Wait + Sync>(
+fn answer<R: Clock + Env + Files + Input + Print + Eprint + AllocGlobal + Threads + Wait + Sync>(
     rt: &R,
 ) -> Result<u8, Failure>
     ensures { IfOk result IsStatusOfAnswer }
@@ -38,8 +39,8 @@ fn answer<R: Env + Files + Input + Print + Eprint + AllocGlobal + Threads + Wait
     let words = words(rt)?;
     match asked(rt.alloc(), words.as_slice())? {
         Request::Cpm(network) => Ok(cpm(rt, network)?),
-        Request::Plan(files, None) => Ok(plan(rt, files)?),
-        Request::Plan(files, Some(crew)) => Ok(plan_by(rt, files, crew)?),
+        Request::Plan(files, memory, None) => Ok(plan(rt, files, memory)?),
+        Request::Plan(files, memory, Some(crew)) => Ok(plan_by(rt, files, memory, crew)?),
         Request::Check(files) => Ok(check(rt, files)?),
     }
 }
@@ -73,25 +74,30 @@ fn cpm<R: Files + Input + Print + AllocGlobal>(
 
 /// Writes the plan for these files, made by workers, or why there is none. With an answer, the work that was done goes
 /// to standard error where that is asked for.
-fn plan_by<R: Files + Print + Eprint + AllocGlobal + Threads + Wait + Sync>(
+fn plan_by<R: Clock + Files + Print + Eprint + AllocGlobal + Threads + Wait + Sync>(
     rt: &R,
     files: OrderFiles<'_>,
+    memory: Memory,
     crew: Crew,
 ) -> Result<u8, StreamFault>
     ensures { IfOk result IsStatusOfAnswer }
 {
     let mut net = open(rt, files.net)?;
     let mut order = open(rt, files.order)?;
-    let (status, effort) = crowd_over(
+    let workers = racp_lexfix::Crew {
+        workers: crew.workers,
+        turns: crew.turns,
+        memory: memory.mebibytes,
+        gate: &Open,
+        stop: &Limit::of(rt, crew.time_limit),
+    };
+    let (status, effort) = crowd_over_by(
         rt,
         rt.alloc(),
         &mut net,
         &mut order,
         &mut io::writer(rt),
-        crew.workers,
-        crew.turns,
-        &Open,
-        &Never,
+        workers,
     )?;
     if let (true, Some(effort)) = (crew.stats, effort) {
         let _ = rt.eprintln(format_args!("stats pieces {} nodes {}", effort.pieces, effort.nodes));
@@ -100,12 +106,22 @@ fn plan_by<R: Files + Print + Eprint + AllocGlobal + Threads + Wait + Sync>(
 }
 
 /// Writes the plan for these files, or why there is none.
-fn plan<R: Files + Print + AllocGlobal>(rt: &R, files: OrderFiles<'_>) -> Result<u8, StreamFault>
+fn plan<R: Files + Print + AllocGlobal>(
+    rt: &R,
+    files: OrderFiles<'_>,
+    memory: Memory,
+) -> Result<u8, StreamFault>
     ensures { IfOk result IsStatusOfAnswer }
 {
     let mut net = open(rt, files.net)?;
     let mut order = open(rt, files.order)?;
-    run_over(rt.alloc(), &mut net, &mut order, &mut io::writer(rt))
+    run_over_within(
+        rt.alloc(),
+        &mut net,
+        &mut order,
+        &mut io::writer(rt),
+        memory.mebibytes,
+    )
 }
 
 /// Writes whether the plan in these files is right.

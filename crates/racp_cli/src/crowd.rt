@@ -11,8 +11,9 @@ use crate::refusal::{network_refused, order_refused};
 use crate::respond::respond;
 use crate::status::{STOPPED, STREAM_FAILED};
 use crate::streams::read_whole;
+use racp_cutset::DEFAULT_MEMORY;
 use racp_desk::Gate;
-use racp_lexfix::{Effort, PlanStop, Printed, Refusal, plan_crowd};
+use racp_lexfix::{Crew, Effort, PlanStop, Printed, Refusal, plan_crowd_by};
 use racp_search::Stop;
 use std::alloc::{AllocError, Global};
 use std::io::{Read, Write};
@@ -55,9 +56,48 @@ pub fn crowd_over<
         (W.contents out.old) (W.contents out.new) result }
     ensures effort { IfOk result (λ done. IsEffortOf done.0 done.1) }
 {
+    let memory = DEFAULT_MEMORY;
+    let crew = Crew {
+        workers,
+        turns,
+        memory,
+        gate,
+        stop,
+    };
+    crowd_over_by(rt, alloc, net, order, out, crew)
+}
+
+/// The same, by such workers; the records of `crowd_over` take at most 1,024 mebibytes.
+///
+/// # Errors
+///
+/// As with `crowd_over`.
+pub fn crowd_over_by<
+    N: Read,
+    O: Read,
+    W: Write,
+    G: Gate + Sync,
+    P: Stop + Sync,
+    R: Threads + Wait + Sync,
+>(
+    rt: &R,
+    alloc: Global,
+    net: &mut N,
+    order: &mut O,
+    out: &mut W,
+    crew: Crew<'_, G, P>,
+) -> Result<(u8, Option<Effort>), StreamFault>
+    requires workers { crew.workers ≤ 64 }
+    requires turns { crew.turns ≤ 1000000000000 }
+    requires memory { crew.memory ≤ 1048576 }
+    ensures run { IsCrowdRun (record { unread = N.remaining net.old; left = N.remaining net.new })
+        (record { unread = O.remaining order.old; left = O.remaining order.new })
+        (W.contents out.old) (W.contents out.new) result }
+    ensures effort { IfOk result (λ done. IsEffortOf done.0 done.1) }
+{
     let net = read_whole(alloc, net)?;
     let order = read_whole(alloc, order)?;
-    let planned = plan_crowd(rt, alloc, &net, &order, workers, turns, gate, stop);
+    let planned = plan_crowd_by(rt, alloc, &net, &order, crew);
     let (answer, effort) = answer(alloc, planned);
     let status = respond(answer, out)?;
     Ok((status, effort))

@@ -5,8 +5,9 @@
 //!
 //! Each command is a function over readers and a writer, so that what it does can be proved and tested without files.
 //! `cpm_over` answers a network with its critical length and early starts, `run_over` a network and an order with the
-//! plan or why there is none, `crowd_over` the same by workers, and `check_over` a network, an order and a plan with `ok` or what is wrong. Each returns
-//! the status with which the program ends. docs/FORMATS.md has every line and every status.
+//! plan or why there is none, `crowd_over` the same by workers, and `check_over` a network, an order and a plan with `ok`
+//! or what is wrong. Each returns the status with which the program ends. `run_over_within` and `crowd_over_by` also take
+//! how much memory the records of refuted nodes may have. docs/FORMATS.md has every line and every status.
 //!
 //! Two jobs, 1 before 2, run for 2 time units and 1, and use 1 unit and 3; the order has the deadline 4 and the price
 //! 5. With these texts in `net` and `order`, `run_over(alloc, &mut net, &mut order, &mut out)` returns 0, and in `out`
@@ -57,7 +58,7 @@ mod streams;
 
 pub use check::check_over;
 pub use cpm::cpm_over;
-pub use crowd::crowd_over;
+pub use crowd::{crowd_over, crowd_over_by};
 pub use fault::StreamFault;
-pub use plan::run_over;
+pub use plan::{run_over, run_over_within};
 pub use status::{CHECK_FAILED, DONE, OUT_OF_MEMORY, REFUSED, STOPPED, STREAM_FAILED};

@@ -1,6 +1,6 @@
 //! `plan`: the plan of a network on the terms of an order, made on one thread.
 
-ghost use Rattle.std.specs.Prelude.{IfOk};
+ghost use Rattle.std.specs.Prelude.{◌≤◌, IfOk};
 ghost use Rattle.racp_cli.specs.Plans.{IsPlanAnswer};
 ghost use Rattle.racp_cli.specs.Streams.{IsPlanRun};
 
@@ -8,7 +8,8 @@ use crate::fault::StreamFault;
 use crate::refusal::{network_refused, order_refused};
 use crate::respond::respond;
 use crate::streams::read_whole;
-use racp_lexfix::{Refusal, plan_alone};
+use racp_cutset::DEFAULT_MEMORY;
+use racp_lexfix::{Refusal, plan_alone_within};
 use std::alloc::{AllocError, Global};
 use std::io::{Read, Write};
 
@@ -31,16 +32,43 @@ pub fn run_over<N: Read, O: Read, W: Write>(
         (record { unread = O.remaining order.old; left = O.remaining order.new })
         (W.contents out.old) (W.contents out.new) result }
 {
+    run_over_within(alloc, net, order, out, DEFAULT_MEMORY)
+}
+
+/// The same, with records of refuted nodes that take at most about so many mebibytes, up to 1,048,576; those of
+/// `run_over` take 1,024. Where there is no room for a further one, records give way, and the text stays the same.
+///
+/// # Errors
+///
+/// As with `run_over`.
+pub fn run_over_within<N: Read, O: Read, W: Write>(
+    alloc: Global,
+    net: &mut N,
+    order: &mut O,
+    out: &mut W,
+    mebibytes: usize,
+) -> Result<u8, StreamFault>
+    requires { mebibytes ≤ 1048576 }
+    ensures { IsPlanRun (record { unread = N.remaining net.old; left = N.remaining net.new })
+        (record { unread = O.remaining order.old; left = O.remaining order.new })
+        (W.contents out.old) (W.contents out.new) result }
+{
     let net = read_whole(alloc, net)?;
     let order = read_whole(alloc, order)?;
-    respond(answer(alloc, &net, &order), out)
+    respond(answer(alloc, &net, &order, mebibytes), out)
 }
 
 /// The status and the text of the answer to the texts of a network and an order.
-fn answer(alloc: Global, net: &[u8], order: &[u8]) -> Result<(u8, Vec<u8>), AllocError>
+fn answer(
+    alloc: Global,
+    net: &[u8],
+    order: &[u8],
+    mebibytes: usize,
+) -> Result<(u8, Vec<u8>), AllocError>
+    requires { mebibytes ≤ 1048576 }
     ensures { IfOk result (λ answer. IsPlanAnswer net.now order.now answer.0 answer.1.items) }
 {
-    match plan_alone(alloc, net, order) {
+    match plan_alone_within(alloc, net, order, mebibytes) {
         Ok(printed) => Ok((printed.status, printed.text)),
         Err(Refusal::Sm(fault)) => network_refused(alloc, fault),
         Err(Refusal::Order(fault)) => order_refused(alloc, fault),

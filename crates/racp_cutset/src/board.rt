@@ -1,7 +1,9 @@
-ghost use Rattle.std.specs.Prelude.{◌≡◌};
+ghost use Rattle.std.specs.Prelude.{◌≡◌, ◌≤◌, IfOk};
+ghost use Rattle.racp_cutset.specs.Kept.{AreShares, most_records};
 
-use crate::local::{Local, most_records};
+use crate::local::Local;
 use crate::nogood::Nogood;
+use crate::shares::{DEFAULT_MEMORY, Shares, most_records, shares_of};
 use racp_model::{Network, OfNetwork};
 use std::alloc::{AllocError, Global};
 use std::sync::{Mutex, Wait};
@@ -15,25 +17,65 @@ pub struct Board<N: OfNetwork> {
     parts: Mutex<Vec<Local<N>>>,
     /// How many records it takes at most.
     limit: usize,
+    /// How many records each own part keeps at most.
+    own: usize,
 }
 
 impl<N: OfNetwork> Board<N> {
-    /// A board without records.
+    /// A board without records. It takes as many as take about 1 GiB, and so does each own part.
     ///
     /// # Errors
     ///
     /// Memory was refused.
     pub fn new(alloc: Global, net: &Network) -> Result<Self, AllocError>
         requires { net.now ≡ N.network }
+        ensures shared { IfOk result (λ board. board.limit ≡ most_records net.now 1024) }
+        ensures own { IfOk result (λ board. board.own ≡ most_records net.now 1024) }
+    {
+        let most = most_records(net, DEFAULT_MEMORY);
+        Board::of_shares(
+            alloc,
+            Shares {
+                shared: most,
+                own: most,
+            },
+        )
+    }
+
+    /// A board without records, for 1 to 64 workers. What it takes and what all own parts keep take at most about so
+    /// many mebibytes, up to 1,048,576, with the places of the records in the index of each worker.
+    ///
+    /// # Errors
+    ///
+    /// Memory was refused.
+    pub fn within(
+        alloc: Global,
+        net: &Network,
+        mebibytes: usize,
+        workers: usize,
+    ) -> Result<Self, AllocError>
+        requires named { net.now ≡ N.network }
+        requires memory { mebibytes ≤ 1048576 }
+        requires workers { workers ≤ 64 }
+        ensures { IfOk result (λ board. AreShares net.now mebibytes workers board.limit board.own) }
+    {
+        Board::of_shares(alloc, shares_of(net, mebibytes, workers))
+    }
+
+    /// A board without records, which takes so many.
+    fn of_shares(alloc: Global, shares: Shares) -> Result<Self, AllocError>
+        ensures shared { IfOk result (λ board. board.limit ≡ shares.shared) }
+        ensures own { IfOk result (λ board. board.own ≡ shares.own) }
     {
         Ok(Board {
             records: boxcar::Vec::new(alloc)?,
             parts: Mutex::new(Vec::new(alloc)),
-            limit: most_records(net),
+            limit: shares.shared,
+            own: shares.own,
         })
     }
 
-    /// Whether it has as many records as it takes at most: about 1 GiB, with their places in the index of a thread.
+    /// Whether it has as many records as it takes at most.
     pub fn is_full(&self) -> bool {
         self.limit <= self.count()
     }
@@ -44,12 +86,13 @@ impl<N: OfNetwork> Board<N> {
     }
 
     /// The own part of a thread: one that was given back, or a new one. May wait for another thread that does the same.
-    pub fn take_part(&self, rt: &impl Wait, alloc: Global, net: &Network) -> Local<N>
-        requires { net.now ≡ N.network }
+    pub fn take_part(&self, rt: &impl Wait, alloc: Global) -> Local<N>
+        ensures { result.most ≡ self.now.own }
     {
-        match self.parts.lock(rt).pop() {
-            Some(part) => part,
-            None => Local::new(alloc, net),
+        let part = self.parts.lock(rt).pop();
+        match part {
+            Some(part) if part.most() == self.own => part,
+            _ => Local::of_most(alloc, self.own),
         }
     }
 

@@ -1,12 +1,13 @@
-ghost use Rattle.std.specs.Prelude.{◌≡◌, ◌↔◌, ◌≤◌, IsTrue, IfSome, [], length, take};
+ghost use Rattle.std.specs.Prelude.{◌≡◌, ◌↔◌, ◌<◌, ◌≤◌, IsTrue, IfSome, [], length};
 ghost use Rattle.racp_model.specs.Window.{IsNo};
 ghost use Rattle.racp_cutset.specs.Covering.{Covers};
-ghost use Rattle.racp_cutset.specs.Kept.{IsKeptOrDropped, IsLastTaken, most_records};
+ghost use Rattle.racp_cutset.specs.Kept.{IsKeptOrDropped, IsLastTaken, front, most_records};
 
 use crate::board::Board;
 use crate::index::{Index, Place};
 use crate::node::Node;
 use crate::nogood::Nogood;
+use crate::shares::{DEFAULT_MEMORY, most_records};
 use racp_model::{Network, OfNetwork};
 use std::alloc::Global;
 use std::marker::Model;
@@ -14,13 +15,6 @@ use std::marker::Model;
 /// How many places of the board, behind those of the records that are still to be read, are looked at. A place stays
 /// empty where the push to it was refused.
 const EMPTY_PLACES: usize = 8;
-
-/// How many numbers of 32 bits the records of a thread take at most, about. So many are 1 GiB.
-const MOST_NUMBERS: usize = 1 << 28;
-
-/// How many numbers a record takes, about, beside one for each resource and two for each job: its other fields, its
-/// place in the index, and what the allocator needs for each piece of memory.
-const OTHER_NUMBERS: usize = 100;
 
 /// How far the board has been read.
 #[derive(Clone, Copy, Drop)]
@@ -32,8 +26,8 @@ struct Reading {
 }
 
 /// One thread's own part of the records: the records that it made and has not given away, and an index of these and of
-/// what it has read of the board. It keeps at most so many records that they take about 1 GiB, with their places in the
-/// index. Contracts see the list of the records that it keeps.
+/// what it has read of the board. It keeps no more records than it was made for. Contracts see the records that it keeps,
+/// and how many it keeps at most.
 #[derive(Drop)]
 pub struct Local<N: OfNetwork> {
     kept: Vec<Nogood<N>>,
@@ -41,19 +35,19 @@ pub struct Local<N: OfNetwork> {
     reading: Reading,
     /// How many records are kept at most.
     limit: usize,
+    /// The place behind that of the record that gave way last for want of room.
+    turn: usize,
 }
 
 impl<N: OfNetwork> Model for Local<N> {
-    ghost use Rattle.std.specs.Prelude.{◌≡◌, ◌≤◌, List, length};
-    ghost use Rattle.racp_cutset.specs.Covering.{SearchNode};
-    ghost use Rattle.racp_cutset.specs.Kept.{most_records};
+    ghost use Rattle.std.specs.Prelude.{◌≤◌, length};
+    ghost use Rattle.racp_cutset.specs.Kept.{Kept};
 
-    ghost Value = { List SearchNode };
+    ghost Value = { Kept };
 
-    ghost view = { λ local. local.kept.items };
+    ghost view = { λ local. record { records = local.kept.items; most = local.limit } };
 
-    ghost invariant = { λ local. (local.limit ≡ most_records N.network) ×
-        (length local.kept.items ≤ most_records N.network) };
+    ghost invariant = { λ local. length local.kept.items ≤ local.limit };
 }
 
 impl<N: OfNetwork> Local<N> {
@@ -61,10 +55,17 @@ impl<N: OfNetwork> Local<N> {
     ghost use Rattle.racp_cutset.specs.Lending.{EndsAsLent};
     ghost use Rattle.racp_cutset.specs.contracts.local.Local.{the_row};
 
-    /// Keeps no record and has read nothing. Takes no memory until a record is kept or read.
+    /// Keeps no record and has read nothing, and keeps at most as many records as take about 1 GiB. Takes no memory
+    /// until a record is kept or read.
     pub fn new(alloc: Global, net: &Network) -> Self
-        requires { net.now ≡ N.network }
-        ensures { result ≡ [] }
+        ensures { result ≡ record { records = []; most = most_records net.now 1024 } }
+    {
+        Local::of_most(alloc, most_records(net, DEFAULT_MEMORY))
+    }
+
+    /// The same, for at most so many records.
+    pub fn of_most(alloc: Global, most: usize) -> Self
+        ensures { result ≡ record { records = []; most = most } }
     {
         Local {
             kept: Vec::new(alloc),
@@ -73,21 +74,29 @@ impl<N: OfNetwork> Local<N> {
                 next: 0,
                 records: 0,
             },
-            limit: most_records(net),
+            limit: most,
+            turn: 0,
         }
+    }
+
+    /// How many records are kept at most.
+    pub fn most(&self) -> usize
+        ensures { result ≡ self.now.most }
+    {
+        self.limit
     }
 
     /// Whether as many records are kept as can be: a further one is dropped.
     pub fn is_full(&self) -> bool
-        ensures { IsTrue result ↔ (length self.now ≡ most_records N.network) }
+        ensures { IsTrue result ↔ (length self.now.records ≡ self.now.most) }
     {
         self.limit <= self.kept.len()
     }
 
     /// How many records are kept.
     pub fn kept_count(&self) -> usize
-        ensures count { result ≡ length self.now }
-        ensures most { result ≤ most_records N.network }
+        ensures count { result ≡ length self.now.records }
+        ensures most { result ≤ self.now.most }
     {
         self.kept.len()
     }
@@ -105,10 +114,36 @@ impl<N: OfNetwork> Local<N> {
             self.index.enter(key, Place::Kept(place));
             return;
         }
+        if let Some(place) = self.oldest(first) {
+            self.kept[place] = nogood;
+            self.index.enter(key, Place::Kept(place));
+            return;
+        }
         if self.is_full() || self.kept.push(nogood).is_err() {
             return;
         }
         self.index.enter(key, Place::Kept(count));
+    }
+
+    /// The place of a record that gives way where one more would take the last of the room: the oldest one that is not
+    /// among the first ones, by turns.
+    fn oldest(&mut self, first: usize) -> Option<usize>
+        ensures kept { self.new ≡ self.old }
+        ensures place { IfSome result (λ place. (first ≤ place) × (place < length self.old.records)) }
+    {
+        let count = self.kept.len();
+        if count < self.limit && self.limit - count > 1 {
+            return None;
+        }
+        let next = first.max(self.turn);
+        let place = if next < count { next } else { first };
+        if count <= place {
+            return None;
+        }
+        self.turn = place + 1;
+        self.index
+            .forget(self.kept[place].key(), Place::Kept(place));
+        Some(place)
     }
 
     /// Takes out the last record, as to push it to the board.
@@ -124,7 +159,7 @@ impl<N: OfNetwork> Local<N> {
 
     /// Drops the records behind the first `count`.
     pub fn forget_behind(&mut self, count: usize)
-        ensures { self.new ≡ take count self.old }
+        ensures { self.new ≡ front count self.old }
     {
         forget_from(&mut self.index, &self.kept, count);
         self.index.forget_free();
@@ -173,14 +208,6 @@ impl<N: OfNetwork> Local<N> {
             Place::Kept(i) => self.kept.get(i),
         }
     }
-}
-
-/// How many records of a network take about 1 GiB, with their places in an index.
-pub(crate) fn most_records(net: &Network) -> usize
-    ensures { result ≡ most_records net.now }
-{
-    let numbers = 2 * net.job_count() + net.resource_count() + OTHER_NUMBERS;
-    MOST_NUMBERS / numbers
 }
 
 /// Enters the records of the board that were not read, and answers how far it has been read. Places that are empty are

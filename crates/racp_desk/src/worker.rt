@@ -13,10 +13,10 @@ use racp_core::{Merged, Reply};
 use racp_cutset::{Board, Local};
 use racp_model::{Network, OfNetwork};
 use racp_questions::Series;
-use racp_search::{Finding, Piece, Stop, explore};
+use racp_search::{Finding, OpenSearch, Piece, Stop, explore_further};
 use std::alloc::Global;
 use std::sync::ledger::Share;
-use std::sync::{Condvar, Mutex, Wait};
+use std::sync::{Condvar, Mutex, MutexGuard, Wait};
 
 /// What a run is about, beside its series: how many workers and turns there are, how many nodes a piece is searched at
 /// most, and what all workers use.
@@ -146,7 +146,23 @@ fn next_piece<'a, N: OfNetwork, M: Names, S: Series, G: Gate, P: Stop, R: Wait>(
     ensures formed { IfSome result (λ piece. IsFormed N.network piece.question) }
     ensures parts { mine.new.parts ≡ mine.old.parts }
 {
-    let mut state = shared.desk.lock(rt);
+    let state = shared.desk.lock(rt);
+    piece_from(rt, shared, state, seat, mine)
+}
+
+/// The same, with the lock held to begin with.
+fn piece_from<'a, 'b, N: OfNetwork, M: Names, S: Series, G: Gate, P: Stop, R: Wait>(
+    rt: &R,
+    shared: &'b Shared<'a, N, M, S, G, P>,
+    state: MutexGuard<'b, State<N, M, S>>,
+    seat: usize,
+    mine: &mut Share<M>,
+) -> Option<Piece<N>>
+    requires { 0 < mine.old.parts }
+    ensures formed { IfSome result (λ piece. IsFormed N.network piece.question) }
+    ensures parts { mine.new.parts ≡ mine.old.parts }
+{
+    let mut state = state;
     for _round in rt.forever() {
         match next_turn(
             &mut *state,
@@ -157,24 +173,30 @@ fn next_piece<'a, N: OfNetwork, M: Names, S: Series, G: Gate, P: Stop, R: Wait>(
         ) {
             Turn::Search(piece) => return Some(piece),
             Turn::Leave => return None,
-            Turn::Wait => state = shared.idle.wait(rt, state),
+            Turn::Wait => {
+                shared.hint.want();
+                state = shared.idle.wait(rt, state);
+            }
         }
     }
     unreachable!()
 }
 
-/// A finding, and whether the user has asked to stop.
+/// A finding, whether the user has asked to stop, and the search that was left.
 struct Searched<N: OfNetwork> {
     finding: Finding<N>,
     by_user: bool,
+    left: Option<OpenSearch<N>>,
     ghost nodes_few: { finding.nodes ≤ 1000000 },
 }
 
-/// Searches a piece, until the user asks to stop or a yes of an earlier question was merged.
+/// Searches a piece, until the user asks to stop, a yes of an earlier question was merged, or another worker waits. It
+/// goes on with the search that was left before, where that is of the piece.
 fn search<'a, N: OfNetwork, M: Names, S: Series, G: Gate, P: Stop>(
     shared: &Shared<'a, N, M, S, G, P>,
     piece: Piece<N>,
     local: &mut Local<N>,
+    before: Option<OpenSearch<N>>,
 ) -> Searched<N>
     requires { IsFormed N.network piece.question }
 {
@@ -183,9 +205,15 @@ fn search<'a, N: OfNetwork, M: Names, S: Series, G: Gate, P: Stop>(
         reasons: UserOrHint::new(job.stop, &shared.hint, piece.index()),
     };
     let quantum = Some(job.quantum);
-    let finding = explore(job.alloc, job.net, piece, quantum, job.board, local, &watch);
+    let (finding, left) = explore_further(
+        job.alloc, job.net, piece, quantum, job.board, local, &watch, before,
+    );
     let by_user = watch.reasons.by_user();
-    Searched { finding, by_user }
+    Searched {
+        finding,
+        by_user,
+        left,
+    }
 }
 
 /// Shares the records that the worker kept, while the board has room.
@@ -213,17 +241,21 @@ fn put_away<'a, N: OfNetwork, M: Names, S: Series, G: Gate, P: Stop, R: Wait>(
     shared.job.board.give_part(rt, local);
 }
 
-/// Hands a finding in, and tells all that wait.
+/// Hands a finding in, tells all that wait, and takes the next piece before any of them does, if it can: so a worker
+/// goes on with the search that it left.
 fn hand_in<'a, N: OfNetwork, M: Names, S: Series, G: Gate, P: Stop, R: Wait>(
     rt: &R,
     shared: &Shared<'a, N, M, S, G, P>,
-    searched: Searched<N>,
+    finding: Finding<N>,
+    by_user: bool,
+    seat: usize,
     mine: &mut Share<M>,
-)
-    requires { 0 < mine.old.parts }
-    ensures { mine.new.parts ≡ mine.old.parts }
+) -> Option<Piece<N>>
+    requires parts { 0 < mine.old.parts }
+    requires nodes { finding.nodes ≤ 1000000 }
+    ensures formed { IfSome result (λ piece. IsFormed N.network piece.question) }
+    ensures parts { mine.new.parts ≡ mine.old.parts }
 {
-    let Searched { finding, by_user } = searched;
     let index = finding.piece().index();
     let found = finding.found().is_some();
     let mut state = shared.desk.lock(rt);
@@ -231,6 +263,7 @@ fn hand_in<'a, N: OfNetwork, M: Names, S: Series, G: Gate, P: Stop, R: Wait>(
         shared.hint.note(index);
     }
     shared.idle.notify_all();
+    piece_from(rt, shared, state, seat, mine)
 }
 
 /// Takes a finding in, and halts the desk where memory was refused or the user has asked to stop. Answers whether it
@@ -298,28 +331,49 @@ pub(crate) fn work<'a, N: OfNetwork, M: Names, S: Series, G: Gate, P: Stop, R: W
     requires { mine.parts ≡ 1 }
 {
     let mut mine = mine;
-    let Job {
-        alloc,
-        net,
-        board,
-        ..
-    } = &shared.job;
-    let mut local: Local<N> = board.take_part(rt, *alloc, net);
+    let Job { alloc, board, .. } = &shared.job;
+    let mut local: Local<N> = board.take_part(rt, *alloc);
     let count = local.kept_count();
-    for _round in rt.forever() {
-        let Some(piece) = next_piece(rt, shared, seat, &mut mine) else {
-            break;
-        };
-        shared.job.gate.enter(seat, piece.number());
-        let searched = search(shared, piece, &mut local);
-        if shared.job.workers > 1 {
-            publish(rt, board, &mut local);
-        }
-        hand_in(rt, shared, searched, &mut mine);
+    if let Some(piece) = next_piece(rt, shared, seat, &mut mine) {
+        go_on(rt, shared, seat, piece, &mut local, &mut mine);
     }
     shared.idle.notify_all();
     put_away(rt, shared, local, count);
     bring_back(mine)
+}
+
+/// Searches a piece and those that come after it, until there is nothing more to do.
+fn go_on<'a, N: OfNetwork, M: Names, S: Series, G: Gate, P: Stop, R: Wait>(
+    rt: &R,
+    shared: &Shared<'a, N, M, S, G, P>,
+    seat: usize,
+    piece: Piece<N>,
+    local: &mut Local<N>,
+    mine: &mut Share<M>,
+)
+    requires parts { 0 < mine.old.parts }
+    requires formed { IsFormed N.network piece.question }
+    ensures { mine.new.parts ≡ mine.old.parts }
+{
+    let mut before = None;
+    let mut piece = piece;
+    for _round in rt.forever() {
+        shared.job.gate.enter(seat, piece.number());
+        let Searched {
+            finding,
+            by_user,
+            left,
+        } = search(shared, piece, local, before);
+        if shared.job.workers > 1 {
+            publish(rt, shared.job.board, local);
+        }
+        before = left;
+        match hand_in(rt, shared, finding, by_user, seat, mine) {
+            Some(next) => piece = next,
+            None => return,
+        }
+    }
+    unreachable!()
 }
 
 /// Brings a share back.

@@ -20,13 +20,13 @@ use Rattle.racp_desk.specs.declared.state.Closed.{Closed}
 use Rattle.racp_desk.specs.Closing.{IsRunClosed}
 
 -- a call runs desks about a project, with such a stop: it may be called with each series of questions of the project's
--- form, and what it answers is the end of a run about that series with so many turns
-pub record RunsDesks (p : Project) (quiet : Bool) (pre : AnySeries → ℕ → Type 0)
-    (post : AnySeries → ℕ → Result Closed DeskFault → Type 0) : Type 0 where
-  pub may_run : (series : AnySeries) (turns : ℕ) → AreFormed p (any_questions series) → turns ≤ 1000000000000 →
-      pre series turns
-  pub closes : (series : AnySeries) (turns : ℕ) (result : Result Closed DeskFault) → post series turns result →
-      IfOk result (IsRunClosed p (any_questions series) turns quiet)
+-- form, and what it answers is the end of a run about that series with so many nodes in a turn and so many turns
+pub record RunsDesks (p : Project) (quiet : Bool) (pre : AnySeries → ℕ → ℕ → Type 0)
+    (post : AnySeries → ℕ → ℕ → Result Closed DeskFault → Type 0) : Type 0 where
+  pub may_run : (series : AnySeries) (quantum turns : ℕ) → AreFormed p (any_questions series) → quantum ≤ 1000000 →
+      turns ≤ 1000000000000 → pre series quantum turns
+  pub closes : (series : AnySeries) (quantum turns : ℕ) (result : Result Closed DeskFault) →
+      post series quantum turns result → IfOk result (IsRunClosed p (any_questions series) turns quiet)
 
 -- memory was refused, or a worker could not be started
 abbrev pub IsFault : AskStop → Type 0

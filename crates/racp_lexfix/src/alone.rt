@@ -1,4 +1,5 @@
-ghost use Rattle.std.specs.Prelude.{◌≡◌, None, [], IfOk, IfErr, IsFalse};
+ghost use Rattle.std.specs.Prelude.{◌≡◌, ◌≤◌, None, [], length, IfOk, IfErr, IsFalse};
+ghost use Rattle.racp_cutset.specs.Kept.{most_records};
 ghost use Rattle.racp_questions.specs.declared.asker.AskStop.TheVariants.{Memory};
 ghost use Rattle.racp_search.specs.Truth.{rest_windows};
 ghost use Rattle.racp_core.specs.Machine.{all_questions, IsSettled};
@@ -6,7 +7,7 @@ ghost use Rattle.racp_questions.specs.FirstYes.{IsFirst};
 ghost use Rattle.racp_lexfix.specs.Working.{IsIdle, IsAtWork, IsNextPiece, IsHandedIn, IsGoneOn, IsLeft, IsProbeOf};
 
 use racp_core::{Asked, Core, Merged, Outcome, Reply};
-use racp_cutset::{Board, Local};
+use racp_cutset::{Board, DEFAULT_MEMORY, Local, most_records};
 use racp_model::{Network, OfNetwork, Question};
 use racp_questions::{AskStop, Asker, First, Probe, Series};
 use racp_search::{Finding, Never, Piece, Rest, explore};
@@ -26,18 +27,32 @@ pub struct Alone<N: OfNetwork> {
 }
 
 impl<N: OfNetwork> Alone<N> {
-    /// An asker that has kept nothing. The network is the one that `N` names.
+    /// An asker that has kept nothing. Its records take at most about 1 GiB. The network is the one that `N` names.
     ///
     /// # Errors
     ///
     /// Memory was refused.
     pub fn new(alloc: Global, net: &Network) -> Result<Self, AllocError>
         requires { net.now ≡ N.network }
+        ensures { IfOk result (λ alone. alone.local ≡ record { records = []; most = most_records net.now 1024 }) }
+    {
+        Alone::within(alloc, net, DEFAULT_MEMORY)
+    }
+
+    /// The same, with records that take at most about so many mebibytes, up to 1,048,576.
+    ///
+    /// # Errors
+    ///
+    /// Memory was refused.
+    pub fn within(alloc: Global, net: &Network, mebibytes: usize) -> Result<Self, AllocError>
+        requires named { net.now ≡ N.network }
+        requires memory { mebibytes ≤ 1048576 }
+        ensures { IfOk result (λ alone. alone.local ≡ record { records = []; most = most_records net.now mebibytes }) }
     {
         Ok(Alone {
             alloc,
             board: Board::new(alloc, net)?,
-            local: Local::new(alloc, net),
+            local: Local::of_most(alloc, most_records(net, mebibytes)),
             answered: 0,
         })
     }
@@ -73,7 +88,7 @@ impl<N: OfNetwork, S: Series> Asker<S> for Alone<N> {
         question: Question,
         most: Option<u64>,
     ) -> Result<Probe, AskStop> {
-        let kept = self.local.kept_count();
+        let kept = begin(&mut self.local);
         let piece = Piece::new(0, 0, 0, question);
         let local = &mut self.local;
         let finding = explore(self.alloc, net, piece, most, &self.board, local, &Never);
@@ -83,6 +98,17 @@ impl<N: OfNetwork, S: Series> Asker<S> for Alone<N> {
         }
         Ok(probe)
     }
+}
+
+/// How many records are kept where a question begins. All are forgotten before it where they leave less than half of the
+/// room for its own.
+fn begin<N: OfNetwork>(local: &mut Local<N>) -> usize
+    ensures { result ≡ length local.new.records }
+{
+    if local.most() / 2 < local.kept_count() {
+        local.forget_behind(0);
+    }
+    local.kept_count()
 }
 
 /// What the finding of a question tells of it. Where memory was refused to the search, it tells nothing.
@@ -131,7 +157,7 @@ fn settle_next<N: OfNetwork, S: Series>(
     let Some(piece) = next_piece(core)? else {
         return Ok(false);
     };
-    let kept = local.kept_count();
+    let kept = begin(local);
     let finding = explore(alloc, net, piece, None, board, local, &Never);
     if finding.short() {
         let _ = finding.into_found();

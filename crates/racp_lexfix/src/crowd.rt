@@ -17,8 +17,11 @@ use racp_search::Stop;
 use std::alloc::AllocError;
 use std::marker::PhantomData;
 
-/// How many nodes of a piece a worker searches in one turn.
-pub(crate) const QUANTUM: u64 = 250;
+/// How many nodes of a piece a worker searches in one turn, where there are others to which its records are of use.
+const SHARED_QUANTUM: u64 = 200;
+
+/// How many nodes of a piece a worker searches in one turn where it is the only one.
+const LONE_QUANTUM: u64 = 1000000;
 
 /// How much work was done.
 #[derive(Clone, Copy)]
@@ -33,8 +36,13 @@ pub struct Effort {
 /// of them: a turn is a piece that is taken. It is handed a call that runs a desk about a series with so many turns and
 /// a stop `P`. It stops only where no turn is left, or where its stop is not quiet.
 #[derive(Drop)]
-pub struct Crowd<N: OfNetwork, P: Stop, F: Fn(AnySeries, u64) -> Result<Closed, DeskFault> + Drop> {
+pub struct Crowd<
+    N: OfNetwork,
+    P: Stop,
+    F: Fn(AnySeries, u64, u64) -> Result<Closed, DeskFault> + Drop,
+> {
     run: F,
+    workers: u64,
     turns: u64,
     left: u64,
     pieces: u64,
@@ -42,25 +50,28 @@ pub struct Crowd<N: OfNetwork, P: Stop, F: Fn(AnySeries, u64) -> Result<Closed, 
     answered: u64,
     told: Option<Capacities>,
     of: PhantomData<(N, P)>,
+    ghost workers_few: { workers ≤ 64 },
     ghost turns_few: { turns ≤ 1000000000000 },
     ghost counted: { left + pieces ≡ turns },
     ghost nodes_few: { nodes ≤ 1000000 * pieces },
 }
 
-impl<N: OfNetwork, P: Stop, F: Fn(AnySeries, u64) -> Result<Closed, DeskFault> + Drop> Crowd<
+impl<N: OfNetwork, P: Stop, F: Fn(AnySeries, u64, u64) -> Result<Closed, DeskFault> + Drop> Crowd<
     N,
     P,
     F,
 > {
-    /// An asker with so many turns, which runs a desk by this call.
-    pub fn new(turns: u64, run: F) -> Self
-        requires { turns ≤ 1000000000000 }
+    /// An asker with so many turns, which runs a desk of so many workers by this call.
+    pub fn new(workers: usize, turns: u64, run: F) -> Self
+        requires workers { workers ≤ 64 }
+        requires turns { turns ≤ 1000000000000 }
         ensures run { result.run ≡ run }
         ensures left { result.left ≡ turns }
         ensures effort { (result.pieces ≡ 0) × (result.nodes ≡ 0) }
     {
         Crowd {
             run,
+            workers: workers as u64,
             turns,
             left: turns,
             pieces: 0,
@@ -88,8 +99,10 @@ impl<N: OfNetwork, P: Stop, F: Fn(AnySeries, u64) -> Result<Closed, DeskFault> +
         }
     }
 
-    /// Runs a desk about a series with so many of the turns that are left, and counts its work.
-    fn closed(&mut self, series: AnySeries, turns: u64) -> Result<Closed, AskStop>
+    /// Runs a desk about a series with so many nodes of a piece in a turn and so many of the turns that are left, and
+    /// counts its work.
+    fn closed(&mut self, series: AnySeries, quantum: u64, turns: u64) -> Result<Closed, AskStop>
+        requires quantum { quantum ≤ 1000000 }
         requires turns { turns ≤ self.old.left }
         requires formed { AreFormed N.network (any_questions series) }
         requires run { RunsDesks N.network P.QUIET (F.pre self.old.run) (F.post self.old.run) }
@@ -101,7 +114,7 @@ impl<N: OfNetwork, P: Stop, F: Fn(AnySeries, u64) -> Result<Closed, DeskFault> +
         ensures nodes { IfOk result (λ closed. self.new.nodes ≡ self.old.nodes + closed.nodes) }
         ensures err { IfErr result IsFault }
     {
-        let closed = match (self.run)(series, turns) {
+        let closed = match (self.run)(series, quantum, turns) {
             Ok(closed) => closed,
             Err(DeskFault::Memory) => return Err(AskStop::Memory),
             Err(DeskFault::NoThread) => return Err(AskStop::NoThread),
@@ -161,14 +174,31 @@ impl<N: OfNetwork, P: Stop, F: Fn(AnySeries, u64) -> Result<Closed, DeskFault> +
     }
 }
 
-/// How many turns the search of a question may take whose nodes have this bound, of those that are left.
-fn turns_for(most: Option<u64>, left: u64) -> u64
+/// How many nodes of a piece one of so many workers searches in a turn, where the nodes of the question may have a bound.
+fn quantum_for(workers: u64, most: Option<u64>) -> u64
+    ensures some { 1 ≤ result }
+    ensures most { result ≤ 1000000 }
+{
+    let quantum = if workers > 1 {
+        SHARED_QUANTUM
+    } else {
+        LONE_QUANTUM
+    };
+    match most {
+        Some(nodes) => nodes.clamp(1, quantum),
+        None => quantum,
+    }
+}
+
+/// How many turns of so many workers, each over at most `quantum` nodes of a piece, the search of a question may take
+/// whose nodes have this bound for each worker, of those that are left.
+fn turns_for(workers: u64, quantum: u64, most: Option<u64>, left: u64) -> u64
+    requires { 1 ≤ quantum }
     ensures most { result ≤ left }
     ensures all { most ≡ None → result ≡ left }
-    ensures exact { IfSome most (λ nodes. result ≡ min ((nodes + 249) / 250) left) }
 {
     match most {
-        Some(nodes) => nodes.div_ceil(QUANTUM).min(left),
+        Some(nodes) => nodes.div_ceil(quantum).saturating_mul(workers).min(left),
         None => left,
     }
 }
@@ -208,7 +238,7 @@ fn probe_of(outcome: Outcome, is_over: bool) -> Result<Probe, AskStop>
     }
 }
 
-impl<N: OfNetwork, P: Stop, F: Fn(AnySeries, u64) -> Result<Closed, DeskFault> + Drop> Asker<
+impl<N: OfNetwork, P: Stop, F: Fn(AnySeries, u64, u64) -> Result<Closed, DeskFault> + Drop> Asker<
     AnySeries,
 > for Crowd<N, P, F> {
     ghost use Rattle.std.specs.Prelude.{◌≡◌, ◌⊎◌, ⊤, false};
@@ -230,7 +260,7 @@ impl<N: OfNetwork, P: Stop, F: Fn(AnySeries, u64) -> Result<Closed, DeskFault> +
         if left == 0 {
             return Err(AskStop::Stopped { reached: None });
         }
-        let closed = self.closed(series, left)?;
+        let closed = self.closed(series, quantum_for(self.workers, None), left)?;
         self.answer(closed)
     }
 
@@ -244,9 +274,10 @@ impl<N: OfNetwork, P: Stop, F: Fn(AnySeries, u64) -> Result<Closed, DeskFault> +
         if self.left == 0 {
             return Err(AskStop::Stopped { reached: None });
         }
-        let turns = turns_for(most, self.left);
+        let quantum = quantum_for(self.workers, most);
+        let turns = turns_for(self.workers, quantum, most, self.left);
         let series = One::of(question);
-        let closed = self.closed(AnySeries::One(series), turns)?;
+        let closed = self.closed(AnySeries::One(series), quantum, turns)?;
         let Closed { outcome, log, .. } = closed;
         let is_over = self.is_over(most, &log);
         probe_of(outcome, is_over)

@@ -10,11 +10,11 @@ ghost use Rattle.racp_lexfix.specs.declared.answer.PlanStop.TheVariants.{Memory}
 
 use crate::alone::Alone;
 use crate::answer::{Answer, PlanStop};
-use crate::crowd::{Crowd, Effort, QUANTUM};
+use crate::crowd::{Crowd, Effort};
 use crate::lines::answer_lines;
 use crate::planning::plan;
 use racp_candidates::AnySeries;
-use racp_cutset::Board;
+use racp_cutset::{Board, DEFAULT_MEMORY};
 use racp_desk::{Closed, DeskFault, Gate, run};
 use racp_model::{Network, OfNetwork};
 use racp_prices::{Order, OrderFault, read_order};
@@ -109,9 +109,27 @@ impl From<AllocError> for Refusal {
 pub fn plan_alone(alloc: Global, net_bytes: &[u8], order_text: &[u8]) -> Result<Printed, Refusal>
     ensures { IsPrinting net_bytes.now order_text.now result }
 {
+    plan_alone_within(alloc, net_bytes, order_text, DEFAULT_MEMORY)
+}
+
+/// The same, with records of refuted nodes that take at most about so many mebibytes, up to 1,048,576; those of
+/// `plan_alone` take 1,024. Where there is no room for a further one, records give way, and the answer stays the same.
+///
+/// # Errors
+///
+/// As with `plan_alone`.
+pub fn plan_alone_within(
+    alloc: Global,
+    net_bytes: &[u8],
+    order_text: &[u8],
+    mebibytes: usize,
+) -> Result<Printed, Refusal>
+    requires { mebibytes ≤ 1048576 }
+    ensures { IsPrinting net_bytes.now order_text.now result }
+{
     let net = read_sm(alloc, net_bytes)?;
     let order = read_order(alloc, order_text, net.resource_count(), net.job_count())?;
-    let answer = plan_named::<Brand>(alloc, &net, &order)?;
+    let answer = plan_named::<Brand>(alloc, &net, &order, mebibytes)?;
     Ok(print_answer(alloc, &order, &answer)?)
 }
 
@@ -138,14 +156,53 @@ pub fn plan_crowd<G: Gate + Sync, P: Stop + Sync, R: Threads + Wait + Sync>(
     requires turns { turns ≤ 1000000000000 }
     ensures { IsCrowdPrinting net_bytes.now order_text.now result }
 {
-    let net = read_sm(alloc, net_bytes)?;
-    let order = read_order(alloc, order_text, net.resource_count(), net.job_count())?;
+    let memory = DEFAULT_MEMORY;
     let crew = Crew {
         workers,
         turns,
+        memory,
         gate,
         stop,
     };
+    plan_crowd_by(rt, alloc, net_bytes, order_text, crew)
+}
+
+/// How a plan is made by workers.
+#[derive(Drop)]
+pub struct Crew<'a, G: Gate, P: Stop> {
+    /// How many workers there are, 1 to 64.
+    pub workers: usize,
+    /// How many pieces they take at most, up to 1,000,000,000,000.
+    pub turns: u64,
+    /// How many mebibytes all records of refuted nodes take at most, about, up to 1,048,576. Where there is no room for a
+    /// further one, records give way, and the answer stays the same.
+    pub memory: usize,
+    /// The gate that a worker enters before it searches a piece.
+    pub gate: &'a G,
+    /// Whether planning is to stop: asked before each node.
+    pub stop: &'a P,
+}
+
+/// The answer to the texts of a network and an order, made by such workers: what `plan_crowd` answers, whose records take
+/// at most 1,024 mebibytes.
+///
+/// # Errors
+///
+/// As with `plan_crowd`.
+pub fn plan_crowd_by<G: Gate + Sync, P: Stop + Sync, R: Threads + Wait + Sync>(
+    rt: &R,
+    alloc: Global,
+    net_bytes: &[u8],
+    order_text: &[u8],
+    crew: Crew<'_, G, P>,
+) -> Result<(Printed, Effort), Refusal>
+    requires workers { crew.workers ≤ 64 }
+    requires turns { crew.turns ≤ 1000000000000 }
+    requires memory { crew.memory ≤ 1048576 }
+    ensures { IsCrowdPrinting net_bytes.now order_text.now result }
+{
+    let net = read_sm(alloc, net_bytes)?;
+    let order = read_order(alloc, order_text, net.resource_count(), net.job_count())?;
     let (answer, effort) = plan_by::<Brand, G, P, R>(rt, alloc, &net, &order, crew)?;
     Ok((print_answer(alloc, &order, &answer)?, effort))
 }
@@ -163,22 +220,20 @@ fn print_answer(alloc: Global, order: &Order, answer: &Answer) -> Result<Printed
 }
 
 /// The plan of an order, or why there is none, made on the calling thread. The network is the one that `N` names.
-fn plan_named<N: OfNetwork>(alloc: Global, net: &Network, order: &Order) -> Result<Answer, PlanStop>
+fn plan_named<N: OfNetwork>(
+    alloc: Global,
+    net: &Network,
+    order: &Order,
+    mebibytes: usize,
+) -> Result<Answer, PlanStop>
     requires named { net.now ≡ N.network }
+    requires memory { mebibytes ≤ 1048576 }
     requires terms { AreTermsOf net.now order.now }
     ensures answer { IfOk result (IsAnswer net.now order.now) }
     ensures stop { IfErr result (λ stop. stop ≡ Memory) }
 {
-    let mut alone: Alone<N> = Alone::new(alloc, net)?;
+    let mut alone: Alone<N> = Alone::within(alloc, net, mebibytes)?;
     plan(alloc, net, order, &mut alone)
-}
-
-/// How many workers answer with how many turns, the gate that they enter and the stop that they heed.
-struct Crew<'a, G: Gate, P: Stop> {
-    workers: usize,
-    turns: u64,
-    gate: &'a G,
-    stop: &'a P,
 }
 
 /// The plan of an order, or why there is none, made by workers, and how much work they did. The network is the one that
@@ -194,25 +249,28 @@ fn plan_by<N: OfNetwork + Send + Sync, G: Gate + Sync, P: Stop + Sync, R: Thread
     requires terms { AreTermsOf net.now order.now }
     requires workers { crew.workers ≤ 64 }
     requires turns { crew.turns ≤ 1000000000000 }
+    requires memory { crew.memory ≤ 1048576 }
     ensures answer { IfOk result (λ done. IsAnswer net.now order.now done.0) }
     ensures stop { IfErr result (IsCrowdStop net.now order.now) }
 {
     let Crew {
         workers,
         turns,
+        memory,
         gate,
         stop,
     } = crew;
-    let board: Board<N> = Board::new(alloc, net)?;
+    let board: Board<N> = Board::within(alloc, net, memory, workers)?;
     let mut crowd: Crowd<N, P, _> = Crowd::new(
+        workers,
         turns,
-        |series: AnySeries, turns: u64| -> Result<Closed, DeskFault>
+        |series: AnySeries, quantum: u64, turns: u64| -> Result<Closed, DeskFault>
             requires { (net.now ≡ N.network) × AreFormed net.now (any_questions series) ×
-                (workers ≤ 64) × (turns ≤ 1000000000000) }
+                (workers ≤ 64) × (quantum ≤ 1000000) × (turns ≤ 1000000000000) }
             ensures { IfOk result (IsRunClosed net.entry.now (any_questions series) turns P.QUIET) }
         {
             run(
-                rt, alloc, net, series, workers, QUANTUM, turns, &board, gate, stop,
+                rt, alloc, net, series, workers, quantum, turns, &board, gate, stop,
             )
         },
     );

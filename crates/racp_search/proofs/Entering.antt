@@ -5,7 +5,7 @@ use Rattle.racp_model.specs.Project.{Project}
 use Rattle.racp_model.specs.Window.{Bounds, IsNo}
 use Rattle.racp_model.specs.Formed.{HasBounds}
 use Rattle.racp_model.proofs.lemmas.Relations.{no_member}
-use Rattle.racp_search.specs.Truth.{IsRestOf, IsFoundOrLeft}
+use Rattle.racp_search.specs.Truth.{IsRestOf, IsFoundOrLeft, IsDecision}
 use Rattle.racp_search.specs.DepthFirst.{SearchFrame, open_parts, IsHigher, IsSearching, IsSearchingNext, IsFrameOf}
 use Rattle.racp_search.specs.Glances.{IsGlance}
 use Rattle.racp_search.specs.declared.glance.Glance.{Glance}
@@ -92,3 +92,11 @@ false_is_not_true h = absurd (cc h)
 
 pub not_false : IsFalse true → ⊥
 not_false h = absurd (cc h)
+
+-- where a search without a quantum was not stopped, it decides the question
+pub decided : (p : Project) (capacities : List ℕ) (window : Bounds) (nodes : ℕ) (ended : Ended) → IsEnd p capacities window None nodes ended → IsFalse ended.stopped → IsDecision p capacities window ended.found
+decided p capacities window nodes ended h on = go ended.found h.is_true
+  where
+    go : (found : Option (List ℕ)) → IsFoundOrLeft p capacities window found ended.rest.items → IsDecision p capacities window found
+    go (Some starts) is = is.0
+    go None is = λ starts answer. let v = (subst (λ (xs : List Bounds). IsRestOf p capacities window xs) (h.all on refl) is).covers starts answer in no_member v.0 v.1

@@ -1,15 +1,17 @@
--- What is left of a stack when a search ends: the windows of its frames, one frame after another.
-use Rattle.std.proofs.Common.{◌≡◌, ◌≢◌, inl, inr, ◌∙◌, ℕ, ◌≤◌, ◌<◌, List, [], ◌∷◌, ◌++◌, length, map, Contains, arith, refl, sym, subst, ap, append_assoc}
+-- What is left of a stack when a search is left: windows of a frame, and that in which the search can be gone on with.
+use Rattle.std.proofs.Common.{◌≡◌, ◌≢◌, inl, inr, ◌∙◌, ℕ, ◌≤◌, ◌<◌, List, [], ◌∷◌, ◌++◌, length, map, Contains, arith, refl, sym, subst, ap, true, false, zero, suc, ◌==◌}
+use Rattle.std.specs.Prelude.{remove, slice_index_or}
+use Rattle.std.proofs.lemmas.Bool.{false≢true, eqb-true}
 use Rattle.std.proofs.lemmas.List.{append-nil, map-append}
 use Rattle.std.proofs.lemmas.List.Elements.{Contains-append_left, Contains-append_right, Contains-append_cases}
 use Rattle.racp_model.specs.Project.{Project}
 use Rattle.racp_model.specs.Window.{Bounds, LiesIn}
 use Rattle.racp_model.proofs.lemmas.Relations.{member_cases, member_first, member_later, no_member}
 use Rattle.racp_search.specs.Truth.{IsRestOf}
-use Rattle.racp_search.specs.DepthFirst.{SearchFrame, Part, LiesInPart, PartsCover, parts_of, open_parts, IsOpenFrame, AreOpenFrames, IsPartOf, IsHigher, IsSearchingNext, IsRestOfFrame}
+use Rattle.racp_search.specs.DepthFirst.{SearchFrame, Part, LiesInPart, PartsCover, parts_of, front_of, last_window, AreOpenFrames, AreBelow, AreInside, IsBelow, IsBeneath, IsPartOf, IsHigher, IsSearchingNext, IsRestOfFrame}
 use Rattle.racp_search.specs.DepthFirst.Part.{all_of}
-use Rattle.racp_search.specs.Steps.{IsLeft}
-use Rattle.racp_search.proofs.Stacks.{part-of_part, inside-sum}
+use Rattle.racp_search.specs.Steps.{IsFrontWindow, IsLeft}
+use Rattle.racp_search.proofs.Stacks.{part-of_part, part-of_itself, below-whole, beneath-part, inside-sum}
 
 -- a window of the list is a part of the list
 pub in_map : (ws : List Bounds) (w : Bounds) → Contains ws w → Contains (map all_of ws) (all_of w)
@@ -27,79 +29,166 @@ from_map p (x ∷ ws) part starts c lies = elim (member_cases (all_of x) (map al
   | inr there ↦ let h = from_map p ws part starts there lies in (h.0, member_later x ws h.0 h.1, h.2)
 ]
 
--- a list without elements
+-- equal parts that are windows are equal windows
+same_window : {w v : Bounds} → all_of w ≡ all_of v → w ≡ v
+same_window e = cc e
+
+-- a length that is tested
+pub none-there : (n : ℕ) → true ≡ (n == 0) → n ≡ 0
+none-there n e = eqb-true n 0 (sym e)
+
+pub some-there : (n : ℕ) → false ≡ (n == 0) → 0 < n
+some-there zero e = absurd (false≢true e)
+some-there (suc n) e = omega arith
+
+-- lists without elements
 pub no-frames : (xs : List SearchFrame) → length xs ≡ 0 → xs ≡ []
 no-frames [] e = refl
 no-frames (x ∷ xs) e = absurd (omega (arith, e))
 
-module _ (p : Project) (capacities : List ℕ) (whole next : Bounds) where
-  -- of some frames the windows are gathered, and the others are still open
-  pub record IsLeaving (frames yielded : List SearchFrame) (rest : List Bounds) : Type 0 where
-    pub covers : (left : List SearchFrame) → frames ≡ yielded ++ left → PartsCover p capacities (all_of whole) (open_parts left ++ map all_of rest)
-    pub parts : (w : Bounds) → Contains rest w → IsPartOf p whole w
-    pub higher : IsHigher p whole next → (w : Bounds) → Contains rest w → IsHigher p whole w
-    pub some : rest ≢ []
+pub no-windows : (xs : List Bounds) → length xs ≡ 0 → xs ≡ []
+no-windows [] e = refl
+no-windows (x ∷ xs) e = absurd (omega (arith, e))
 
-  -- at the start the next window alone is gathered
-  pub leaving-start : (from : ℕ) (frames : List SearchFrame) (rest : List Bounds) → IsSearchingNext p capacities whole frames next from → rest ≡ next ∷ [] → IsLeaving frames [] rest
-  leaving-start from frames rest h e = subst (λ (xs : List Bounds). IsLeaving frames [] xs) (sym e) (record {
-    covers = λ left same. subst (λ (xs : List SearchFrame). PartsCover p capacities (all_of whole) (open_parts xs ++ all_of next ∷ [])) same h.state.covers;
-    parts = λ w c. elim (member_cases next [] w c) [ inl same ↦ subst (λ (x : Bounds). IsPartOf p whole x) same h.part | inr none ↦ absurd (no_member w none) ];
-    higher = λ up w c. elim (member_cases next [] w c) [ inl same ↦ subst (λ (x : Bounds). IsHigher p whole x) same up | inr none ↦ absurd (no_member w none) ];
-    some = λ none. absurd (cc none);
+-- the first frame is taken out
+pub first-out : (old new : List SearchFrame) (f : SearchFrame) → 0 < length old → f ≡ slice_index_or old 0 f → new ≡ remove old 0 → old ≡ f ∷ new
+first-out [] new f some is rest = absurd (omega (arith, some))
+first-out (x ∷ xs) new f some is rest = subst (λ (y : SearchFrame). x ∷ xs ≡ y ∷ new) (sym is) (subst (λ (ys : List SearchFrame). x ∷ xs ≡ x ∷ ys) (sym rest) refl)
+
+module _ (p : Project) (capacities : List ℕ) (whole next : Bounds) where
+  abbrev pub front : List SearchFrame → List Part
+  front frames = front_of frames (all_of next ∷ [])
+
+  -- some frames are still on the stack, and windows of what was before them are gathered
+  pub record IsLeaving (frames : List SearchFrame) (rest : List Bounds) : Type 0 where
+    pub covers : PartsCover p capacities (all_of whole) (front frames ++ map all_of rest)
+    pub opened : AreOpenFrames p capacities frames (all_of next ∷ [])
+    pub inside : AreInside p whole frames
+    pub beneath : IsBeneath p whole frames next
+    pub parts : (w : Bounds) → Contains rest w → IsBelow p whole w
+    pub higher : rest ≢ [] → (w : Bounds) → Contains (front frames) (all_of w) → IsHigher p whole w
+
+  -- at the start no window is gathered
+  pub leaving-start : (from : ℕ) (frames : List SearchFrame) (rest : List Bounds) → IsSearchingNext p capacities whole frames next from → rest ≡ [] → IsLeaving frames rest
+  leaving-start from frames rest h e = subst (λ (xs : List Bounds). IsLeaving frames xs) (sym e) (record {
+    covers = subst (λ (xs : List Part). PartsCover p capacities (all_of whole) xs) (sym (append-nil (front frames))) h.state.covers;
+    opened = h.state.frames;
+    inside = h.state.inside;
+    beneath = h.beneath;
+    parts = λ w c. absurd (no_member w c);
+    higher = λ some. absurd (some refl);
   })
 
-  -- one of the frames is open
-  pub one-open : (xs : List SearchFrame) (f : SearchFrame) (ys : List SearchFrame) (parts : List Part) → AreOpenFrames p capacities whole (xs ++ f ∷ ys) parts → (f.node.capacities ≡ capacities) × IsPartOf p whole f.node.window
-  one-open [] f ys parts h = (h.0.same, h.0.inside)
-  one-open (x ∷ xs) f ys parts h = one-open xs f ys parts h.1
+  -- what lies below a window that is a part of the whole
+  front-higher : (w : Bounds) (fs : List SearchFrame) → IsPartOf p whole w → AreBelow p w fs → IsBelow p (last_window w fs) next → (v : Bounds) → Contains (front fs) (all_of v) → IsHigher p whole v
+  front-higher w [] part below is v c = elim (member_cases (all_of next) [] (all_of v) c) [
+    | inl same ↦ omega (arith, inside-sum p whole w part.inside, subst (λ (x : Bounds). IsHigher p w x) (same_window same) is.higher)
+    | inr none ↦ absurd (no_member (all_of v) none)
+  ]
+  front-higher w (g ∷ fs) part below is v c = elim (member_cases (all_of g.node.window) [] (all_of v) c) [
+    | inl same ↦ omega (arith, inside-sum p whole w part.inside, subst (λ (x : Bounds). IsHigher p w x) (same_window same) below.0.higher)
+    | inr none ↦ absurd (no_member (all_of v) none)
+  ]
 
-  -- one frame more
-  pub leaving-next : (from : ℕ) (frames yielded left : List SearchFrame) (f : SearchFrame) (rest more new : List Bounds) → IsSearchingNext p capacities whole frames next from → frames ≡ yielded ++ f ∷ left → IsLeaving frames yielded rest →
-      IsRestOfFrame p capacities f more → new ≡ rest ++ more → IsLeaving frames (yielded ++ f ∷ []) new
-  leaving-next from frames yielded left f rest more new h is l m e = subst (λ (xs : List Bounds). IsLeaving frames (yielded ++ f ∷ []) xs) (sym e) (record {
-    covers = λ others same starts lies fits.
-        let before : frames ≡ yielded ++ (f ∷ others) = same ∙ append_assoc yielded (f ∷ []) others in
-        let old = l.covers (f ∷ others) before starts lies fits in
-        let back : map all_of (rest ++ more) ≡ map all_of rest ++ map all_of more = map-append all_of rest more in
-        let Has : Part → Type 0 = λ v. Contains (open_parts others ++ map all_of (rest ++ more)) v in
-        let has_rest : (v : Part) → Contains (map all_of rest) v → Has v =
-        λ v c. Contains-append_right (open_parts others) (map all_of (rest ++ more)) v (subst (λ (xs : List Part). Contains xs v) (sym back) (Contains-append_left (map all_of rest) (map all_of more) v c)) in
-        let has_more : (v : Part) → Contains (map all_of more) v → Has v =
-        λ v c. Contains-append_right (open_parts others) (map all_of (rest ++ more)) v (subst (λ (xs : List Part). Contains xs v) (sym back) (Contains-append_right (map all_of rest) (map all_of more) v c)) in
-        elim (Contains-append_cases (parts_of f ++ open_parts others) (map all_of rest) old.0 old.1) [
-          | inl still ↦ elim (Contains-append_cases (parts_of f) (open_parts others) old.0 still) [
-            | inl own ↦ let v = m.covers old.0 own starts old.2 fits in (v.0, has_more v.0 v.1, v.2)
-            | inr above ↦ (old.0, Contains-append_left (open_parts others) (map all_of (rest ++ more)) old.0 above, old.2)
-          ]
-          | inr gathered ↦ (old.0, has_rest old.0 gathered, old.2)
-        ];
-    parts = λ w c. elim (Contains-append_cases rest more w c) [
-      | inl before ↦ l.parts w before
-      | inr here ↦ part-of_part p whole f.node.window w own.1 (m.below w here).part
+  -- the frames above the first are inside the whole
+  others-inside : (w : Bounds) (fs : List SearchFrame) → IsPartOf p whole w → AreBelow p w fs → AreInside p whole fs
+  others-inside w [] part below = tt
+  others-inside w (g ∷ fs) part below = (part-of_part p whole w g.node.window part below.0.part, below.1)
+
+  others-beneath : (w : Bounds) (fs : List SearchFrame) → IsPartOf p whole w → IsBelow p (last_window w fs) next → IsBeneath p whole fs next
+  others-beneath w [] part is = part-of_part p whole w next part is.part
+  others-beneath w (g ∷ fs) part is = is
+
+  -- the first frame is taken out
+  pub leaving-next : (frames fs : List SearchFrame) (f : SearchFrame) (rest more : List Bounds) → frames ≡ f ∷ fs → rest ≡ [] → IsLeaving frames rest → IsRestOfFrame p capacities f more → IsLeaving fs more
+  leaving-next frames fs f rest more is none l m =
+      let at : IsLeaving (f ∷ fs) [] = subst (λ (xs : List Bounds). IsLeaving (f ∷ fs) xs) none (subst (λ (xs : List SearchFrame). IsLeaving xs rest) is l) in
+      record {
+        covers = λ starts lies fits.
+            let old = at.covers starts lies fits in
+            let own : LiesInPart p (all_of f.node.window) starts = in_front starts old.0 old.1 old.2 in
+            let v = at.opened.0.covers starts own fits in
+            elim (Contains-append_cases (parts_of f) (front fs) v.0 v.1) [
+              | inl part ↦ let w = m.covers v.0 part starts v.2 fits in (w.0, Contains-append_right (front fs) (map all_of more) w.0 w.1, w.2)
+              | inr above ↦ (v.0, Contains-append_left (front fs) (map all_of more) v.0 above, v.2)
+            ];
+        opened = at.opened.1;
+        inside = others-inside f.node.window fs at.inside.0 at.inside.1;
+        beneath = others-beneath f.node.window fs at.inside.0 at.beneath;
+        parts = λ w c. below-whole p whole f.node.window w at.inside.0 (m.below w c);
+        higher = λ some. front-higher f.node.window fs at.inside.0 at.inside.1 at.beneath;
+      }
+    where
+      in_front : (starts : List ℕ) (v : Part) → Contains (all_of f.node.window ∷ []) v → LiesInPart p v starts → LiesInPart p (all_of f.node.window) starts
+      in_front starts v c lies = elim (member_cases (all_of f.node.window) [] v c) [
+        | inl same ↦ subst (λ (x : Part). LiesInPart p x starts) (sym same) lies
+        | inr none ↦ absurd (no_member v none)
+      ]
+
+  -- the window in front
+  front-is : (frames : List SearchFrame) (w : Bounds) → IsFrontWindow frames next w → front frames ≡ all_of w ∷ []
+  front-is [] w e = ap (λ (x : Bounds). all_of x ∷ []) (sym e)
+  front-is (f ∷ fs) w e = ap (λ (x : Bounds). all_of x ∷ []) (sym e)
+
+  front-part : (frames : List SearchFrame) (w : Bounds) → IsFrontWindow frames next w → AreInside p whole frames → IsBeneath p whole frames next → IsPartOf p whole w
+  front-part [] w e inside beneath = subst (λ (x : Bounds). IsPartOf p whole x) (sym e) beneath
+  front-part (f ∷ fs) w e inside beneath = subst (λ (x : Bounds). IsPartOf p whole x) (sym e) inside.0
+
+  -- at the end the windows that were gathered are left, and that in front
+  pub leaving-end : (frames : List SearchFrame) (rest new : List Bounds) (w : Bounds) → IsFrontWindow frames next w → (rest ≡ [] → frames ≡ []) → new ≡ rest ++ w ∷ [] → IsLeaving frames rest → IsLeft p capacities whole next new
+  leaving-end frames rest new w e done is l = subst (λ (xs : List Bounds). IsLeft p capacities whole next xs) (sym is) (record {
+    left = record {
+      covers = λ starts answer.
+          let v = l.covers starts answer.lies answer.fits in
+          let c = subst (λ (xs : List Part). Contains (xs ++ map all_of rest) v.0) (front-is frames w e) v.1 in
+          elim (Contains-append_cases (all_of w ∷ []) (map all_of rest) v.0 c) [
+            | inl here ↦ let x = from_map p (w ∷ []) v.0 starts here v.2 in (x.0, Contains-append_right rest (w ∷ []) x.0 x.1, x.2)
+            | inr gathered ↦ let x = from_map p rest v.0 starts gathered v.2 in (x.0, Contains-append_left rest (w ∷ []) x.0 x.1, x.2)
+          ];
+      inside = λ x c. (part x c).inside;
+      bounds = λ x c. (part x c).bounds;
+    };
+    higher = λ up x c. elim (Contains-append_cases rest (w ∷ []) x c) [
+      | inl gathered ↦ (l.parts x gathered).higher
+      | inr here ↦ elim (member_cases w [] x here) [ inl same ↦ subst (λ (y : Bounds). IsHigher p whole y) same (last-higher rest refl up) | inr none ↦ absurd (no_member x none) ]
     ];
-    higher = λ up w c. elim (Contains-append_cases rest more w c) [
-      | inl before ↦ l.higher up w before
-      | inr here ↦ omega (arith, inside-sum p whole f.node.window own.1.inside, (m.below w here).higher)
-    ];
-    some = λ none. l.some (none-before rest more none);
+    some = λ none. last-there rest none;
   })
     where
-      own : (f.node.capacities ≡ capacities) × IsPartOf p whole f.node.window
-      own = one-open yielded f left (all_of next ∷ []) (subst (λ (xs : List SearchFrame). AreOpenFrames p capacities whole xs (all_of next ∷ [])) is h.state.frames)
+      part : (x : Bounds) → Contains (rest ++ w ∷ []) x → IsPartOf p whole x
+      part x c = elim (Contains-append_cases rest (w ∷ []) x c) [
+        | inl gathered ↦ (l.parts x gathered).part
+        | inr here ↦ elim (member_cases w [] x here) [ inl same ↦ subst (λ (y : Bounds). IsPartOf p whole y) same (front-part frames w e l.inside l.beneath) | inr none ↦ absurd (no_member x none) ]
+      ]
 
-      none-before : (xs ys : List Bounds) → xs ++ ys ≡ [] → xs ≡ []
-      none-before [] ys none = refl
-      none-before (x ∷ xs) ys none = absurd (cc none)
+      last-higher : (xs : List Bounds) → xs ≡ rest → IsHigher p whole next → IsHigher p whole w
+      last-higher [] same up = subst (λ (x : Bounds). IsHigher p whole x) (sym (subst (λ (fs : List SearchFrame). IsFrontWindow fs next w) (done (sym same)) e)) up
+      last-higher (x ∷ xs) same up = l.higher (λ none. cc (same ∙ none)) w (subst (λ (ys : List Part). Contains ys (all_of w)) (sym (front-is frames w e)) (member_first (all_of w) [] (all_of w) refl))
 
-  -- at the end all that is left is gathered
-  pub leaving-end : (frames yielded : List SearchFrame) (rest : List Bounds) → frames ≡ yielded → IsLeaving frames yielded rest → IsLeft p capacities whole next rest
-  leaving-end frames yielded rest e l = record {
-    left = record {
-      covers = λ starts answer. let v = l.covers [] (e ∙ sym (append-nil yielded)) starts answer.lies answer.fits in from_map p rest v.0 starts v.1 v.2;
-      inside = λ w c. (l.parts w c).inside;
-      bounds = λ w c. (l.parts w c).bounds;
-    };
-    higher = l.higher;
-    some = l.some;
-  }
+      last-there : (xs : List Bounds) → xs ++ w ∷ [] ≡ [] → ⊥
+      last-there [] none = cc none
+      last-there (x ∷ xs) none = cc none
+
+  -- the search can be gone on with in the window in front
+  pub left-state : (from : ℕ) (start frames : List SearchFrame) (rest : List Bounds) (w : Bounds) → IsFrontWindow frames next w → IsSearchingNext p capacities whole start next from → IsLeaving frames rest → IsSearchingNext p capacities w frames next from
+  left-state from start frames rest w e h l =
+      let inside : AreInside p w frames = own-inside frames e l.inside in
+      let beneath : IsBeneath p w frames next = own-beneath frames e l.beneath in
+      record {
+        state = record {
+          covers = subst (λ (xs : List Part). PartsCover p capacities (all_of w) xs) (sym (front-is frames w e)) (λ starts lies fits. (all_of w, member_first (all_of w) [] (all_of w) refl, lies));
+          inside = inside;
+          frames = l.opened;
+        };
+        part = beneath-part p w frames next inside beneath;
+        beneath = beneath;
+        quiet = h.quiet;
+      }
+    where
+      own-inside : (fs : List SearchFrame) → IsFrontWindow fs next w → AreInside p whole fs → AreInside p w fs
+      own-inside [] same i = tt
+      own-inside (f ∷ fs) same i = (subst (λ (x : Bounds). IsPartOf p x f.node.window) (sym same) (part-of_itself p f.node.window i.0.bounds), i.1)
+
+      own-beneath : (fs : List SearchFrame) → IsFrontWindow fs next w → IsBeneath p whole fs next → IsBeneath p w fs next
+      own-beneath [] same b = subst (λ (x : Bounds). IsPartOf p x next) (sym same) (part-of_itself p next b.bounds)
+      own-beneath (f ∷ fs) same b = b

@@ -1,29 +1,43 @@
 -- The last frame of a stack is taken out: a window below it is searched next, or it is used up.
-use Rattle.std.proofs.Common.{◌≡◌, inl, inr, ◌∙◌, ℕ, ◌≤◌, List, [], ◌∷◌, ◌++◌, length, take, drop, arith, refl, sym, subst, ap}
+use Rattle.std.proofs.Common.{◌≡◌, inl, inr, ◌∙◌, ℕ, ◌≤◌, List, [], ◌∷◌, ◌++◌, length, slice_set, take, drop, arith, refl, sym, subst, ap}
 use Rattle.std.proofs.lemmas.List.{append-nil, append_assoc, take-append-drop, take-set-le}
 use Rattle.std.proofs.Math.Seq.{take-append_seam}
 use Rattle.racp_model.specs.Project.{Project}
 use Rattle.racp_model.specs.Window.{Bounds, IsNo}
 use Rattle.racp_cutset.specs.Covering.{SearchNode}
-use Rattle.racp_cutset.specs.Kept.{StayKept, IsKeptOrDropped, TakesPlace}
+use Rattle.racp_cutset.specs.Kept.{Kept, StayKept, IsKeptOrDropped, TakesPlace, front}
 use Rattle.racp_search.specs.DepthFirst.{SearchFrame, Part, parts_of, open_parts, IsHigher, IsSearching, IsSearchingNext, IsTaken, IsUsedUp, weights}
 use Rattle.racp_search.specs.DepthFirst.Part.{all_of}
 use Rattle.racp_search.specs.Steps.{IsNext}
-use Rattle.racp_search.proofs.Stacks.{open-last, last-open, inside-sum, searching-next, searching-popped, frame-refuted}
+use Rattle.racp_search.proofs.Stacks.{open-last, last-inside, inside-sum, searching-next, searching-popped, frame-refuted}
 use Rattle.racp_search.proofs.Weights.{weights-append}
 
+-- what is kept stays
+pub stays : (kept : Kept) → StayKept kept kept
+stays kept = ([], ap (λ (xs : List SearchNode). record { records = xs; most = kept.most }) (sym (append-nil kept.records)))
+
 -- what was kept stays where a record takes a place behind it
-pub replaced : (start old : List SearchNode) (record_node : SearchNode) (new : List SearchNode) (count : ℕ) → length start ≤ count → StayKept start old → TakesPlace count old record_node new → StayKept start new
+pub replaced : (start old : Kept) (record_node : SearchNode) (new : Kept) (count : ℕ) → length start.records ≤ count → StayKept start old → TakesPlace count old record_node new → StayKept start new
 replaced start old record_node new count within kept taken =
-    let n : ℕ = length start in
-    let front : take n new ≡ start =
-    ap (λ (xs : List SearchNode). take n xs) taken.written ∙ (take-set-le n old taken.place record_node (omega (arith, within, taken.behind)) ∙ (ap (λ (xs : List SearchNode). take n xs) kept.1 ∙ take-append_seam start kept.0)) in
-    (drop n new, sym (take-append-drop n new) ∙ ap (λ (xs : List SearchNode). xs ++ drop n new) front)
+    let n : ℕ = length start.records in
+    let xs : List SearchNode = slice_set old.records taken.place record_node in
+    let same : old.records ≡ start.records ++ kept.0 = ap (λ (k : Kept). k.records) kept.1 in
+    let front_is : take n xs ≡ start.records =
+    take-set-le n old.records taken.place record_node (omega (arith, within, taken.behind)) ∙ (ap (λ (ys : List SearchNode). take n ys) same ∙ take-append_seam start.records kept.0) in
+    let whole : xs ≡ start.records ++ drop n xs = sym (take-append-drop n xs) ∙ ap (λ (ys : List SearchNode). ys ++ drop n xs) front_is in (
+      drop n xs,
+      taken.written ∙ (ap (λ (ys : List SearchNode). record { records = ys; most = old.most }) whole
+          ∙ ap (λ (m : ℕ). record { records = start.records ++ drop n xs; most = m }) (ap (λ (k : Kept). k.most) kept.1)),
+    )
 
 -- one record more, one in place of another behind what was kept, or none, leaves what was kept
-pub one_more : (start old : List SearchNode) (record_node : SearchNode) (new : List SearchNode) (count : ℕ) → length start ≤ count → StayKept start old → IsKeptOrDropped count old record_node new → StayKept start new
+pub one_more : (start old : Kept) (record_node : SearchNode) (new : Kept) (count : ℕ) → length start.records ≤ count → StayKept start old → IsKeptOrDropped count old record_node new → StayKept start new
 one_more start old record_node new count within kept step = elim step [
-  | inl more ↦ (kept.0 ++ record_node ∷ [], more ∙ (ap (λ (xs : List SearchNode). xs ++ record_node ∷ []) kept.1 ∙ append_assoc start kept.0 (record_node ∷ [])))
+  | inl more ↦ (
+    kept.0 ++ record_node ∷ [],
+    more ∙ (ap (λ (k : Kept). record { records = k.records ++ record_node ∷ []; most = k.most }) kept.1
+        ∙ ap (λ (xs : List SearchNode). record { records = xs; most = start.most }) (append_assoc start.records kept.0 (record_node ∷ []))),
+  )
   | inr rest ↦ elim rest [
     | inl taken ↦ replaced start old record_node new count within kept taken
     | inr same ↦ (kept.0, same ∙ kept.1)
@@ -31,14 +45,22 @@ one_more start old record_node new count within kept step = elim step [
 ]
 
 -- the first of them stay to begin with
-pub first_stay : (count : ℕ) (old : List SearchNode) → StayKept (take count old) old
-first_stay count old = (drop count old, sym (take-append-drop count old))
+pub first_stay : (count : ℕ) (old : Kept) → StayKept (front count old) old
+first_stay count old = (
+  drop count old.records,
+  ap (λ (xs : List SearchNode). record { records = xs; most = old.most }) (sym (take-append-drop count old.records)),
+)
 
 -- what was kept at the start stays kept where the records behind it are dropped
-pub kept_first : (start old new : List SearchNode) (count : ℕ) → StayKept start old → count ≡ length start → StayKept (take count old) new → StayKept start new
+pub kept_first : (start old new : Kept) (count : ℕ) → StayKept start old → count ≡ length start.records → StayKept (front count old) new → StayKept start new
 kept_first start old new count kept first room =
-    let e : take count old ≡ start = ap (λ n. take n old) first ∙ (ap (λ (xs : List SearchNode). take (length start) xs) kept.1 ∙ take-append_seam start kept.0) in
-    subst (λ (xs : List SearchNode). StayKept xs new) e room
+    let same : old.records ≡ start.records ++ kept.0 = ap (λ (k : Kept). k.records) kept.1 in
+    let taken : take count old.records ≡ start.records =
+    ap (λ n. take n old.records) first ∙ (ap (λ (xs : List SearchNode). take (length start.records) xs) same ∙ take-append_seam start.records kept.0) in
+    let e : front count old ≡ start =
+    ap (λ (xs : List SearchNode). record { records = xs; most = old.most }) taken
+    ∙ ap (λ (m : ℕ). record { records = start.records; most = m }) (ap (λ (k : Kept). k.most) kept.1) in
+    subst (λ (k : Kept). StayKept k new) e room
 
 -- the parts of a stack with one frame more
 pub open-with : (fs : List SearchFrame) (f : SearchFrame) → open_parts (fs ++ f ∷ []) ≡ open_parts fs ++ parts_of f
@@ -53,7 +75,7 @@ module _ (p : Project) (capacities : List ℕ) (whole : Bounds) (start stack fs 
       subst (λ (xs : List SearchFrame). IsNext p capacities whole start (record { window = next; from = from }) xs) (sym is_new)
       (record {
         state = subst (λ t. IsSearchingNext p capacities whole (fs ++ g ∷ []) next t) (sym is_time) (searching-next p capacities whole fs f g next at taken);
-        higher = omega (arith, inside-sum p whole f.node.window (last-open p capacities whole fs f [] at).inside.inside, taken.below.higher);
+        higher = omega (arith, inside-sum p whole f.node.window (last-inside p capacities whole fs f [] at).inside, taken.below.higher);
         lighter = omega (
           arith,
           ap (weights p) (open-last fs g (all_of next ∷ [])),

@@ -9,7 +9,7 @@ use Rattle.racp_model.proofs.lemmas.Sums.{sum_below-mono}
 use Rattle.racp_model.proofs.lemmas.Relations.{member_cases, member_first, no_member}
 use Rattle.racp_delay.specs.Laws.{lower_sum}
 use Rattle.racp_cutset.specs.Covering.{SearchNode}
-use Rattle.racp_search.specs.DepthFirst.{SearchFrame, Part, LiesInPart, PartsCover, parts_of, open_parts, IsOpenFrame, AreOpenFrames, IsPartOf, IsQuiet, IsSearching, IsSearchingNext, IsFrameOf, IsTaken, IsUsedUp}
+use Rattle.racp_search.specs.DepthFirst.{SearchFrame, Part, LiesInPart, PartsCover, parts_of, open_parts, front_of, last_window, AreBelow, AreInside, IsBelow, IsBeneath, IsOpenFrame, AreOpenFrames, IsPartOf, IsQuiet, IsSearching, IsSearchingNext, IsFrameOf, IsTaken, IsUsedUp}
 use Rattle.racp_search.specs.DepthFirst.Part.{all_of}
 
 -- the parts of a stack with one frame more
@@ -43,7 +43,73 @@ answers-whole p capacities whole w starts part h = record {
   fits = h.fits;
 }
 
-module _ (p : Project) (capacities : List ℕ) (whole : Bounds) where
+-- what is searched below a window, with one frame more
+front-last : (fs : List SearchFrame) (f : SearchFrame) (next : List Part) → front_of (fs ++ f ∷ []) next ≡ front_of fs (all_of f.node.window ∷ [])
+front-last [] f next = refl
+front-last (g ∷ fs) f next = refl
+
+-- the window of the last frame
+last-is : (w : Bounds) (fs : List SearchFrame) (f : SearchFrame) → last_window w (fs ++ f ∷ []) ≡ f.node.window
+last-is w [] f = refl
+last-is w (g ∷ fs) f = last-is g.node.window fs f
+
+-- a window is a part of itself
+pub part-of_itself : (p : Project) (w : Bounds) → HasBounds p w → IsPartOf p w w
+part-of_itself p w bounds = record { bounds = bounds; inside = record { lower = λ i l. omega arith; upper = λ i l. omega arith } }
+
+-- what is below a part is below the whole
+pub below-whole : (p : Project) (whole w part : Bounds) → IsPartOf p whole w → IsBelow p w part → IsBelow p whole part
+below-whole p whole w part a b = record {
+  part = part-of_part p whole w part a b.part;
+  higher = omega (arith, inside-sum p whole w a.inside, b.higher);
+}
+
+-- a part of what is below is below
+below-part : (p : Project) (w v part : Bounds) → IsBelow p w v → IsPartOf p v part → IsBelow p w part
+below-part p w v part a b = record {
+  part = part-of_part p w v part a.part b;
+  higher = omega (arith, a.higher, inside-sum p v part b.inside);
+}
+
+module _ (p : Project) where
+  -- the windows of frames with one more
+  below-split : (w : Bounds) (fs : List SearchFrame) (f : SearchFrame) → AreBelow p w (fs ++ f ∷ []) → AreBelow p w fs × IsBelow p (last_window w fs) f.node.window
+  below-split w [] f h = (tt, h.0)
+  below-split w (g ∷ fs) f h = let e = below-split g.node.window fs f h.1 in ((h.0, e.0), e.1)
+
+  below-join : (w : Bounds) (fs : List SearchFrame) (f : SearchFrame) → AreBelow p w fs → IsBelow p (last_window w fs) f.node.window → AreBelow p w (fs ++ f ∷ [])
+  below-join w [] f h is = (is, tt)
+  below-join w (g ∷ fs) f h is = (h.0, below-join g.node.window fs f h.1 is)
+
+  inside-split : (whole : Bounds) (fs : List SearchFrame) (f : SearchFrame) → AreInside p whole (fs ++ f ∷ []) → AreInside p whole fs × IsBeneath p whole fs f.node.window
+  inside-split whole [] f h = (tt, h.0)
+  inside-split whole (g ∷ fs) f h = let e = below-split g.node.window fs f h.1 in ((h.0, e.0), e.1)
+
+  inside-join : (whole : Bounds) (fs : List SearchFrame) (f : SearchFrame) → AreInside p whole fs → IsBeneath p whole fs f.node.window → AreInside p whole (fs ++ f ∷ [])
+  inside-join whole [] f h is = (is, tt)
+  inside-join whole (g ∷ fs) f h is = (h.0, below-join g.node.window fs f h.1 is)
+
+  -- the window of the last frame is a part of the whole
+  last-part : (whole w : Bounds) (fs : List SearchFrame) → IsPartOf p whole w → AreBelow p w fs → IsPartOf p whole (last_window w fs)
+  last-part whole w [] is h = is
+  last-part whole w (g ∷ fs) is h = last-part whole g.node.window fs (part-of_part p whole w g.node.window is h.0.part) h.1
+
+  -- so is what is beneath the frames
+  pub beneath-part : (whole : Bounds) (fs : List SearchFrame) (w : Bounds) → AreInside p whole fs → IsBeneath p whole fs w → IsPartOf p whole w
+  beneath-part whole [] w h is = is
+  beneath-part whole (g ∷ fs) w h is = part-of_part p whole (last_window g.node.window fs) w (last-part whole g.node.window fs h.0 h.1) is.part
+
+  -- and a part of that is beneath them
+  pub beneath-narrow : (whole : Bounds) (fs : List SearchFrame) (w v : Bounds) → IsBeneath p whole fs w → IsPartOf p w v → IsBeneath p whole fs v
+  beneath-narrow whole [] w v is part = part-of_part p whole w v is part
+  beneath-narrow whole (g ∷ fs) w v is part = below-part p (last_window g.node.window fs) w v is part
+
+  -- what is below the last frame is beneath all
+  beneath-last : (whole : Bounds) (fs : List SearchFrame) (f : SearchFrame) (w : Bounds) → IsBelow p f.node.window w → IsBeneath p whole (fs ++ f ∷ []) w
+  beneath-last whole [] f w is = is
+  beneath-last whole (g ∷ fs) f w is = subst (λ (x : Bounds). IsBelow p x w) (sym (last-is g.node.window fs f)) is
+
+module _ (p : Project) (capacities : List ℕ) where
   -- parts may be replaced by parts that cover each of them
   pub covers-replaced : (part : Part) (xs old new : List Part) → PartsCover p capacities part (xs ++ old) → ((v : Part) → Contains old v → PartsCover p capacities v new) → PartsCover p capacities part (xs ++ new)
   covers-replaced part xs old new h each starts lies fits =
@@ -55,52 +121,66 @@ module _ (p : Project) (capacities : List ℕ) (whole : Bounds) where
             (w.0, Contains-append_right xs new w.0 w.1, w.2)
       ]
 
-  pub frames-replaced : (fs : List SearchFrame) (old new : List Part) → AreOpenFrames p capacities whole fs old → ((v : Part) → Contains old v → PartsCover p capacities v new) → AreOpenFrames p capacities whole fs new
+  -- so may those that are searched next
+  front-replaced : (part : Part) (xs : List Part) (fs : List SearchFrame) (old new : List Part) → PartsCover p capacities part (xs ++ front_of fs old) → ((v : Part) → Contains old v → PartsCover p capacities v new) →
+      PartsCover p capacities part (xs ++ front_of fs new)
+  front-replaced part xs [] old new h each = covers-replaced part xs old new h each
+  front-replaced part xs (f ∷ fs) old new h each = h
+
+  frames-replaced : (fs : List SearchFrame) (old new : List Part) → AreOpenFrames p capacities fs old → ((v : Part) → Contains old v → PartsCover p capacities v new) → AreOpenFrames p capacities fs new
   frames-replaced [] old new h each = tt
   frames-replaced (f ∷ fs) old new h each =
-      (record { same = h.0.same; inside = h.0.inside; covers = covers-replaced (all_of f.node.window) (parts_of f ++ open_parts fs) old new h.0.covers each }, frames-replaced fs old new h.1 each)
+      (record { same = h.0.same; covers = front-replaced (all_of f.node.window) (parts_of f) fs old new h.0.covers each }, frames-replaced fs old new h.1 each)
 
   -- what holds of the frames with one frame more
-  pub frames-split : (fs : List SearchFrame) (f : SearchFrame) (next : List Part) → AreOpenFrames p capacities whole (fs ++ f ∷ []) next → AreOpenFrames p capacities whole fs (parts_of f ++ next) × IsOpenFrame p capacities whole f (parts_of f ++ next)
-  frames-split [] f next h = (tt, subst (λ (xs : List Part). IsOpenFrame p capacities whole f (xs ++ next)) (append-nil (parts_of f)) h.0)
+  frames-split : (fs : List SearchFrame) (f : SearchFrame) (next : List Part) → AreOpenFrames p capacities (fs ++ f ∷ []) next → AreOpenFrames p capacities fs (all_of f.node.window ∷ []) × IsOpenFrame p capacities f (parts_of f ++ next)
+  frames-split [] f next h = (tt, h.0)
   frames-split (g ∷ fs) f next h =
       let e = frames-split fs f next h.1 in
-      ((subst (λ (xs : List Part). IsOpenFrame p capacities whole g xs) (open-last (g ∷ fs) f next) h.0, e.0), e.1)
+      ((subst (λ (xs : List Part). IsOpenFrame p capacities g (parts_of g ++ xs)) (front-last fs f next) h.0, e.0), e.1)
 
-  pub frames-join : (fs : List SearchFrame) (f : SearchFrame) (next : List Part) → AreOpenFrames p capacities whole fs (parts_of f ++ next) → IsOpenFrame p capacities whole f (parts_of f ++ next) → AreOpenFrames p capacities whole (fs ++ f ∷ []) next
-  frames-join [] f next h is = (subst (λ (xs : List Part). IsOpenFrame p capacities whole f (xs ++ next)) (sym (append-nil (parts_of f))) is, tt)
-  frames-join (g ∷ fs) f next h is =
-      (subst (λ (xs : List Part). IsOpenFrame p capacities whole g xs) (sym (open-last (g ∷ fs) f next)) h.0, frames-join fs f next h.1 is)
+  frames-join : (fs : List SearchFrame) (f : SearchFrame) (next : List Part) → AreOpenFrames p capacities fs (all_of f.node.window ∷ []) → IsOpenFrame p capacities f (parts_of f ++ next) → AreOpenFrames p capacities (fs ++ f ∷ []) next
+  frames-join [] f next h is = (is, tt)
+  frames-join (g ∷ fs) f next h is = (subst (λ (xs : List Part). IsOpenFrame p capacities g (parts_of g ++ xs)) (sym (front-last fs f next)) h.0, frames-join fs f next h.1 is)
 
-  -- the state of a search with one frame more is that with its parts to be searched next
-  pub searching-join : (fs : List SearchFrame) (f : SearchFrame) (next : List Part) → IsSearching p capacities whole fs (parts_of f ++ next) → IsOpenFrame p capacities whole f (parts_of f ++ next) → IsSearching p capacities whole (fs ++ f ∷ []) next
-  searching-join fs f next h is = record {
-    covers = subst (λ (xs : List Part). PartsCover p capacities (all_of whole) xs) (sym (open-last fs f next)) h.covers;
-    frames = frames-join fs f next h.frames is;
+module _ (p : Project) (capacities : List ℕ) (whole : Bounds) where
+  -- the state of a search with one frame more is that with its window to be searched next
+  searching-join : (fs : List SearchFrame) (f : SearchFrame) (next : List Part) → IsSearching p capacities whole fs (all_of f.node.window ∷ []) → IsBeneath p whole fs f.node.window → IsOpenFrame p capacities f (parts_of f ++ next) → IsSearching p capacities whole (fs ++ f ∷ []) next
+  searching-join fs f next h beneath is = record {
+    covers = subst (λ (xs : List Part). PartsCover p capacities (all_of whole) xs) (sym (front-last fs f next)) h.covers;
+    inside = inside-join p whole fs f h.inside beneath;
+    frames = frames-join p capacities fs f next h.frames is;
   }
 
-  pub searching-split : (fs : List SearchFrame) (f : SearchFrame) (next : List Part) → IsSearching p capacities whole (fs ++ f ∷ []) next → IsSearching p capacities whole fs (parts_of f ++ next)
+  searching-split : (fs : List SearchFrame) (f : SearchFrame) (next : List Part) → IsSearching p capacities whole (fs ++ f ∷ []) next → IsSearching p capacities whole fs (all_of f.node.window ∷ [])
   searching-split fs f next h = record {
-    covers = subst (λ (xs : List Part). PartsCover p capacities (all_of whole) xs) (open-last fs f next) h.covers;
-    frames = (frames-split fs f next h.frames).0;
+    covers = subst (λ (xs : List Part). PartsCover p capacities (all_of whole) xs) (front-last fs f next) h.covers;
+    inside = (inside-split p whole fs f h.inside).0;
+    frames = (frames-split p capacities fs f next h.frames).0;
   }
 
   -- the last frame is one of the question
-  pub last-open : (fs : List SearchFrame) (f : SearchFrame) (next : List Part) → IsSearching p capacities whole (fs ++ f ∷ []) next → IsOpenFrame p capacities whole f (parts_of f ++ next)
-  last-open fs f next h = (frames-split fs f next h.frames).1
+  pub last-open : (fs : List SearchFrame) (f : SearchFrame) (next : List Part) → IsSearching p capacities whole (fs ++ f ∷ []) next → IsOpenFrame p capacities f (parts_of f ++ next)
+  last-open fs f next h = (frames-split p capacities fs f next h.frames).1
+
+  -- its window is a part of the whole
+  pub last-inside : (fs : List SearchFrame) (f : SearchFrame) (next : List Part) → IsSearching p capacities whole (fs ++ f ∷ []) next → IsPartOf p whole f.node.window
+  last-inside fs f next h = let e = inside-split p whole fs f h.inside in beneath-part p whole fs f.node.window e.0 e.1
 
   -- the parts that are searched next may be replaced by parts that cover them
   pub searching-replaced : (fs : List SearchFrame) (old new : List Part) → IsSearching p capacities whole fs old → ((v : Part) → Contains old v → PartsCover p capacities v new) → IsSearching p capacities whole fs new
   searching-replaced fs old new h each = record {
-    covers = covers-replaced (all_of whole) (open_parts fs) old new h.covers each;
-    frames = frames-replaced fs old new h.frames each;
+    covers = front-replaced p capacities (all_of whole) [] fs old new h.covers each;
+    inside = h.inside;
+    frames = frames-replaced p capacities fs old new h.frames each;
   }
 
   -- at the start the whole window is open
   pub searching-start : HasBounds p whole → IsSearchingNext p capacities whole [] whole 0
   searching-start bounds = record {
-    state = record { covers = λ starts lies fits. (all_of whole, member_first (all_of whole) [] (all_of whole) refl, lies); frames = tt };
-    part = record { bounds = bounds; inside = record { lower = λ i l. omega arith; upper = λ i l. omega arith } };
+    state = record { covers = λ starts lies fits. (all_of whole, member_first (all_of whole) [] (all_of whole) refl, lies); inside = tt; frames = tt };
+    part = part-of_itself p whole bounds;
+    beneath = part-of_itself p whole bounds;
     quiet = λ early is k s l m. absurd (omega (arith, m));
   }
 
@@ -119,13 +199,11 @@ module _ (p : Project) (capacities : List ℕ) (whole : Bounds) where
   -- a window of which a frame is made
   pub searching-framed : (fs : List SearchFrame) (w : Bounds) (from : ℕ) (f : SearchFrame) → IsSearchingNext p capacities whole fs w from → IsFrameOf p capacities w f → IsSearching p capacities whole (fs ++ f ∷ []) []
   searching-framed fs w from f h is =
-      let replaced : IsSearching p capacities whole fs (parts_of f) = searching-replaced fs (all_of w ∷ []) (parts_of f) h.state (one w (parts_of f) is.covers) in
-      let own : IsOpenFrame p capacities whole f (parts_of f) = record {
+      searching-join fs f [] (subst (λ (x : Bounds). IsSearching p capacities whole fs (all_of x ∷ [])) (sym is.placed) h.state) (subst (λ (x : Bounds). IsBeneath p whole fs x) (sym is.placed) h.beneath)
+      (record {
         same = is.same;
-        inside = subst (λ (x : Bounds). IsPartOf p whole x) (sym is.placed) h.part;
-        covers = subst (λ (x : Bounds). PartsCover p capacities (all_of x) (parts_of f)) (sym is.placed) is.covers;
-      } in
-      searching-join fs f [] (subst (λ (xs : List Part). IsSearching p capacities whole fs xs) (sym (append-nil (parts_of f))) replaced) (subst (λ (xs : List Part). IsOpenFrame p capacities whole f xs) (sym (append-nil (parts_of f))) own)
+        covers = subst (λ (xs : List Part). PartsCover p capacities (all_of f.node.window) xs) (sym (append-nil (parts_of f))) (subst (λ (x : Bounds). PartsCover p capacities (all_of x) (parts_of f)) (sym is.placed) is.covers);
+      })
 
   -- what covers each part of a frame covers its window
   own-covers : (fs : List SearchFrame) (f : SearchFrame) (new : List Part) → IsSearching p capacities whole (fs ++ f ∷ []) [] → ((v : Part) → Contains (parts_of f) v → PartsCover p capacities v new) → PartsCover p capacities (all_of f.node.window) new
@@ -134,30 +212,32 @@ module _ (p : Project) (capacities : List ℕ) (whole : Bounds) where
       each own.0 own.1 starts own.2 fits
 
   -- a frame that is used up is refuted
+  used-no : (fs : List SearchFrame) (f g : SearchFrame) → IsSearching p capacities whole (fs ++ f ∷ []) [] → IsUsedUp p capacities f g → IsNo p capacities f.node.window
+  used-no fs f g h none =
+      let all : PartsCover p capacities (all_of f.node.window) [] = own-covers fs f [] h none.covers in
+      λ starts answer. let v = all starts answer.lies answer.fits in no_member v.0 v.1
+
   pub frame-refuted : (fs : List SearchFrame) (f g : SearchFrame) → IsSearching p capacities whole (fs ++ f ∷ []) [] → IsUsedUp p capacities f g → IsNo p g.node.capacities g.node.window
   frame-refuted fs f g h none =
-      let all : PartsCover p capacities (all_of f.node.window) [] = own-covers fs f [] h none.covers in
-      let no : IsNo p capacities f.node.window = λ starts answer. let v = all starts answer.lies answer.fits in no_member v.0 v.1 in
-      subst (λ (v : SearchNode). IsNo p v.capacities v.window) (sym none.node) (subst (λ (xs : List ℕ). IsNo p xs f.node.window) (sym (last-open fs f [] h).same) no)
+      subst (λ (v : SearchNode). IsNo p v.capacities v.window) (sym none.node) (subst (λ (xs : List ℕ). IsNo p xs f.node.window) (sym (last-open fs f [] h).same) (used-no fs f g h none))
 
   -- and the search goes on below it
   pub searching-popped : (fs : List SearchFrame) (f g : SearchFrame) → IsSearching p capacities whole (fs ++ f ∷ []) [] → IsUsedUp p capacities f g → IsSearching p capacities whole fs []
-  searching-popped fs f g h none =
-      searching-replaced fs (parts_of f) [] (subst (λ (xs : List Part). IsSearching p capacities whole fs xs) (append-nil (parts_of f)) (searching-split fs f [] h)) none.covers
+  searching-popped fs f g h none = searching-refuted fs f.node.window (searching-split fs f [] h) (used-no fs f g h none)
 
   -- a window below the last frame is searched next
   pub searching-next : (fs : List SearchFrame) (f g : SearchFrame) (next : Bounds) → IsSearching p capacities whole (fs ++ f ∷ []) [] → IsTaken p capacities f g next → IsSearchingNext p capacities whole (fs ++ g ∷ []) next g.node.time
   searching-next fs f g next h taken =
       let own = last-open fs f [] h in
-      let below : IsSearching p capacities whole fs (parts_of g ++ all_of next ∷ []) =
-      searching-replaced fs (parts_of f) (parts_of g ++ all_of next ∷ []) (subst (λ (xs : List Part). IsSearching p capacities whole fs xs) (append-nil (parts_of f)) (searching-split fs f [] h)) taken.covers in
-      let other : IsOpenFrame p capacities whole g (parts_of g ++ all_of next ∷ []) = record {
+      let placed = (inside-split p whole fs f h.inside).1 in
+      let other : IsOpenFrame p capacities g (parts_of g ++ all_of next ∷ []) = record {
         same = ap (λ (v : SearchNode). v.capacities) taken.node ∙ own.same;
-        inside = subst (λ (v : SearchNode). IsPartOf p whole v.window) (sym taken.node) own.inside;
         covers = subst (λ (v : SearchNode). PartsCover p capacities (all_of v.window) (parts_of g ++ all_of next ∷ [])) (sym taken.node) (own-covers fs f (parts_of g ++ all_of next ∷ []) h taken.covers);
       } in
       record {
-        state = searching-join fs g (all_of next ∷ []) below other;
-        part = part-of_part p whole f.node.window next own.inside taken.below.part;
+        state = searching-join fs g (all_of next ∷ []) (subst (λ (v : SearchNode). IsSearching p capacities whole fs (all_of v.window ∷ [])) (sym taken.node) (searching-split fs f [] h))
+            (subst (λ (v : SearchNode). IsBeneath p whole fs v.window) (sym taken.node) placed) other;
+        part = part-of_part p whole f.node.window next (last-inside fs f [] h) taken.below.part;
+        beneath = beneath-last p whole fs g next (subst (λ (v : SearchNode). IsBelow p v.window next) (sym taken.node) taken.below);
         quiet = subst (λ (v : SearchNode). IsQuiet p capacities next v.time) (sym taken.node) (subst (λ (xs : List ℕ). IsQuiet p xs next f.node.time) own.same taken.quiet);
       }

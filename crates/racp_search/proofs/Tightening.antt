@@ -19,7 +19,7 @@ use Rattle.racp_delay.specs.Laws.{lower_sum}
 use Rattle.racp_search.specs.DepthFirst.{SearchFrame, open_parts, IsQuiet, IsSearchingNext, most_lists, weight}
 use Rattle.racp_search.specs.DepthFirst.Part.{all_of}
 use Rattle.racp_search.specs.Steps.{IsEntered}
-use Rattle.racp_search.proofs.Stacks.{inside-sum, part-of_part, one, searching-replaced}
+use Rattle.racp_search.proofs.Stacks.{inside-sum, part-of_part, beneath-narrow, one, searching-replaced}
 use Rattle.racp_search.proofs.Weights.{weights-append, weights-one}
 
 -- what is told of a window, in equal projects
@@ -111,6 +111,7 @@ module _ (p : Project) (capacities : List ℕ) (from : ℕ) (window narrow : Bou
       state = searching-replaced p capacities whole stack (all_of window ∷ []) (all_of narrow ∷ []) h.state
           (one p capacities whole window (all_of narrow ∷ []) (λ starts lies fits. (all_of narrow, member_first (all_of narrow) [] (all_of narrow) refl, told.answers starts (record { lies = lies; fits = fits }))));
       part = part-of_part p whole window narrow h.part (record { bounds = told.bounds; inside = told.inside });
+      beneath = beneath-narrow p whole stack window narrow h.beneath (record { bounds = told.bounds; inside = told.inside });
       quiet = narrowed-quiet h.quiet;
     }
 

@@ -96,33 +96,57 @@ abbrev pub IsQuiet : Project → List ℕ → Bounds → ℕ → Type 0
 IsQuiet p capacities window t =
     (early : List ℕ) → IsEarly p (slice_index window.lower) early → KeepsBefore p capacities early t
 
--- the node of a frame is one of the question's capacities, its window a part of the whole, and what answers in it lies
--- in a part that is still to be searched
-pub record IsOpenFrame (p : Project) (capacities : List ℕ) (whole : Bounds) (frame : SearchFrame)
-    (left : List Part) : Type 0 where
+-- what is searched below a window: the window of the first of some frames, or, where there is none, what is next
+abbrev pub front_of : List SearchFrame → List Part → List Part
+front_of [] next = next
+front_of (frame ∷ frames) next = all_of frame.node.window ∷ []
+
+-- the node of a frame is one of the question's capacities, and what answers in its window lies in a part that is still
+-- to be searched
+pub record IsOpenFrame (p : Project) (capacities : List ℕ) (frame : SearchFrame) (left : List Part) : Type 0 where
   pub same : frame.node.capacities ≡ capacities
-  pub inside : IsPartOf p whole frame.node.window
   pub covers : PartsCover p capacities (all_of frame.node.window) left
 
--- that holds of each frame, where its own parts, those of the frames above it and the next ones are still to be
+-- that holds of each frame, where its own parts, and the window of the frame above it or what is next, are still to be
 -- searched
-abbrev pub AreOpenFrames : Project → List ℕ → Bounds → List SearchFrame → List Part → Type 0
-AreOpenFrames p capacities whole [] next = Unit {0}
-AreOpenFrames p capacities whole (frame ∷ frames) next =
-    IsOpenFrame p capacities whole frame ((parts_of frame ++ open_parts frames) ++ next) ×
-    AreOpenFrames p capacities whole frames next
+abbrev pub AreOpenFrames : Project → List ℕ → List SearchFrame → List Part → Type 0
+AreOpenFrames p capacities [] next = Unit {0}
+AreOpenFrames p capacities (frame ∷ frames) next =
+    IsOpenFrame p capacities frame (parts_of frame ++ front_of frames next) × AreOpenFrames p capacities frames next
+
+-- the window of each frame is below that of the one before it, and of the first below a window
+abbrev pub AreBelow : Project → Bounds → List SearchFrame → Type 0
+AreBelow p w [] = Unit {0}
+AreBelow p w (frame ∷ frames) = IsBelow p w frame.node.window × AreBelow p frame.node.window frames
+
+-- the same, but the window of the first is some part of a whole
+abbrev pub AreInside : Project → Bounds → List SearchFrame → Type 0
+AreInside p whole [] = Unit {0}
+AreInside p whole (frame ∷ frames) = IsPartOf p whole frame.node.window × AreBelow p frame.node.window frames
+
+-- the window of the last of some frames, or, where there is none, a window
+abbrev pub last_window : Bounds → List SearchFrame → Bounds
+last_window w [] = w
+last_window w (frame ∷ frames) = last_window frame.node.window frames
+
+-- a window is below that of the last frame, or, where there is none, a part of the whole
+abbrev pub IsBeneath : Project → Bounds → List SearchFrame → Bounds → Type 0
+IsBeneath p whole [] next = IsPartOf p whole next
+IsBeneath p whole (frame ∷ frames) next = IsBelow p (last_window frame.node.window frames) next
 
 -- the state of a search of a window: the stack, and the parts to be searched next
 pub record IsSearching (p : Project) (capacities : List ℕ) (whole : Bounds) (stack : List SearchFrame)
     (next : List Part) : Type 0 where
-  pub covers : PartsCover p capacities (all_of whole) (open_parts stack ++ next)
-  pub frames : AreOpenFrames p capacities whole stack next
+  pub covers : PartsCover p capacities (all_of whole) (front_of stack next)
+  pub inside : AreInside p whole stack
+  pub frames : AreOpenFrames p capacities stack next
 
--- the same, with a window to be searched next that is a part of the whole, and quiet before a time
+-- the same, with a window to be searched next that is a part of the whole, beneath the stack, and quiet before a time
 pub record IsSearchingNext (p : Project) (capacities : List ℕ) (whole : Bounds) (stack : List SearchFrame)
     (next : Bounds) (from : ℕ) : Type 0 where
   pub state : IsSearching p capacities whole stack (all_of next ∷ [])
   pub part : IsPartOf p whole next
+  pub beneath : IsBeneath p whole stack next
   pub quiet : IsQuiet p capacities next from
 
 -- the active jobs of a node at its time, where its early starts have their first conflict

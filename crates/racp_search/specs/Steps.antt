@@ -1,5 +1,5 @@
 -- Contracts of private functions: the steps of a search by depth.
-use Rattle.std.specs.Prelude.{◌≢◌, ℕ, Contains, ◌<◌, ◌≤◌, List, [], ◌∷◌, ◌++◌, Option, Some, None}
+use Rattle.std.specs.Prelude.{◌≡◌, ◌≢◌, ℕ, Contains, ◌<◌, ◌≤◌, List, [], ◌∷◌, ◌++◌, Option, Some, None}
 use Rattle.racp_model.specs.Project.{Project}
 use Rattle.racp_model.specs.Window.{Bounds, Answers}
 use Rattle.racp_search.specs.Truth.{IsRestOf}
@@ -35,6 +35,11 @@ pub record IsNext (p : Project) (capacities : List ℕ) (whole : Bounds) (old : 
 abbrev pub IsNextAnswer : Project → List ℕ → Bounds → List SearchFrame → List SearchFrame → Option Next → Type 0
 IsNextAnswer p capacities whole old new (Some next) = IsNext p capacities whole old next new
 IsNextAnswer p capacities whole old new None = IsSearching p capacities whole [] []
+
+-- the window of the first frame, or, where there is none, the one that is searched next
+abbrev pub IsFrontWindow : List SearchFrame → Bounds → Bounds → Type 0
+IsFrontWindow [] next window = window ≡ next
+IsFrontWindow (frame ∷ frames) next window = window ≡ frame.node.window
 
 -- what is left of a whole window where a window is to be searched next: as high as that one, or higher than the whole
 pub record IsLeft (p : Project) (capacities : List ℕ) (whole next : Bounds) (rest : List Bounds) : Type 0 where

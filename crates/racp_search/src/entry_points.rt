@@ -1,10 +1,11 @@
-ghost use Rattle.std.specs.Prelude.{◌≡◌, IsTrue, IsFalse, IfOk};
+ghost use Rattle.std.specs.Prelude.{◌≡◌, ◌≤◌, IsTrue, IsFalse, IfOk, IfSome};
 ghost use Rattle.racp_model.specs.Formed.{IsFormed};
 ghost use Rattle.racp_cutset.specs.Kept.{StayKept};
 ghost use Rattle.racp_search.specs.Truth.{IsExplored, IsDecision};
-ghost use Rattle.racp_search.specs.Ends.{AllowsNone};
+ghost use Rattle.racp_search.specs.Ends.{AllowsNone, IsEnd};
 
-use crate::depth_first::search;
+use crate::depth_first::{OpenSearch, search};
+use crate::ended::Ended;
 use crate::finding::Finding;
 use crate::piece::Piece;
 use crate::stop::{Never, Stop};
@@ -37,13 +38,62 @@ pub fn explore<N: OfNetwork, S: Stop>(
     ensures quiet { IsTrue S.QUIET → IsFalse result.stopped }
     ensures kept { StayKept local.old local.new }
 {
+    explore_further(alloc, net, piece, quantum, board, local, stop, None).0
+}
+
+/// Searches a piece as `explore` does, and answers beside the finding the search that was left, in the last window of
+/// the rest. A search that was left before is gone on with, where it is that of the piece's question; else the piece is
+/// searched from the start.
+pub fn explore_further<N: OfNetwork, S: Stop>(
+    alloc: Global,
+    net: &Network,
+    piece: Piece<N>,
+    quantum: Option<u64>,
+    board: &Board<N>,
+    local: &mut Local<N>,
+    stop: &S,
+    before: Option<OpenSearch<N>>,
+) -> (Finding<N>, Option<OpenSearch<N>>)
+    requires named { net.now ≡ N.network }
+    requires formed { IsFormed net.now piece.question }
+    ensures explored { IsExplored N.network piece quantum result.0 }
+    ensures quiet { IsTrue S.QUIET → IsFalse result.0.stopped }
+    ensures kept { StayKept local.old local.new }
+{
     if allows_none(quantum) {
-        return Finding::whole(piece, 0, false);
+        return (Finding::whole(piece, 0, false), None);
     }
     let mut nodes = 0;
     let subject = Subject::new(net, piece.question(), board);
-    let end = search(alloc, &subject, quantum, &mut nodes, local, stop);
-    Finding::after(piece, end, nodes)
+    let (end, left) = match search_from(alloc, &subject, before, quantum, &mut nodes, local, stop) {
+        Ok((ended, left)) => (Ok(ended), left),
+        Err(error) => (Err(error), None),
+    };
+    (Finding::after(piece, end, nodes), left)
+}
+
+/// Searches a question, from a search of it that was left, or from the start.
+fn search_from<N: OfNetwork, S: Stop>(
+    alloc: Global,
+    subject: &Subject<N>,
+    before: Option<OpenSearch<N>>,
+    quantum: Option<u64>,
+    nodes: &mut u64,
+    local: &mut Local<N>,
+    stop: &S,
+) -> Result<(Ended, Option<OpenSearch<N>>), AllocError>
+    requires quantum { IfSome quantum (λ most. 1 ≤ most) }
+    requires nodes { nodes.old ≡ 0 }
+    ensures end { IfOk result (λ end. IsEnd N.network subject.now.capacities subject.now.window quantum nodes.new end.0) }
+    ensures quiet { IfOk result (λ end. IsTrue S.QUIET → IsFalse end.0.stopped) }
+    ensures nodes { IfSome quantum (λ most. nodes.new ≤ most) }
+    ensures kept { StayKept local.old local.new }
+{
+    let start = match before {
+        Some(left) => left.or_new(alloc, subject)?,
+        None => OpenSearch::new(alloc, subject)?,
+    };
+    search(alloc, subject, start, quantum, nodes, local, stop)
 }
 
 /// Whether the quantum allows no node.
@@ -87,6 +137,6 @@ fn decide_named<N: OfNetwork>(
     let mut local: Local<N> = Local::new(alloc, net);
     let subject = Subject::new(net, question, &board);
     let mut nodes = 0;
-    let ended = search(alloc, &subject, None, &mut nodes, &mut local, &Never)?;
+    let (ended, _) = search_from(alloc, &subject, None, None, &mut nodes, &mut local, &Never)?;
     Ok(ended.into_found())
 }

@@ -72,6 +72,13 @@ impl<N: OfNetwork> Frame<N> {
         }
     }
 
+    /// The window of the node.
+    pub(crate) fn window(&self) -> &Window
+        ensures { result.now ≡ self.now.node.window }
+    {
+        &self.node.question().window
+    }
+
     /// The time of the node, before which the early starts of its child windows keep the capacities.
     pub(crate) fn time(&self) -> u32
         ensures { result ≡ self.now.node.time }

@@ -58,7 +58,8 @@ mod stop;
 mod subject;
 mod workspace;
 
-pub use entry_points::{decide, explore};
+pub use depth_first::OpenSearch;
+pub use entry_points::{decide, explore, explore_further};
 pub use finding::{Finding, Rest};
 pub use piece::{Collector, Piece};
 pub use stop::{Never, Stop};

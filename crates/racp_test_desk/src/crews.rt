@@ -2,7 +2,7 @@
 
 ghost use Rattle.std.specs.Prelude.{◌≡◌, ◌≤◌};
 
-use crate::runs::{ALL_TURNS, Ended, Numbers, ROWS, run_with};
+use crate::runs::{ALL_TURNS, Ended, Numbers, ROWS, WORKERS, run_with};
 use racp_desk::{Gate, Open};
 use racp_model::{Network, OfNetwork};
 use racp_samples::crossed;
@@ -14,9 +14,6 @@ use std::sync::atomic::{AtomicU64, Ordering};
 use std::test::Fail;
 use std::thread;
 use std::thread::Threads;
-
-/// Numbers of workers.
-const WORKERS: [usize; 5] = [1, 2, 3, 8, 64];
 
 /// How many nodes a piece is searched at most.
 const QUANTA: [u64; 2] = [1, 1000];

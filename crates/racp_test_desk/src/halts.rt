@@ -3,15 +3,14 @@
 ghost use Rattle.std.specs.Prelude.{◌≡◌};
 
 use crate::runs::{ALL_TURNS, Ended, Numbers, ROWS, run_with};
-use crate::trial::AtOnce;
+use crate::stops::{AtCall, AtOnce};
 use racp_desk::{Cause, Open};
 use racp_model::{Network, OfNetwork};
 use racp_samples::crossed;
-use racp_search::{Never, Stop};
+use racp_search::Never;
 use std::alloc::Global;
 use std::marker::Brand;
 use std::sync::Wait;
-use std::sync::atomic::{AtomicU64, Ordering};
 use std::test::Fail;
 use std::thread::Threads;
 
@@ -55,39 +54,6 @@ fn turns_run_out(rt: HostRuntime) -> Result<(), Fail> {
         None
     );
     Ok(())
-}
-
-/// A stop that is asked for once, at the call of this number, from 1.
-#[derive(Drop)]
-struct AtCall {
-    number: u64,
-    calls: AtomicU64,
-}
-
-impl Stop for AtCall {
-    ghost use Rattle.std.specs.Prelude.{false};
-
-    ghost QUIET = { false };
-
-    const QUIET: bool = false;
-
-    fn asked(&self) -> bool {
-        self.calls.fetch_add(1, Ordering::SeqCst).wrapping_add(1) == self.number
-    }
-}
-
-impl AtCall {
-    fn new(number: u64) -> Self {
-        AtCall {
-            number,
-            calls: AtomicU64::new(0),
-        }
-    }
-
-    /// Whether it was asked for.
-    fn came(&self) -> bool {
-        self.number <= self.calls.load(Ordering::SeqCst)
-    }
 }
 
 /// What two workers do beside so many units of the second resource.

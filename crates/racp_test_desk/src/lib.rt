@@ -1,4 +1,4 @@
-//! Tests of the desk.
+//! Tests of the desk, and of plans whose questions are answered by workers.
 #![tactic(auto)]
 
 #[cfg(test)]
@@ -6,10 +6,16 @@ mod crews;
 #[cfg(test)]
 mod halts;
 #[cfg(test)]
+mod plans;
+#[cfg(test)]
+mod probes;
+#[cfg(test)]
 mod runs;
 #[cfg(test)]
 mod scripts;
 #[cfg(test)]
 mod series;
+#[cfg(test)]
+mod stops;
 #[cfg(test)]
 mod trial;

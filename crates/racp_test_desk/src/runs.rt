@@ -16,6 +16,9 @@ use std::thread::Threads;
 /// Units of the second resource, and the place of the first number of units of the first that is enough.
 pub(crate) const ROWS: [(u32, Option<usize>); 3] = [(0, None), (1, Some(2)), (2, Some(1))];
 
+/// Numbers of workers.
+pub(crate) const WORKERS: [usize; 5] = [1, 2, 3, 8, 64];
+
 /// The most turns that there are.
 pub(crate) const ALL_TURNS: u64 = 1_000_000_000_000;
 

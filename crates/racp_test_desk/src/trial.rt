@@ -2,32 +2,17 @@
 
 ghost use Rattle.std.specs.Prelude.{◌≡◌, ◌<◌, ◌≤◌, length, IfOk};
 
+use crate::stops::AtOnce;
 use racp_candidates::Singles;
 use racp_core::{Asked, Merged, Reply};
 use racp_cutset::{Board, Local};
 use racp_desk::{Cause, Names, State};
 use racp_model::{Network, OfNetwork, Question};
 use racp_samples::{SampleFault, question};
-use racp_search::{Collector, Finding, Never, Piece, Stop, explore};
+use racp_search::{Collector, Finding, Never, Piece, explore};
 use std::alloc::{AllocError, Global};
 use std::sync::ledger::Share;
 use std::test::Fail;
-
-/// Asks a search to stop before its first node.
-#[derive(Clone, Copy)]
-pub(crate) struct AtOnce;
-
-impl Stop for AtOnce {
-    ghost use Rattle.std.specs.Prelude.{false};
-
-    ghost QUIET = { false };
-
-    const QUIET: bool = false;
-
-    fn asked(&self) -> bool {
-        true
-    }
-}
 
 /// How a piece is searched that is handed in.
 #[derive(Clone, Copy)]

@@ -5,7 +5,7 @@ ghost use Rattle.racp_model.specs.Schedule.{EndsBy};
 
 use crate::samples::{Sample, sampled};
 use racp_bounds::{floors, roofs};
-use racp_model::Network;
+use racp_model::{Network, Window};
 use racp_samples::{SampleFault, network, root_window};
 use std::alloc::{AllocError, Global};
 use std::test::Fail;
@@ -73,6 +73,28 @@ fn end_by(net: &Network, starts: &[u32], deadline: u32) -> bool
     (0..net.job_count()).all(|i| starts[i] as u64 + net.duration(i) as u64 <= deadline as u64)
 }
 
+/// Whether these are the floors of a window under a deadline.
+fn are_floors(
+    alloc: Global,
+    net: &Network,
+    window: &Window,
+    deadline: u32,
+    least: &[u32],
+) -> Result<bool, AllocError>
+    requires lower { length window.now.lower ≡ length net.now.jobs }
+    requires upper { length window.now.upper ≡ length net.now.jobs }
+    requires ends { EndsBy net.now (λ _. deadline) window.now.lower }
+{
+    let found = floors(alloc, net, window, deadline)?;
+    Ok(found.as_slice() == least)
+}
+
+/// Whether these are the roofs of a network.
+fn are_roofs(alloc: Global, net: &Network, most: &[u32]) -> Result<bool, AllocError> {
+    let found = roofs(alloc, net)?;
+    Ok(found.as_slice() == most)
+}
+
 /// What is found otherwise than these floors and roofs under a deadline.
 fn difference(
     alloc: Global,
@@ -84,9 +106,9 @@ fn difference(
     let window = root_window(alloc, net, deadline)?;
     Ok(if !end_by(net, window.lower(), deadline) {
         Some("the early starts")
-    } else if floors(alloc, net, &window, deadline)?.as_slice() != least {
+    } else if !are_floors(alloc, net, &window, deadline, least)? {
         Some("the floors")
-    } else if roofs(alloc, net)?.as_slice() != most {
+    } else if !are_roofs(alloc, net, most)? {
         Some("the roofs")
     } else {
         None

@@ -1,5 +1,7 @@
 //! Profiles of starts.
 
+ghost use Rattle.std.specs.Prelude.{◌≡◌, length};
+
 use crate::samples::{Sample, sampled};
 use racp_delay::{Clash, Profile};
 use racp_model::{Capacities, Network, Starts};
@@ -50,13 +52,28 @@ fn follows(
         return Ok(false);
     }
     let capacities = Capacities::new(capacities.to_vec(alloc)?);
-    let mut profile = Profile::of(alloc, net, &Starts::new(starts.to_vec(alloc)?))?;
+    let starts = Starts::new(starts.to_vec(alloc)?);
+    let mut profile = Profile::of(alloc, net, &starts)?;
+    finds_each(alloc, net, &capacities, &mut profile, moves)
+}
+
+/// The same, of capacities of the right number.
+fn finds_each(
+    alloc: Global,
+    net: &Network,
+    capacities: &Capacities,
+    profile: &mut Profile,
+    moves: &[Move],
+) -> Result<bool, AllocError>
+    requires capacities { length capacities.now ≡ net.now.resources }
+    requires profile { length profile.old ≡ length net.now.jobs }
+{
     for &(job, start, expected) in moves {
         if job < 1 || net.job_count() < job as usize {
             return Ok(false);
         }
         profile.move_job(net, job, start)?;
-        let first = profile.first_over(net, &capacities);
+        let first = profile.first_over(net, capacities);
         if !is_conflict(alloc, first, expected)? {
             return Ok(false);
         }

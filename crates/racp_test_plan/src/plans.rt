@@ -29,19 +29,26 @@ struct Terms<'a> {
 
 /// The order on these terms, where an empty list of ceilings stands for none.
 fn order_of(alloc: Global, terms: &Terms<'_>) -> Result<Order, AllocError> {
-    let ceilings = terms.ceilings.to_vec(alloc)?;
+    let ceilings = ceilings_of(alloc, terms)?;
+    let prices = terms.prices.to_vec(alloc)?;
+    let owned = terms.owned.to_vec(alloc)?;
+    let release = terms.release.to_vec(alloc)?;
+    let due = terms.due.to_vec(alloc)?;
     Ok(Order {
         deadline: terms.deadline,
-        prices: terms.prices.to_vec(alloc)?,
-        owned: terms.owned.to_vec(alloc)?,
-        ceilings: if terms.ceilings.is_empty() {
-            None
-        } else {
-            Some(ceilings)
-        },
-        release: terms.release.to_vec(alloc)?,
-        due: terms.due.to_vec(alloc)?,
+        prices,
+        owned,
+        ceilings,
+        release,
+        due,
     })
+}
+
+fn ceilings_of(alloc: Global, terms: &Terms<'_>) -> Result<Option<Vec<u32>>, AllocError> {
+    if terms.ceilings.is_empty() {
+        return Ok(None);
+    }
+    Ok(Some(terms.ceilings.to_vec(alloc)?))
 }
 
 /// What is wanted: the critical length, cost, capacities and starts of a plan; or the critical length, or the job, that is the
@@ -103,157 +110,165 @@ fn try_rows(
     Ok(())
 }
 
-#[test]
-fn plans_with_one_resource(rt: HostRuntime) -> Result<(), Fail> {
-    let alloc = rt.alloc();
-    let four = Terms {
-        deadline: 4,
-        prices: &[10],
-        owned: &[0],
-        ceilings: &[],
-        release: &[0; 5],
-        due: &[10; 5],
-    };
-    let (two, three, five) = (
-        Terms {
-            deadline: 2,
-            ..four
-        },
+/// Terms with one resource.
+const FOUR: Terms<'static> = Terms {
+    deadline: 4,
+    prices: &[10],
+    owned: &[0],
+    ceilings: &[],
+    release: &[0; 5],
+    due: &[10; 5],
+};
+
+const FIVE: Terms<'static> = Terms {
+    deadline: 5,
+    ..FOUR
+};
+
+const ONE_RESOURCE: [(Terms<'static>, Wanted<'static>); 11] = [
+    (
         Terms {
             deadline: 3,
-            ..four
+            ..FOUR
         },
+        Wanted::Plan(3, 40, &[4], &[0, 0, 0, 0, 3]),
+    ),
+    (FOUR, Wanted::Plan(3, 30, &[3], &[0, 0, 0, 2, 4])),
+    (FIVE, Wanted::Plan(3, 20, &[2], &[0, 0, 3, 3, 5])),
+    (
         Terms {
-            deadline: 5,
-            ..four
+            owned: &[5],
+            ..FOUR
         },
-    );
-    let rows = [
-        (three, Wanted::Plan(3, 40, &[4], &[0, 0, 0, 0, 3])),
-        (four, Wanted::Plan(3, 30, &[3], &[0, 0, 0, 2, 4])),
-        (five, Wanted::Plan(3, 20, &[2], &[0, 0, 3, 3, 5])),
-        (
-            Terms {
-                owned: &[5],
-                ..four
-            },
-            Wanted::Plan(3, 0, &[3], &[0, 0, 0, 2, 4]),
-        ),
-        (
-            Terms {
-                release: &[0, 1, 0, 0, 0],
-                ..five
-            },
-            Wanted::Plan(4, 20, &[2], &[0, 2, 0, 0, 5]),
-        ),
-        (
-            Terms {
-                due: &[5, 5, 2, 5, 5],
-                ..five
-            },
-            Wanted::Plan(3, 20, &[2], &[0, 2, 0, 0, 5]),
-        ),
-        (two, Wanted::TooLong(3)),
-        (
-            Terms {
-                ceilings: &[0],
-                ..two
-            },
-            Wanted::TooLong(3),
-        ),
-        (
-            Terms {
-                release: &[0, 3, 0, 0, 0],
-                ..five
-            },
-            Wanted::TooLong(6),
-        ),
-        (
-            Terms {
-                release: &[0, 1, 0, 0, 0],
-                due: &[5, 3, 5, 5, 5],
-                ..five
-            },
-            Wanted::TooLate(2),
-        ),
-        (
-            Terms {
-                ceilings: &[2],
-                ..four
-            },
-            Wanted::OverCeilings,
-        ),
-    ];
-    let net = parallel(alloc)?;
-    try_rows(&rt, alloc, &net, &rows)
-}
-
-#[test]
-fn plans_with_two_resources(rt: HostRuntime) -> Result<(), Fail> {
-    let alloc = rt.alloc();
-    let three = Terms {
-        deadline: 3,
-        prices: &[1, 1],
-        owned: &[0, 0],
-        ceilings: &[],
-        release: &[0; 6],
-        due: &[3; 6],
-    };
-    let (two, four) = (
+        Wanted::Plan(3, 0, &[3], &[0, 0, 0, 2, 4]),
+    ),
+    (
+        Terms {
+            release: &[0, 1, 0, 0, 0],
+            ..FIVE
+        },
+        Wanted::Plan(4, 20, &[2], &[0, 2, 0, 0, 5]),
+    ),
+    (
+        Terms {
+            due: &[5, 5, 2, 5, 5],
+            ..FIVE
+        },
+        Wanted::Plan(3, 20, &[2], &[0, 2, 0, 0, 5]),
+    ),
+    (
         Terms {
             deadline: 2,
-            ..three
+            ..FOUR
         },
+        Wanted::TooLong(3),
+    ),
+    (
+        Terms {
+            deadline: 2,
+            ceilings: &[0],
+            ..FOUR
+        },
+        Wanted::TooLong(3),
+    ),
+    (
+        Terms {
+            release: &[0, 3, 0, 0, 0],
+            ..FIVE
+        },
+        Wanted::TooLong(6),
+    ),
+    (
+        Terms {
+            release: &[0, 1, 0, 0, 0],
+            due: &[5, 3, 5, 5, 5],
+            ..FIVE
+        },
+        Wanted::TooLate(2),
+    ),
+    (
+        Terms {
+            ceilings: &[2],
+            ..FOUR
+        },
+        Wanted::OverCeilings,
+    ),
+];
+
+#[test]
+fn plans_with_one_resource(rt: HostRuntime) -> Result<(), Fail> {
+    let net = parallel(rt.alloc())?;
+    try_rows(&rt, rt.alloc(), &net, &ONE_RESOURCE)
+}
+
+/// Terms with two resources.
+const THREE: Terms<'static> = Terms {
+    deadline: 3,
+    prices: &[1, 1],
+    owned: &[0, 0],
+    ceilings: &[],
+    release: &[0; 6],
+    due: &[3; 6],
+};
+
+const TWO_RESOURCES: [(Terms<'static>, Wanted<'static>); 8] = [
+    (THREE, Wanted::Plan(2, 3, &[1, 2], &[0, 0, 1, 2, 2, 3])),
+    (
+        Terms {
+            prices: &[0, 1],
+            ..THREE
+        },
+        Wanted::Plan(2, 1, &[2, 1], &[0, 0, 0, 1, 2, 3]),
+    ),
+    (
+        Terms {
+            prices: &[0, 0],
+            ..THREE
+        },
+        Wanted::Plan(2, 0, &[1, 2], &[0, 0, 1, 2, 2, 3]),
+    ),
+    (
+        Terms {
+            deadline: 2,
+            ..THREE
+        },
+        Wanted::Plan(2, 4, &[2, 2], &[0, 0, 0, 1, 1, 2]),
+    ),
+    (
         Terms {
             deadline: 4,
             due: &[4; 6],
-            ..three
+            ..THREE
         },
-    );
-    let first: &[u32] = &[0, 0, 1, 2, 2, 3];
-    let second: &[u32] = &[0, 0, 0, 1, 2, 3];
-    let rows = [
-        (three, Wanted::Plan(2, 3, &[1, 2], first)),
-        (
-            Terms {
-                prices: &[0, 1],
-                ..three
-            },
-            Wanted::Plan(2, 1, &[2, 1], second),
-        ),
-        (
-            Terms {
-                prices: &[0, 0],
-                ..three
-            },
-            Wanted::Plan(2, 0, &[1, 2], first),
-        ),
-        (two, Wanted::Plan(2, 4, &[2, 2], &[0, 0, 0, 1, 1, 2])),
-        (four, Wanted::Plan(2, 2, &[1, 1], &[0, 0, 1, 2, 3, 4])),
-        (
-            Terms {
-                owned: &[2, 0],
-                ..three
-            },
-            Wanted::Plan(2, 1, &[2, 1], second),
-        ),
-        (
-            Terms {
-                ceilings: &[2, 1],
-                ..three
-            },
-            Wanted::Plan(2, 3, &[2, 1], second),
-        ),
-        (
-            Terms {
-                ceilings: &[1, 1],
-                ..three
-            },
-            Wanted::OverCeilings,
-        ),
-    ];
-    let net = crossed(alloc)?;
-    try_rows(&rt, alloc, &net, &rows)
+        Wanted::Plan(2, 2, &[1, 1], &[0, 0, 1, 2, 3, 4]),
+    ),
+    (
+        Terms {
+            owned: &[2, 0],
+            ..THREE
+        },
+        Wanted::Plan(2, 1, &[2, 1], &[0, 0, 0, 1, 2, 3]),
+    ),
+    (
+        Terms {
+            ceilings: &[2, 1],
+            ..THREE
+        },
+        Wanted::Plan(2, 3, &[2, 1], &[0, 0, 0, 1, 2, 3]),
+    ),
+    (
+        Terms {
+            ceilings: &[1, 1],
+            ..THREE
+        },
+        Wanted::OverCeilings,
+    ),
+];
+
+#[test]
+fn plans_with_two_resources(rt: HostRuntime) -> Result<(), Fail> {
+    let net = crossed(rt.alloc())?;
+    try_rows(&rt, rt.alloc(), &net, &TWO_RESOURCES)
 }
 
 /// Two jobs of duration 0 that request nothing of one resource, 1 before 2.

@@ -26,10 +26,9 @@ pub(crate) fn is_yes(
     requires upper { length window.now.upper ≡ length net.now.jobs }
     ensures { IfOk result (λ yes. IsTrue yes → IsYes net.now capacities.now window.now) }
 {
-    let question = Question {
-        capacities: Capacities::new(capacities.as_slice().to_vec(alloc)?),
-        window: window.clone()?,
-    };
+    let window = window.clone()?;
+    let capacities = Capacities::new(capacities.as_slice().to_vec(alloc)?);
+    let question = Question { capacities, window };
     Ok(decide_by_definition(alloc, net, &question)?.is_some())
 }
 

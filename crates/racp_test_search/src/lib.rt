@@ -1,6 +1,10 @@
-//! Tests of series of questions and of the search.
+//! Tests of series of questions, of the search, of records of refuted nodes and of the collector.
 #![tactic(auto)]
 
+#[cfg(test)]
+mod collector;
+#[cfg(test)]
+mod records;
 #[cfg(test)]
 mod searches;
 #[cfg(test)]

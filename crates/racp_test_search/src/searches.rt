@@ -1,6 +1,6 @@
 //! Searches of small questions, whole and in parts.
 
-ghost use Rattle.std.specs.Prelude.{◌≡◌, length};
+ghost use Rattle.std.specs.Prelude.{◌≡◌, IfOk, length};
 
 use racp_cutset::{Board, Local};
 use racp_model::{NetFault, Network, OfNetwork, Question, Starts, Window};
@@ -8,7 +8,7 @@ use racp_reference::decide_by_definition;
 use racp_samples::{
     Random, SampleFault, chained, crossed, network, parallel, question, random_network, root_window,
 };
-use racp_search::{Collector, Never, Piece, Rest, Stop, decide, explore};
+use racp_search::{Collector, Finding, Never, Piece, Rest, Stop, decide, explore};
 use std::alloc::{AllocError, Global};
 use std::cell::Cell;
 use std::marker::Brand;
@@ -90,13 +90,26 @@ fn decides_the_vectors_between_floors_and_roofs(rt: HostRuntime) -> Result<(), F
     Ok(())
 }
 
-/// Whether some starts answer a random question: as the search decides it, and by the definition.
-fn decided_twice(alloc: Global, random: &mut Random) -> Result<(bool, bool), SampleFault> {
-    let net = random_network(alloc, random, 2, 5)?;
+/// A random question about a network of five jobs and two resources.
+fn random_question(
+    alloc: Global,
+    net: &Network,
+    random: &mut Random,
+) -> Result<Question, SampleFault>
+    ensures capacities { IfOk result (λ asked. length asked.capacities ≡ net.now.resources) }
+    ensures lower { IfOk result (λ asked. length asked.window.lower ≡ length net.now.jobs) }
+    ensures upper { IfOk result (λ asked. length asked.window.upper ≡ length net.now.jobs) }
+{
     let lower = random.list(alloc, 5, 2)?;
     let upper = random.list(alloc, 5, 7)?;
     let capacities = random.list(alloc, 2, 6)?;
-    let asked = question(alloc, &net, &capacities, &lower, &upper)?;
+    question(alloc, net, &capacities, &lower, &upper)
+}
+
+/// Whether some starts answer a random question: as the search decides it, and by the definition.
+fn decided_twice(alloc: Global, random: &mut Random) -> Result<(bool, bool), SampleFault> {
+    let net = random_network(alloc, random, 2, 5)?;
+    let asked = random_question(alloc, &net, random)?;
     let found = decide(alloc, &net, &asked)?.is_some();
     Ok((found, decide_by_definition(alloc, &net, &asked)?.is_some()))
 }
@@ -186,6 +199,11 @@ fn searched_named<N: OfNetwork>(
     };
     let piece: Piece<N> = Piece::new(0, 0, 0, asked);
     let finding = explore(alloc, net, piece, quantum, &board, &mut local, &stop);
+    told_of(alloc, finding)
+}
+
+/// What a finding tells.
+fn told_of<N: OfNetwork>(alloc: Global, finding: Finding<N>) -> Result<Told, AllocError> {
     let (nodes, stopped) = (finding.nodes(), finding.stopped());
     let (piece, rest, found) = finding.into_parts();
     let whole = piece.into_question::<Told>().window;
@@ -353,11 +371,17 @@ fn gives_pieces_back_and_finds_the_records_of_a_search(rt: HostRuntime) -> Resul
     let net = equal(alloc)?;
     let asked = question(alloc, &net, &[1], &[0, 1, 0, 1, 0, 1], &[3; 6])?;
     let again = searched_again::<Brand>(alloc, &net, asked)?;
-    assert_eq!(rt; again.marks, (7, 5, 3));
-    assert!(rt; again.question.capacities.as_slice() == [1].as_slice());
-    assert!(rt; again.question.window.lower() == [0, 1, 0, 1, 0, 1].as_slice());
-    assert!(rt; again.question.window.upper() == [3; 6].as_slice());
+    assert!(rt; is_the_piece(&again));
     let (first, second) = again.nodes;
     assert!(rt; !again.found && second < first, "{first} {second}");
     Ok(())
+}
+
+/// Whether the piece behind two searches is the one that was searched.
+fn is_the_piece(again: &Again) -> bool {
+    let window = &again.question.window;
+    again.marks == (7, 5, 3)
+        && again.question.capacities.as_slice() == [1].as_slice()
+        && window.lower() == [0, 1, 0, 1, 0, 1].as_slice()
+        && window.upper() == [3; 6].as_slice()
 }

@@ -146,11 +146,11 @@ fn are_bounds(floors: &[u32], roofs: &[u32]) -> bool
 
 /// What a box is made of.
 #[derive(Drop)]
-struct Parts {
-    order: Order,
-    floors: Capacities,
-    roofs: Capacities,
-    pairs: Vec<(u32, u32)>,
+pub(crate) struct Parts {
+    pub(crate) order: Order,
+    pub(crate) floors: Capacities,
+    pub(crate) roofs: Capacities,
+    pub(crate) pairs: Vec<(u32, u32)>,
 }
 
 /// An order of these prices and owned units.
@@ -167,11 +167,18 @@ fn order_of(alloc: Global, prices: &[u32], owned: &[u32]) -> Result<Order, Alloc
     })
 }
 
-fn parts_of(alloc: Global, row: &Boxed) -> Result<Parts, AllocError> {
-    let order = order_of(alloc, row.prices, row.owned)?;
-    let floors = row.floors.to_vec(alloc)?;
-    let roofs = row.roofs.to_vec(alloc)?;
-    let pairs = row.pairs.to_vec(alloc)?;
+/// The parts of a box of these prices and owned units, floors, roofs and excluding pairs.
+pub(crate) fn parts_of(
+    alloc: Global,
+    (prices, owned): (&[u32], &[u32]),
+    floors: &[u32],
+    roofs: &[u32],
+    pairs: &[(u32, u32)],
+) -> Result<Parts, AllocError> {
+    let order = order_of(alloc, prices, owned)?;
+    let floors = floors.to_vec(alloc)?;
+    let roofs = roofs.to_vec(alloc)?;
+    let pairs = pairs.to_vec(alloc)?;
     Ok(Parts {
         order,
         floors: Capacities::new(floors),
@@ -181,7 +188,7 @@ fn parts_of(alloc: Global, row: &Boxed) -> Result<Parts, AllocError> {
 }
 
 /// Whether the prices and the bounds of a box are in their ranges, and its pairs name its resources.
-fn is_box(parts: &Parts) -> bool
+pub(crate) fn is_box(parts: &Parts) -> bool
     ensures prices { IsTrue result → ArePrices parts.now.order.prices parts.now.order.owned }
     ensures floors { IsTrue result → length parts.now.order.prices ≡ length parts.now.floors }
     ensures roofs { IsTrue result → length parts.now.roofs ≡ length parts.now.floors }
@@ -238,7 +245,8 @@ fn gives<S: Series>(series: &mut S, vectors: &[&[u32]], all: bool) -> Result<boo
 
 /// Whether a box has the vectors of its row, in this order.
 fn is_ordered(alloc: Global, row: &Boxed, root: &Window) -> Result<bool, AllocError> {
-    let parts = parts_of(alloc, row)?;
+    let costs = (row.prices, row.owned);
+    let parts = parts_of(alloc, costs, row.floors, row.roofs, row.pairs)?;
     match series_of(alloc, parts, root)? {
         Some(mut series) => gives(&mut series, row.vectors, row.all),
         None => Ok(false),

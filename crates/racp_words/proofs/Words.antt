@@ -8,7 +8,7 @@ use Rattle.clap.proofs.ValueTestLemmas.{Accepts-accepts}
 use Rattle.clap.specs.declared.builder.value_parser.ValueParser.TheVariants.{Unsigned}
 use Rattle.clap.specs.Words.{IsUnsignedIn, Row, Text, fault_of, first_of, subcommand_of}
 use Rattle.clap.proofs.OnLiterals.{clap_on_literals}
-use Rattle.racp_words.specs.CommandLine.{IsCpmLine, AsksForCpm, IsPlanLine, AsksForPlan, IsWorkersLine, AsksForWorkers, IsOfWorkers, IsNumberOf, number_in, IsCheckLine, AsksForCheck, IsCrew, IsPlain, IsRequested, has_crew_option, is_set, path_at, racp}
+use Rattle.racp_words.specs.CommandLine.{IsCpmLine, AsksForCpm, IsPlanLine, AsksForPlan, IsWorkersLine, AsksForWorkers, IsOfWorkers, IsLimitOf, IsNumberOf, number_in, IsCheckLine, AsksForCheck, IsCrew, IsPlain, IsRequested, has_crew_option, is_set, path_at, racp}
 use Rattle.clap.specs.Kinds.{Kinds, or_else}
 use Rattle.clap.specs.ValueTests.{is_unsigned_in}
 use Rattle.clap.specs.declared.error.kind.ErrorKind.TheVariants.{ValueValidation}
@@ -58,7 +58,7 @@ cpm_word name (first ∷ rest) plain = by_first (first == 45) refl
 none_asked : (command : Option (Text × List Row)) (request : Request) → with_network command ≡ None → IsRequested command request → AsksForCpm None request
 unfolding with_network
 none_asked None (Cpm network) e asked = asked
-none_asked None (Plan files crew) e asked = asked
+none_asked None (Plan files memory crew) e asked = asked
 none_asked None (Check files) e asked = asked
 none_asked (Some command) request e asked = absurd (search rules)
 
@@ -67,30 +67,36 @@ cpm_asked : (command : Option (Text × List Row)) (word : Option Text) (request 
 unfolding with_network
 cpm_asked None word request e asked = absurd (search rules)
 cpm_asked (Some command) word (Cpm network) e asked = rw (← ap (λ c. c.1) (same_Some _ _ e)) asked.2
-cpm_asked (Some command) word (Plan files crew) e asked =
+cpm_asked (Some command) word (Plan files memory crew) e asked =
     let same : codes "cpm" ≡ codes "plan" = sym (ap (λ c. c.0) (same_Some _ _ e)) ∙ asked.0 in
     let letter : 99 ≡ 112 = ap (λ t. slice_index t 0) same in absurd (omega (arith, letter))
 cpm_asked (Some command) word (Check files) e asked =
     let same : codes "cpm" ≡ codes "check" = sym (ap (λ c. c.0) (same_Some _ _ e)) ∙ asked.0 in
     let letter : 112 ≡ 104 = ap (λ t. slice_index t 1) same in absurd (omega (arith, letter))
 
--- the command that is named, the paths of its words for a network and an order, and whether an option about workers is given
-with_two_paths : Option (Text × List Row) → Option (Text × (Text × (Text × Bool)))
-with_two_paths = option_map (λ command. (command.0, (path_at (codes "NET") command.1, (path_at (codes "ORDER") command.1, has_crew_option command.1))))
+-- the command that is named, the paths of its words for a network and an order, the word for memory, and whether an option about workers is given
+with_two_paths : Option (Text × List Row) → Option (Text × (Text × (Text × (Option Text × Bool))))
+with_two_paths = option_map (λ command. (command.0, (path_at (codes "NET") command.1, (path_at (codes "ORDER") command.1, (first_of (codes "memory") command.1, has_crew_option command.1)))))
 
 plan_paths : (name : Text) (a b : ℕ) (net order : Text) → (a == 45) ≡ false → (b == 45) ≡ false →
     (fault_of racp (name ∷ codes "plan" ∷ (a ∷ net) ∷ (b ∷ order) ∷ []) ≡ []) ×
-    (with_two_paths (subcommand_of racp (name ∷ codes "plan" ∷ (a ∷ net) ∷ (b ∷ order) ∷ [])) ≡ Some (codes "plan", (a ∷ net, (b ∷ order, false))))
+    (with_two_paths (subcommand_of racp (name ∷ codes "plan" ∷ (a ∷ net) ∷ (b ∷ order) ∷ [])) ≡ Some (codes "plan", (a ∷ net, (b ∷ order, (None, false)))))
 unfolding racp clap_on_literals with_two_paths
 plan_paths name a b net order p q = (rw (p, p, q, q) refl, rw (p, p, q, q) refl)
 
 -- the command that is named, and what `plan` reads of its words
-with_crew : Option (Text × List Row) → Option (Text × (Text × (Text × (Option Text × (Option Text × Bool)))))
+with_crew : Option (Text × List Row) → Option (Text × (Text × (Text × (Option Text × (Option Text × (Option Text × (Option Text × Bool)))))))
 with_crew = option_map (λ command. (
   command.0,
   (
     path_at (codes "NET") command.1,
-    (path_at (codes "ORDER") command.1, (first_of (codes "workers") command.1, (first_of (codes "turns") command.1, is_set (codes "stats") command.1))),
+    (
+      path_at (codes "ORDER") command.1,
+      (
+        first_of (codes "memory") command.1,
+        (first_of (codes "workers") command.1, (first_of (codes "turns") command.1, (first_of (codes "time-limit") command.1, is_set (codes "stats") command.1))),
+      ),
+    ),
   ),
 ))
 
@@ -105,7 +111,7 @@ workers_fault name a b d net order digits p q r = rw (p, p, q, q, r, r) refl
 
 workers_words : (name : Text) (a b d : ℕ) (net order digits : Text) → (a == 45) ≡ false → (b == 45) ≡ false → (d == 45) ≡ false →
     with_crew (subcommand_of racp (name ∷ codes "plan" ∷ (a ∷ net) ∷ (b ∷ order) ∷ codes "--workers" ∷ (d ∷ digits) ∷ [])) ≡
-    Some (codes "plan", (a ∷ net, (b ∷ order, (Some (d ∷ digits), (None, false)))))
+    Some (codes "plan", (a ∷ net, (b ∷ order, (None, (Some (d ∷ digits), (None, (None, false)))))))
 unfolding racp clap_on_literals with_crew
 workers_words name a b d net order digits p q r = rw (p, p, q, q, r, r) refl
 
@@ -115,14 +121,18 @@ no_crew words None none asked = refl
 no_crew words (Some crew) none asked = absurd (search (rules, none, asked.0))
 
 -- `plan` asks for the files with these paths
-plan_asked : (command : Option (Text × List Row)) (net order : Text) (request : Request) → with_two_paths command ≡ Some (codes "plan", (net, (order, false))) → IsRequested command request →
+plan_asked : (command : Option (Text × List Row)) (net order : Text) (request : Request) → with_two_paths command ≡ Some (codes "plan", (net, (order, (None, false)))) → IsRequested command request →
     AsksForPlan net order request
 unfolding with_two_paths
 plan_asked None net order request e asked = absurd (search rules)
 plan_asked (Some command) net order (Cpm network) e asked = absurd (asked.0 (ap (λ c. c.0) (same_Some _ _ e)))
-plan_asked (Some command) net order (Plan files crew) e asked =
-    let same = same_Some _ _ e in
-    (asked.1 ∙ ap (λ c. c.1.0) same, asked.2 ∙ ap (λ c. c.1.1.0) same, no_crew command.1 crew (ap (λ c. c.1.1.1) same) asked.3)
+plan_asked (Some command) net order (Plan files memory crew) e asked =
+    let same = same_Some _ _ e in (
+      asked.1 ∙ ap (λ c. c.1.0) same,
+      asked.2 ∙ ap (λ c. c.1.1.0) same,
+      subst (λ (w : Option Text). IsNumberOf 1048576 1024 w memory.mebibytes) (ap (λ c. c.1.1.1.0) same) asked.3,
+      no_crew command.1 crew (ap (λ c. c.1.1.1.1) same) asked.4,
+    )
 plan_asked (Some command) net order (Check files) e asked =
     let same : codes "plan" ≡ codes "check" = sym (ap (λ c. c.0) (same_Some _ _ e)) ∙ asked.0 in
     let letter : 112 ≡ 99 = ap (λ t. slice_index t 0) same in absurd (omega (arith, letter))
@@ -143,27 +153,30 @@ some_number in_range = omega (arith, in_range.0.0)
 
 -- where `--workers` alone is given, so many workers are asked for
 workers_crew : (words : List Row) (crew : Option Crew) (number : Text) → first_of (codes "workers") words ≡ Some number → first_of (codes "turns") words ≡ None →
-    is_set (codes "stats") words ≡ false → IsUnsignedIn 1 64 number → IsCrew words crew → IsOfWorkers (number_in number) crew
-workers_crew words None number workers turns stats in_range asked =
-    let given : has_crew_option words ≡ true = ap (λ (w : Option Text). is_some w || (is_some (first_of (codes "turns") words) || is_set (codes "stats") words)) workers in
+    first_of (codes "time-limit") words ≡ None → is_set (codes "stats") words ≡ false → IsUnsignedIn 1 64 number → IsCrew words crew → IsOfWorkers (number_in number) crew
+workers_crew words None number workers turns limit stats in_range asked =
+    let given : has_crew_option words ≡ true = ap (λ (w : Option Text). is_some w || (is_some (first_of (codes "turns") words) || (is_set (codes "stats") words || is_some (first_of (codes "time-limit") words)))) workers in
     absurd (search (rules, given, asked))
-workers_crew words (Some crew) number workers turns stats in_range asked = (
+workers_crew words (Some crew) number workers turns limit stats in_range asked = (
   subst (λ (w : Option Text). IsNumberOf 64 1 w crew.workers) workers asked.1 in_range,
   subst (λ (w : Option Text). IsNumberOf 1000000000000 1000000000000 w crew.turns) turns asked.2,
-  asked.3 ∙ stats,
+  subst (λ (w : Option Text). IsLimitOf w crew.time_limit) limit asked.3,
+  asked.4 ∙ stats,
 )
 
 -- `plan` asks for the files with these paths, and for so many workers
 workers_asked : (command : Option (Text × List Row)) (net order number : Text) (request : Request) → IsUnsignedIn 1 64 number →
-    with_crew command ≡ Some (codes "plan", (net, (order, (Some number, (None, false))))) → IsRequested command request → AsksForWorkers net order (number_in number) request
+    with_crew command ≡ Some (codes "plan", (net, (order, (None, (Some number, (None, (None, false))))))) → IsRequested command request → AsksForWorkers net order (number_in number) request
 unfolding with_crew
 workers_asked None net order number request in_range e asked = absurd (search rules)
 workers_asked (Some command) net order number (Cpm network) in_range e asked = absurd (asked.0 (ap (λ c. c.0) (same_Some _ _ e)))
-workers_asked (Some command) net order number (Plan files crew) in_range e asked =
+workers_asked (Some command) net order number (Plan files memory crew) in_range e asked =
     let same = same_Some _ _ e in (
       asked.1 ∙ ap (λ c. c.1.0) same,
       asked.2 ∙ ap (λ c. c.1.1.0) same,
-      workers_crew command.1 crew number (ap (λ c. c.1.1.1.0) same) (ap (λ c. c.1.1.1.1.0) same) (ap (λ c. c.1.1.1.1.1) same) in_range asked.3,
+      subst (λ (w : Option Text). IsNumberOf 1048576 1024 w memory.mebibytes) (ap (λ c. c.1.1.1.0) same) asked.3,
+      workers_crew command.1 crew number (ap (λ c. c.1.1.1.1.0) same) (ap (λ c. c.1.1.1.1.1.0) same) (ap (λ c. c.1.1.1.1.1.1.0) same)
+          (ap (λ c. c.1.1.1.1.1.1.1) same) in_range asked.4,
     )
 workers_asked (Some command) net order number (Check files) in_range e asked =
     let same : codes "plan" ≡ codes "check" = sym (ap (λ c. c.0) (same_Some _ _ e)) ∙ asked.0 in
@@ -185,7 +198,7 @@ check_asked : (command : Option (Text × List Row)) (net order plan : Text) (req
 unfolding with_paths
 check_asked None net order plan request e asked = absurd (search rules)
 check_asked (Some command) net order plan (Cpm network) e asked = absurd (asked.1 (ap (λ c. c.0) (same_Some _ _ e)))
-check_asked (Some command) net order plan (Plan files crew) e asked =
+check_asked (Some command) net order plan (Plan files memory crew) e asked =
     let same : codes "check" ≡ codes "plan" = sym (ap (λ c. c.0) (same_Some _ _ e)) ∙ asked.0 in
     let letter : 99 ≡ 112 = ap (λ t. slice_index t 0) same in absurd (omega (arith, letter))
 check_asked (Some command) net order plan (Check files) e asked =

@@ -35,9 +35,14 @@ abbrev pub plan_of_files : App
 plan_of_files = with_rule (with_rule (new_app (codes "plan")) (file_rule (codes "NET"))) (file_rule (codes "ORDER"))
 
 -- `plan NET ORDER [--workers N] [--turns N] [--stats]`
-abbrev pub plan : App
-plan = with_rule (with_rule (with_rule plan_of_files (number_rule (codes "workers") 64))
+abbrev pub plan_of_workers : App
+plan_of_workers = with_rule (with_rule (with_rule plan_of_files (number_rule (codes "workers") 64))
     (number_rule (codes "turns") 1000000000000)) (flag_rule (codes "stats"))
+
+-- `plan NET ORDER [--workers N] [--turns N] [--stats] [--memory MIB] [--time-limit S]`
+abbrev pub plan : App
+plan = with_rule (with_rule plan_of_workers (number_rule (codes "memory") 1048576))
+    (number_rule (codes "time-limit") 1000000000)
 
 -- `check NET ORDER PLAN`
 abbrev pub check : App
@@ -48,7 +53,7 @@ check = with_rule (with_rule (with_rule (new_app (codes "check")) (file_rule (co
 abbrev pub with_version : App → App
 with_version a = record a { top = record a.top { has_version = true } }
 
--- `racp [cpm [NET] | plan NET ORDER [--workers N] [--turns N] [--stats] | check NET ORDER PLAN]`
+-- `racp [cpm [NET] | plan NET ORDER [OPTIONS] | check NET ORDER PLAN]`
 unfoldable pub racp : App
 racp = with_subcommand (with_subcommand (with_subcommand (with_version (new_app (codes "racp"))) cpm.top) plan.top)
     check.top
@@ -70,7 +75,8 @@ is_set name words = option_map_or (λ text. bytes_eq text (codes "true")) (first
 abbrev pub has_crew_option : List Row → Bool
 has_crew_option words =
     is_some (first_of (codes "workers") words) ||
-    (is_some (first_of (codes "turns") words) || is_set (codes "stats") words)
+    (is_some (first_of (codes "turns") words) ||
+    (is_set (codes "stats") words || is_some (first_of (codes "time-limit") words)))
 
 -- the number that a word of digits writes
 abbrev pub number_in : Text → ℕ
@@ -82,24 +88,32 @@ abbrev pub IsNumberOf : ℕ → ℕ → Option Text → ℕ → Type 0
 IsNumberOf most otherwise None number = number ≡ otherwise
 IsNumberOf most otherwise (Some word) number = IsUnsignedIn 1 most word → number ≡ number_in word
 
+-- The number of seconds is the one that the option's word writes, from 1 to 1,000,000,000 by the option's rule; without a
+-- word there is no limit.
+abbrev pub IsLimitOf : Option Text → Option ℕ → Type 0
+IsLimitOf None limit = limit ≡ None
+IsLimitOf (Some word) limit = IsUnsignedIn 1 1000000000 word → limit ≡ Some (number_in word)
+
 -- these workers are asked for; or none, and so one thread
 abbrev pub IsCrew : List Row → Option Crew → Type 0
 IsCrew words None = has_crew_option words ≡ false
 IsCrew words (Some crew) = (has_crew_option words ≡ true) ×
     IsNumberOf 64 1 (first_of (codes "workers") words) crew.workers ×
     IsNumberOf 1000000000000 1000000000000 (first_of (codes "turns") words) crew.turns ×
+    IsLimitOf (first_of (codes "time-limit") words) crew.time_limit ×
     (crew.stats ≡ is_set (codes "stats") words)
 
 -- the command that is named, with its words, asks for this; without a command, `cpm` of standard input is asked for
 abbrev pub IsRequested : Option (Text × List Row) → Request → Type 0
 IsRequested None (Cpm network) = IsSource None network
-IsRequested None (Plan files crew) = ⊥
+IsRequested None (Plan files memory crew) = ⊥
 IsRequested None (Check files) = ⊥
 IsRequested (Some command) (Cpm network) =
     (command.0 ≢ codes "plan") × (command.0 ≢ codes "check") × IsSource (first_of (codes "NET") command.1) network
-IsRequested (Some command) (Plan files crew) =
+IsRequested (Some command) (Plan files memory crew) =
     (command.0 ≡ codes "plan") × (files.net.now ≡ path_at (codes "NET") command.1) ×
-    (files.order.now ≡ path_at (codes "ORDER") command.1) × IsCrew command.1 crew
+    (files.order.now ≡ path_at (codes "ORDER") command.1) ×
+    IsNumberOf 1048576 1024 (first_of (codes "memory") command.1) memory.mebibytes × IsCrew command.1 crew
 IsRequested (Some command) (Check files) =
     (command.0 ≡ codes "check") × (files.net.now ≡ path_at (codes "NET") command.1) ×
     (files.order.now ≡ path_at (codes "ORDER") command.1) × (files.plan.now ≡ path_at (codes "PLAN") command.1)
@@ -121,7 +135,7 @@ IsCpmLine words (Some word) = (name : Text) × IsPlain word × (words ≡ name �
 -- `cpm` of the network that the word names
 abbrev pub AsksForCpm : Option Text → Request → Type 0
 AsksForCpm word (Cpm network) = IsSource word network
-AsksForCpm word (Plan files crew) = ⊥
+AsksForCpm word (Plan files memory crew) = ⊥
 AsksForCpm word (Check files) = ⊥
 
 -- a word that is not empty, and no option
@@ -134,10 +148,11 @@ abbrev pub IsPlanLine : List Text → Text → Text → Type 0
 IsPlanLine words net order = (name : Text) × IsPath net × IsPath order ×
     (words ≡ name ∷ codes "plan" ∷ net ∷ order ∷ [])
 
--- `plan` of the files with these paths, on one thread
+-- `plan` of the files with these paths, on one thread, with records of at most 1,024 mebibytes
 abbrev pub AsksForPlan : Text → Text → Request → Type 0
 AsksForPlan net order (Cpm network) = ⊥
-AsksForPlan net order (Plan files crew) = (files.net.now ≡ net) × (files.order.now ≡ order) × (crew ≡ None)
+AsksForPlan net order (Plan files memory crew) =
+    (files.net.now ≡ net) × (files.order.now ≡ order) × (memory.mebibytes ≡ 1024) × (crew ≡ None)
 AsksForPlan net order (Check files) = ⊥
 
 -- After the program's name come `plan`, these two paths, `--workers` and this number from 1 to 64.
@@ -145,17 +160,17 @@ abbrev pub IsWorkersLine : List Text → Text → Text → Text → Type 0
 IsWorkersLine words net order number = (name : Text) × IsPath net × IsPath order × IsUnsignedIn 1 64 number ×
     (words ≡ name ∷ codes "plan" ∷ net ∷ order ∷ codes "--workers" ∷ number ∷ [])
 
--- so many workers, as many pieces as there may be, and nothing is told of them
+-- so many workers, as many pieces as there may be, no limit of time, and nothing is told of them
 abbrev pub IsOfWorkers : ℕ → Option Crew → Type 0
 IsOfWorkers workers None = ⊥
 IsOfWorkers workers (Some crew) =
-    (crew.workers ≡ workers) × (crew.turns ≡ 1000000000000) × (crew.stats ≡ false)
+    (crew.workers ≡ workers) × (crew.turns ≡ 1000000000000) × (crew.time_limit ≡ None) × (crew.stats ≡ false)
 
--- `plan` of the files with these paths, by so many workers
+-- `plan` of the files with these paths, by so many workers, with records of at most 1,024 mebibytes
 abbrev pub AsksForWorkers : Text → Text → ℕ → Request → Type 0
 AsksForWorkers net order workers (Cpm network) = ⊥
-AsksForWorkers net order workers (Plan files crew) =
-    (files.net.now ≡ net) × (files.order.now ≡ order) × IsOfWorkers workers crew
+AsksForWorkers net order workers (Plan files memory crew) =
+    (files.net.now ≡ net) × (files.order.now ≡ order) × (memory.mebibytes ≡ 1024) × IsOfWorkers workers crew
 AsksForWorkers net order workers (Check files) = ⊥
 
 -- After the program's name come `check` and these three paths.
@@ -167,6 +182,6 @@ IsCheckLine words net order plan_path =
 -- `check` of the files with these paths
 abbrev pub AsksForCheck : Text → Text → Text → Request → Type 0
 AsksForCheck net order plan_path (Cpm network) = ⊥
-AsksForCheck net order plan_path (Plan files crew) = ⊥
+AsksForCheck net order plan_path (Plan files memory crew) = ⊥
 AsksForCheck net order plan_path (Check files) = (files.net.now ≡ net) × (files.order.now ≡ order) ×
     (files.plan.now ≡ plan_path)

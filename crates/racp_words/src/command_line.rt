@@ -3,10 +3,10 @@
 ghost use Rattle.std.specs.Prelude.{◌≡◌, ◌≤◌, ℕ, List, Option, Some, IfOk, MatchResult, map, option_map, string_bytes, codes, false};
 ghost use Rattle.clap.specs.Words.{FailsBy, app_of, fault_of, first_of, first_value, found_of, kind_of, rows_of, rule_of, subcommand_rows_of};
 ghost use Rattle.clap.specs.declared.error.kind.ErrorKind.TheVariants.{OutOfMemory};
-ghost use Rattle.racp_words.specs.CommandLine.{AskFor, IsCheckLine, AsksForCheck, IsCpmLine, AsksForCpm, IsPlanLine, AsksForPlan, IsWorkersLine, AsksForWorkers, IsCrew, IsNumberOf, IsRequested, IsSource, check, cpm, file_rule, flag_rule, is_set, number_in, number_rule, path_at, plan, plan_of_files, racp};
+ghost use Rattle.racp_words.specs.CommandLine.{AskFor, IsCheckLine, AsksForCheck, IsCpmLine, AsksForCpm, IsPlanLine, AsksForPlan, IsWorkersLine, AsksForWorkers, IsCrew, IsLimitOf, IsNumberOf, IsRequested, IsSource, check, cpm, file_rule, flag_rule, is_set, number_in, number_rule, path_at, plan, plan_of_files, plan_of_workers, racp};
 ghost use Rattle.racp_words.specs.Commands.{IsCommandOf};
 
-use crate::request::{Crew, OrderFiles, PlanFiles, Request, Source};
+use crate::request::{Crew, Memory, OrderFiles, PlanFiles, Request, Source};
 use clap::builder::ValueParser;
 use clap::{Arg, ArgAction, ArgMatches, Command, Error};
 use std::alloc::{AllocError, Global};
@@ -16,6 +16,15 @@ const MOST_WORKERS: u64 = 64;
 
 /// The most pieces that workers can be asked to take.
 const MOST_TURNS: u64 = 1_000_000_000_000;
+
+/// The most mebibytes that records can be given.
+const MOST_MEBIBYTES: u64 = 1_048_576;
+
+/// How many mebibytes records are given where no option says so.
+const DEFAULT_MEBIBYTES: u64 = 1024;
+
+/// The most seconds after which planning can be asked to stop.
+const MOST_SECONDS: u64 = 1_000_000_000;
 
 /// What the words ask for. The first of them is the program's name.
 ///
@@ -62,7 +71,7 @@ fn request_named<'a>(name: &str, words: &ArgMatches<'a>) -> Request<'a>
             net: path_of(words, "NET"),
             order: path_of(words, "ORDER"),
         };
-        Request::Plan(files, crew_of(words))
+        Request::Plan(files, memory_of(words), crew_of(words))
     } else if name == "check" {
         Request::Check(PlanFiles {
             net: path_of(words, "NET"),
@@ -110,12 +119,23 @@ fn cpm_command<'a>(alloc: Global) -> Result<Command<'a>, AllocError>
 fn plan_command<'a>(alloc: Global) -> Result<Command<'a>, AllocError>
     ensures { IfOk result (IsCommandOf plan) }
 {
+    let memory = "How many mebibytes records take at most, about, 1 to 1,048,576; else 1,024";
+    let seconds = "After how many seconds planning stops, 1 to 1,000,000,000";
+    plan_of_workers(alloc)?
+        .arg(number_option(alloc, "memory", "MIB", MOST_MEBIBYTES, memory))?
+        .arg(number_option(alloc, "time-limit", "S", MOST_SECONDS, seconds))
+}
+
+/// `plan`, with its words and the options for workers and what they did.
+fn plan_of_workers<'a>(alloc: Global) -> Result<Command<'a>, AllocError>
+    ensures { IfOk result (IsCommandOf plan_of_workers) }
+{
     let workers = "How many workers make the plan, 1 to 64";
     let turns = "How many pieces they take at most, 1 to 1,000,000,000,000";
     let stats = "Tells on standard error how many pieces and nodes were searched";
     plan_of_files(alloc)?
-        .arg(number_option(alloc, "workers", MOST_WORKERS, workers))?
-        .arg(number_option(alloc, "turns", MOST_TURNS, turns))?
+        .arg(number_option(alloc, "workers", "N", MOST_WORKERS, workers))?
+        .arg(number_option(alloc, "turns", "N", MOST_TURNS, turns))?
         .arg(flag(alloc, "stats", stats))
 }
 
@@ -148,14 +168,14 @@ fn file_word<'a>(alloc: Global, id: &'a str, help: &'a str) -> Arg<'a>
     Arg::new(alloc, id).required(true).help(help)
 }
 
-/// An option whose word is a number from 1 to `most`.
-fn number_option<'a>(alloc: Global, id: &'a str, most: u64, help: &'a str) -> Arg<'a>
+/// An option whose word is a number from 1 to `most`; help shows it by this name.
+fn number_option<'a>(alloc: Global, id: &'a str, name: &'a str, most: u64, help: &'a str) -> Arg<'a>
     ensures rule { rule_of result ≡ number_rule id.entry.now most }
     ensures own { result.global ≡ false }
 {
     Arg::new(alloc, id)
         .long(id)
-        .value_name("N")
+        .value_name(name)
         .value_parser(ValueParser::unsigned(1, most))
         .help(help)
 }
@@ -191,6 +211,16 @@ fn path_of<'a>(words: &ArgMatches<'a>, id: &str) -> &'a str
     }
 }
 
+/// How much memory records may take.
+fn memory_of(words: &ArgMatches<'_>) -> Memory
+    ensures { IsNumberOf 1048576 1024 (first_of (codes "memory") (rows_of (found_of words.now))) result.mebibytes }
+{
+    let word = text_of(words, "memory");
+    Memory {
+        mebibytes: number_of(word, MOST_MEBIBYTES, DEFAULT_MEBIBYTES) as usize,
+    }
+}
+
 /// How workers are to make the plan, where an option says so.
 fn crew_of(words: &ArgMatches<'_>) -> Option<Crew>
     ensures { IsCrew (rows_of (found_of words.now)) result }
@@ -198,14 +228,26 @@ fn crew_of(words: &ArgMatches<'_>) -> Option<Crew>
     let workers = text_of(words, "workers");
     let turns = text_of(words, "turns");
     let stats = is_set(words, "stats");
-    if workers.is_none() && turns.is_none() && !stats {
+    let limit = text_of(words, "time-limit");
+    if workers.is_none() && turns.is_none() && !stats && limit.is_none() {
         return None;
     }
     Some(Crew {
         workers: number_of(workers, MOST_WORKERS, 1) as usize,
         turns: number_of(turns, MOST_TURNS, MOST_TURNS),
+        time_limit: limit_of(limit),
         stats,
     })
+}
+
+/// The number of seconds that the word of an option writes.
+fn limit_of(word: Option<&str>) -> Option<u64>
+    ensures { IsLimitOf (option_map (λ word. word.now) word.entry) result }
+{
+    match word {
+        Some(word) => Some(number_of(Some(word), MOST_SECONDS, MOST_SECONDS)),
+        None => None,
+    }
 }
 
 /// The word of an option.

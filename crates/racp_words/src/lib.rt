@@ -9,16 +9,18 @@
 //! racp                                     Cpm(StandardInput)
 //! racp cpm -                               Cpm(StandardInput)
 //! racp cpm a.sm                            Cpm(File) with the path a.sm
-//! racp plan b.sm b3.toml                   Plan with the paths b.sm and b3.toml, and None: one thread
+//! racp plan b.sm b3.toml                   Plan with the paths b.sm and b3.toml, 1,024 MiB, and None: one thread
 //! racp plan b.sm b3.toml --workers 4       the same, and a Crew of 4 workers
+//! racp plan b.sm b3.toml --memory 64       the same on one thread, with 64 MiB
 //! racp check a.sm a4.toml p                Check with the paths a.sm, a4.toml and p
 //! racp plan b.sm b3.toml --workers 65      an error: this is no number from 1 to 64
 //! racp plan b.sm                           an error: a word is missing
 //! racp --help                              an error of the kind DisplayHelp
 //! ```
 //!
-//! Each of the options `--workers N`, `--turns N` and `--stats` asks for a crew: 1 worker, 1,000,000,000,000 pieces and
-//! nothing told, where the others do not say otherwise.
+//! Each of the options `--workers N`, `--turns N`, `--stats` and `--time-limit S` asks for a crew: 1 worker,
+//! 1,000,000,000,000 pieces, no limit of time and nothing told, where the others do not say otherwise. `--memory MIB` says
+//! how much memory the records of a search take at most, with a crew or without.
 //!
 //! The commands stand in `specs/` a second time, as values of the library's definitions: `racp`, `cpm`, `plan` and
 //! `check`. What `clap` is proved to do with them says what any words ask for.
@@ -28,13 +30,13 @@
 //! three, that command of these files, and `plan` on one thread; with `--workers` and a number from 1 to 64 behind the
 //! two paths, `plan` by a crew of so many. In these cases only memory can fail. A path here is a word that is not empty
 //! and does not begin with a hyphen. For any other words `asked` answers what `clap` is proved to find, or refuses with
-//! the kind of error that it is proved to give: `plan` asks for a crew exactly where `clap` finds one of its three
-//! options, and where it finds a number that is in range the crew has it. No crew has more than 64 workers or
-//! 1,000,000,000,000 pieces. Tested alone, over the built program: the texts of help, of the version and of errors.
+//! the kind of error that it is proved to give: `plan` asks for a crew exactly where `clap` finds one of the four
+//! options, and where it finds a number that is in range the crew has it, or the memory. No crew has more than 64 workers or
+//! 1,000,000,000,000 pieces, and no more than 1,048,576 MiB are asked for. Tested alone, over the built program: the texts of help, of the version and of errors.
 #![tactic(auto)]
 
 mod command_line;
 mod request;
 
 pub use command_line::asked;
-pub use request::{Crew, OrderFiles, PlanFiles, Request, Source};
+pub use request::{Crew, Memory, OrderFiles, PlanFiles, Request, Source};

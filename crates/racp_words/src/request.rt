@@ -6,8 +6,9 @@ ghost use Rattle.std.specs.Prelude.{◌≤◌};
 pub enum Request<'a> {
     /// The critical length and the early starts of a network.
     Cpm(Source<'a>),
-    /// The plan of a network on the terms of an order: made on one thread, or by workers where an option is given.
-    Plan(OrderFiles<'a>, Option<Crew>),
+    /// The plan of a network on the terms of an order, with so much memory for records: made on one thread, or by workers
+    /// where an option is given.
+    Plan(OrderFiles<'a>, Memory, Option<Crew>),
     /// Whether a plan is one of a network on the terms of an order.
     Check(PlanFiles<'a>),
 }
@@ -21,6 +22,14 @@ pub struct OrderFiles<'a> {
     pub order: &'a str,
 }
 
+/// How much memory the records of refuted nodes of a search take at most, about.
+#[derive(Clone, Copy)]
+pub struct Memory {
+    /// How many mebibytes, 1 to 1,048,576; 1,024 where no option says so.
+    pub mebibytes: usize,
+    pub ghost mebibytes_few: { mebibytes ≤ 1048576 },
+}
+
 /// How workers make a plan.
 #[derive(Clone, Copy)]
 pub struct Crew {
@@ -28,6 +37,8 @@ pub struct Crew {
     pub workers: usize,
     /// How many pieces they take at most, 1 to 1,000,000,000,000; so many where no option says so.
     pub turns: u64,
+    /// After how many seconds planning stops, 1 to 1,000,000,000; `None` where no option says so.
+    pub time_limit: Option<u64>,
     /// Whether the work that was done is told.
     pub stats: bool,
     pub ghost workers_few: { workers ≤ 64 },

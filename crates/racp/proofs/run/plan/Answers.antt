@@ -3,4 +3,4 @@ use Rattle.racp.proofs.Planned.{planned_alone}
 use Rattle.racp.proofs.run.plan.Goals as goal
 
 pub returns : goal.returns
-returns g c = planned_alone _ _ None None c.run_over.result c.run_over.ensures
+returns g c = planned_alone _ _ None None c.run_over_within.result c.run_over_within.ensures

@@ -1,21 +1,20 @@
-use Rattle.std.proofs.Common.{ap, arith, false, true, refl, sym, subst, [], ◌∙◌, List}
+use Rattle.std.proofs.Common.{arith, false, true, refl, sym, subst, [], List}
 use Rattle.std.proofs.lemmas.List.{append-nil}
-use Rattle.racp_model.specs.Window.{Bounds}
+use Rattle.racp_model.specs.declared.question.Question.{Question}
+use Rattle.racp_search.specs.DepthFirst.{IsSearchingNext}
 use Rattle.racp_search.specs.Steps.{IsNext, IsNextAnswer}
 use Rattle.racp_search.specs.Ends.{IsEnd, IsSpent}
-use Rattle.racp_search.proofs.Entering.{started, none_yet, within_still, end_nothing, spent_some, spent_there, spent_exactly, not_false, false_is_not_true}
-use Rattle.racp_cutset.specs.Covering.{SearchNode}
-use Rattle.racp_cutset.specs.Kept.{StayKept}
-use Rattle.racp_search.proofs.Popping.{kept_first}
+use Rattle.racp_search.proofs.Entering.{none_yet, within_still, end_nothing, spent_some, spent_there, spent_exactly, not_false, false_is_not_true}
+use Rattle.racp_cutset.specs.Kept.{Kept, StayKept}
+use Rattle.racp_search.proofs.Popping.{kept_first, stays}
 use Rattle.racp_search.proofs.depth_first.search.Goals as goal
 
 pub next-init : goal.next-init
 next-init g c = record {
-  state = started g.N.OfNetwork.network c.args.subject.now.capacities c.args.subject.now.window c.in_ok-window.window c.new-stack.result.frames.items c.whole.ensures.bounds
-      (c.in_ok-window.ensures.lower ∙ ap (λ (w : Bounds). w.lower) c.whole.ensures.window) (c.in_ok-window.ensures.upper ∙ ap (λ (w : Bounds). w.upper) c.whole.ensures.window) c.new-stack.ensures;
+  state = subst (λ (q : Question). IsSearchingNext g.N.OfNetwork.network q.capacities q.window c.into_stack-stack.result.0.frames.items c.into_stack-stack.result.1.window c.into_stack-stack.result.1.from) c.requires.about c.into_stack-stack.ensures;
   higher = λ a. absurd (omega (arith, a, c.requires.nodes));
   bounded = none_yet c.args.quantum c.args.nodes.now c.requires.nodes;
-  kept = ([], sym (append-nil c.args.local.now));
+  kept = stays c.args.local.now;
   first = c.kept_count-first.ensures.count;
 }
 
@@ -23,23 +22,23 @@ pub returns-then-is_spent-clause-end : goal.returns-then-is_spent-clause-end
 returns-then-is_spent-clause-end g c =
     let spent : IsSpent c.args.quantum c.next.nodes true = subst (IsSpent c.args.quantum c.next.nodes) c.if-is_spent.true c.is_spent.ensures in
     subst (IsEnd g.N.OfNetwork.network c.args.subject.now.capacities c.args.subject.now.window c.args.quantum c.next.nodes) (sym c.left.ensures) (record {
-      is_true = c.in_ok-rest.ensures.left;
+      is_true = c.in_ok-left.ensures.left;
       searched = λ a. spent_some c.args.quantum c.next.nodes spent c.requires.quantum;
       stopped = λ a. absurd (false_is_not_true a);
       spent = λ a b. spent_exactly c.args.quantum c.next.nodes spent c.next.invariant.bounded;
-      higher = λ a. c.in_ok-rest.ensures.higher (c.next.invariant.higher a);
+      higher = λ a. c.in_ok-left.ensures.higher (c.next.invariant.higher a);
       all = λ a none. absurd (spent_there c.args.quantum c.next.nodes spent none);
     })
 
 pub returns-then-asked-clause-end : goal.returns-then-asked-clause-end
 returns-then-asked-clause-end g c =
     subst (IsEnd g.N.OfNetwork.network c.args.subject.now.capacities c.args.subject.now.window c.args.quantum c.next.nodes) (sym c.left-then-asked.ensures) (record {
-      is_true = c.in_ok-rest-2.ensures.left;
+      is_true = c.in_ok-left-2.ensures.left;
       searched = λ a. absurd (not_false a);
-      stopped = λ a. (refl, c.in_ok-rest-2.ensures.some);
+      stopped = λ a. (refl, c.in_ok-left-2.ensures.some);
       spent = λ a. absurd (not_false a);
       all = λ a. absurd (not_false a);
-      higher = λ a. c.in_ok-rest-2.ensures.higher (c.next.invariant.higher a);
+      higher = λ a. c.in_ok-left-2.ensures.higher (c.next.invariant.higher a);
     })
 
 pub returns-in-None-clause-end : goal.returns-in-None-clause-end
@@ -51,17 +50,17 @@ returns-in-None-clause-end g c =
 pub returns-in-Some-clause-kept : goal.returns-in-Some-clause-kept
 returns-in-Some-clause-kept g c =
     let room = kept_first c.args.local.now c.next.local c.make_room.new.local c.kept_count-first.result c.next.invariant.kept c.kept_count-first.ensures.count c.make_room.ensures in
-    subst (λ (xs : List SearchNode). StayKept c.args.local.now xs) (sym c.enter.ensures.kept) room
+    subst (λ (kept : Kept). StayKept c.args.local.now kept) (sym c.enter.ensures.kept) room
 
 pub returns-in_err-next-clause-kept : goal.returns-in_err-next-clause-kept
 returns-in_err-next-clause-kept g c =
     let room = kept_first c.args.local.now c.next.local c.make_room.new.local c.kept_count-first.result c.next.invariant.kept c.kept_count-first.ensures.count c.make_room.ensures in
-    kept_first c.args.local.now c.enter.new.local c.next_window.new.local c.kept_count-first.result (subst (λ (xs : List SearchNode). StayKept c.args.local.now xs) (sym c.enter.ensures.kept) room) c.kept_count-first.ensures.count c.next_window.ensures.kept
+    kept_first c.args.local.now c.enter.new.local c.next_window.new.local c.kept_count-first.result (subst (λ (kept : Kept). StayKept c.args.local.now kept) (sym c.enter.ensures.kept) room) c.kept_count-first.ensures.count c.next_window.ensures.kept
 
 pub returns-in-None-clause-kept : goal.returns-in-None-clause-kept
 returns-in-None-clause-kept g c =
     let room = kept_first c.args.local.now c.next.local c.make_room.new.local c.kept_count-first.result c.next.invariant.kept c.kept_count-first.ensures.count c.make_room.ensures in
-    kept_first c.args.local.now c.enter.new.local c.next_window.new.local c.kept_count-first.result (subst (λ (xs : List SearchNode). StayKept c.args.local.now xs) (sym c.enter.ensures.kept) room) c.kept_count-first.ensures.count c.next_window.ensures.kept
+    kept_first c.args.local.now c.enter.new.local c.next_window.new.local c.kept_count-first.result (subst (λ (kept : Kept). StayKept c.args.local.now kept) (sym c.enter.ensures.kept) room) c.kept_count-first.ensures.count c.next_window.ensures.kept
 
 pub next-preserved : goal.next-preserved
 next-preserved g c =
@@ -73,6 +72,11 @@ next-preserved g c =
       state = is.state;
       higher = λ a. is.higher;
       bounded = within_still c.args.quantum c.next.nodes c.saturating_add.result unspent (omega (arith, c.saturating_add.ensures));
-      kept = kept_first c.args.local.now c.enter.new.local c.next_window.new.local c.kept_count-first.result (subst (λ (xs : List SearchNode). StayKept c.args.local.now xs) (sym c.enter.ensures.kept) room) c.kept_count-first.ensures.count c.next_window.ensures.kept;
+      kept = kept_first c.args.local.now c.enter.new.local c.next_window.new.local c.kept_count-first.result (subst (λ (kept : Kept). StayKept c.args.local.now kept) (sym c.enter.ensures.kept) room) c.kept_count-first.ensures.count c.next_window.ensures.kept;
       first = c.kept_count-first.ensures.count;
     }
+
+pub returns-in_err-starts-clause-kept : goal.returns-in_err-starts-clause-kept
+returns-in_err-starts-clause-kept g c =
+    let room = kept_first c.args.local.now c.next.local c.make_room.new.local c.kept_count-first.result c.next.invariant.kept c.kept_count-first.ensures.count c.make_room.ensures in
+    subst (λ (kept : Kept). StayKept c.args.local.now kept) (sym c.enter.ensures.kept) room

@@ -10,7 +10,7 @@ invariant-next g l = record {
   higher : 0 < l.nodes → IsHigher g.N.OfNetwork.network l.subject.window l.window;
   bounded : IfSome l.quantum (λ most. l.nodes ≤ most);
   kept : StayKept l.fn.local l.local;
-  first : l.first ≡ length l.fn.local;
+  first : l.first ≡ length l.fn.local.records;
 }
 
 abbrev pub decreases-next : goal.decreases-next

@@ -2,6 +2,7 @@ use Rattle.std.proofs.Common.{◌∙◌, ◌++◌, ◌∷◌, ap, arith, sym, su
 use Rattle.std.proofs.lemmas.List.{length-take}
 use Rattle.racp_model.specs.Window.{IsNo}
 use Rattle.racp_cutset.specs.Covering.{SearchNode}
+use Rattle.racp_cutset.specs.Kept.{front}
 use Rattle.racp_search.specs.DepthFirst.{SearchFrame, IsSearching, IsTaken, IsUsedUp}
 use Rattle.racp_search.specs.Steps.{IsTakenAnswer}
 use Rattle.racp_search.proofs.Stacks.{last-open}
@@ -38,5 +39,5 @@ loop-frame-preserved g c =
     record {
       state = is_popped g.N.OfNetwork.network c.args.subject.now.capacities c.args.subject.now.window c.args.self.now.frames.items c.loop-frame.self.frames.items c.pop.new.self.items c.in-Some.frame c.next_child.new.self c.in-Some.ensures.items c.loop-frame.invariant.state used;
       lighter = popped-lighter g.N.OfNetwork.network c.args.subject.now.capacities c.args.subject.now.window c.args.self.now.frames.items c.loop-frame.self.frames.items c.pop.new.self.items c.in-Some.frame c.next_child.new.self c.in-Some.ensures.items c.loop-frame.invariant.lighter;
-      kept = one_more (take c.args.count c.args.local.now) c.loop-frame.local c.of_reusing-nogood.result.0 c.keep.new.self c.args.count (omega (arith, length-take c.args.count c.args.local.now)) c.loop-frame.invariant.kept c.keep.ensures;
+      kept = one_more (front c.args.count c.args.local.now) c.loop-frame.local c.of_reusing-nogood.result.0 c.keep.new.self c.args.count (omega (arith, length-take c.args.count c.args.local.now.records)) c.loop-frame.invariant.kept c.keep.ensures;
     }

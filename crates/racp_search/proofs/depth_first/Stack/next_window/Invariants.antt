@@ -1,5 +1,5 @@
 use Rattle.std.proofs.Common.{◌≤◌, [], take, vec_len}
-use Rattle.racp_cutset.specs.Kept.{StayKept}
+use Rattle.racp_cutset.specs.Kept.{StayKept, front}
 use Rattle.racp_search.specs.DepthFirst.{IsSearching, open_parts, weights}
 use Rattle.racp_search.proofs.depth_first.Stack.next_window.Given as goal
 
@@ -7,7 +7,7 @@ abbrev pub invariant-loop-frame : goal.invariant-loop-frame
 invariant-loop-frame g l = record {
   state : IsSearching g.N.OfNetwork.network l.subject.capacities l.subject.window l.self.frames.items [];
   lighter : weights g.N.OfNetwork.network (open_parts l.self.frames.items) ≤ weights g.N.OfNetwork.network (open_parts l.fn.self.frames.items);
-  kept : StayKept (take l.count l.fn.local) l.local;
+  kept : StayKept (front l.count l.fn.local) l.local;
 }
 
 abbrev pub decreases-loop-frame : goal.decreases-loop-frame

@@ -1,4 +1,0 @@
-use Rattle.racp_lexfix.proofs.printed.plan_alone.Given as goal
-
-abbrev pub ghosts-plan_named : goal.ghosts-plan_named
-ghosts-plan_named a = record { network = a.net.now }

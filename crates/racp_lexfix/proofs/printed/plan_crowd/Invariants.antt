@@ -1,4 +1,0 @@
-use Rattle.racp_lexfix.proofs.printed.plan_crowd.Given as goal
-
-abbrev pub ghosts-plan_by : goal.ghosts-plan_by
-ghosts-plan_by g a = record { network = a.net.now }

@@ -1,5 +1,0 @@
-//! Tests of records of refuted nodes.
-#![tactic(auto)]
-
-#[cfg(test)]
-mod records;

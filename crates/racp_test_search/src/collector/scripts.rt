@@ -1,0 +1,240 @@
+//! Calls with the answers that they must have.
+
+ghost use Rattle.std.specs.Prelude.{◌≡◌};
+
+use crate::collector::trial::Call::{Ask, GiveBack, Halt, Hand, Take};
+use crate::collector::trial::Change::{self, Nothing};
+use crate::collector::trial::Known::{First, NoYes, Pending};
+use crate::collector::trial::{Call, Heard, Held, Known, Trial, ends, make, start, verdict};
+use racp_model::{Network, OfNetwork};
+use racp_samples::crossed;
+use std::alloc::Global;
+use std::marker::Brand;
+use std::test::Fail;
+
+/// A call, its answer, and then what is known and how many questions are undecided.
+type Row = (Call, Heard, Known, usize);
+
+/// The yes of the second question comes first, and counts once the first question is a no.
+const LATER_YES: [Row; 8] = [
+    (Ask, Heard::Question(0), Pending(0), 1),
+    (Ask, Heard::Question(1), Pending(0), 2),
+    (Take(1), Heard::Piece(0, 0), Pending(0), 2),
+    (Take(2), Heard::Piece(1, 1), Pending(0), 2),
+    (Hand(1, Nothing, None), Heard::Taken, Pending(0), 1),
+    (Ask, Heard::Enough, Pending(0), 1),
+    (Hand(0, Nothing, None), Heard::Taken, First(1), 0),
+    (Take(1), Heard::Done, First(1), 0),
+];
+
+/// A piece is given back and taken again, and its finding counts once. A halt leaves what is out to be handed in.
+const GIVEN_BACK: [Row; 12] = [
+    (Ask, Heard::Question(0), Pending(0), 1),
+    (Take(1), Heard::Piece(0, 0), Pending(0), 1),
+    (GiveBack(0, Nothing), Heard::Taken, Pending(0), 1),
+    (Take(2), Heard::Piece(1, 0), Pending(0), 1),
+    (GiveBack(0, Nothing), Heard::Stale, Pending(0), 1),
+    (Hand(1, Nothing, Some(1)), Heard::Taken, Pending(0), 1),
+    (Hand(1, Nothing, None), Heard::Stale, Pending(0), 1),
+    (Take(1), Heard::Piece(2, 0), Pending(0), 1),
+    (Halt, Heard::Halted, Pending(0), 1),
+    (Take(1), Heard::Halted, Pending(0), 1),
+    (Ask, Heard::Halted, Pending(0), 1),
+    (Hand(2, Nothing, Some(1)), Heard::Taken, Pending(0), 1),
+];
+
+/// Four questions, a piece of each, and the yes of the fourth. Some of the third is searched, and a piece of what is left goes
+/// out. Then the yes of the second question discards the other, and what is open of the third.
+const EARLIER_YES: [Row; 13] = [
+    (Ask, Heard::Question(0), Pending(0), 1),
+    (Ask, Heard::Question(1), Pending(0), 2),
+    (Ask, Heard::Question(2), Pending(0), 3),
+    (Ask, Heard::Question(3), Pending(0), 4),
+    (Take(1), Heard::Piece(0, 0), Pending(0), 4),
+    (Take(1), Heard::Piece(1, 1), Pending(0), 4),
+    (Take(1), Heard::Piece(2, 2), Pending(0), 4),
+    (Take(1), Heard::Piece(3, 3), Pending(0), 4),
+    (Hand(3, Nothing, None), Heard::Taken, Pending(0), 3),
+    (Ask, Heard::Enough, Pending(0), 3),
+    (Hand(2, Nothing, Some(1)), Heard::Taken, Pending(0), 3),
+    (Take(2), Heard::Piece(4, 2), Pending(0), 3),
+    (Hand(1, Nothing, None), Heard::Taken, Pending(0), 1),
+];
+
+/// After that the piece of the third question comes in, searched in part: nothing is open in its place.
+const SEARCHED: [Row; 3] = [
+    (Hand(4, Nothing, Some(1)), Heard::Taken, Pending(0), 1),
+    (Take(1), Heard::Nothing, Pending(0), 1),
+    (Hand(0, Nothing, None), Heard::Taken, First(1), 0),
+];
+
+/// Or it is given back.
+const UNSEARCHED: [Row; 3] = [
+    (GiveBack(4, Nothing), Heard::Taken, Pending(0), 1),
+    (Take(1), Heard::Nothing, Pending(0), 1),
+    (Hand(0, Nothing, None), Heard::Taken, First(1), 0),
+];
+
+/// All questions are a no.
+const NO_YES: [Row; 17] = [
+    (Take(1), Heard::Nothing, Pending(0), 0),
+    (Ask, Heard::Question(0), Pending(0), 1),
+    (Take(1), Heard::Piece(0, 0), Pending(0), 1),
+    (Hand(0, Nothing, None), Heard::Taken, Pending(1), 0),
+    (Take(1), Heard::Nothing, Pending(1), 0),
+    (Ask, Heard::Question(1), Pending(1), 1),
+    (Ask, Heard::Question(2), Pending(1), 2),
+    (Ask, Heard::Question(3), Pending(1), 3),
+    (Ask, Heard::End, Pending(1), 3),
+    (Take(1), Heard::Piece(1, 1), Pending(1), 3),
+    (Take(1), Heard::Piece(2, 2), Pending(1), 3),
+    (Take(1), Heard::Piece(3, 3), Pending(1), 3),
+    (Take(1), Heard::Nothing, Pending(1), 3),
+    (Hand(1, Nothing, None), Heard::Taken, Pending(2), 2),
+    (Hand(2, Nothing, None), Heard::Taken, Pending(3), 1),
+    (Hand(3, Nothing, None), Heard::Taken, NoYes, 0),
+    (Take(1), Heard::Done, NoYes, 0),
+];
+
+/// Pieces of two questions are out, of the numbers 0 and 1 and the seats 1 and 2. None that differs in one thing counts.
+const STALE: [Row; 18] = [
+    (Ask, Heard::Question(0), Pending(0), 1),
+    (Ask, Heard::Question(1), Pending(0), 2),
+    (Take(1), Heard::Piece(0, 0), Pending(0), 2),
+    (Take(2), Heard::Piece(1, 1), Pending(0), 2),
+    (Hand(1, Change::Number, None), Heard::Stale, Pending(0), 2),
+    (Hand(0, Change::Seat, None), Heard::Stale, Pending(0), 2),
+    (Hand(1, Change::Index, None), Heard::Stale, Pending(0), 2),
+    (Hand(1, Change::NoIndex, None), Heard::Stale, Pending(0), 2),
+    (
+        Hand(0, Change::Capacities, None),
+        Heard::Stale,
+        Pending(0),
+        2,
+    ),
+    (Hand(0, Change::Window, None), Heard::Stale, Pending(0), 2),
+    (GiveBack(0, Change::Number), Heard::Stale, Pending(0), 2),
+    (GiveBack(1, Change::Seat), Heard::Stale, Pending(0), 2),
+    (GiveBack(0, Change::Index), Heard::Stale, Pending(0), 2),
+    (GiveBack(0, Change::NoIndex), Heard::Stale, Pending(0), 2),
+    (GiveBack(1, Change::Capacities), Heard::Stale, Pending(0), 2),
+    (GiveBack(1, Change::Window), Heard::Stale, Pending(0), 2),
+    (Hand(1, Nothing, None), Heard::Taken, Pending(0), 1),
+    (Hand(0, Nothing, None), Heard::Taken, First(1), 0),
+];
+
+/// A floor and a roof, the calls, what is known at the end, the capacities that are then reached, and the units that the first
+/// pieces ask for.
+struct Script {
+    units: (u32, u32),
+    parts: &'static [&'static [Row]],
+    end: Known,
+    reached: &'static [u32],
+    pieces: &'static [[u32; 2]],
+}
+
+const SCRIPTS: [Script; 6] = [
+    Script {
+        units: (1, 2),
+        parts: &[&LATER_YES],
+        end: First(1),
+        reached: &[],
+        pieces: &[[1, 1], [1, 2]],
+    },
+    Script {
+        units: (1, 2),
+        parts: &[&GIVEN_BACK],
+        end: Pending(0),
+        reached: &[1, 1],
+        pieces: &[[1, 1], [1, 1]],
+    },
+    Script {
+        units: (1, 2),
+        parts: &[&EARLIER_YES, &SEARCHED],
+        end: First(1),
+        reached: &[],
+        pieces: &[[1, 1], [1, 2], [2, 1], [2, 2]],
+    },
+    Script {
+        units: (1, 2),
+        parts: &[&EARLIER_YES, &UNSEARCHED],
+        end: First(1),
+        reached: &[],
+        pieces: &[[1, 1], [1, 2], [2, 1], [2, 2]],
+    },
+    Script {
+        units: (0, 1),
+        parts: &[&NO_YES],
+        end: NoYes,
+        reached: &[],
+        pieces: &[[0, 0], [0, 1], [1, 0], [1, 1]],
+    },
+    Script {
+        units: (1, 2),
+        parts: &[&STALE],
+        end: First(1),
+        reached: &[],
+        pieces: &[[1, 1], [1, 2]],
+    },
+];
+
+/// Whether each call is answered so, and the first pieces are whole.
+fn follows<N: OfNetwork>(
+    alloc: Global,
+    net: &Network,
+    trial: &mut Trial<N>,
+    script: &Script,
+) -> Result<bool, Fail>
+    requires { net.now ≡ N.network }
+{
+    for rows in script.parts {
+        for (call, wanted, after, undecided) in *rows {
+            let same = make(alloc, net, trial, *call)? == *wanted;
+            if !same || verdict(&trial.core) != *after || trial.core.undecided() != *undecided {
+                return Ok(false);
+            }
+        }
+    }
+    Ok(are_whole(&trial.pieces, script.pieces))
+}
+
+/// Whether the first pieces ask for these units, each in the root window.
+fn are_whole(pieces: &[Held], units: &[[u32; 2]]) -> bool {
+    for (piece, units) in pieces.iter().zip(units) {
+        let (asked, window) = (&piece.question, &piece.question.window);
+        let whole = window.lower() == [0, 0, 0, 1, 1, 2].as_slice()
+            && window.upper() == [1, 1, 1, 2, 2, 3].as_slice();
+        if !whole || asked.capacities.as_slice() != units.as_slice() {
+            return false;
+        }
+    }
+    pieces.len() >= units.len()
+}
+
+fn holds<N: OfNetwork>(alloc: Global, net: &Network, script: &Script) -> Result<bool, Fail>
+    requires { net.now ≡ N.network }
+{
+    let mut trial: Trial<N> = start(alloc, net, script.units.0, script.units.1)?;
+    let followed = follows(alloc, net, &mut trial, script);
+    let ended = ends(trial, script.end, script.reached);
+    Ok(followed? && ended)
+}
+
+/// The place of the first script that is answered otherwise.
+fn broken<N: OfNetwork>(alloc: Global, net: &Network) -> Result<Option<usize>, Fail>
+    requires { net.now ≡ N.network }
+{
+    for (place, script) in SCRIPTS.iter().enumerate() {
+        if !holds::<N>(alloc, net, script)? {
+            return Ok(Some(place));
+        }
+    }
+    Ok(None)
+}
+
+#[test]
+fn scripts_are_answered(rt: HostRuntime) -> Result<(), Fail> {
+    let net = crossed(rt.alloc())?;
+    assert_eq!(rt; broken::<Brand>(rt.alloc(), &net)?, None);
+    Ok(())
+}
