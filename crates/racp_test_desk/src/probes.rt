@@ -62,7 +62,11 @@ fn probed<N: OfNetwork + Send + Sync, P: Stop + Sync, R: Threads + Wait + Sync>(
             requires { (net.now ≡ N.network) × AreFormed net.now (any_questions series) ×
                 (quantum ≤ 1000000) × (turns ≤ 1000000000000) }
             ensures { IfOk result (IsRunClosed net.entry.now (any_questions series) turns P.QUIET) }
-        { run(rt, alloc, net, series, 2, quantum, turns, &board, &Open, stop) },
+        {
+            run(
+                rt, alloc, net, series, 2, quantum, turns, &board, &Open, stop,
+            )
+        },
     );
     let told = told_by(crowd.probe(net, question, most));
     Ok((told, crowd.left()))
