@@ -28,11 +28,14 @@
 //! questions a worker are undecided, the series has not ended and no yes is known, it asks the next question and takes
 //! once more; else it waits until something has changed. With a piece it lets the lock go, enters the gate, searches as
 //! many nodes as the quantum allows, with the records of the board and its own, shares the records that it made (where
-//! it is not alone, and the board has room), takes the lock and hands the finding in. It leaves where the answer is known or the desk is halted. It halts the desk
-//! where the user has asked to stop, where as many pieces were taken as there are turns, and where memory was refused.
-//! What it kept of its own goes to the board when it leaves, for the workers of the next run; where each question was a
-//! no, what it kept in this run is forgotten. A hint, one number beside the lock, tells the least place of a yes that came in, so that a search of a later
-//! question, which is of no use, is left at its next node.
+//! it is not alone, and the board has room), takes the lock, hands the finding in, and takes the next piece. Where that
+//! is the window in which its search was left, it goes on with that search as it stands. It leaves where the answer is
+//! known or the desk is halted. It halts the desk where the user has asked to stop, where as many pieces were taken as
+//! there are turns, and where memory was refused. What it kept of its own goes to the board when it leaves, for the
+//! workers of the next run; where each question was a no, what it kept in this run is forgotten. Two hints stand beside
+//! the lock. One tells the least place of a yes that came in, so that a search of a later question, which is of no use,
+//! is left at its next node. The other tells that a worker waits, so that one of the others soon leaves its search, and
+//! with it windows for all.
 //!
 //! A `State` is what lies under the lock: the collector, the `Book` of its log, and the total of a ledger. Each of its
 //! five calls is a step of the collector with at most one entry, and adds that entry to the share of who calls. All

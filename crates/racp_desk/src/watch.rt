@@ -5,7 +5,7 @@ use std::cell::Cell;
 use std::sync::atomic::{AtomicBool, AtomicU64, Ordering};
 
 /// How many nodes of a piece a worker searches at least before it leaves it to others.
-const LEAST_NODES: u64 = 64;
+const LEAST_NODES: u64 = 16;
 
 /// Hints to workers that search: the least place of a question of which a yes was merged, or the greatest number; and
 /// whether a worker waits for a piece. Nothing rests on them but how soon a search is left.

@@ -37,18 +37,10 @@ same_window e = cc e
 pub none-there : (n : ℕ) → true ≡ (n == 0) → n ≡ 0
 none-there n e = eqb-true n 0 (sym e)
 
-pub some-there : (n : ℕ) → false ≡ (n == 0) → 0 < n
-some-there zero e = absurd (false≢true e)
-some-there (suc n) e = omega arith
-
 -- lists without elements
 pub no-frames : (xs : List SearchFrame) → length xs ≡ 0 → xs ≡ []
 no-frames [] e = refl
 no-frames (x ∷ xs) e = absurd (omega (arith, e))
-
-pub no-windows : (xs : List Bounds) → length xs ≡ 0 → xs ≡ []
-no-windows [] e = refl
-no-windows (x ∷ xs) e = absurd (omega (arith, e))
 
 -- the first frame is taken out
 pub first-out : (old new : List SearchFrame) (f : SearchFrame) → 0 < length old → f ≡ slice_index_or old 0 f → new ≡ remove old 0 → old ≡ f ∷ new
@@ -100,25 +92,35 @@ module _ (p : Project) (capacities : List ℕ) (whole next : Bounds) where
   others-beneath w (g ∷ fs) part is = is
 
   -- the first frame is taken out
-  pub leaving-next : (frames fs : List SearchFrame) (f : SearchFrame) (rest more : List Bounds) → frames ≡ f ∷ fs → rest ≡ [] → IsLeaving frames rest → IsRestOfFrame p capacities f more → IsLeaving fs more
-  leaving-next frames fs f rest more is none l m =
-      let at : IsLeaving (f ∷ fs) [] = subst (λ (xs : List Bounds). IsLeaving (f ∷ fs) xs) none (subst (λ (xs : List SearchFrame). IsLeaving xs rest) is l) in
-      record {
+  pub leaving-next : (frames fs : List SearchFrame) (f : SearchFrame) (rest more new : List Bounds) → frames ≡ f ∷ fs → new ≡ rest ++ more → IsLeaving frames rest → IsRestOfFrame p capacities f more → IsLeaving fs new
+  leaving-next frames fs f rest more new is both l m =
+      let at : IsLeaving (f ∷ fs) rest = subst (λ (xs : List SearchFrame). IsLeaving xs rest) is l in
+      subst (λ (xs : List Bounds). IsLeaving fs xs) (sym both) (record {
         covers = λ starts lies fits.
             let old = at.covers starts lies fits in
-            let own : LiesInPart p (all_of f.node.window) starts = in_front starts old.0 old.1 old.2 in
-            let v = at.opened.0.covers starts own fits in
-            elim (Contains-append_cases (parts_of f) (front fs) v.0 v.1) [
-              | inl part ↦ let w = m.covers v.0 part starts v.2 fits in (w.0, Contains-append_right (front fs) (map all_of more) w.0 w.1, w.2)
-              | inr above ↦ (v.0, Contains-append_left (front fs) (map all_of more) v.0 above, v.2)
+            elim (Contains-append_cases (all_of f.node.window ∷ []) (map all_of rest) old.0 old.1) [
+              | inl here ↦
+                  let own : LiesInPart p (all_of f.node.window) starts = in_front starts old.0 here old.2 in
+                  let v = at.opened.0.covers starts own fits in
+                  elim (Contains-append_cases (parts_of f) (front fs) v.0 v.1) [
+                    | inl part ↦ let w = m.covers v.0 part starts v.2 fits in (w.0, gathered-now w.0 (Contains-append_right (map all_of rest) (map all_of more) w.0 w.1), w.2)
+                    | inr above ↦ (v.0, Contains-append_left (front fs) (map all_of (rest ++ more)) v.0 above, v.2)
+                  ]
+              | inr before ↦ (old.0, gathered-now old.0 (Contains-append_left (map all_of rest) (map all_of more) old.0 before), old.2)
             ];
         opened = at.opened.1;
         inside = others-inside f.node.window fs at.inside.0 at.inside.1;
         beneath = others-beneath f.node.window fs at.inside.0 at.beneath;
-        parts = λ w c. below-whole p whole f.node.window w at.inside.0 (m.below w c);
+        parts = λ w c. elim (Contains-append_cases rest more w c) [
+          | inl before ↦ at.parts w before
+          | inr own ↦ below-whole p whole f.node.window w at.inside.0 (m.below w own)
+        ];
         higher = λ some. front-higher f.node.window fs at.inside.0 at.inside.1 at.beneath;
-      }
+      })
     where
+      gathered-now : (v : Part) → Contains (map all_of rest ++ map all_of more) v → Contains (front fs ++ map all_of (rest ++ more)) v
+      gathered-now v c = Contains-append_right (front fs) (map all_of (rest ++ more)) v (subst (λ (xs : List Part). Contains xs v) (sym (map-append all_of rest more)) c)
+
       in_front : (starts : List ℕ) (v : Part) → Contains (all_of f.node.window ∷ []) v → LiesInPart p v starts → LiesInPart p (all_of f.node.window) starts
       in_front starts v c lies = elim (member_cases (all_of f.node.window) [] v c) [
         | inl same ↦ subst (λ (x : Part). LiesInPart p x starts) (sym same) lies

@@ -1,4 +1,4 @@
-ghost use Rattle.std.specs.Prelude.{◌≡◌, ◌<◌, ◌≤◌, [], ◌∷◌, IsTrue, IsFalse, IfOk, IfSome, length, take};
+ghost use Rattle.std.specs.Prelude.{◌≡◌, ◌<◌, ◌≤◌, [], ◌∷◌, ◌++◌, IsTrue, IsFalse, IfOk, OnOk, IfSome, length, take};
 ghost use Rattle.racp_cutset.specs.Kept.{StayKept, front};
 ghost use Rattle.racp_search.specs.DepthFirst.{IsSearching, IsSearchingNext};
 ghost use Rattle.racp_search.specs.Ends.{IsEnd, IsSpent};
@@ -15,6 +15,10 @@ use racp_model::{Network, OfNetwork, Question, Starts, Window};
 use racp_timetable::{Tightened, tighten};
 use std::alloc::{AllocError, Global};
 use std::marker::Model;
+
+/// How many windows a search leaves where it can, beside the one in which it is gone on with: enough for other threads
+/// to have one each, and few, as a search that goes by depth through all of them keeps better records.
+const ENOUGH_WINDOWS: usize = 8;
 
 /// Goes on with a search of the question's window by depth, until starts are found, nothing is left, as many nodes were
 /// entered as the quantum allows, or the search is stopped; it can then be gone on with, in one of the windows that are
@@ -253,9 +257,9 @@ impl<N: OfNetwork> Stack<N> {
         Ok(None)
     }
 
-    /// Leaves a search. What is left of it are the windows that are left of the first frame of which there are some, and
-    /// the window of the frame behind that one, or the one to be searched next; in that the search can be gone on with.
-    /// The frames before are dropped.
+    /// Leaves a search. What is left of it are the windows that are left of the first frames, of as many as make enough,
+    /// and the window of the frame behind those, or the one to be searched next; in that the search can be gone on with.
+    /// The first frames are dropped.
     fn leave(self, alloc: Global, subject: &Subject<N>, next: Next) -> Result<Left<N>, AllocError>
         requires { IsSearchingNext N.network subject.now.capacities subject.now.window
             self.frames.items next.window next.from }
@@ -266,9 +270,10 @@ impl<N: OfNetwork> Stack<N> {
             mut workspace,
         } = self;
         let mut rest: Vec<Window> = Vec::new(alloc);
-        while rest.is_empty() && !frames.is_empty() {
+        while rest.len() < ENOUGH_WINDOWS && !frames.is_empty() {
             let frame = take_first(&mut frames);
-            rest = frame.into_rest(alloc, &mut workspace, subject)?;
+            let more = frame.into_rest(alloc, &mut workspace, subject)?;
+            append(&mut rest, more)?;
         }
         let window = front_window(&frames, &next)?;
         let question = Question {
@@ -284,6 +289,16 @@ impl<N: OfNetwork> Stack<N> {
         };
         Ok(Left { rest, open })
     }
+}
+
+/// Puts windows behind others.
+fn append(rest: &mut Vec<Window>, more: Vec<Window>) -> Result<(), AllocError>
+    ensures { OnOk result (rest.new.items ≡ rest.old.items ++ more.items) }
+{
+    for window in more {
+        rest.push(window)?;
+    }
+    Ok(())
 }
 
 /// Takes the first frame out.
