@@ -44,14 +44,15 @@ class Written(Exception):
 
 # Runs of the program.
 
-def command(*words, seconds=10):
-    """The command that runs the program with these words, and ends it where it takes longer."""
-    return ["timeout", str(seconds), PROGRAM, *words]
+def command(*words, seconds=10, within=()):
+    """The command that runs the program with these words, and ends it where it takes longer; the words `within` stand
+    before the program, as those of a command that runs it."""
+    return ["timeout", str(seconds), *within, PROGRAM, *words]
 
 
-def run(*words, text=b"", seconds=10):
+def run(*words, text=b"", seconds=10, within=()):
     """What the program gives for these words, with this text as its standard input."""
-    done = subprocess.run(command(*words, seconds=seconds), input=text, capture_output=True)
+    done = subprocess.run(command(*words, seconds=seconds, within=within), input=text, capture_output=True)
     return Run(done.returncode, done.stdout, done.stderr)
 
 
