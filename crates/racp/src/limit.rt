@@ -1,41 +1,54 @@
-//! When planning is stopped by the clock.
+//! When planning is stopped by the clock, and told of until then.
 
+use crate::progress::Progress;
 use racp_search::Stop;
 use std::time::{Clock, Duration, Instant};
 
 /// Stops planning when so much time has passed since it was made; without a limit it never does. Where there is a limit
-/// and the clock cannot be read, it stops at once.
+/// and the clock cannot be read, it stops at once. Each time that it is asked counts as a node of the search, of which it
+/// tells on standard error where that is wanted.
 #[derive(Drop)]
-pub(crate) struct Limit<C: Clock + Drop> {
-    clock: C,
+pub(crate) struct Limit<C: Clock + Eprint + Drop> {
+    host: C,
     limit: Option<Duration>,
     begun: Option<Instant>,
+    progress: Option<Progress>,
 }
 
-impl<C: Clock + Drop> Limit<C> {
-    /// A limit of so many seconds from now on, or none.
-    pub(crate) fn of(clock: C, seconds: Option<u64>) -> Self {
-        let begun = match Instant::now(&clock) {
+impl<C: Clock + Eprint + Drop> Limit<C> {
+    /// A limit of so many seconds from now on, or none, which counts and tells as this says, or does not.
+    pub(crate) fn of(host: C, seconds: Option<u64>, progress: Option<Progress>) -> Self {
+        let begun = match Instant::now(&host) {
             Ok(now) => Some(now),
             Err(_) => None,
         };
         Limit {
-            clock,
+            host,
             limit: seconds.map(Duration::from_secs),
             begun,
+            progress,
         }
     }
 
     /// How much time has passed, where the clock can be read.
     fn passed(&self) -> Option<Duration> {
-        match self.begun?.elapsed(&self.clock) {
+        match self.begun?.elapsed(&self.host) {
             Ok(passed) => Some(passed),
             Err(_) => None,
         }
     }
+
+    /// Whether the limit is over when so much time has passed.
+    fn is_over(&self, passed: Option<Duration>) -> bool {
+        match (self.limit, passed) {
+            (None, _) => false,
+            (Some(limit), Some(passed)) => limit <= passed,
+            (Some(_), None) => true,
+        }
+    }
 }
 
-impl<C: Clock + Drop> Stop for Limit<C> {
+impl<C: Clock + Eprint + Drop> Stop for Limit<C> {
     ghost use Rattle.std.specs.Prelude.{false};
 
     ghost QUIET = { false };
@@ -43,12 +56,13 @@ impl<C: Clock + Drop> Stop for Limit<C> {
     const QUIET: bool = false;
 
     fn asked(&self) -> bool {
-        let Some(limit) = self.limit else {
+        if self.limit.is_none() && self.progress.is_none() {
             return false;
-        };
-        match self.passed() {
-            Some(passed) => limit <= passed,
-            None => true,
         }
+        let passed = self.passed();
+        if let (Some(progress), Some(passed)) = (&self.progress, passed) {
+            progress.count(&self.host, passed);
+        }
+        self.is_over(passed)
     }
 }

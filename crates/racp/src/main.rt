@@ -27,10 +27,13 @@
 
 mod failure;
 mod limit;
+mod progress;
 mod run;
 
+use std::io::IsTerminal;
 use std::process::ExitCode;
 
 fn main(rt: HostRuntime) -> ExitCode {
-    ExitCode::from(run::status(&rt))
+    let on_terminal = rt.stderr().is_terminal();
+    ExitCode::from(run::status(&rt, on_terminal))
 }

@@ -7,6 +7,7 @@ ghost use Rattle.racp_cli.specs.declared.fault.StreamFault.TheVariants as stream
 
 use crate::failure::{Failure, report};
 use crate::limit::Limit;
+use crate::progress::Progress;
 use racp_cli::{StreamFault, check_over, cpm_over, crowd_over_by, run_over_within};
 use racp_desk::Open;
 use racp_words::{Crew, Memory, OrderFiles, PlanFiles, Request, Source, asked};
@@ -18,13 +19,13 @@ use std::thread::Threads;
 use std::time::Clock;
 use std::{env, io};
 
-/// Runs the program, and answers its status.
+/// Runs the program, and answers its status. `on_terminal` says whether standard error is a terminal.
 pub(crate) fn status<
     R: Clock + Env + Files + Input + Print + Eprint + AllocGlobal + Threads + Wait + Sync,
->(rt: &R) -> u8
+>(rt: &R, on_terminal: bool) -> u8
     ensures { IsStatus result }
 {
-    match answer(rt) {
+    match answer(rt, on_terminal) {
         Ok(status) => status,
         Err(failure) => report(rt, failure),
     }
@@ -33,6 +34,7 @@ pub(crate) fn status<
 /// Writes the answer to what the command line asks for.
 fn answer<R: Clock + Env + Files + Input + Print + Eprint + AllocGlobal + Threads + Wait + Sync>(
     rt: &R,
+    on_terminal: bool,
 ) -> Result<u8, Failure>
     ensures { IfOk result IsStatusOfAnswer }
 {
@@ -40,7 +42,13 @@ fn answer<R: Clock + Env + Files + Input + Print + Eprint + AllocGlobal + Thread
     match asked(rt.alloc(), words.as_slice())? {
         Request::Cpm(network) => Ok(cpm(rt, network)?),
         Request::Plan(files, memory, None) => Ok(plan(rt, files, memory)?),
-        Request::Plan(files, memory, Some(crew)) => Ok(plan_by(rt, files, memory, crew)?),
+        Request::Plan(files, memory, Some(crew)) => Ok(plan_by(
+            rt,
+            files,
+            memory,
+            crew,
+            on_terminal,
+        )?),
         Request::Check(files) => Ok(check(rt, files)?),
     }
 }
@@ -73,23 +81,29 @@ fn cpm<R: Files + Input + Print + AllocGlobal>(
 }
 
 /// Writes the plan for these files, made by workers, or why there is none. With an answer, the work that was done goes
-/// to standard error where that is asked for.
+/// to standard error where that is asked for, and until then how far planning has come.
 fn plan_by<R: Clock + Files + Print + Eprint + AllocGlobal + Threads + Wait + Sync>(
     rt: &R,
     files: OrderFiles<'_>,
     memory: Memory,
     crew: Crew,
+    on_terminal: bool,
 ) -> Result<u8, StreamFault>
     ensures { IfOk result IsStatusOfAnswer }
 {
     let mut net = open(rt, files.net)?;
     let mut order = open(rt, files.order)?;
+    let progress = if crew.progress {
+        Some(Progress::new(on_terminal))
+    } else {
+        None
+    };
     let workers = racp_lexfix::Crew {
         workers: crew.workers,
         turns: crew.turns,
         memory: memory.mebibytes,
         gate: &Open,
-        stop: &Limit::of(rt, crew.time_limit),
+        stop: &Limit::of(rt, crew.time_limit, progress),
     };
     let (status, effort) = crowd_over_by(
         rt,

@@ -39,10 +39,10 @@ abbrev pub plan_of_workers : App
 plan_of_workers = with_rule (with_rule (with_rule plan_of_files (number_rule (codes "workers") 64))
     (number_rule (codes "turns") 1000000000000)) (flag_rule (codes "stats"))
 
--- `plan NET ORDER [--workers N] [--turns N] [--stats] [--memory MIB] [--time-limit S]`
+-- `plan NET ORDER [--workers N] [--turns N] [--stats] [--memory MIB] [--time-limit S] [--progress]`
 abbrev pub plan : App
-plan = with_rule (with_rule plan_of_workers (number_rule (codes "memory") 1048576))
-    (number_rule (codes "time-limit") 1000000000)
+plan = with_rule (with_rule (with_rule plan_of_workers (number_rule (codes "memory") 1048576))
+    (number_rule (codes "time-limit") 1000000000)) (flag_rule (codes "progress"))
 
 -- `check NET ORDER PLAN`
 abbrev pub check : App
@@ -76,7 +76,8 @@ abbrev pub has_crew_option : List Row → Bool
 has_crew_option words =
     is_some (first_of (codes "workers") words) ||
     (is_some (first_of (codes "turns") words) ||
-    (is_set (codes "stats") words || is_some (first_of (codes "time-limit") words)))
+    (is_set (codes "stats") words ||
+    (is_some (first_of (codes "time-limit") words) || is_set (codes "progress") words)))
 
 -- the number that a word of digits writes
 abbrev pub number_in : Text → ℕ
@@ -101,7 +102,7 @@ IsCrew words (Some crew) = (has_crew_option words ≡ true) ×
     IsNumberOf 64 1 (first_of (codes "workers") words) crew.workers ×
     IsNumberOf 1000000000000 1000000000000 (first_of (codes "turns") words) crew.turns ×
     IsLimitOf (first_of (codes "time-limit") words) crew.time_limit ×
-    (crew.stats ≡ is_set (codes "stats") words)
+    (crew.stats ≡ is_set (codes "stats") words) × (crew.progress ≡ is_set (codes "progress") words)
 
 -- the command that is named, with its words, asks for this; without a command, `cpm` of standard input is asked for
 abbrev pub IsRequested : Option (Text × List Row) → Request → Type 0
@@ -164,7 +165,8 @@ IsWorkersLine words net order number = (name : Text) × IsPath net × IsPath ord
 abbrev pub IsOfWorkers : ℕ → Option Crew → Type 0
 IsOfWorkers workers None = ⊥
 IsOfWorkers workers (Some crew) =
-    (crew.workers ≡ workers) × (crew.turns ≡ 1000000000000) × (crew.time_limit ≡ None) × (crew.stats ≡ false)
+    (crew.workers ≡ workers) × (crew.turns ≡ 1000000000000) × (crew.time_limit ≡ None) × (crew.stats ≡ false) ×
+    (crew.progress ≡ false)
 
 -- `plan` of the files with these paths, by so many workers, with records of at most 1,024 mebibytes
 abbrev pub AsksForWorkers : Text → Text → ℕ → Request → Type 0

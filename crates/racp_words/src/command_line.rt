@@ -121,9 +121,11 @@ fn plan_command<'a>(alloc: Global) -> Result<Command<'a>, AllocError>
 {
     let memory = "How many mebibytes records take at most, about, 1 to 1,048,576; else 1,024";
     let seconds = "After how many seconds planning stops, 1 to 1,000,000,000";
+    let progress = "Tells on standard error, every two seconds, how many nodes were searched";
     plan_of_workers(alloc)?
         .arg(number_option(alloc, "memory", "MIB", MOST_MEBIBYTES, memory))?
-        .arg(number_option(alloc, "time-limit", "S", MOST_SECONDS, seconds))
+        .arg(number_option(alloc, "time-limit", "S", MOST_SECONDS, seconds))?
+        .arg(flag(alloc, "progress", progress))
 }
 
 /// `plan`, with its words and the options for workers and what they did.
@@ -229,7 +231,8 @@ fn crew_of(words: &ArgMatches<'_>) -> Option<Crew>
     let turns = text_of(words, "turns");
     let stats = is_set(words, "stats");
     let limit = text_of(words, "time-limit");
-    if workers.is_none() && turns.is_none() && !stats && limit.is_none() {
+    let progress = is_set(words, "progress");
+    if workers.is_none() && turns.is_none() && !stats && limit.is_none() && !progress {
         return None;
     }
     Some(Crew {
@@ -237,6 +240,7 @@ fn crew_of(words: &ArgMatches<'_>) -> Option<Crew>
         turns: number_of(turns, MOST_TURNS, MOST_TURNS),
         time_limit: limit_of(limit),
         stats,
+        progress,
     })
 }
 

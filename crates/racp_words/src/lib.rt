@@ -18,7 +18,7 @@
 //! racp --help                              an error of the kind DisplayHelp
 //! ```
 //!
-//! Each of the options `--workers N`, `--turns N`, `--stats` and `--time-limit S` asks for a crew: 1 worker,
+//! Each of the options `--workers N`, `--turns N`, `--stats`, `--time-limit S` and `--progress` asks for a crew: 1 worker,
 //! 1,000,000,000,000 pieces, no limit of time and nothing told, where the others do not say otherwise. `--memory MIB` says
 //! how much memory the records of a search take at most, with a crew or without.
 //!
@@ -30,7 +30,7 @@
 //! three, that command of these files, and `plan` on one thread; with `--workers` and a number from 1 to 64 behind the
 //! two paths, `plan` by a crew of so many. In these cases only memory can fail. A path here is a word that is not empty
 //! and does not begin with a hyphen. For any other words `asked` answers what `clap` is proved to find, or refuses with
-//! the kind of error that it is proved to give: `plan` asks for a crew exactly where `clap` finds one of the four
+//! the kind of error that it is proved to give: `plan` asks for a crew exactly where `clap` finds one of the five
 //! options, and where it finds a number that is in range the crew has it, or the memory. No crew has more than 64 workers or
 //! 1,000,000,000,000 pieces, and no more than 1,048,576 MiB are asked for. Tested alone, over the built program: the texts of help, of the version and of errors.
 #![tactic(auto)]

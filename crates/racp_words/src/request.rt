@@ -41,6 +41,8 @@ pub struct Crew {
     pub time_limit: Option<u64>,
     /// Whether the work that was done is told.
     pub stats: bool,
+    /// Whether it is told from time to time how far planning has come.
+    pub progress: bool,
     pub ghost workers_few: { workers ≤ 64 },
     pub ghost turns_few: { turns ≤ 1000000000000 },
 }
