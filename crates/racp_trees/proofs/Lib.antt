@@ -1,0 +1,7 @@
+mod Children
+mod Refuting
+mod Boxes
+mod Digits
+mod Lines
+mod Alternating
+mod Following
