@@ -3,5 +3,8 @@ mod Refuting
 mod Boxes
 mod Digits
 mod Lines
+mod Spelling
+mod Naming
+mod Starting
 mod Alternating
 mod Following

@@ -4,4 +4,6 @@ pub mod Texts
 pub mod Certificates
 pub mod Following
 pub mod Enough
+pub mod Reading
+pub mod Records
 pub mod Laws

@@ -34,9 +34,12 @@
 #![tactic(auto)]
 
 mod before;
+mod closed;
 mod enough;
 pub mod laws;
 mod parts;
+mod reading;
+mod record;
 mod step;
 
 pub use enough::are_enough;
