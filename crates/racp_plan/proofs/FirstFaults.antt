@@ -19,8 +19,8 @@ use Rattle.racp_model.proofs.lemmas.Results.{IsFault}
 use Rattle.racp_text.specs.Cuts.{is_line_feed}
 use Rattle.racp_text.specs.Faults.{refused}
 use Rattle.racp_plan.specs.Steps.{Rest, next_line, after_words, number_on, next_number, nothing_left, last_line}
-use Rattle.racp_plan.proofs.Fronts.{words_before, words_cases}
-use Rattle.racp_plan.proofs.Digits.{not_in_digits, decimal-is, value-decimal}
+use Rattle.racp_plan.proofs.lemmas.Fronts.{words_before, words_cases}
+use Rattle.racp_plan.proofs.lemmas.Digits.{not_in_digits, decimal-is, value-decimal}
 use Rattle.racp_plan.proofs.Written.{rest_at, line_next, line_read, bind_on, no_more, next_read, last_read}
 
 -- words without a line feed

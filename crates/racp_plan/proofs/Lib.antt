@@ -1,7 +1,5 @@
 pub mod lemmas
 mod TextLines
-mod Fronts
-mod Digits
 mod Repeats
 mod PlanTexts
 mod Telling

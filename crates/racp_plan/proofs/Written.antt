@@ -17,8 +17,8 @@ use Rattle.racp_model.specs.Steps.{◌>>=◌}
 use Rattle.racp_model.proofs.lemmas.Results.{IsFault, bind_ok, same_ok}
 use Rattle.racp_text.specs.Cuts.{is_line_feed}
 use Rattle.racp_plan.specs.Steps.{Rest, next_line, after_words, number_on, next_number, next_numbers, last_line, reading, number_line, number_lines}
-use Rattle.racp_plan.proofs.Fronts.{parts_of, whole_of, words_before, words_from, line_cut, some_place}
-use Rattle.racp_plan.proofs.Digits.{decimal-is, value-decimal, decimal-value, not_in_decimal}
+use Rattle.racp_plan.proofs.lemmas.Fronts.{parts_of, whole_of, words_before, words_from, line_cut, some_place}
+use Rattle.racp_plan.proofs.lemmas.Digits.{decimal-is, value-decimal, decimal-value, not_in_decimal}
 use Rattle.racp_plan.proofs.lemmas.Numbered.{start_word, capacity_word}
 use Rattle.racp_plan.proofs.PlanTexts.{from_starts, from_capacities, from_cost, from_critical, plan_text_is}
 

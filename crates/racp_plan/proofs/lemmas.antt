@@ -3,3 +3,5 @@
 pub mod Numbers
 pub mod Numbered
 pub mod StartLines
+pub mod Fronts
+pub mod Digits

@@ -35,7 +35,7 @@
 
 pub mod laws;
 pub mod lines;
-mod number;
+pub mod number;
 mod plan;
 mod read;
 mod rest;

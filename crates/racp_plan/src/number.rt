@@ -9,7 +9,7 @@ ghost use Rattle.racp_plan.specs.Steps.{after_words, contents};
 use racp_text::{cut_at, number};
 
 /// What stands after these words, or `None` where the line begins with others.
-pub(crate) fn after_words<'a>(line: &'a [u8], words: &str) -> Option<&'a [u8]>
+pub fn after_words<'a>(line: &'a [u8], words: &str) -> Option<&'a [u8]>
     ensures { contents result ≡ after_words words.now line.now }
 {
     line.strip_prefix(words.as_bytes())
@@ -39,7 +39,7 @@ fn are_digits_of(digits: &[u8], wanted: u32) -> bool
 
 /// The number that digits stand for, or the greatest of 64 bits where it is greater; `None` where they are no number,
 /// or begin with a zero that is not all of them.
-pub(crate) fn plain_number(digits: &[u8]) -> Option<u64>
+pub fn plain_number(digits: &[u8]) -> Option<u64>
     ensures { IsCapped is_decimal digits.now result }
 {
     if has_zero_in_front(digits) {

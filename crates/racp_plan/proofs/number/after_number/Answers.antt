@@ -1,5 +1,5 @@
 use Rattle.std.proofs.Common.{arith, sym, ◌∙◌}
-use Rattle.racp_plan.proofs.Digits.{number_none, number_some, number_other}
+use Rattle.racp_plan.proofs.lemmas.Digits.{number_none, number_some, number_other}
 use Rattle.racp_plan.proofs.number.after_number.Goals as goal
 
 pub returns-in_err-digits : goal.returns-in_err-digits

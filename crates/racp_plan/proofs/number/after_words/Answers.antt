@@ -1,6 +1,6 @@
 use Rattle.std.proofs.Common.{ap, ◌∙◌}
 use Rattle.racp_plan.specs.Steps.{after_words}
-use Rattle.racp_plan.proofs.Fronts.{stripped}
+use Rattle.racp_plan.proofs.lemmas.Fronts.{stripped}
 use Rattle.racp_plan.proofs.number.after_words.Goals as goal
 
 pub returns : goal.returns

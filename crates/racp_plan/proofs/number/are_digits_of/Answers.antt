@@ -1,5 +1,5 @@
 use Rattle.std.proofs.Common.{arith}
-use Rattle.racp_plan.proofs.Digits.{spelled, not_spelled}
+use Rattle.racp_plan.proofs.lemmas.Digits.{spelled, not_spelled}
 use Rattle.racp_plan.proofs.number.are_digits_of.Goals as goal
 
 pub returns-in-Some : goal.returns-in-Some

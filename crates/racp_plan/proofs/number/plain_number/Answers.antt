@@ -1,5 +1,5 @@
 use Rattle.std.proofs.Common.{sym, ◌∙◌}
-use Rattle.racp_plan.proofs.Digits.{zero_in_front, no_zero_in_front}
+use Rattle.racp_plan.proofs.lemmas.Digits.{zero_in_front, no_zero_in_front}
 use Rattle.racp_plan.proofs.number.plain_number.Goals as goal
 
 pub returns-then-has_zero_in_front : goal.returns-then-has_zero_in_front

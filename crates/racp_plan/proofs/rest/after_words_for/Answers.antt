@@ -1,5 +1,5 @@
 use Rattle.std.proofs.Common.{◌∙◌}
-use Rattle.racp_plan.proofs.Fronts.{own_words-some, own_words-none}
+use Rattle.racp_plan.proofs.lemmas.Fronts.{own_words-some, own_words-none}
 use Rattle.racp_plan.proofs.rest.after_words_for.Goals as goal
 
 pub returns-in_err-after_words : goal.returns-in_err-after_words

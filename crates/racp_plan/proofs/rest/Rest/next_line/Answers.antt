@@ -1,6 +1,6 @@
 use Rattle.std.proofs.Common.{Err, ap, sym, ◌∙◌}
 use Rattle.racp_plan.specs.Steps.{Rest, next_line}
-use Rattle.racp_plan.proofs.Fronts.{line_cut, line_none}
+use Rattle.racp_plan.proofs.lemmas.Fronts.{line_cut, line_none}
 use Rattle.racp_plan.proofs.rest.Rest.next_line.Goals as goal
 
 pub returns-in-Some : goal.returns-in-Some

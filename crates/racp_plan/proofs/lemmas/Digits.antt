@@ -14,7 +14,7 @@ use Rattle.racp_text.specs.Numbers.{IsCapped, is_number, value}
 use Rattle.racp_text.specs.Cuts.{AreParts}
 use Rattle.racp_plan.specs.PlanReading.{has_zero_in_front, is_decimal}
 use Rattle.racp_plan.specs.Steps.{after_words}
-use Rattle.racp_plan.proofs.Fronts.{parts_of, whole_of, words_before, words_cases}
+use Rattle.racp_plan.proofs.lemmas.Fronts.{parts_of, whole_of, words_before, words_cases}
 
 -- digits, one by one or all
 tells_digits : IsDigitsTest (λ ds. list_all is_ascii_digit ds ≡ true)

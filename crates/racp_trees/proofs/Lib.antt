@@ -1,0 +1,10 @@
+mod Children
+mod Refuting
+mod Boxes
+mod Digits
+mod Lines
+mod Spelling
+mod Naming
+mod Starting
+mod Alternating
+mod Following

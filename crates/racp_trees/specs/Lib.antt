@@ -1,0 +1,9 @@
+pub mod Children
+pub mod Trees
+pub mod Texts
+pub mod Certificates
+pub mod Following
+pub mod Enough
+pub mod Reading
+pub mod Records
+pub mod Laws

@@ -1,0 +1,46 @@
+//! Certificates: texts that show that no capacities before those of a plan are enough.
+//!
+//! Nodes are numbered from 1; jobs and resources too, and their places in lists count from 0. Times are whole time
+//! units.
+//!
+//! A search that refutes a question leaves a tree of windows behind. A certificate has that tree as lines, a node a
+//! line: `L j` says that the early start of job j exceeds its upper bound, `D t` that the first conflict of the early
+//! starts is at time t, and that the children follow, one for each minimal delaying alternative (Demeulemeester and
+//! Herroelen 1992), and `C n` that the node with number n, which is closed, covers this one. Each tree stands in a
+//! block, behind the capacities that it refutes. Of the five jobs of examples/a.sm with the deadline 4, this refutes 2
+//! units, and so 1 and 0:
+//!
+//! ```text
+//! proof
+//! vector 2
+//! D 0
+//! L 2
+//! L 3
+//! end
+//! ```
+//!
+//! At time 0 the jobs 2, 3 and 4 need 4 units. The alternative [2] puts job 2 off to the time 2, past its upper bound
+//! 1; the alternative [3, 4] puts job 3 off to 3, past 2.
+//!
+//! The text is read line by line. `Follow` in specs/ says what has to come of it while nodes are open, and each line
+//! changes that in one of three ways. Blocks are enough where each vector within the roofs that stands before the plan
+//! is at most the vector of some block. That is decided by boxes of vectors, in `are_enough`: the least vector of a box
+//! that is at most a block's leads to the parts of the box above that block, one for each place that can be the first
+//! such place.
+//!
+//! Proved: `are_enough` is true exactly where the blocks are enough. In `laws`: trees that hold refute their windows, and
+//! where a text is a certificate, no capacities that are enough stand before the plan's. Not proved: how many boxes
+//! that takes; of m blocks and R resources it can be about m ^ (R / 2).
+#![tactic(auto)]
+
+mod before;
+mod closed;
+mod enough;
+pub mod laws;
+mod parts;
+mod reading;
+mod record;
+mod step;
+
+pub use enough::are_enough;
+pub use step::Step;
