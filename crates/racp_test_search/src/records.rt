@@ -8,12 +8,10 @@ use racp_cutset::{Board, Local, Node, Nogood};
 use racp_delay::conflict;
 use racp_model::{Network, OfNetwork};
 use racp_reference::decide_by_definition;
-use racp_samples::{crossed, parallel, question};
+use racp_samples::{SampleFault, crossed, parallel, question};
 use std::alloc::{AllocError, Global};
 use std::marker::Brand;
-use std::process::Abort;
 use std::sync::Wait;
-use std::test::Fail;
 use std::thread;
 use std::thread::Threads;
 
@@ -27,7 +25,11 @@ struct Place<'a> {
 }
 
 /// The node of a place.
-fn node<N: OfNetwork>(alloc: Global, net: &Network, place: Place<'_>) -> Result<Node<N>, Fail>
+fn node<N: OfNetwork>(
+    alloc: Global,
+    net: &Network,
+    place: Place<'_>,
+) -> Result<Node<N>, SampleFault>
     requires named { net.now ≡ N.network }
 {
     let asked = question(alloc, net, place.capacities, place.lower, place.upper)?;
@@ -60,15 +62,19 @@ fn is_no<N: OfNetwork>(alloc: Global, net: &Network, node: &Node<N>) -> Result<b
     Ok(decide_by_definition(alloc, net, node.question())?.is_none())
 }
 
-/// The record of the node of a place, whose question is a no by the definition.
-fn nogood<N: OfNetwork>(alloc: Global, net: &Network, place: Place<'_>) -> Result<Nogood<N>, Fail>
+/// The record of the node of a place, whose question is a no by the definition; there is no such sample where it is a yes.
+fn nogood<N: OfNetwork>(
+    alloc: Global,
+    net: &Network,
+    place: Place<'_>,
+) -> Result<Nogood<N>, SampleFault>
     requires named { net.now ≡ N.network }
 {
     let node: Node<N> = node(alloc, net, place)?;
     if is_no(alloc, net, &node)? && fits_before_time(net, &node) {
         return Ok(Nogood::of(node));
     }
-    Err("the node is not refuted".into())
+    Err(SampleFault::NoSample)
 }
 
 /// The early starts of the five jobs.
@@ -93,32 +99,45 @@ fn is_covered<N: OfNetwork>(
     net: &Network,
     known: &Nogood<N>,
     other: Place<'_>,
-) -> Result<bool, Fail>
+) -> Result<bool, SampleFault>
     requires named { net.now ≡ N.network }
 {
     let other: Node<N> = node(alloc, net, other)?;
     Ok(known.covers(&other))
 }
 
-fn check_covering<N: OfNetwork>(
-    rt: &impl Abort,
+/// The place of the first row that the record of a place covers although it should not, or the other way round.
+fn wrong_row<N: OfNetwork>(
     alloc: Global,
     net: &Network,
     known: Place<'_>,
     rows: &[(Place<'_>, bool)],
-) -> Result<(), Fail>
+) -> Result<Option<usize>, SampleFault>
     requires named { net.now ≡ N.network }
 {
     let known: Nogood<N> = nogood(alloc, net, known)?;
-    for (other, covered) in rows {
-        let found = is_covered(alloc, net, &known, *other)?;
-        assert!(rt; found == *covered);
+    first_wrong(alloc, net, &known, rows)
+}
+
+/// The same, of a record.
+fn first_wrong<N: OfNetwork>(
+    alloc: Global,
+    net: &Network,
+    known: &Nogood<N>,
+    rows: &[(Place<'_>, bool)],
+) -> Result<Option<usize>, SampleFault>
+    requires named { net.now ≡ N.network }
+{
+    for (row, (other, covered)) in rows.iter().enumerate() {
+        if is_covered(alloc, net, known, *other)? != *covered {
+            return Ok(Some(row));
+        }
     }
-    Ok(())
+    Ok(None)
 }
 
 #[test]
-fn covers_less_capacity_and_earlier_deadlines(rt: HostRuntime) -> Result<(), Fail> {
+fn covers_less_capacity_and_earlier_deadlines(rt: HostRuntime) -> Result<(), SampleFault> {
     let alloc = rt.alloc();
     let net = parallel(alloc)?;
     let (known, earlier, later) = (root(&[2]), [0, 0, 1, 1, 3], [2, 2, 3, 3, 5]);
@@ -141,11 +160,12 @@ fn covers_less_capacity_and_earlier_deadlines(rt: HostRuntime) -> Result<(), Fai
             false,
         ),
     ];
-    check_covering::<Brand>(&rt, alloc, &net, known, &rows)
+    assert_eq!(rt; wrong_row::<Brand>(alloc, &net, known, &rows)?, None);
+    Ok(())
 }
 
 #[test]
-fn covers_the_same_started_jobs(rt: HostRuntime) -> Result<(), Fail> {
+fn covers_the_same_started_jobs(rt: HostRuntime) -> Result<(), SampleFault> {
     let alloc = rt.alloc();
     let net = crossed(alloc)?;
     let third_late = Place {
@@ -175,7 +195,8 @@ fn covers_the_same_started_jobs(rt: HostRuntime) -> Result<(), Fail> {
             false,
         ),
     ];
-    check_covering::<Brand>(&rt, alloc, &net, second_late, &rows)
+    assert_eq!(rt; wrong_row::<Brand>(alloc, &net, second_late, &rows)?, None);
+    Ok(())
 }
 
 /// Whether the record of the first place covers that of the second.
@@ -184,7 +205,7 @@ fn covers_record<N: OfNetwork>(
     net: &Network,
     known: Place<'_>,
     other: Place<'_>,
-) -> Result<bool, Fail>
+) -> Result<bool, SampleFault>
     requires named { net.now ≡ N.network }
 {
     let known: Nogood<N> = nogood(alloc, net, known)?;
@@ -193,7 +214,7 @@ fn covers_record<N: OfNetwork>(
 }
 
 #[test]
-fn covers_higher_lower_bounds(rt: HostRuntime) -> Result<(), Fail> {
+fn covers_higher_lower_bounds(rt: HostRuntime) -> Result<(), SampleFault> {
     let alloc = rt.alloc();
     let net = parallel(alloc)?;
     let known = root(&[2]);
@@ -215,7 +236,7 @@ fn is_told<N: OfNetwork>(node: &Node<N>) -> bool {
 }
 
 /// A node at time 2, in rows of its own and then in the same rows at time 1.
-fn moves<N: OfNetwork>(alloc: Global, net: &Network) -> Result<bool, Fail>
+fn moves<N: OfNetwork>(alloc: Global, net: &Network) -> Result<bool, SampleFault>
     requires named { net.now ≡ N.network }
 {
     let place = Place {
@@ -232,7 +253,7 @@ fn moves<N: OfNetwork>(alloc: Global, net: &Network) -> Result<bool, Fail>
 }
 
 #[test]
-fn tells_what_a_node_is(rt: HostRuntime) -> Result<(), Fail> {
+fn tells_what_a_node_is(rt: HostRuntime) -> Result<(), SampleFault> {
     let alloc = rt.alloc();
     let net = crossed(alloc)?;
     assert!(rt; moves::<Brand>(alloc, &net)?);
@@ -246,28 +267,26 @@ fn finds<N: OfNetwork>(
     board: &Board<N>,
     local: &mut Local<N>,
     place: Place<'_>,
-) -> Result<bool, Fail>
+) -> Result<bool, SampleFault>
     requires named { net.now ≡ N.network }
 {
     let node: Node<N> = node(alloc, net, place)?;
     Ok(local.find(board, &node).is_some())
 }
 
-/// A record that is kept is found, until it is taken out.
-fn check_kept<N: OfNetwork>(
-    rt: &impl Abort,
+/// Whether a record that is kept is found, until it is taken out.
+fn keeps_one<N: OfNetwork>(
     alloc: Global,
     net: &Network,
     empty: &Board<N>,
     local: &mut Local<N>,
-) -> Result<(), Fail>
+) -> Result<bool, SampleFault>
     requires named { net.now ≡ N.network }
 {
     local.keep(nogood(alloc, net, root(&[2]))?, 0);
-    assert!(rt; finds_units(alloc, net, empty, local)? == [true, false]);
-    assert!(rt; local.take_kept().is_some() && local.take_kept().is_none());
-    assert!(rt; finds_units(alloc, net, empty, local)? == [false, false]);
-    Ok(())
+    let kept = finds_units(alloc, net, empty, local)? == [true, false];
+    let taken = local.take_kept().is_some() && local.take_kept().is_none();
+    Ok(kept && taken && finds_units(alloc, net, empty, local)? == [false, false])
 }
 
 /// Whether records are found that cover the root windows with one unit and with three.
@@ -276,7 +295,7 @@ fn finds_units<N: OfNetwork>(
     net: &Network,
     board: &Board<N>,
     local: &mut Local<N>,
-) -> Result<[bool; 2], Fail>
+) -> Result<[bool; 2], SampleFault>
     requires named { net.now ≡ N.network }
 {
     let one = finds(alloc, net, board, local, root(&[1]))?;
@@ -294,99 +313,141 @@ fn window<'a>(bounds: &'a ([u32; 5], [u32; 5])) -> Place<'a> {
     }
 }
 
-/// The first of three records are found, and those that were forgotten are not.
-fn check_forgetting<N: OfNetwork>(
-    rt: &impl Abort,
+/// Keeps the records of these windows.
+fn keep_all<N: OfNetwork>(
     alloc: Global,
     net: &Network,
-    empty: &Board<N>,
     local: &mut Local<N>,
-) -> Result<(), Fail>
+    windows: &[([u32; 5], [u32; 5])],
+) -> Result<(), SampleFault>
     requires named { net.now ≡ N.network }
 {
-    let windows = [later(0), later(1), later(2)];
-    for bounds in &windows {
+    for bounds in windows {
         local.keep(nogood(alloc, net, window(bounds))?, 0);
-    }
-    for count in [3, 1, 0] {
-        local.forget_behind(count);
-        assert!(rt; local.kept_count() == count && !local.is_full());
-        for i in 0..3 {
-            let is_found = finds(alloc, net, empty, local, window(&windows[i]))?;
-            assert!(rt; is_found == (i < count));
-        }
     }
     Ok(())
 }
 
-/// A record takes the place of one that it covers, unless that is among the first ones.
-fn check_giving_way<N: OfNetwork>(
-    rt: &impl Abort,
+/// Whether records are found of the first windows, so many, and of no other.
+fn finds_first<N: OfNetwork>(
     alloc: Global,
     net: &Network,
     empty: &Board<N>,
     local: &mut Local<N>,
-) -> Result<(), Fail>
+    windows: &[([u32; 5], [u32; 5])],
+    count: usize,
+) -> Result<bool, SampleFault>
+    requires named { net.now ≡ N.network }
+{
+    for (place, bounds) in windows.iter().enumerate() {
+        if finds(alloc, net, empty, local, window(bounds))? != (place < count) {
+            return Ok(false);
+        }
+    }
+    Ok(true)
+}
+
+/// Whether the first of three records are found, and those that were forgotten are not.
+fn forgets<N: OfNetwork>(
+    alloc: Global,
+    net: &Network,
+    empty: &Board<N>,
+    local: &mut Local<N>,
+) -> Result<bool, SampleFault>
+    requires named { net.now ≡ N.network }
+{
+    let windows = [later(0), later(1), later(2)];
+    keep_all(alloc, net, local, &windows)?;
+    for count in [3, 1, 0] {
+        local.forget_behind(count);
+        let counted = local.kept_count() == count && !local.is_full();
+        if !counted || !finds_first(alloc, net, empty, local, &windows, count)? {
+            return Ok(false);
+        }
+    }
+    Ok(true)
+}
+
+/// Whether a record takes the place of one that it covers, unless that is among the first ones.
+fn gives_way<N: OfNetwork>(
+    alloc: Global,
+    net: &Network,
+    empty: &Board<N>,
+    local: &mut Local<N>,
+) -> Result<bool, SampleFault>
     requires named { net.now ≡ N.network }
 {
     for (units, first, count) in [(1, 0, 1), (2, 0, 1), (2, 1, 2), (2, 1, 2), (2, 0, 2)] {
         local.keep(nogood(alloc, net, root(&[units]))?, first);
-        assert!(rt; local.kept_count() == count);
-        assert!(rt; finds(alloc, net, empty, local, root(&[units]))?);
+        let counted = local.kept_count() == count;
+        if !finds(alloc, net, empty, local, root(&[units]))? || !counted {
+            return Ok(false);
+        }
     }
     local.forget_behind(0);
-    Ok(())
+    Ok(true)
 }
 
-/// Of many records with the same started jobs the oldest give way.
-fn check_oldest<N: OfNetwork>(
-    rt: &impl Abort,
+/// Whether of many records with the same started jobs the oldest give way.
+fn drops_oldest<N: OfNetwork>(
     alloc: Global,
     net: &Network,
     empty: &Board<N>,
     local: &mut Local<N>,
-) -> Result<(), Fail>
+) -> Result<bool, SampleFault>
     requires named { net.now ≡ N.network }
 {
     for time in 0..40 {
         local.keep(nogood(alloc, net, window(&later(time)))?, 0);
     }
-    assert!(rt; local.kept_count() < 40);
-    assert!(rt; finds(alloc, net, empty, local, window(&later(39)))?);
-    assert!(rt; !finds(alloc, net, empty, local, window(&later(0)))?);
+    let fewer = local.kept_count() < 40;
+    let newest = finds(alloc, net, empty, local, window(&later(39)))?;
+    let oldest = finds(alloc, net, empty, local, window(&later(0)))?;
     local.forget_behind(0);
-    Ok(())
+    Ok(fewer && newest && !oldest)
 }
 
-fn check_keeping<N: OfNetwork>(rt: &impl Abort, alloc: Global, net: &Network) -> Result<(), Fail>
+/// What goes wrong with the records that one thread keeps.
+fn keeping_fault<N: OfNetwork>(
+    alloc: Global,
+    net: &Network,
+) -> Result<Option<&'static str>, SampleFault>
     requires named { net.now ≡ N.network }
 {
     let empty: Board<N> = Board::new(alloc, net)?;
     let mut local: Local<N> = Local::new(alloc, net);
-    check_in_turn(rt, alloc, net, &empty, &mut local)
+    fault_in_turn(alloc, net, &empty, &mut local)
 }
 
-fn check_in_turn<N: OfNetwork>(
-    rt: &impl Abort,
+fn fault_in_turn<N: OfNetwork>(
     alloc: Global,
     net: &Network,
     empty: &Board<N>,
     local: &mut Local<N>,
-) -> Result<(), Fail>
+) -> Result<Option<&'static str>, SampleFault>
     requires named { net.now ≡ N.network }
 {
-    check_kept(rt, alloc, net, empty, local)?;
-    check_forgetting(rt, alloc, net, empty, local)?;
-    check_giving_way(rt, alloc, net, empty, local)?;
-    check_oldest(rt, alloc, net, empty, local)?;
-    check_kept(rt, alloc, net, empty, local)
+    Ok(if !keeps_one(alloc, net, empty, local)? {
+        Some("a record that is kept")
+    } else if !forgets(alloc, net, empty, local)? {
+        Some("records that are forgotten")
+    } else if !gives_way(alloc, net, empty, local)? {
+        Some("a record that is covered")
+    } else if !drops_oldest(alloc, net, empty, local)? {
+        Some("the oldest record")
+    } else if !keeps_one(alloc, net, empty, local)? {
+        Some("a record that is kept at the end")
+    } else {
+        None
+    })
 }
 
 #[test]
-fn finds_kept_records(rt: HostRuntime) -> Result<(), Fail> {
+fn finds_kept_records(rt: HostRuntime) -> Result<(), SampleFault> {
     let alloc = rt.alloc();
     let net = parallel(alloc)?;
-    check_keeping::<Brand>(&rt, alloc, &net)
+    assert_eq!(rt; keeping_fault::<Brand>(alloc, &net)?, None);
+    Ok(())
 }
 
 /// Pushes so many records of the root window, each a time unit later than the one before.
@@ -396,7 +457,7 @@ fn push_later<N: OfNetwork, R: Wait>(
     net: &Network,
     board: &Board<N>,
     count: u32,
-) -> Result<(), Fail>
+) -> Result<(), SampleFault>
     requires named { net.now ≡ N.network }
 {
     for time in 0..count {
@@ -414,17 +475,17 @@ fn later(time: u32) -> ([u32; 5], [u32; 5]) {
     )
 }
 
-/// The last of many records is found on the board by whoever has not read it yet.
-fn check_shared<N: OfNetwork, R: Abort + Wait>(
+/// Whether the last of many records is found on the board by whoever has not read it yet.
+fn finds_newest<N: OfNetwork, R: Wait>(
     rt: &R,
     alloc: Global,
     net: &Network,
     board: &Board<N>,
     local: &mut Local<N>,
-) -> Result<(), Fail>
+) -> Result<bool, SampleFault>
     requires named { net.now ≡ N.network }
 {
-    assert!(rt; !finds(alloc, net, board, local, root(&[1]))?);
+    let before = finds(alloc, net, board, local, root(&[1]))?;
     push_later(rt, alloc, net, board, 200)?;
     let (lower, upper) = later(199);
     let last = Place {
@@ -433,36 +494,41 @@ fn check_shared<N: OfNetwork, R: Abort + Wait>(
         upper: &upper,
         time: 0,
     };
-    assert!(rt; finds(alloc, net, board, local, last)?);
-    Ok(())
+    let newest = finds(alloc, net, board, local, last)?;
+    Ok(newest && !before)
 }
 
-fn check_sharing<N: OfNetwork, R: Abort + Wait>(
+fn shares_newest<N: OfNetwork, R: Wait>(
     rt: &R,
     alloc: Global,
     net: &Network,
-) -> Result<(), Fail>
+) -> Result<bool, SampleFault>
     requires named { net.now ≡ N.network }
 {
     let board: Board<N> = Board::new(alloc, net)?;
     let mut local: Local<N> = Local::new(alloc, net);
-    check_shared(rt, alloc, net, &board, &mut local)
+    finds_newest(rt, alloc, net, &board, &mut local)
 }
 
 #[test]
-fn finds_the_newest_of_many(rt: HostRuntime) -> Result<(), Fail> {
+fn finds_the_newest_of_many(rt: HostRuntime) -> Result<(), SampleFault> {
     let alloc = rt.alloc();
     let net = parallel(alloc)?;
-    check_sharing::<Brand, HostRuntime>(&rt, alloc, &net)
+    assert!(rt; shares_newest::<Brand, HostRuntime>(&rt, alloc, &net)?);
+    Ok(())
+}
+
+fn add<N: OfNetwork>(records: &mut Vec<Nogood<N>>, known: Nogood<N>) -> Result<(), AllocError> {
+    Ok(records.push(known)?)
 }
 
 /// Thirty records of the root window.
-fn thirty<N: OfNetwork>(alloc: Global, net: &Network) -> Result<Vec<Nogood<N>>, Fail>
+fn thirty<N: OfNetwork>(alloc: Global, net: &Network) -> Result<Vec<Nogood<N>>, SampleFault>
     requires named { net.now ≡ N.network }
 {
     let mut records = Vec::new(alloc);
     for _record in 0..30 {
-        records.push(nogood(alloc, net, root(&[2]))?)?;
+        add(&mut records, nogood(alloc, net, root(&[2]))?)?;
     }
     Ok(records)
 }
@@ -492,7 +558,7 @@ fn push_sixty<N: OfNetwork + Send + Sync, R: Threads + Wait + Sync>(
     rt: &R,
     alloc: Global,
     net: &Network,
-) -> Result<bool, Fail>
+) -> Result<bool, SampleFault>
     requires named { net.now ≡ N.network }
 {
     let board: Board<N> = Board::new(alloc, net)?;
@@ -506,7 +572,7 @@ fn push_thirties<N: OfNetwork + Send + Sync, R: Threads + Wait + Sync>(
     net: &Network,
     board: &Board<N>,
     asked: &Node<N>,
-) -> Result<bool, Fail>
+) -> Result<bool, SampleFault>
     requires named { net.now ≡ N.network }
 {
     let some = thirty(alloc, net)?;
@@ -539,7 +605,7 @@ fn push_in_threads<N: OfNetwork + Send + Sync, R: Threads + Wait + Sync>(
 }
 
 #[test]
-fn shares_a_board(rt: HostRuntime) -> Result<(), Fail> {
+fn shares_a_board(rt: HostRuntime) -> Result<(), SampleFault> {
     let alloc = rt.alloc();
     let net = parallel(alloc)?;
     assert!(rt; push_sixty::<Brand, HostRuntime>(&rt, alloc, &net)?);

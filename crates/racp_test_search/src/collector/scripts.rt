@@ -7,10 +7,9 @@ use crate::collector::trial::Change::{self, Nothing};
 use crate::collector::trial::Known::{First, NoYes, Pending};
 use crate::collector::trial::{Call, Heard, Held, Known, Trial, ends, make, start, verdict};
 use racp_model::{Network, OfNetwork};
-use racp_samples::crossed;
+use racp_samples::{SampleFault, crossed};
 use std::alloc::Global;
 use std::marker::Brand;
-use std::test::Fail;
 
 /// A call, its answer, and then what is known and how many questions are undecided.
 type Row = (Call, Heard, Known, usize);
@@ -184,7 +183,7 @@ fn follows<N: OfNetwork>(
     net: &Network,
     trial: &mut Trial<N>,
     script: &Script,
-) -> Result<bool, Fail>
+) -> Result<bool, SampleFault>
     requires { net.now ≡ N.network }
 {
     for rows in script.parts {
@@ -211,7 +210,7 @@ fn are_whole(pieces: &[Held], units: &[[u32; 2]]) -> bool {
     pieces.len() >= units.len()
 }
 
-fn holds<N: OfNetwork>(alloc: Global, net: &Network, script: &Script) -> Result<bool, Fail>
+fn holds<N: OfNetwork>(alloc: Global, net: &Network, script: &Script) -> Result<bool, SampleFault>
     requires { net.now ≡ N.network }
 {
     let mut trial: Trial<N> = start(alloc, net, script.units.0, script.units.1)?;
@@ -221,7 +220,7 @@ fn holds<N: OfNetwork>(alloc: Global, net: &Network, script: &Script) -> Result<
 }
 
 /// The place of the first script that is answered otherwise.
-fn broken<N: OfNetwork>(alloc: Global, net: &Network) -> Result<Option<usize>, Fail>
+fn broken<N: OfNetwork>(alloc: Global, net: &Network) -> Result<Option<usize>, SampleFault>
     requires { net.now ≡ N.network }
 {
     for (place, script) in SCRIPTS.iter().enumerate() {
@@ -233,7 +232,7 @@ fn broken<N: OfNetwork>(alloc: Global, net: &Network) -> Result<Option<usize>, F
 }
 
 #[test]
-fn scripts_are_answered(rt: HostRuntime) -> Result<(), Fail> {
+fn scripts_are_answered(rt: HostRuntime) -> Result<(), SampleFault> {
     let net = crossed(rt.alloc())?;
     assert_eq!(rt; broken::<Brand>(rt.alloc(), &net)?, None);
     Ok(())

@@ -10,7 +10,6 @@ use racp_model::{Network, OfNetwork, Question};
 use racp_samples::{SampleFault, question};
 use racp_search::{Collector, Finding, Never, Piece, Rest, explore};
 use std::alloc::{AllocError, Global};
-use std::test::Fail;
 
 /// In what a piece that comes in differs from the one that was taken.
 #[derive(Clone, Copy)]
@@ -108,14 +107,14 @@ pub(crate) fn make<N: OfNetwork>(
     net: &Network,
     trial: &mut Trial<N>,
     call: Call,
-) -> Result<Heard, Fail>
+) -> Result<Heard, SampleFault>
     requires { net.now ≡ N.network }
 {
     match call {
         Call::Ask => Ok(ask(&mut trial.core)?),
         Call::Take(seat) => Ok(take(trial, seat)?),
         Call::Hand(at, change, quantum) => hand(alloc, net, trial, at, change, quantum),
-        Call::GiveBack(at, change) => Ok(give_back(alloc, net, trial, at, change)?),
+        Call::GiveBack(at, change) => give_back(alloc, net, trial, at, change),
         Call::Halt => {
             trial.core.halt();
             Ok(Heard::Halted)
@@ -189,7 +188,7 @@ fn hand<N: OfNetwork>(
     at: usize,
     change: Change,
     quantum: Option<u64>,
-) -> Result<Heard, Fail>
+) -> Result<Heard, SampleFault>
     requires { net.now ≡ N.network }
 {
     let Some(held) = trial.pieces.get(at) else {
@@ -201,7 +200,7 @@ fn hand<N: OfNetwork>(
         Ok(merged) => Ok(of_merged(merged)),
         Err((finding, error)) => {
             let _ = finding.into_found();
-            Err(Fail::from(error))
+            Err(SampleFault::from(error))
         }
     }
 }

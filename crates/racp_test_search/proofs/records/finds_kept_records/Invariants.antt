@@ -1,4 +1,4 @@
 use Rattle.racp_test_search.proofs.records.finds_kept_records.Given as goal
 
-abbrev pub ghosts-check_keeping : goal.ghosts-check_keeping
-ghosts-check_keeping g a = record { network = a.net.now }
+abbrev pub ghosts-keeping_fault : goal.ghosts-keeping_fault
+ghosts-keeping_fault g a = record { network = a.net.now }
