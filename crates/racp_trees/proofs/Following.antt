@@ -11,11 +11,11 @@ use Rattle.racp_cutset.specs.Covering.{SearchNode}
 use Rattle.racp_trees.specs.Children.{AreChildrenOf, AreChildren, IsChildFor, NoneStays}
 use Rattle.racp_trees.specs.Texts.{step_line, step_number, tree_text, most_number, HasSmallLines}
 use Rattle.racp_trees.specs.Trees.{Trees, none, tree, lines_of, node_count, divided, Hold, IsNodeOf, IsTooLate, IsDivided, IsCovered}
-use Rattle.racp_trees.specs.Following.{OpenNode, read_on, AreBehind, AreToCome, BeginsWith, Ending, Follow, IsNext, IsOpened, IsStepped}
+use Rattle.racp_trees.specs.Following.{IsNextBehind, OpenNode, read_on, AreBehind, AreToCome, BeginsWith, Ending, Follow, IsNext, IsOpened, IsStepped}
 use Rattle.racp_trees.specs.declared.step.Step.{Step}
 use Rattle.racp_trees.specs.declared.step.Step.TheVariants.{L, D, C}
 use Rattle.racp_trees.proofs.Lines.{one_line, text-none, text-tree, small-none, small-tree, small-first, small-children, small-others}
-use Rattle.racp_trees.proofs.Alternating.{IsNextBehind, front, front-back, none_behind, behind_none, all_behind}
+use Rattle.racp_trees.proofs.Alternating.{front, front-back, none_behind, behind_none, all_behind}
 
 abbrev Numbered : Type 0
 Numbered = ℕ × SearchNode

@@ -7,4 +7,6 @@ mod Spelling
 mod Naming
 mod Starting
 mod Alternating
+mod Branching
+mod Covered
 mod Following

@@ -6,4 +6,6 @@ pub mod Following
 pub mod Enough
 pub mod Reading
 pub mod Records
+pub mod Branches
+pub mod Nodes
 pub mod Laws

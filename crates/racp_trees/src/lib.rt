@@ -34,9 +34,11 @@
 #![tactic(auto)]
 
 mod before;
+mod branch;
 mod closed;
 mod enough;
 pub mod laws;
+mod node;
 mod parts;
 mod reading;
 mod record;
