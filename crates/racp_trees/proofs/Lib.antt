@@ -5,8 +5,11 @@ mod Digits
 mod Lines
 mod Spelling
 mod Naming
+mod Opening
+mod Passing
 mod Starting
 mod Alternating
 mod Branching
+mod Closing
 mod Covered
 mod Following

@@ -8,4 +8,5 @@ pub mod Reading
 pub mod Records
 pub mod Branches
 pub mod Nodes
+pub mod Readers
 pub mod Laws

@@ -3,8 +3,10 @@
 ghost use Rattle.std.specs.Prelude.{◌≡◌, ◌↔◌, ◌≤◌, ℕ, All, Contains, IfOk, IsTrue, List, MatchBool, length, max};
 ghost use Rattle.racp_model.specs.Limits.{most_bound};
 ghost use Rattle.racp_delay.specs.Alternatives.{Splits};
-ghost use Rattle.racp_trees.specs.Branches.{IsBranch, IsChildAnswer, IsAlternativeAnswer, IsWindowAnswer, IsRaised};
+ghost use Rattle.racp_trees.specs.Records.{IsRecordOf};
+ghost use Rattle.racp_trees.specs.Branches.{open_node, IsBranch, IsChildAnswer, IsAlternativeAnswer, IsWindowAnswer, IsRaised};
 
+use crate::record::Record;
 use racp_delay::{Alternative, JobSet, first_end, laws};
 use racp_model::{Capacities, Network, Starts};
 use std::alloc::{AllocError, Global};
@@ -32,7 +34,10 @@ impl Branch {
     ) -> Result<Option<Vec<u32>>, AllocError>
         requires capacities { length capacities.now ≡ net.now.resources }
         requires branch { IsBranch net.now capacities.now self.old }
-        ensures { IfOk result (IsChildAnswer net.now capacities.now self.old self.new) }
+        ensures child { IfOk result (IsChildAnswer net.now capacities.now self.old self.new) }
+        ensures node { (capacities upper : List ℕ) → (open_node capacities upper self.new).node ≡ (open_node capacities upper self.old).node }
+        ensures number { self.new.number ≡ self.old.number }
+        ensures stays { IsBranch net.now capacities.now self.new }
     {
         let Some(gone) = self.next_alternative(alloc, net, capacities)? else {
             return Ok(None);
@@ -42,6 +47,28 @@ impl Branch {
         };
         self.last = gone;
         Ok(Some(lower))
+    }
+
+    /// What is kept of the node once it is closed.
+    pub(crate) fn record(
+        &self,
+        alloc: Global,
+        net: &Network,
+        capacities: &Capacities,
+    ) -> Result<Record, AllocError>
+        requires branch { IsBranch net.now capacities.now self.now }
+        ensures { IfOk result (λ kept. (upper : List ℕ) → IsRecordOf net.now (open_node capacities.now upper self.now).node kept) }
+    {
+        let early = self.early.as_slice();
+        let kept = Record::new(
+            alloc,
+            net,
+            capacities.as_slice(),
+            &self.lower,
+            early,
+            self.time,
+        )?;
+        Ok(kept)
     }
 
     /// The next alternative behind the one whose child was read last.

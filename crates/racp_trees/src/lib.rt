@@ -40,6 +40,7 @@ mod enough;
 pub mod laws;
 mod node;
 mod parts;
+mod reader;
 mod reading;
 mod record;
 mod step;
