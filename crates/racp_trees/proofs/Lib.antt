@@ -8,6 +8,7 @@ mod Naming
 mod Opening
 mod Passing
 mod Starting
+mod Advancing
 mod Alternating
 mod Branching
 mod Closing

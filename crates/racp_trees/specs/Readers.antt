@@ -1,6 +1,7 @@
 -- Contracts of private functions: where a reader of a tree stands.
 use Rattle.std.specs.Prelude.{◌≡◌, ◌↔◌, ℕ, ◌+◌, ◌<◌, ◌≤◌, List, [], ◌∷◌, ◌++◌, length, slice_index, Contains, All, AllPairs, Bool, MatchBool, IsTrue, Option, Some, None, Vec}
 use Rattle.std.specs.Global.{Global}
+use denote.Ref.{Bor}
 use Rattle.racp_model.specs.Project.{Project}
 use Rattle.racp_model.specs.Limits.{most_bound}
 use Rattle.racp_model.specs.Terms.{Terms}
@@ -105,3 +106,22 @@ IsGoneOn p capacities old branch new (Some lower) =
 IsGoneOn p capacities old branch new None =
     (kept : Record) × (new.branches.items ≡ old.branches.items) × (new.number ≡ old.number) × IsKept old.closed branch.number kept new.closed ×
     ((upper : List ℕ) → IsRecordOf p (open_node capacities upper branch).node kept) × ((upper : List ℕ) → IsReadUp p (open_node capacities upper branch))
+
+-- the tree of the root window was read from a text: what is left, and that the text is a certificate's rest exactly where that is
+pub record HasReadTree (p : Project) (capacities : List ℕ) (root : Bounds) (old : Reader) (text : List ℕ) (new : Reader) (rest : List ℕ) : Type 0 where
+  pub ready : IsReady p capacities new
+  pub places : (node : ℕ) → HasPlace old.closed node → HasPlace new.closed node
+  pub empty : new.branches.items ≡ []
+  pub front : List ℕ
+  pub whole : text ≡ front ++ rest
+  pub lines : (more : List ℕ) × (front ≡ more ++ 10 ∷ [])
+  pub room : new.number + length rest ≤ old.number + length text
+  pub told : (terms : Terms) (plan : List ℕ) (vectors : List (List ℕ)) (nodes : List (ℕ × SearchNode)) → HasRead p root.upper nodes old →
+      (later : List (ℕ × SearchNode)) × HasRead p root.upper later new ×
+      (AsksNext p capacities terms plan root vectors nodes old root.lower text ↔ IsRest p terms plan root vectors later new.number rest)
+
+-- what reading a tree answers: what is left, or none where a text does not begin with one that holds
+abbrev pub IsTreeAnswer : Project → List ℕ → Bounds → Reader → List ℕ → Reader → Option (Bor (List ℕ)) → Type 0
+IsTreeAnswer p capacities root old text new (Some rest) = HasReadTree p capacities root old text new rest.now
+IsTreeAnswer p capacities root old text new None =
+    (terms : Terms) (plan : List ℕ) (vectors : List (List ℕ)) (nodes : List (ℕ × SearchNode)) → HasRead p root.upper nodes old → AsksNext p capacities terms plan root vectors nodes old root.lower text → ⊥

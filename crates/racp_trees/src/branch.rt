@@ -111,11 +111,11 @@ impl Branch {
     }
 }
 
-/// The same jobs.
-fn copied(alloc: Global, jobs: &[u32]) -> Result<Vec<u32>, AllocError>
-    ensures { IfOk result (λ copy. copy.items ≡ jobs.now) }
+/// The same numbers.
+pub(crate) fn copied(alloc: Global, numbers: &[u32]) -> Result<Vec<u32>, AllocError>
+    ensures { IfOk result (λ copy. copy.items ≡ numbers.now) }
 {
-    jobs.to_vec(alloc)
+    numbers.to_vec(alloc)
 }
 
 /// The times, with those of these jobs raised to a time.

@@ -1,19 +1,22 @@
 //! Reading the tree of a block, line by line.
 
-ghost use Rattle.std.specs.Prelude.{◌≡◌, ◌+◌, ◌<◌, ◌≤◌, ℕ, All, IfOk, length, slice_index};
+ghost use Rattle.std.specs.Prelude.{◌≡◌, ◌+◌, ◌<◌, ◌≤◌, ◌^◌, ℕ, All, IfOk, length, slice_index};
 ghost use Rattle.racp_model.specs.Path.{IsEarly};
 ghost use Rattle.racp_model.specs.Formed.{HasBounds};
 ghost use Rattle.racp_model.specs.Limits.{most_bound, most_start};
 ghost use Rattle.racp_trees.specs.Nodes.{HasPlace};
-ghost use Rattle.racp_trees.specs.Readers.{IsReady, IsLineAnswer, IsNextAnswer, IsGoneOn, StaysReady};
+ghost use Rattle.racp_trees.specs.Reading.{IsNamed};
+ghost use Rattle.racp_trees.specs.Readers.{IsReady, IsLineAnswer, IsNextAnswer, IsGoneOn, IsTreeAnswer, StaysReady};
 ghost use Rattle.racp_trees.specs.Branches.{IsBranch};
 ghost use Rattle.racp_trees.specs.declared.step.Step.TheVariants.{C, D};
 
-use crate::branch::Branch;
+use crate::branch::{Branch, copied};
 use crate::closed::Closed;
 use crate::node::{active_at, is_covered, is_too_late};
+use crate::reading::read_step;
 use crate::step::Step;
 use racp_cpm::early;
+use racp_delay::laws;
 use racp_model::{Capacities, Network, Starts, Window};
 use std::alloc::{AllocError, Global};
 
@@ -35,6 +38,39 @@ pub(crate) struct Reader {
 }
 
 impl Reader {
+    /// Reads the tree of the root window, and answers what stands behind it; `None` where a text does not begin with a
+    /// tree that holds.
+    pub(crate) fn read_tree<'t>(
+        &mut self,
+        alloc: Global,
+        ground: &Ground,
+        text: &'t [u8],
+    ) -> Result<Option<&'t [u8]>, AllocError>
+        requires capacities { length ground.now.capacities.now ≡ ground.now.net.now.resources }
+        requires root { HasBounds ground.now.net.now ground.now.root.now }
+        requires ready { IsReady ground.now.net.now ground.now.capacities.now self.old }
+        requires places { (node : ℕ) → IsNamed text.now node → HasPlace self.old.closed node }
+        requires room { self.old.number + length text.now < 2 ^ 64 }
+        ensures { IfOk result (IsTreeAnswer ground.now.net.now ground.now.capacities.now ground.now.root.now self.old text.now self.new) }
+    {
+        laws::some_job_goes();
+        laws::conflict_is_one();
+        let mut lower = copied(alloc, ground.root.lower())?;
+        let mut rest = text;
+        while let Some((step, more)) = read_step(rest) {
+            if !self.read_line(alloc, ground, step, lower)? {
+                return Ok(None);
+            }
+            self.number += 1;
+            rest = more;
+            match self.next_window(alloc, ground)? {
+                Some(next) => lower = next,
+                None => return Ok(Some(rest)),
+            }
+        }
+        Ok(None)
+    }
+
     /// Whether a line holds of the node of the window with these lower bounds. Where it divides the node, that is open
     /// then.
     fn read_line(

@@ -8,6 +8,7 @@ use Rattle.racp_trees.specs.declared.step.Step.{Step}
 use Rattle.racp_trees.specs.declared.step.Step.TheVariants.{L, D, C}
 use Rattle.racp_trees.proofs.Starting.{early_small}
 use Rattle.racp_trees.proofs.Opening.{late_is}
+use Rattle.racp_trees.proofs.Advancing.{line_fails}
 use Rattle.racp_trees.proofs.reader.Reader.read_line.Goals as goal
 
 pub is_covered-requires-clause-small : goal.is_covered-requires-clause-small
