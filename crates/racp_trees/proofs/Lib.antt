@@ -10,6 +10,7 @@ mod Passing
 mod Starting
 mod Advancing
 mod Alternating
+mod Blocking
 mod Branching
 mod Closing
 mod Covered

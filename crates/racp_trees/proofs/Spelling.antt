@@ -80,7 +80,7 @@ numbers_more : (n : ℕ) (numbers : List ℕ) → numbers_text (n ∷ numbers) �
 unfolding numbers_text
 numbers_more n numbers = refl
 
-blank_then : (n : ℕ) (numbers rest : List ℕ) → numbers_text (n ∷ numbers) ++ 10 ∷ rest ≡ 32 ∷ ended (n ∷ numbers) rest
+pub blank_then : (n : ℕ) (numbers rest : List ℕ) → numbers_text (n ∷ numbers) ++ 10 ∷ rest ≡ 32 ∷ ended (n ∷ numbers) rest
 blank_then n numbers rest = ap (λ (xs : List ℕ). xs ++ 10 ∷ rest) (numbers_more n numbers) ∙ ap (λ (xs : List ℕ). 32 ∷ xs) (append_assoc (decimal n) (numbers_text numbers) (10 ∷ rest))
 
 numbers_none : numbers_text [] ≡ []
@@ -178,3 +178,6 @@ module _ (count k : ℕ) (text numbers rest : List ℕ) (is : IsReading count te
       go [] small e h = absurd (omega (arith, size, ap (λ (xs : List ℕ). length xs) e, length-append numbers [], places, all))
       go (m ∷ []) small e h = none m after (All-head (λ x. x ≤ most_number) m [] small) (h ∙ last_then m after)
       go (m ∷ (l ∷ others)) small e h = absurd (omega (arith, size, ap (λ (xs : List ℕ). length xs) e, length-append numbers (m ∷ (l ∷ others)), places, all))
+
+pub last_number : (m : ℕ) (after : List ℕ) → ended (m ∷ []) after ≡ decimal m ++ 10 ∷ after
+last_number m after = ap (λ (xs : List ℕ). decimal m ++ (xs ++ 10 ∷ after)) numbers_none
