@@ -1,8 +1,7 @@
 -- A tree is read line by line, window by window.
-use Rattle.std.proofs.Common.{◌≡◌, ◌≢◌, ◌↔◌, ◌⊎◌, inl, inr, ◌∙◌, ℕ, ◌+◌, ◌<◌, ◌≤◌, List, [], ◌∷◌, ◌++◌, length, slice_index, Contains, All, IsTrue, Bool, true, false, arith, refl, sym, subst, ap, append_assoc, length-append}
-use Rattle.std.specs.Prelude.{Option, Some, None, Vec}
+use Rattle.std.proofs.Common.{◌≡◌, ◌≢◌, ◌↔◌, inl, inr, ◌∙◌, ℕ, ◌+◌, ◌<◌, ◌≤◌, List, [], ◌∷◌, ◌++◌, length, Contains, All, IsTrue, Bool, true, false, arith, refl, sym, subst, ap, append_assoc, length-append}
+use Rattle.std.specs.Prelude.{Some, None, Vec}
 use Rattle.std.specs.Global.{Global}
-use denote.Ref.{Bor}
 use Rattle.racp_model.specs.Project.{Project}
 use Rattle.racp_model.specs.Limits.{most_bound}
 use Rattle.racp_model.specs.Terms.{Terms}
@@ -15,10 +14,10 @@ use Rattle.racp_cutset.specs.Told.{early_unique}
 use Rattle.std.specs.Fmt.{decimal}
 use Rattle.racp_trees.specs.Texts.{step_line, step_letter, step_number, most_number}
 use Rattle.racp_trees.specs.Reading.{IsBeforeLine, IsNamed}
-use Rattle.racp_trees.specs.Following.{OpenNode, Follow, IsNext, IsOpened, IsStepped, IsRest}
+use Rattle.racp_trees.specs.Following.{OpenNode, Follow, IsOpened, IsStepped, IsRest}
 use Rattle.racp_trees.specs.Branches.{IsBranch, open_node}
 use Rattle.racp_trees.specs.Nodes.{HaveRows, HasPlace}
-use Rattle.racp_trees.specs.Readers.{open_nodes, HasRead, IsReady, IsOpenedBy, IsLineAnswer, rest_of, Asks, AsksNext, IsNextAnswer, StaysReady, HasReadTree, IsTreeAnswer}
+use Rattle.racp_trees.specs.Readers.{open_nodes, HasRead, IsReady, IsOpenedBy, IsLineAnswer, rest_of, Asks, AsksNext, IsNextAnswer, StaysReady, HasReadTree}
 use Rattle.racp_trees.specs.declared.branch.Branch.{Branch}
 use Rattle.racp_trees.specs.declared.closed.Closed.{Closed}
 use Rattle.racp_trees.specs.declared.reader.Reader.{Reader}

@@ -1,8 +1,7 @@
 -- The alternatives behind one that was read, one after another.
-use Rattle.std.proofs.Common.{◌≡◌, ◌≢◌, ◌↔◌, ◌⊎◌, inl, inr, ◌∙◌, ℕ, zero, suc, ◌<◌, List, [], ◌∷◌, length, slice_index_or, Contains, AllPairs, All, arith, refl, sym, subst, ap}
+use Rattle.std.proofs.Common.{◌≡◌, ◌≢◌, ◌↔◌, inl, inr, ◌∙◌, ℕ, zero, suc, List, [], ◌∷◌, slice_index_or, Contains, AllPairs, arith, refl, sym, subst, ap}
 use Rattle.racp_model.specs.Project.{Project}
 use Rattle.racp_model.specs.Terms.{IsLexBefore}
-use Rattle.racp_model.specs.Window.{Bounds}
 use Rattle.racp_model.proofs.lemmas.Relations.{member_cases, member_first, member_later, no_member, member_after, rising_tail}
 use Rattle.racp_model.proofs.lemmas.Costs.{lex_apart, lex_trans, lex_one_way}
 use Rattle.racp_delay.specs.Alternatives.{IsMinimalDelayingAlternative, AreAlternatives}

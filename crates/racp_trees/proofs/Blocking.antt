@@ -1,5 +1,5 @@
 -- The blocks of a certificate, one after another.
-use Rattle.std.proofs.Common.{◌≡◌, ◌≢◌, ◌↔◌, ◌⊎◌, inl, inr, ◌∙◌, ℕ, ◌+◌, ◌<◌, ◌≤◌, List, [], ◌∷◌, ◌++◌, length, slice_index, Contains, All, arith, refl, sym, subst, ap, append_assoc, get_or, codes}
+use Rattle.std.proofs.Common.{◌≡◌, ◌↔◌, inl, inr, ◌∙◌, ℕ, ◌≤◌, List, [], ◌∷◌, ◌++◌, length, Contains, arith, refl, sym, subst, ap, append_assoc, get_or, codes}
 use Rattle.std.specs.Prelude.{flat_map}
 use Rattle.std.specs.Fmt.{decimal}
 use Rattle.std.proofs.lemmas.List.{append_cancel_left}
@@ -10,10 +10,10 @@ use Rattle.racp_model.specs.Window.{Bounds}
 use Rattle.racp_model.proofs.lemmas.Relations.{member_cases, member_first, member_later, no_member}
 use Rattle.racp_plan.proofs.lemmas.Numbers.{same_number, feed_is_no_digit, blank_is_no_digit}
 use Rattle.racp_cutset.specs.Covering.{SearchNode}
-use Rattle.racp_trees.specs.Trees.{Trees, node_count, divided, Hold}
-use Rattle.racp_trees.specs.Texts.{Block, HasSmallNumbers, most_number, numbers_text, vector_line, tree_text, block_text, last_line}
+use Rattle.racp_trees.specs.Trees.{Hold}
+use Rattle.racp_trees.specs.Texts.{Block, HasSmallNumbers, most_number, vector_line, tree_text, block_text, last_line}
 use Rattle.racp_trees.specs.Certificates.{AllHold, AreEnough, vectors_of}
-use Rattle.racp_trees.specs.Following.{BeginsWith, IsNext, IsRest}
+use Rattle.racp_trees.specs.Following.{IsNext, IsRest}
 use Rattle.racp_trees.specs.Readers.{rest_of}
 use Rattle.racp_trees.proofs.Spelling.{AreSmall, ended, vector_ended, blank_then, last_number}
 

@@ -1,23 +1,22 @@
 -- Nodes whose children are being read.
-use Rattle.std.proofs.Common.{◌≡◌, ◌≢◌, ◌⊎◌, inl, inr, ◌∙◌, ℕ, zero, suc, ◌+◌, ◌<◌, ◌≤◌, true, false, Bool, List, [], ◌∷◌, ◌++◌, length, slice_index, Contains, All, arith, refl, sym, subst, ap, max, length-append}
+use Rattle.std.proofs.Common.{◌≡◌, inl, inr, ◌∙◌, ℕ, zero, suc, ◌+◌, ◌<◌, ◌≤◌, true, false, Bool, List, [], ◌∷◌, ◌++◌, length, slice_index, Contains, All, arith, refl, sym, subst, ap, max, length-append}
 use Rattle.std.specs.Prelude.{MatchBool}
-use Rattle.std.proofs.lemmas.Bool.{cases_lt, cases_Bool}
+use Rattle.std.proofs.lemmas.Bool.{cases_lt}
 use Rattle.std.proofs.lemmas.List.Elements.{All-push}
 use Rattle.racp_model.specs.Project.{Project, IsNumber, IsSound, number}
 use Rattle.racp_model.specs.Limits.{most_bound}
 use Rattle.racp_model.specs.Terms.{IsLexBefore}
-use Rattle.racp_model.specs.Window.{Bounds}
 use Rattle.racp_model.proofs.lemmas.Relations.{no_member}
-use Rattle.racp_model.proofs.lemmas.Costs.{lex_apart, lex_trans}
+use Rattle.racp_model.proofs.lemmas.Costs.{lex_apart}
 use Rattle.racp_model.proofs.lemmas.Sums.{duration-small}
 use Rattle.racp_delay.specs.Alternatives.{Splits, place, IsMinimalDelayingAlternative, IsFollowing, IsFreeAlternative}
 use Rattle.racp_delay.specs.Alternatives.Splits.{none, goes, stays}
-use Rattle.racp_delay.specs.Branching.{IsConflict, IsChild, IsFirstEnd}
+use Rattle.racp_delay.specs.Branching.{IsFirstEnd}
 use Rattle.racp_delay.specs.Laws.{OthersStay, SubsetsGo}
 use Rattle.racp_delay.proofs.lemmas.Conflicts.{conflict_numbers}
 use Rattle.racp_trees.specs.Children.{NoneStays}
 use Rattle.racp_trees.specs.Following.{OpenNode, read_on, IsNextBehind, IsNoneBehind}
-use Rattle.racp_trees.specs.Branches.{IsBranch, open_node, IsRaised, HasLower, IsReadUp}
+use Rattle.racp_trees.specs.Branches.{IsBranch, open_node, IsRaised, HasLower}
 use Rattle.racp_trees.specs.declared.branch.Branch.{Branch}
 
 pub branch_numbers : (p : Project) (a : List ℕ) (b : Branch) → IsBranch p a b → All (IsNumber (length p.jobs)) b.active

@@ -1,21 +1,18 @@
 -- The next window: open nodes without children to come are closed, and the innermost of the others has a next child.
-use Rattle.std.proofs.Common.{◌≡◌, ◌≢◌, ◌↔◌, ◌⊎◌, inl, inr, ◌∙◌, ℕ, zero, suc, ◌+◌, ◌<◌, ◌≤◌, max, List, [], ◌∷◌, ◌++◌, length, slice_index, Contains, All, arith, refl, sym, subst, ap}
+use Rattle.std.proofs.Common.{◌≡◌, ◌↔◌, ◌⊎◌, inl, inr, ◌∙◌, ℕ, ◌<◌, List, [], ◌∷◌, ◌++◌, length, Contains, arith, refl, sym, subst, ap}
 use Rattle.std.proofs.lemmas.List.{ext_get_or}
-use Rattle.std.proofs.lemmas.Bool.{cases_lt}
 use Rattle.racp_model.specs.Project.{Project, number}
-use Rattle.racp_model.specs.Limits.{most_bound}
-use Rattle.racp_model.specs.Terms.{Terms, IsLexBefore}
+use Rattle.racp_model.specs.Terms.{Terms}
 use Rattle.racp_model.specs.Window.{Bounds}
 use Rattle.racp_model.proofs.lemmas.Relations.{member_cases, member_first, member_later, no_member}
-use Rattle.racp_delay.specs.Alternatives.{Splits, IsMinimalDelayingAlternative}
-use Rattle.racp_delay.specs.Branching.{IsChild, IsFirstEnd}
+use Rattle.racp_delay.specs.Alternatives.{Splits}
 use Rattle.racp_cutset.specs.Covering.{SearchNode}
-use Rattle.racp_trees.specs.Children.{NoneStays, IsChildFor}
-use Rattle.racp_trees.specs.Following.{OpenNode, read_on, Ending, Follow, IsNext, IsNextBehind, IsNoneBehind}
-use Rattle.racp_trees.specs.Branches.{IsBranch, open_node, HasLower, IsNextChild, IsReadUp}
-use Rattle.racp_trees.specs.Readers.{open_onto, open_nodes, HasRead, IsReady, rest_of, Asks, AsksNext, IsPassedOn, IsPassedTo, StaysReady}
+use Rattle.racp_trees.specs.Children.{IsChildFor}
+use Rattle.racp_trees.specs.Following.{OpenNode, read_on, Follow, IsNext}
+use Rattle.racp_trees.specs.Branches.{IsBranch, open_node, IsNextChild, IsReadUp}
+use Rattle.racp_trees.specs.Readers.{open_nodes, IsReady, rest_of, Asks, AsksNext, IsPassedOn, IsPassedTo, StaysReady}
 use Rattle.racp_trees.specs.declared.branch.Branch.{Branch}
-use Rattle.racp_trees.proofs.Following.{Stays, whole_passed, child_next, node_closes}
+use Rattle.racp_trees.proofs.Following.{whole_passed, child_next, node_closes}
 use Rattle.std.specs.Prelude.{Option, Some, None}
 use Rattle.std.proofs.lemmas.Option.{none-some}
 use Rattle.std.proofs.lemmas.List.Elements.{Contains-append_left, Contains-append_right}

@@ -1,17 +1,16 @@
 -- Whether a closed node covers the node of a window, told by their records.
-use Rattle.std.proofs.Common.{◌≡◌, ◌↔◌, inl, inr, ◌∙◌, ℕ, ◌<◌, ◌≤◌, List, length, slice_index, Contains, All, IsTrue, Bool, arith, refl, sym, subst, ap}
+use Rattle.std.proofs.Common.{◌≡◌, ◌↔◌, inl, inr, ◌∙◌, ℕ, List, length, slice_index, IsTrue, Bool, arith, refl, sym, subst, ap}
 use Rattle.std.specs.Prelude.{Option, Some, None}
 use Rattle.std.proofs.lemmas.Bool.{cases_lt}
 use Rattle.racp_model.specs.Project.{Project}
 use Rattle.racp_model.specs.Path.{IsEarly}
-use Rattle.racp_model.specs.Schedule.{IsWithinCapacities, usage}
-use Rattle.racp_model.specs.Window.{Bounds}
+use Rattle.racp_model.specs.Schedule.{IsWithinCapacities}
 use Rattle.racp_delay.specs.Branching.{IsFirstExcess, IsConflict}
 use Rattle.racp_cutset.specs.Covering.{SearchNode, IsNode, Covers}
 use Rattle.racp_cutset.specs.Told.{early_unique}
 use Rattle.racp_trees.specs.Trees.{IsNodeOf, IsCovered}
 use Rattle.racp_trees.specs.Records.{IsRecordOf, RecordCovers, AreAlike, HasRows, record_at}
-use Rattle.racp_trees.specs.Nodes.{AreRecords, HaveRows, HasPlace, IsCoveredHere}
+use Rattle.racp_trees.specs.Nodes.{AreRecords, HasPlace, IsCoveredHere}
 use Rattle.racp_trees.specs.declared.record.Record.{Record}
 use Rattle.racp_trees.specs.declared.closed.Closed.{Closed}
 use Rattle.racp_trees.proofs.Starting.{records_cover}

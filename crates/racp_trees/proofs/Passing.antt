@@ -1,7 +1,6 @@
 -- A reader goes on: what was read so far, and what the text has to be from there on.
-use Rattle.std.proofs.Common.{◌≡◌, ◌≢◌, ◌↔◌, ◌⊎◌, inl, inr, ◌∙◌, ℕ, zero, suc, ◌+◌, ◌<◌, ◌≤◌, List, [], ◌∷◌, ◌++◌, length, slice_index, slice_index_or, Contains, All, AllPairs, IsTrue, Bool, true, false, arith, refl, sym, subst, ap, append_assoc}
-use Rattle.std.specs.Prelude.{MatchBool, Option, Some, None, Vec, flat_map}
-use Rattle.std.specs.Global.{Global}
+use Rattle.std.proofs.Common.{◌≡◌, ◌≢◌, ◌⊎◌, inl, inr, ◌∙◌, ℕ, zero, suc, ◌+◌, ◌<◌, ◌≤◌, List, [], ◌∷◌, ◌++◌, length, slice_index, slice_index_or, Contains, AllPairs, arith, refl, sym, subst, ap, append_assoc}
+use Rattle.std.specs.Prelude.{Option, Some, None}
 use Rattle.std.proofs.lemmas.Bool.{cases_lt}
 use Rattle.std.proofs.lemmas.Option.{none-some}
 use Rattle.std.proofs.lemmas.List.Elements.{Contains-append_cases, Contains-append_left, Contains-append_right}
@@ -10,21 +9,20 @@ use Rattle.racp_model.specs.Terms.{Terms}
 use Rattle.racp_model.specs.Window.{Bounds}
 use Rattle.racp_model.proofs.lemmas.Relations.{member_cases, member_first, member_later, no_member, member_after, rising_tail}
 use Rattle.racp_cutset.specs.Covering.{SearchNode, IsNode, FitsBeforeTime}
-use Rattle.racp_trees.specs.Trees.{Hold, node_count, divided}
-use Rattle.racp_trees.specs.Texts.{Block, step_line, HasSmallNumbers, block_text, last_line}
-use Rattle.racp_trees.specs.Certificates.{AllHold, AreEnough, vectors_of}
-use Rattle.racp_trees.specs.Reading.{IsBeforeLine, IsNamed}
-use Rattle.racp_trees.specs.Following.{OpenNode, read_on, Ending, Follow, IsNext, IsOpened, IsStepped, IsRest}
+use Rattle.racp_trees.specs.Trees.{node_count, divided}
+use Rattle.racp_trees.specs.Texts.{Block, step_line}
+use Rattle.racp_trees.specs.Certificates.{AllHold}
+use Rattle.racp_trees.specs.Reading.{IsNamed}
+use Rattle.racp_trees.specs.Following.{OpenNode}
 use Rattle.racp_trees.specs.Branches.{IsBranch, open_node}
-use Rattle.racp_trees.specs.Nodes.{AreRecords, HaveRows, HasPlace, IsCoveredHere}
-use Rattle.racp_trees.specs.Records.{IsRecordOf, HasRows, IsKept, record_at}
-use Rattle.racp_trees.specs.Readers.{open_onto, open_nodes, HasRead, IsReady, IsOpenedBy, rest_of}
+use Rattle.racp_trees.specs.Nodes.{AreRecords}
+use Rattle.racp_trees.specs.Records.{IsRecordOf, IsKept, record_at}
+use Rattle.racp_trees.specs.Readers.{open_onto, HasRead, IsOpenedBy, rest_of}
 use Rattle.racp_trees.specs.declared.branch.Branch.{Branch}
 use Rattle.racp_trees.specs.declared.record.Record.{Record}
 use Rattle.racp_trees.specs.declared.closed.Closed.{Closed}
 use Rattle.racp_trees.specs.declared.reader.Reader.{Reader}
-use Rattle.racp_trees.specs.declared.step.Step.{Step}
-use Rattle.racp_trees.specs.declared.step.Step.TheVariants.{L, D, C}
+use Rattle.racp_trees.specs.declared.step.Step.TheVariants.{C}
 use Rattle.racp_trees.proofs.Following.{Within, Stays, hold-more}
 
 -- open nodes of one branch more

@@ -1,21 +1,21 @@
 -- What is read of a line is what stands there.
-use Rattle.std.proofs.Common.{◌≡◌, ◌⊎◌, inl, inr, ◌∙◌, ℕ, ◌+◌, ◌-◌, ◌<◌, ◌≤◌, ◌^◌, ◌==◌, true, false, List, [], ◌∷◌, ◌++◌, length, All, arith, refl, sym, subst, ap, codes, append_assoc, length-append}
-use Rattle.std.specs.Prelude.{Option, Some, None, min, flat_map}
+use Rattle.std.proofs.Common.{◌≡◌, ◌∙◌, ℕ, ◌+◌, ◌<◌, ◌≤◌, ◌==◌, true, false, List, [], ◌∷◌, ◌++◌, length, All, arith, refl, sym, subst, ap, codes, append_assoc, length-append}
+use Rattle.std.specs.Prelude.{Option, Some, None, min}
 use denote.Ref.{Bor}
 use Rattle.std.specs.Fmt.{decimal}
 use Rattle.std.specs.List.{position_or_len}
 use Rattle.std.proofs.lemmas.Bool.{true≢false, eq-eqb}
 use Rattle.std.proofs.lemmas.Option.{none-some}
 use Rattle.std.proofs.lemmas.List.{append_cancel_left}
-use Rattle.std.proofs.lemmas.List.Elements.{All-nil, All-push, All-head, All-tail, All-append}
+use Rattle.std.proofs.lemmas.List.Elements.{All-nil, All-push, All-head, All-tail}
 use Rattle.racp_text.specs.Numbers.{value}
 use Rattle.racp_text.specs.Cuts.{AreParts}
 use Rattle.racp_plan.specs.PlanReading.{is_decimal}
 use Rattle.racp_plan.specs.Steps.{after_words, contents}
-use Rattle.racp_plan.proofs.lemmas.Numbers.{same_number, feed_is_no_digit, blank_is_no_digit}
+use Rattle.racp_plan.proofs.lemmas.Numbers.{same_number, blank_is_no_digit}
 use Rattle.racp_plan.proofs.lemmas.Fronts.{words_from, words_before, parts_of, whole_of}
 use Rattle.racp_plan.proofs.lemmas.Digits.{decimal-is, value-decimal, decimal-value, not_in_decimal}
-use Rattle.racp_trees.specs.Texts.{step_line, step_number, step_letter, numbers_text, vector_line, most_number}
+use Rattle.racp_trees.specs.Texts.{step_number, step_letter, numbers_text, vector_line, most_number}
 use Rattle.racp_trees.specs.Reading.{IsBehind, IsSpelled, IsNumberBefore, IsNumberOn, IsStepAnswer, IsVectorAnswer}
 use Rattle.racp_trees.specs.declared.step.Step.{Step}
 use Rattle.racp_trees.specs.declared.step.Step.TheVariants.{L, D, C}

@@ -1,4 +1,3 @@
-use Rattle.std.proofs.Common.{arith, ◌∷◌, []}
 use Rattle.racp_trees.proofs.Branching.{raised_more}
 use Rattle.racp_trees.proofs.branch.raised.Goals as goal
 

@@ -1,4 +1,4 @@
-use Rattle.std.proofs.Common.{refl, sym, ◌∙◌, IsTrue, true, false, [], arith}
+use Rattle.std.proofs.Common.{[]}
 use Rattle.racp_trees.specs.Records.{IsRecordOf}
 use Rattle.racp_trees.proofs.Covered.{node_at, no_conflict, no_record, row_of, alike, covered_is}
 use Rattle.racp_trees.proofs.node.is_covered.Goals as goal

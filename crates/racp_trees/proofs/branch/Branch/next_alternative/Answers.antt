@@ -1,4 +1,4 @@
-use Rattle.std.proofs.Common.{arith, refl, ◌∙◌, List, ℕ, subst, sym}
+use Rattle.std.proofs.Common.{◌∙◌, List, ℕ, subst, sym}
 use Rattle.racp_delay.specs.Alternatives.{IsFollowing}
 use Rattle.racp_trees.specs.Branches.{open_node}
 use Rattle.racp_trees.specs.Following.{IsNextBehind}

@@ -1,4 +1,4 @@
-use Rattle.std.proofs.Common.{arith, refl, inl, inr, List, ℕ, subst, sym, Vec, Option}
+use Rattle.std.proofs.Common.{refl, inr, List, ℕ, subst, sym, Vec, Option}
 use Rattle.std.specs.Global.{Global}
 use Rattle.racp_delay.specs.Alternatives.{Splits}
 use Rattle.racp_trees.specs.Children.{NoneStays}

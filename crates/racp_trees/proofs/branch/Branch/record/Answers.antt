@@ -1,5 +1,4 @@
-use Rattle.std.proofs.Common.{ℕ, List, subst, arith, slice_index, ◌≤◌}
-use Rattle.racp_model.specs.Path.{IsEarly}
+use Rattle.std.proofs.Common.{ℕ, List, subst}
 use Rattle.racp_trees.specs.Records.{IsRecordOf}
 use Rattle.racp_trees.proofs.Covered.{node_at}
 use Rattle.racp_trees.proofs.branch.Branch.record.Goals as goal

@@ -1,8 +1,8 @@
-use Rattle.std.proofs.Common.{refl, sym, ◌∙◌, ℕ, List, [], Vec, Option, subst, ap}
+use Rattle.std.proofs.Common.{refl, ℕ, [], Vec, Option, subst, ap}
 use Rattle.std.specs.Global.{Global}
 use Rattle.racp_cutset.specs.Covering.{SearchNode}
 use Rattle.racp_trees.specs.Records.{IsRecordOf, IsKept}
-use Rattle.racp_trees.specs.Branches.{open_node, IsChildAnswer}
+use Rattle.racp_trees.specs.Branches.{IsChildAnswer}
 use Rattle.racp_trees.proofs.reader.Reader.go_on.Goals as goal
 
 pub returns-in-Some : goal.returns-in-Some

@@ -1,4 +1,4 @@
-use Rattle.std.proofs.Common.{refl, sym, ◌∙◌, ℕ, List, [], Vec, Option, subst, ap, arith}
+use Rattle.std.proofs.Common.{refl, ℕ, List, Vec, Option, subst, arith}
 use Rattle.std.specs.Global.{Global}
 use Rattle.racp_trees.specs.Readers.{IsGoneOn}
 use Rattle.racp_trees.proofs.Closing.{passing_closed, passing_child, child_places, child_stays, passing_ends}

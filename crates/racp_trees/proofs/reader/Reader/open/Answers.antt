@@ -1,6 +1,5 @@
-use Rattle.std.proofs.Common.{refl, sym, ◌∙◌, ℕ, List, All, subst, arith}
+use Rattle.std.proofs.Common.{refl, ℕ, List, subst}
 use Rattle.std.specs.Prelude.{None, Some}
-use Rattle.racp_model.specs.Limits.{most_start}
 use Rattle.racp_trees.specs.Nodes.{IsDivisionAnswer}
 use Rattle.racp_trees.proofs.Opening.{not_divided, divided_by}
 use Rattle.racp_trees.proofs.reader.Reader.open.Goals as goal

@@ -1,14 +1,12 @@
-use Rattle.std.proofs.Common.{◌≡◌, ◌↔◌, ◌<◌, refl, sym, ◌∙◌, ℕ, List, Bool, IsTrue, length, slice_index, subst, arith, ap}
+use Rattle.std.proofs.Common.{◌↔◌, ◌<◌, refl, sym, ℕ, List, IsTrue, length, slice_index, subst}
 use Rattle.racp_model.specs.Project.{IsNumber}
 use Rattle.racp_model.specs.Path.{IsEarly}
 use Rattle.racp_delay.specs.Alternatives.{place}
 use Rattle.racp_trees.specs.Nodes.{IsCoveredHere}
 use Rattle.racp_trees.specs.Readers.{IsLineAnswer}
 use Rattle.racp_trees.specs.declared.step.Step.{Step}
-use Rattle.racp_trees.specs.declared.step.Step.TheVariants.{L, D, C}
 use Rattle.racp_trees.proofs.Starting.{early_small}
 use Rattle.racp_trees.proofs.Opening.{late_is}
-use Rattle.racp_trees.proofs.Advancing.{line_fails}
 use Rattle.racp_trees.proofs.reader.Reader.read_line.Goals as goal
 
 pub is_covered-requires-clause-small : goal.is_covered-requires-clause-small

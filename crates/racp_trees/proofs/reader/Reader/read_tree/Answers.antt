@@ -1,5 +1,4 @@
-use Rattle.std.proofs.Common.{refl, sym, ◌∙◌, ◌≡◌, ◌+◌, ℕ, List, Vec, Option, subst, ap, arith}
-use Rattle.std.specs.Prelude.{None}
+use Rattle.std.proofs.Common.{refl, ◌+◌, ℕ, List, Vec, Option, subst, arith}
 use Rattle.std.specs.Global.{Global}
 use Rattle.racp_model.specs.Window.{Bounds}
 use Rattle.racp_trees.specs.Readers.{IsNextAnswer}
