@@ -1,12 +1,11 @@
 -- The alternatives behind one that was read, one after another.
-use Rattle.std.proofs.Common.{◌≡◌, ◌≢◌, ◌↔◌, ◌⊎◌, inl, inr, ◌∙◌, ℕ, zero, suc, ◌<◌, List, [], ◌∷◌, length, slice_index_or, Contains, AllPairs, All, arith, refl, sym, subst, ap}
+use Rattle.std.proofs.Common.{◌≡◌, ◌≢◌, ◌↔◌, inl, inr, ◌∙◌, ℕ, zero, suc, List, [], ◌∷◌, slice_index_or, Contains, AllPairs, arith, refl, sym, subst, ap}
 use Rattle.racp_model.specs.Project.{Project}
 use Rattle.racp_model.specs.Terms.{IsLexBefore}
-use Rattle.racp_model.specs.Window.{Bounds}
 use Rattle.racp_model.proofs.lemmas.Relations.{member_cases, member_first, member_later, no_member, member_after, rising_tail}
 use Rattle.racp_model.proofs.lemmas.Costs.{lex_apart, lex_trans, lex_one_way}
 use Rattle.racp_delay.specs.Alternatives.{IsMinimalDelayingAlternative, AreAlternatives}
-use Rattle.racp_trees.specs.Following.{OpenNode, read_on, AreBehind}
+use Rattle.racp_trees.specs.Following.{OpenNode, read_on, AreBehind, IsNextBehind}
 
 abbrev Rises : List (List ℕ) → Type 0
 Rises lists = AllPairs IsLexBefore lists
@@ -22,12 +21,6 @@ rising_more x xs h rising zero (suc j) d less l = h (slice_index_or xs j d) (j, 
     get_same (x ∷ xs) (suc j) d = get_same xs j d
 rising_more x xs h rising (suc i) zero d less l = absurd (omega arith)
 rising_more x xs h rising (suc i) (suc j) d less l = rising i j d (omega arith) (omega arith)
-
--- the next alternative behind the one that was read last
-pub record IsNextBehind (p : Project) (f : OpenNode) (gone : List ℕ) : Type 0 where
-  pub minimal : IsMinimalDelayingAlternative p f.node.capacities f.active gone
-  pub behind : IsLexBefore f.last gone
-  pub first : (other : List ℕ) → IsMinimalDelayingAlternative p f.node.capacities f.active other → IsLexBefore f.last other → (other ≡ gone) ⊎ IsLexBefore gone other
 
 module _ (p : Project) (f : OpenNode) (gone : List ℕ) (next : IsNextBehind p f gone) where
   abbrev Minimal : List ℕ → Type 0

@@ -1,12 +1,11 @@
 -- Boxes of capacity vectors: what one box goes on as.
-use Rattle.std.proofs.Common.{◌≡◌, ◌⊎◌, inl, inr, ◌∙◌, ℕ, zero, suc, ◌+◌, ◌-◌, ◌*◌, ◌^◌, ◌<◌, ◌≤◌, min, List, [], ◌∷◌, ◌++◌, length, slice_index, slice_index_or, Contains, Vec, Some, None, arith, refl, sym, subst, ap, IsTrue, Bool, true, false}
+use Rattle.std.proofs.Common.{◌≡◌, ◌⊎◌, inl, inr, ◌∙◌, ℕ, zero, suc, ◌+◌, ◌-◌, ◌*◌, ◌^◌, ◌<◌, ◌≤◌, List, [], ◌∷◌, ◌++◌, length, slice_index, slice_index_or, Contains, Vec, arith, refl, sym, subst, ap, IsTrue, Bool, true, false}
 use Rattle.std.specs.Global.{Global}
 use Rattle.std.proofs.Math.Nat.{mul-le-mul_left, one-le-pow, pow-le-pow_right, pow-suc}
 use Rattle.std.proofs.lemmas.Bool.{cases_lt}
 use Rattle.std.proofs.lemmas.List.{get_or_default, length-append}
 use Rattle.std.proofs.lemmas.List.Elements.{Contains-append_cases, Contains-append_left, Contains-append_right}
 use Rattle.racp_model.specs.Project.{Project}
-use Rattle.racp_model.specs.Schedule.{sum_below}
 use Rattle.racp_model.specs.Terms.{Terms, AreTermsOf, cost, IsBefore}
 use Rattle.racp_model.proofs.lemmas.Lists.{below_suc}
 use Rattle.racp_model.proofs.lemmas.Sums.{sum_below-mono, sum_below-lt}
@@ -14,7 +13,7 @@ use Rattle.racp_model.proofs.lemmas.Orders.{HasFirstPlace, first_from_lex, vecto
 use Rattle.racp_model.proofs.lemmas.Costs.{before_cases, before_trans}
 use Rattle.racp_model.proofs.lemmas.Relations.{member_cases, member_first, member_later, no_member}
 use Rattle.racp_trees.specs.declared.parts.Part.{Part}
-use Rattle.racp_trees.specs.Enough.{IsAtMost, IsBelowSome, AreEnoughBlocks, IsBlockAnswer, IsPartAt, AreParts, ArePartsAdded, IsPart, IsIn, IsLeft, IsLooking, slack, weights}
+use Rattle.racp_trees.specs.Enough.{IsAtMost, IsBelowSome, AreEnoughBlocks, IsPartAt, AreParts, ArePartsAdded, IsPart, IsIn, IsLeft, IsLooking, slack, weights}
 
 -- a vector that is at or above another in each place does not stand before it (from racp_lexfix)
 above-no_before : (p : Project) (terms : Terms) (low high : List ℕ) → AreTermsOf p terms → length low ≡ p.resources → length high ≡ p.resources →

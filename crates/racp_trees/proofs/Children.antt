@@ -1,5 +1,5 @@
 -- Child windows, one alternative after another (from racp_search).
-use Rattle.std.proofs.Common.{◌≡◌, ◌≢◌, inl, inr, ◌∙◌, ℕ, ◌<◌, List, [], ◌∷◌, length, Contains, arith, refl, sym, subst, ap}
+use Rattle.std.proofs.Common.{◌≢◌, inl, inr, ◌∙◌, ℕ, List, [], ◌∷◌, length, Contains, refl, sym, subst, ap}
 use Rattle.racp_model.specs.Project.{Project}
 use Rattle.racp_model.specs.Window.{Bounds}
 use Rattle.racp_model.specs.Formed.{HasBounds}
@@ -7,7 +7,7 @@ use Rattle.racp_model.proofs.lemmas.Relations.{member_cases, member_first, membe
 use Rattle.racp_delay.specs.Alternatives.{Splits}
 use Rattle.racp_delay.specs.Branching.{IsChild}
 use Rattle.racp_delay.specs.Laws.{HaveChildren}
-use Rattle.racp_trees.specs.Children.{NoneStays, IsChildFor, AreChildrenOf, AreChildren}
+use Rattle.racp_trees.specs.Children.{IsChildFor, AreChildrenOf, AreChildren}
 
 module _ (p : Project) (early active : List ℕ) (window : Bounds) where
   -- the child of each list in which some stay

@@ -1,6 +1,6 @@
 -- Trees are read line by line.
-use Rattle.std.proofs.Common.{◌≡◌, ◌≢◌, ◌↔◌, ◌⊎◌, inl, inr, ◌∙◌, ℕ, ◌+◌, ◌<◌, ◌≤◌, List, [], ◌∷◌, ◌++◌, length, slice_index, Contains, arith, refl, sym, subst, ap, append_assoc}
-use Rattle.std.proofs.lemmas.List.{append_cancel_left, length-append}
+use Rattle.std.proofs.Common.{◌≡◌, ◌≢◌, ◌↔◌, inl, inr, ◌∙◌, ℕ, ◌+◌, ◌≤◌, List, [], ◌∷◌, ◌++◌, length, Contains, arith, refl, sym, subst, ap, append_assoc}
+use Rattle.std.proofs.lemmas.List.{length-append}
 use Rattle.std.proofs.lemmas.List.Elements.{Contains-append_cases, Contains-append_left, Contains-append_right}
 use Rattle.racp_model.specs.Project.{Project}
 use Rattle.racp_model.specs.Terms.{IsLexBefore}
@@ -8,14 +8,14 @@ use Rattle.racp_model.specs.Window.{Bounds}
 use Rattle.racp_model.proofs.lemmas.Relations.{member_cases, member_first, member_later, no_member}
 use Rattle.racp_delay.specs.Alternatives.{IsMinimalDelayingAlternative}
 use Rattle.racp_cutset.specs.Covering.{SearchNode}
-use Rattle.racp_trees.specs.Children.{AreChildrenOf, AreChildren, IsChildFor, NoneStays}
+use Rattle.racp_trees.specs.Children.{AreChildrenOf, IsChildFor, NoneStays}
 use Rattle.racp_trees.specs.Texts.{step_line, step_number, tree_text, most_number, HasSmallLines}
-use Rattle.racp_trees.specs.Trees.{Trees, none, tree, lines_of, node_count, divided, Hold, IsNodeOf, IsTooLate, IsDivided, IsCovered}
-use Rattle.racp_trees.specs.Following.{OpenNode, read_on, AreBehind, AreToCome, BeginsWith, Ending, Follow, IsNext, IsOpened, IsStepped}
+use Rattle.racp_trees.specs.Trees.{Trees, none, tree, lines_of, node_count, divided, Hold, IsDivided}
+use Rattle.racp_trees.specs.Following.{IsNextBehind, OpenNode, read_on, AreBehind, AreToCome, BeginsWith, Ending, Follow, IsNext, IsOpened, IsStepped}
 use Rattle.racp_trees.specs.declared.step.Step.{Step}
 use Rattle.racp_trees.specs.declared.step.Step.TheVariants.{L, D, C}
 use Rattle.racp_trees.proofs.Lines.{one_line, text-none, text-tree, small-none, small-tree, small-first, small-children, small-others}
-use Rattle.racp_trees.proofs.Alternating.{IsNextBehind, front, front-back, none_behind, behind_none, all_behind}
+use Rattle.racp_trees.proofs.Alternating.{front, front-back, none_behind, behind_none, all_behind}
 
 abbrev Numbered : Type 0
 Numbered = ℕ × SearchNode

@@ -5,6 +5,13 @@ mod Digits
 mod Lines
 mod Spelling
 mod Naming
+mod Opening
+mod Passing
 mod Starting
+mod Advancing
 mod Alternating
+mod Blocking
+mod Branching
+mod Closing
+mod Covered
 mod Following

@@ -1,12 +1,12 @@
 -- The lines of a text, one after another: each text begins with one line at most.
-use Rattle.std.proofs.Common.{◌≡◌, ◌↔◌, inl, inr, ◌∙◌, ℕ, ◌+◌, ◌<◌, ◌≤◌, ◌^◌, List, [], ◌∷◌, ◌++◌, length, Contains, All, arith, refl, sym, subst, ap, flat_map, codes, get_or, append_assoc}
+use Rattle.std.proofs.Common.{◌≡◌, ◌∙◌, ℕ, ◌≤◌, List, [], ◌∷◌, ◌++◌, All, arith, refl, sym, ap, get_or, append_assoc}
 use Rattle.std.specs.Fmt.{decimal}
 use Rattle.std.proofs.lemmas.Grind.{flat_map-append}
 use Rattle.std.proofs.lemmas.List.Elements.{All-nil, All-cons, All-head, All-tail, All-append, All-contains, Contains-append_left, Contains-append_right}
 use Rattle.racp_model.proofs.lemmas.Relations.{all_members}
 use Rattle.std.proofs.lemmas.List.{append_cancel_left}
 use Rattle.racp_trees.proofs.Digits.{same_number, feed_is_no_digit}
-use Rattle.racp_trees.specs.Texts.{Block, step_letter, step_number, step_line, tree_text, most_number, HasSmallLines}
+use Rattle.racp_trees.specs.Texts.{step_letter, step_number, step_line, tree_text, most_number, HasSmallLines}
 use Rattle.racp_trees.specs.Trees.{Trees, none, tree, lines_of}
 use Rattle.racp_trees.specs.declared.step.Step.{Step}
 use Rattle.racp_trees.specs.declared.step.Step.TheVariants.{L, D, C}

@@ -4,9 +4,8 @@ use Rattle.std.proofs.lemmas.List.Elements.{Contains-append_cases}
 use Rattle.racp_model.specs.Project.{Project, IsSound}
 use Rattle.racp_model.specs.Path.{IsEarly}
 use Rattle.racp_model.specs.Schedule.{roof, Admits}
-use Rattle.racp_model.specs.Terms.{Terms, AreTermsOf, release_of, due_of, IsBefore}
-use Rattle.racp_model.specs.Plan.{IsEnough}
-use Rattle.racp_model.specs.Window.{Bounds, Answers, IsNo, IsRootWindow, WindowsCover}
+use Rattle.racp_model.specs.Terms.{release_of, due_of, IsBefore}
+use Rattle.racp_model.specs.Window.{Bounds, IsNo, WindowsCover}
 use Rattle.racp_model.specs.Formed.{HasBounds}
 use Rattle.racp_model.specs.Laws.{AboveAdmits}
 use Rattle.racp_model.proofs.lemmas.Relations.{member_cases, member_first, member_later, no_member}
@@ -21,12 +20,10 @@ use Rattle.racp_cutset.specs.Covering.{SearchNode, IsNode}
 use Rattle.racp_cutset.specs.Laws.{CoveringRefutes}
 use Rattle.racp_trees.specs.Trees.{Trees, none, tree, node_count, divided, Hold, IsNodeOf, IsTooLate, IsDivided, IsCovered, AreRefutedNodes}
 use Rattle.racp_trees.specs.Texts.{Block}
-use Rattle.racp_trees.specs.Certificates.{AllHold, IsCertificate, vectors_of}
+use Rattle.racp_trees.specs.Certificates.{AllHold, vectors_of}
 use Rattle.racp_trees.specs.Laws.{TreesRefute, CertificateProves}
-use Rattle.racp_trees.specs.declared.step.Step.{Step}
 use Rattle.racp_trees.specs.declared.step.Step.TheVariants.{L, D, C}
 use Rattle.racp_trees.proofs.Children.{have_children, children_bounds}
-use Rattle.racp_trees.proofs.Following.{follow-more}
 
 -- a numbered node is refuted
 abbrev IsRefutedAt : Project → ℕ × SearchNode → Type 0

@@ -1,21 +1,21 @@
 -- What is read of a line is what stands there.
-use Rattle.std.proofs.Common.{◌≡◌, ◌⊎◌, inl, inr, ◌∙◌, ℕ, ◌+◌, ◌-◌, ◌<◌, ◌≤◌, ◌^◌, ◌==◌, true, false, List, [], ◌∷◌, ◌++◌, length, All, arith, refl, sym, subst, ap, codes, append_assoc, length-append}
-use Rattle.std.specs.Prelude.{Option, Some, None, min, flat_map}
+use Rattle.std.proofs.Common.{◌≡◌, ◌∙◌, ℕ, ◌+◌, ◌<◌, ◌≤◌, ◌==◌, true, false, List, [], ◌∷◌, ◌++◌, length, All, arith, refl, sym, subst, ap, codes, append_assoc, length-append}
+use Rattle.std.specs.Prelude.{Option, Some, None, min}
 use denote.Ref.{Bor}
 use Rattle.std.specs.Fmt.{decimal}
 use Rattle.std.specs.List.{position_or_len}
 use Rattle.std.proofs.lemmas.Bool.{true≢false, eq-eqb}
 use Rattle.std.proofs.lemmas.Option.{none-some}
 use Rattle.std.proofs.lemmas.List.{append_cancel_left}
-use Rattle.std.proofs.lemmas.List.Elements.{All-nil, All-push, All-head, All-tail, All-append}
+use Rattle.std.proofs.lemmas.List.Elements.{All-nil, All-push, All-head, All-tail}
 use Rattle.racp_text.specs.Numbers.{value}
 use Rattle.racp_text.specs.Cuts.{AreParts}
 use Rattle.racp_plan.specs.PlanReading.{is_decimal}
 use Rattle.racp_plan.specs.Steps.{after_words, contents}
-use Rattle.racp_plan.proofs.lemmas.Numbers.{same_number, feed_is_no_digit, blank_is_no_digit}
+use Rattle.racp_plan.proofs.lemmas.Numbers.{same_number, blank_is_no_digit}
 use Rattle.racp_plan.proofs.lemmas.Fronts.{words_from, words_before, parts_of, whole_of}
 use Rattle.racp_plan.proofs.lemmas.Digits.{decimal-is, value-decimal, decimal-value, not_in_decimal}
-use Rattle.racp_trees.specs.Texts.{step_line, step_number, step_letter, numbers_text, vector_line, most_number}
+use Rattle.racp_trees.specs.Texts.{step_number, step_letter, numbers_text, vector_line, most_number}
 use Rattle.racp_trees.specs.Reading.{IsBehind, IsSpelled, IsNumberBefore, IsNumberOn, IsStepAnswer, IsVectorAnswer}
 use Rattle.racp_trees.specs.declared.step.Step.{Step}
 use Rattle.racp_trees.specs.declared.step.Step.TheVariants.{L, D, C}
@@ -80,7 +80,7 @@ numbers_more : (n : ℕ) (numbers : List ℕ) → numbers_text (n ∷ numbers) �
 unfolding numbers_text
 numbers_more n numbers = refl
 
-blank_then : (n : ℕ) (numbers rest : List ℕ) → numbers_text (n ∷ numbers) ++ 10 ∷ rest ≡ 32 ∷ ended (n ∷ numbers) rest
+pub blank_then : (n : ℕ) (numbers rest : List ℕ) → numbers_text (n ∷ numbers) ++ 10 ∷ rest ≡ 32 ∷ ended (n ∷ numbers) rest
 blank_then n numbers rest = ap (λ (xs : List ℕ). xs ++ 10 ∷ rest) (numbers_more n numbers) ∙ ap (λ (xs : List ℕ). 32 ∷ xs) (append_assoc (decimal n) (numbers_text numbers) (10 ∷ rest))
 
 numbers_none : numbers_text [] ≡ []
@@ -178,3 +178,6 @@ module _ (count k : ℕ) (text numbers rest : List ℕ) (is : IsReading count te
       go [] small e h = absurd (omega (arith, size, ap (λ (xs : List ℕ). length xs) e, length-append numbers [], places, all))
       go (m ∷ []) small e h = none m after (All-head (λ x. x ≤ most_number) m [] small) (h ∙ last_then m after)
       go (m ∷ (l ∷ others)) small e h = absurd (omega (arith, size, ap (λ (xs : List ℕ). length xs) e, length-append numbers (m ∷ (l ∷ others)), places, all))
+
+pub last_number : (m : ℕ) (after : List ℕ) → ended (m ∷ []) after ≡ decimal m ++ 10 ∷ after
+last_number m after = ap (λ (xs : List ℕ). decimal m ++ (xs ++ 10 ∷ after)) numbers_none

@@ -1,5 +1,5 @@
 -- What a reader that goes line by line has to know: the nodes that are being read, and what has to follow in the text.
-use Rattle.std.specs.Prelude.{◌≡◌, ℕ, ◌+◌, ◌<◌, ◌≤◌, List, [], ◌∷◌, ◌++◌, length, slice_index, Contains, AllPairs, flat_map}
+use Rattle.std.specs.Prelude.{◌≡◌, ◌⊎◌, ℕ, ◌+◌, ◌<◌, ◌≤◌, List, [], ◌∷◌, ◌++◌, length, slice_index, Contains, AllPairs, flat_map}
 use Rattle.racp_model.specs.Project.{Project}
 use Rattle.racp_model.specs.Terms.{Terms, IsLexBefore}
 use Rattle.racp_model.specs.Window.{Bounds}
@@ -29,6 +29,16 @@ pub record AreBehind (p : Project) (f : OpenNode) (lists : List (List ℕ)) : Ty
   pub all : (gone : List ℕ) → IsMinimalDelayingAlternative p f.node.capacities f.active gone → IsLexBefore f.last gone → Contains lists gone
   pub only : (gone : List ℕ) → Contains lists gone → IsMinimalDelayingAlternative p f.node.capacities f.active gone × IsLexBefore f.last gone
   pub in_order : AllPairs IsLexBefore lists
+
+-- the first of them
+pub record IsNextBehind (p : Project) (f : OpenNode) (gone : List ℕ) : Type 0 where
+  pub minimal : IsMinimalDelayingAlternative p f.node.capacities f.active gone
+  pub behind : IsLexBefore f.last gone
+  pub first : (other : List ℕ) → IsMinimalDelayingAlternative p f.node.capacities f.active other → IsLexBefore f.last other → (other ≡ gone) ⊎ IsLexBefore gone other
+
+-- there is none
+abbrev pub IsNoneBehind : Project → OpenNode → Type 0
+IsNoneBehind p f = (other : List ℕ) → IsMinimalDelayingAlternative p f.node.capacities f.active other → IsLexBefore f.last other → ⊥
 
 -- the windows of its children that are still to come
 pub record AreToCome (p : Project) (f : OpenNode) (windows : List Bounds) : Type 0 where

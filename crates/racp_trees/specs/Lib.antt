@@ -6,4 +6,7 @@ pub mod Following
 pub mod Enough
 pub mod Reading
 pub mod Records
+pub mod Branches
+pub mod Nodes
+pub mod Readers
 pub mod Laws

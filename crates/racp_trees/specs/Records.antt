@@ -1,9 +1,8 @@
 -- Contracts of private functions: what is kept of closed nodes, so that nodes that they cover are told.
-use Rattle.std.specs.Prelude.{◌≡◌, ◌≢◌, ◌↔◌, ◌⊎◌, ℕ, ◌+◌, ◌<◌, ◌≤◌, max, List, [], ◌∷◌, length, slice_index, Contains, nat_eq, Option, Some, None}
+use Rattle.std.specs.Prelude.{◌≡◌, ◌≢◌, ℕ, ◌+◌, ◌<◌, ◌≤◌, max, List, length, slice_index, nat_eq, Option, Some, None}
 use Rattle.std.specs.HashMap.{get}
 use Rattle.racp_model.specs.Project.{Project, duration}
-use Rattle.racp_model.specs.Window.{Bounds}
-use Rattle.racp_cutset.specs.Covering.{SearchNode, IsNode, IsStarted, AreStartedBefore, FitsBeforeTime}
+use Rattle.racp_cutset.specs.Covering.{SearchNode, IsStarted, AreStartedBefore}
 use Rattle.racp_trees.specs.Reading.{IsNamed}
 use Rattle.racp_trees.specs.declared.record.Record.{Record}
 use Rattle.racp_trees.specs.declared.closed.Closed.{Closed}

@@ -23,21 +23,29 @@
 //! 1; the alternative [3, 4] puts job 3 off to 3, past 2.
 //!
 //! The text is read line by line. `Follow` in specs/ says what has to come of it while nodes are open, and each line
-//! changes that in one of three ways. Blocks are enough where each vector within the roofs that stands before the plan
-//! is at most the vector of some block. That is decided by boxes of vectors, in `are_enough`: the least vector of a box
-//! that is at most a block's leads to the parts of the box above that block, one for each place that can be the first
-//! such place.
+//! changes that in one of three ways. Of an open node the reader knows the alternative whose child was read last, and
+//! looks for the one behind it once that child is closed; so no line makes it list alternatives for which the text has
+//! no lines. Of a closed node it keeps a record, one number for each job, and only where some line of the text names
+//! the node: which numbers lines name is told by a pass over the text before.
 //!
-//! Proved: `are_enough` is true exactly where the blocks are enough. In `laws`: trees that hold refute their windows, and
-//! where a text is a certificate, no capacities that are enough stand before the plan's. Not proved: how many boxes
-//! that takes; of m blocks and R resources it can be about m ^ (R / 2).
+//! Blocks are enough where each vector within the roofs that stands before the plan is at most the vector of some
+//! block. That is decided by boxes of vectors, in `are_enough`: the least vector of a box that is at most a block's
+//! leads to the parts of the box above that block, one for each place that can be the first such place.
+//!
+//! Proved: the tree of a block is read exactly where the text begins with one that holds, and of the closed nodes those
+//! that lines name are known after it; `are_enough` is true exactly where the blocks are enough. In `laws`: trees that
+//! hold refute their windows, and where a text is a certificate, no capacities that are enough stand before the plan's.
+//! Not proved: how many boxes `are_enough` takes; of m blocks and R resources it can be about m ^ (R / 2).
 #![tactic(auto)]
 
 mod before;
+mod branch;
 mod closed;
 mod enough;
 pub mod laws;
+mod node;
 mod parts;
+mod reader;
 mod reading;
 mod record;
 mod step;

@@ -1,6 +1,4 @@
-use Rattle.std.proofs.Common.{refl, sym, ◌∙◌, arith, ap, ◌≡◌, ◌≢◌, ℕ}
-use Rattle.racp_trees.specs.declared.step.Step.TheVariants.{C}
-use Rattle.racp_trees.proofs.Naming.{no_line_here, no_step_here, named_here, other_here, tail_is}
+use Rattle.racp_trees.proofs.Naming.{named_here, other_here, tail_is}
 use Rattle.racp_trees.proofs.closed.named_at.Goals as goal
 
 pub returns-in-C : goal.returns-in-C

@@ -1,4 +1,4 @@
-use Rattle.std.proofs.Common.{◌≡◌, ◌∙◌, ◌++◌, ◌∷◌, [], refl, ℕ, ◌<◌, ◌≤◌, length, slice_index, slice_index_or, arith, ap, sym, subst, IsTrue, IsFalse, true, false, Bool, List, Vec, Option, None, Some}
+use Rattle.std.proofs.Common.{◌∙◌, ◌++◌, ◌∷◌, [], refl, ℕ, length, slice_index_or, arith, ap, sym, subst, false, List, Vec}
 use Rattle.std.specs.Global.{Global}
 use Rattle.racp_model.specs.Terms.{IsBefore}
 use Rattle.racp_trees.specs.declared.parts.Part.{Part}

@@ -1,4 +1,4 @@
-use Rattle.std.proofs.Common.{◌≡◌, ◌∙◌, ◌++◌, ◌∷◌, [], List, arith, ap, sym, rules}
+use Rattle.std.proofs.Common.{◌∙◌, ◌++◌, ◌∷◌, [], List, arith, ap}
 use Rattle.std.proofs.lemmas.List.{append_assoc}
 use Rattle.racp_trees.specs.declared.parts.Part.{Part}
 use Rattle.racp_trees.proofs.Boxes.{parts-more, parts-skip}

@@ -1,4 +1,4 @@
-use Rattle.racp_trees.proofs.Spelling.{no_words, number_behind}
+use Rattle.racp_trees.proofs.Spelling.{number_behind}
 use Rattle.racp_trees.proofs.reading.number_on.Goals as goal
 
 pub returns : goal.returns

@@ -1,5 +1,5 @@
-use Rattle.std.proofs.Common.{◌≡◌, ◌∙◌, ℕ, List, [], ◌∷◌, ◌++◌, length, ◌+◌, arith, refl, ap, sym, subst, length-append}
-use Rattle.racp_trees.proofs.Spelling.{IsReading, no_vector_words, reading_first, reading_more, reading_stops, reading_ends, reading_fails}
+use Rattle.std.proofs.Common.{[], ◌∷◌, arith, refl, length-append}
+use Rattle.racp_trees.proofs.Spelling.{no_vector_words, reading_first, reading_more, reading_stops, reading_ends, reading_fails}
 use Rattle.racp_trees.proofs.reading.read_vector.Goals as goal
 
 pub returns-in_default : goal.returns-in_default

@@ -1,4 +1,4 @@
-use Rattle.std.proofs.Common.{refl, sym, ◌∙◌, arith, ap, subst, ◌≡◌, ◌≢◌, ℕ}
+use Rattle.std.proofs.Common.{arith, subst}
 use Rattle.racp_trees.specs.Reading.{IsNamedAt}
 use Rattle.racp_trees.proofs.Naming.{scanning_put, scanning_pass, scanning_end}
 use Rattle.racp_trees.proofs.closed.Closed.for_text.Goals as goal

@@ -1,0 +1,31 @@
+use Rattle.std.proofs.Common.{refl, ℕ, [], Vec, Option, subst, ap}
+use Rattle.std.specs.Global.{Global}
+use Rattle.racp_cutset.specs.Covering.{SearchNode}
+use Rattle.racp_trees.specs.Records.{IsRecordOf, IsKept}
+use Rattle.racp_trees.specs.Branches.{IsChildAnswer}
+use Rattle.racp_trees.proofs.reader.Reader.go_on.Goals as goal
+
+pub returns-in-Some : goal.returns-in-Some
+returns-in-Some c = (
+  c.next_child.new.self,
+  c.in_ok-push.ensures.items,
+  refl,
+  refl,
+  c.next_child.ensures.number,
+  ap (λ (v : SearchNode). v.early) (c.next_child.ensures.node [] []),
+  c.next_child.ensures.stays,
+  subst (λ (o : Option (Vec ℕ Global)). IsChildAnswer c.args.ground.now.net.now c.args.ground.now.capacities.now c.args.branch c.next_child.new.self o) c.in-Some.is c.in_ok-lower.ensures.child,
+)
+
+pub record-requires : goal.record-requires
+record-requires c = record { branch = c.next_child.ensures.stays }
+
+pub returns : goal.returns
+returns c = (
+  c.in_ok-kept.kept,
+  refl,
+  refl,
+  subst (λ (n : ℕ). IsKept c.args.self.now.closed n c.in_ok-kept.kept c.keep.new.self) c.next_child.ensures.number c.in_ok-keep.ensures,
+  (λ upper. subst (λ (v : SearchNode). IsRecordOf c.args.ground.now.net.now v c.in_ok-kept.kept) (c.next_child.ensures.node c.args.ground.now.capacities.now upper) (c.in_ok-kept.ensures upper)),
+  subst (λ (o : Option (Vec ℕ Global)). IsChildAnswer c.args.ground.now.net.now c.args.ground.now.capacities.now c.args.branch c.next_child.new.self o) c.in_default.is c.in_ok-lower.ensures.child,
+)

@@ -1,0 +1,41 @@
+use Rattle.std.proofs.Common.{◌↔◌, ◌<◌, refl, sym, ℕ, List, IsTrue, length, slice_index, subst}
+use Rattle.racp_model.specs.Project.{IsNumber}
+use Rattle.racp_model.specs.Path.{IsEarly}
+use Rattle.racp_delay.specs.Alternatives.{place}
+use Rattle.racp_trees.specs.Nodes.{IsCoveredHere}
+use Rattle.racp_trees.specs.Readers.{IsLineAnswer}
+use Rattle.racp_trees.specs.declared.step.Step.{Step}
+use Rattle.racp_trees.proofs.Starting.{early_small}
+use Rattle.racp_trees.proofs.Opening.{late_is}
+use Rattle.racp_trees.proofs.reader.Reader.read_line.Goals as goal
+
+pub is_covered-requires-clause-small : goal.is_covered-requires-clause-small
+is_covered-requires-clause-small c =
+    early_small c.args.ground.now.net.now c.args.lower.items c.in_ok-early.early c.job_count.ensures.sound c.requires.lower c.requires.small
+    (subst (λ (xs : List ℕ). IsEarly c.args.ground.now.net.now (slice_index xs) c.in_ok-early.early) c.deref.ensures.value c.in_ok-early.ensures)
+
+pub returns-in-L-clause-line : goal.returns-in-L-clause-line
+returns-in-L-clause-line c =
+    let p = c.args.ground.now.net.now in
+    let a : List ℕ = c.args.ground.now.capacities.now in
+    let lower : List ℕ = c.args.lower.items in
+    let upper : List ℕ = c.args.ground.now.root.now.upper in
+    let early : List ℕ = c.in_ok-early.early in
+    let h : IsEarly p (slice_index lower) early = subst (λ (xs : List ℕ). IsEarly p (slice_index xs) early) c.deref.ensures.value c.in_ok-early.ensures in
+    let answer = subst (λ (xs : List ℕ). IsTrue c.is_too_late.result ↔ (IsNumber (length early) c.in-L.job × (slice_index xs (place c.in-L.job) < slice_index early (place c.in-L.job)))) c.upper-upper.ensures.bounds
+    (subst (λ (xs : List ℕ). IsTrue c.is_too_late.result ↔ (IsNumber (length xs) c.in-L.job × (slice_index c.upper-upper.result.now (place c.in-L.job) < slice_index xs (place c.in-L.job)))) c.as_slice.ensures c.is_too_late.ensures) in
+    subst (λ (s : Step). IsLineAnswer p a (record { lower = lower; upper = upper }) c.args.self.now s c.is_too_late.result c.args.self.now) (sym c.in-L.is)
+    (refl, refl, late_is p a lower upper early h c.in-L.job c.is_too_late.result answer)
+
+pub returns-in_ok-covered-in-C-clause-line : goal.returns-in_ok-covered-in-C-clause-line
+returns-in_ok-covered-in-C-clause-line c =
+    let p = c.args.ground.now.net.now in
+    let a : List ℕ = c.args.ground.now.capacities.now in
+    let lower : List ℕ = c.args.lower.items in
+    let upper : List ℕ = c.args.ground.now.root.now.upper in
+    subst (λ (s : Step). IsLineAnswer p a (record { lower = lower; upper = upper }) c.args.self.now s c.in_ok-covered-in-C.covered c.args.self.now) (sym c.in-C.is) (
+      refl,
+      refl,
+      λ nodes are.
+          subst (λ (xs : List ℕ). IsTrue c.in_ok-covered-in-C.covered ↔ IsCoveredHere p a (record { lower = xs; upper = upper }) nodes c.in-C.node) c.deref-in-C.ensures.value (c.in_ok-covered-in-C.ensures upper nodes c.requires.root.upper are),
+    )

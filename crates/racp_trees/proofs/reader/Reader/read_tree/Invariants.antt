@@ -1,0 +1,9 @@
+use Rattle.std.proofs.Common.{length}
+use Rattle.racp_trees.proofs.Advancing.{IsReadingTree}
+use Rattle.racp_trees.proofs.reader.Reader.read_tree.Given as goal
+
+abbrev pub invariant-loop-step : goal.invariant-loop-step
+invariant-loop-step l = IsReadingTree l.ground.net.now l.ground.capacities.now l.ground.root.now l.fn.self l.fn.text l.self l.lower.items l.rest
+
+abbrev pub decreases-loop-step : goal.decreases-loop-step
+decreases-loop-step l = length l.rest

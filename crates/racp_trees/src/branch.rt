@@ -1,0 +1,149 @@
+//! Nodes whose children are being read.
+
+ghost use Rattle.std.specs.Prelude.{◌≡◌, ◌↔◌, ◌≤◌, ℕ, All, Contains, IfOk, IsTrue, List, MatchBool, length, max};
+ghost use Rattle.racp_model.specs.Limits.{most_bound};
+ghost use Rattle.racp_delay.specs.Alternatives.{Splits};
+ghost use Rattle.racp_trees.specs.Records.{IsRecordOf};
+ghost use Rattle.racp_trees.specs.Branches.{open_node, IsBranch, IsChildAnswer, IsAlternativeAnswer, IsWindowAnswer, IsRaised};
+
+use crate::record::Record;
+use racp_delay::{Alternative, JobSet, first_end, laws};
+use racp_model::{Capacities, Network, Starts};
+use std::alloc::{AllocError, Global};
+use std::cmp::max;
+
+/// A node of a `D` line that is not closed yet: its number, the lower bounds of its window, its early starts, the jobs
+/// that are active at their first conflict, its time, and the alternative whose child was read last.
+#[derive(Drop)]
+pub(crate) struct Branch {
+    pub(crate) number: u64,
+    pub(crate) lower: Vec<u32>,
+    pub(crate) early: Starts,
+    pub(crate) active: JobSet,
+    pub(crate) time: u32,
+    pub(crate) last: Vec<u32>,
+}
+
+impl Branch {
+    /// The lower bounds of the next child window, or `None` where no child is to come. Looks for one alternative alone.
+    pub(crate) fn next_child(
+        &mut self,
+        alloc: Global,
+        net: &Network,
+        capacities: &Capacities,
+    ) -> Result<Option<Vec<u32>>, AllocError>
+        requires capacities { length capacities.now ≡ net.now.resources }
+        requires branch { IsBranch net.now capacities.now self.old }
+        ensures child { IfOk result (IsChildAnswer net.now capacities.now self.old self.new) }
+        ensures node { (capacities upper : List ℕ) → (open_node capacities upper self.new).node ≡ (open_node capacities upper self.old).node }
+        ensures number { self.new.number ≡ self.old.number }
+        ensures stays { IsBranch net.now capacities.now self.new }
+    {
+        let Some(gone) = self.next_alternative(alloc, net, capacities)? else {
+            return Ok(None);
+        };
+        let Some(lower) = self.child_of(alloc, net, capacities, &gone)? else {
+            return Ok(None);
+        };
+        self.last = gone;
+        Ok(Some(lower))
+    }
+
+    /// What is kept of the node once it is closed.
+    pub(crate) fn record(
+        &self,
+        alloc: Global,
+        net: &Network,
+        capacities: &Capacities,
+    ) -> Result<Record, AllocError>
+        requires branch { IsBranch net.now capacities.now self.now }
+        ensures { IfOk result (λ kept. (upper : List ℕ) → IsRecordOf net.now (open_node capacities.now upper self.now).node kept) }
+    {
+        let early = self.early.as_slice();
+        let kept = Record::new(
+            alloc,
+            net,
+            capacities.as_slice(),
+            &self.lower,
+            early,
+            self.time,
+        )?;
+        Ok(kept)
+    }
+
+    /// The next alternative behind the one whose child was read last.
+    fn next_alternative(
+        &self,
+        alloc: Global,
+        net: &Network,
+        capacities: &Capacities,
+    ) -> Result<Option<Vec<u32>>, AllocError>
+        requires capacities { length capacities.now ≡ net.now.resources }
+        requires branch { IsBranch net.now capacities.now self.now }
+        ensures { IfOk result (IsAlternativeAnswer net.now capacities.now self.now) }
+    {
+        laws::subsets_go();
+        let mut next = Alternative::new(alloc);
+        if !next.find_behind(net, capacities, &self.active, &self.active, &self.last)? {
+            return Ok(None);
+        }
+        Ok(Some(copied(alloc, next.jobs())?))
+    }
+
+    /// The lower bounds of the child window of an alternative, or `None` where no active job stays.
+    fn child_of(
+        &self,
+        alloc: Global,
+        net: &Network,
+        capacities: &Capacities,
+        gone: &[u32],
+    ) -> Result<Option<Vec<u32>>, AllocError>
+        requires branch { IsBranch net.now capacities.now self.now }
+        requires gone { (kept : List ℕ) × Splits self.now.active gone.now kept }
+        ensures { IfOk result (IsWindowAnswer net.now self.now gone.now) }
+    {
+        laws::others_stay();
+        prove!(net.job_count() == net.job_count());
+        let Some(end) = first_end(net, &self.early, &self.active, gone) else {
+            return Ok(None);
+        };
+        Ok(Some(raised(alloc, &self.lower, gone, end as u32)?))
+    }
+}
+
+/// The same numbers.
+pub(crate) fn copied(alloc: Global, numbers: &[u32]) -> Result<Vec<u32>, AllocError>
+    ensures { IfOk result (λ copy. copy.items ≡ numbers.now) }
+{
+    numbers.to_vec(alloc)
+}
+
+/// The times, with those of these jobs raised to a time.
+fn raised(alloc: Global, times: &[u32], gone: &[u32], end: u32) -> Result<Vec<u32>, AllocError>
+    requires few { length times.now ≤ 512 }
+    requires times { All (λ x. x ≤ most_bound) times.now }
+    requires end { end ≤ most_bound }
+    ensures raised { IfOk result (λ raised. IsRaised times.now gone.now end (length times.now) raised.items) }
+    ensures small { IfOk result (λ raised. All (λ x. x ≤ most_bound) raised.items) }
+{
+    let mut raised = Vec::with_capacity(alloc, times.len())?;
+    for i in 0..times.len() {
+        let goes = is_among(gone, i as u32 + 1);
+        raised.push(later(times[i], end, goes))?;
+    }
+    Ok(raised)
+}
+
+/// Whether a job is among others.
+fn is_among(jobs: &[u32], job: u32) -> bool
+    ensures { IsTrue result ↔ Contains jobs.now job }
+{
+    jobs.contains(&job)
+}
+
+/// The later of two times, where it is to be; else the first one.
+fn later(time: u32, end: u32, goes: bool) -> u32
+    ensures { MatchBool goes (result ≡ max time end) (result ≡ time) }
+{
+    if goes { max(time, end) } else { time }
+}

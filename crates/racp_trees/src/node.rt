@@ -1,0 +1,97 @@
+//! What a line says of the node of its window.
+
+ghost use Rattle.std.specs.Prelude.{◌≡◌, ◌↔◌, ◌≤◌, ◌<◌, ℕ, IsTrue, IfOk, List, length, slice_index};
+ghost use Rattle.racp_model.specs.Project.{IsNumber};
+ghost use Rattle.racp_model.specs.Path.{IsEarly};
+ghost use Rattle.racp_model.specs.Limits.{most_bound, most_early};
+ghost use Rattle.racp_delay.specs.Alternatives.{place};
+ghost use Rattle.racp_cutset.specs.Covering.{SearchNode};
+ghost use Rattle.racp_trees.specs.Nodes.{IsDivisionAnswer, AreRecords, HaveRows, HasPlace, IsCoveredHere, IsAtMostAll};
+
+use crate::closed::Closed;
+use crate::record::Record;
+use racp_delay::{JobSet, conflict};
+use racp_model::{Capacities, Network, Starts};
+use std::alloc::{AllocError, Global};
+
+/// Whether the early start of the job with this number exceeds its upper bound.
+pub(crate) fn is_too_late(upper: &[u32], early: &[u32], job: u32) -> bool
+    requires { length upper.now ≡ length early.now }
+    ensures { IsTrue result ↔ (IsNumber (length early.now) job × (slice_index upper.now (place job) < slice_index early.now (place job))) }
+{
+    if job == 0 || job as usize > early.len() {
+        return false;
+    }
+    upper[job as usize - 1] < early[job as usize - 1]
+}
+
+/// Whether no early start exceeds its upper bound.
+fn are_in_time(upper: &[u32], early: &[u32]) -> bool
+    requires { length upper.now ≡ length early.now }
+    ensures { IsTrue result ↔ IsAtMostAll early.now upper.now }
+{
+    (0..early.len()).all(|i| early[i] <= upper[i])
+}
+
+/// The jobs that are active at the first conflict of early starts, where that is at this time and none of them exceeds
+/// its upper bound; else `None`.
+pub(crate) fn active_at(
+    net: &Network,
+    capacities: &Capacities,
+    upper: &[u32],
+    early: &Starts,
+    time: u32,
+) -> Option<JobSet>
+    requires capacities { length capacities.now ≡ net.now.resources }
+    requires early { length early.now ≡ length net.now.jobs }
+    requires upper { length upper.now ≡ length net.now.jobs }
+    ensures { IsDivisionAnswer net.now capacities.now upper.now early.now time result }
+{
+    racp_delay::laws::conflict_is_one();
+    if !are_in_time(upper, early.as_slice()) {
+        return None;
+    }
+    let clash = conflict(net, capacities, early)?;
+    if clash.time == time {
+        Some(clash.active)
+    } else {
+        None
+    }
+}
+
+/// Whether the closed node with this number covers the node of a window with these lower bounds and early starts, at
+/// its first conflict.
+pub(crate) fn is_covered(
+    alloc: Global,
+    net: &Network,
+    capacities: &Capacities,
+    lower: &[u32],
+    early: &Starts,
+    closed: &Closed,
+    number: u32,
+) -> Result<bool, AllocError>
+    requires capacities { length capacities.now ≡ net.now.resources }
+    requires lower { length lower.now ≡ length net.now.jobs }
+    requires early { IsEarly net.now (slice_index lower.now) early.now }
+    requires small { (i : ℕ) → i < length net.now.jobs → slice_index early.now i ≤ most_early }
+    requires rows { HaveRows net.now closed.now }
+    requires place { HasPlace closed.now number }
+    ensures { IfOk result (λ yes. (upper : List ℕ) (nodes : List (ℕ × SearchNode)) → length upper ≡ length net.now.jobs → AreRecords net.now upper nodes closed.now →
+        IsTrue yes ↔ IsCoveredHere net.now capacities.now (record { lower = lower.now; upper = upper }) nodes number) }
+{
+    let Some(clash) = conflict(net, capacities, early) else {
+        return Ok(false);
+    };
+    let Some(by) = closed.record(number as u64) else {
+        return Ok(false);
+    };
+    let row = Record::new(
+        alloc,
+        net,
+        capacities.as_slice(),
+        lower,
+        early.as_slice(),
+        clash.time,
+    )?;
+    Ok(by.covers(&row))
+}

@@ -1,0 +1,190 @@
+//! Reading the tree of a block, line by line.
+
+ghost use Rattle.std.specs.Prelude.{◌≡◌, ◌+◌, ◌<◌, ◌≤◌, ◌^◌, ℕ, All, IfOk, length, slice_index};
+ghost use Rattle.racp_model.specs.Path.{IsEarly};
+ghost use Rattle.racp_model.specs.Formed.{HasBounds};
+ghost use Rattle.racp_model.specs.Limits.{most_bound, most_start};
+ghost use Rattle.racp_trees.specs.Nodes.{HasPlace};
+ghost use Rattle.racp_trees.specs.Reading.{IsNamed};
+ghost use Rattle.racp_trees.specs.Readers.{IsReady, IsLineAnswer, IsNextAnswer, IsGoneOn, IsTreeAnswer, StaysReady};
+ghost use Rattle.racp_trees.specs.Branches.{IsBranch};
+ghost use Rattle.racp_trees.specs.declared.step.Step.TheVariants.{C, D};
+
+use crate::branch::{Branch, copied};
+use crate::closed::Closed;
+use crate::node::{active_at, is_covered, is_too_late};
+use crate::reading::read_step;
+use crate::step::Step;
+use racp_cpm::early;
+use racp_delay::laws;
+use racp_model::{Capacities, Network, Starts, Window};
+use std::alloc::{AllocError, Global};
+
+/// What a tree is about: a network, the root window, and the capacities of its block.
+#[derive(Clone, Copy)]
+pub(crate) struct Ground<'a> {
+    pub(crate) net: &'a Network,
+    pub(crate) root: &'a Window,
+    pub(crate) capacities: &'a Capacities,
+}
+
+/// Where a reader stands: the closed nodes that lines name, the nodes that are open, the innermost last, and the number
+/// of the next node.
+#[derive(Drop)]
+pub(crate) struct Reader {
+    pub(crate) closed: Closed,
+    pub(crate) branches: Vec<Branch>,
+    pub(crate) number: u64,
+}
+
+impl Reader {
+    /// Reads the tree of the root window, and answers what stands behind it; `None` where a text does not begin with a
+    /// tree that holds.
+    pub(crate) fn read_tree<'t>(
+        &mut self,
+        alloc: Global,
+        ground: &Ground,
+        text: &'t [u8],
+    ) -> Result<Option<&'t [u8]>, AllocError>
+        requires capacities { length ground.now.capacities.now ≡ ground.now.net.now.resources }
+        requires root { HasBounds ground.now.net.now ground.now.root.now }
+        requires ready { IsReady ground.now.net.now ground.now.capacities.now self.old }
+        requires places { (node : ℕ) → IsNamed text.now node → HasPlace self.old.closed node }
+        requires room { self.old.number + length text.now < 2 ^ 64 }
+        ensures { IfOk result (IsTreeAnswer ground.now.net.now ground.now.capacities.now ground.now.root.now self.old text.now self.new) }
+    {
+        laws::some_job_goes();
+        laws::conflict_is_one();
+        let mut lower = copied(alloc, ground.root.lower())?;
+        let mut rest = text;
+        while let Some((step, more)) = read_step(rest) {
+            if !self.read_line(alloc, ground, step, lower)? {
+                return Ok(None);
+            }
+            self.number += 1;
+            rest = more;
+            match self.next_window(alloc, ground)? {
+                Some(next) => lower = next,
+                None => return Ok(Some(rest)),
+            }
+        }
+        Ok(None)
+    }
+
+    /// Whether a line holds of the node of the window with these lower bounds. Where it divides the node, that is open
+    /// then.
+    fn read_line(
+        &mut self,
+        alloc: Global,
+        ground: &Ground,
+        step: Step,
+        lower: Vec<u32>,
+    ) -> Result<bool, AllocError>
+        requires capacities { length ground.now.capacities.now ≡ ground.now.net.now.resources }
+        requires root { HasBounds ground.now.net.now ground.now.root.now }
+        requires lower { length lower.items ≡ length ground.now.net.now.jobs }
+        requires small { All (λ x. x ≤ most_bound) lower.items }
+        requires ready { IsReady ground.now.net.now ground.now.capacities.now self.old }
+        requires place { (node : ℕ) → step ≡ C node → HasPlace self.old.closed node }
+        ensures line { IfOk result (λ yes. IsLineAnswer ground.now.net.now ground.now.capacities.now (record { lower = lower.items; upper = ground.now.root.now.upper }) self.old step yes self.new) }
+        ensures number { self.new.number ≡ self.old.number }
+    {
+        prove!(ground.net.job_count() == ground.net.job_count());
+        let early = early(alloc, ground.net, &lower)?;
+        let upper = ground.root.upper();
+        match step {
+            Step::L(job) => Ok(is_too_late(upper, early.as_slice(), job)),
+            Step::C(node) => {
+                let (net, capacities) = (ground.net, ground.capacities);
+                let covered = is_covered(
+                    alloc,
+                    net,
+                    capacities,
+                    &lower,
+                    &early,
+                    &self.closed,
+                    node,
+                )?;
+                Ok(covered)
+            }
+            Step::D(time) => self.open(alloc, ground, lower, early, time),
+        }
+    }
+
+    /// Opens the node of the window with these lower bounds and early starts, if it is divided at this time.
+    fn open(
+        &mut self,
+        alloc: Global,
+        ground: &Ground,
+        lower: Vec<u32>,
+        early: Starts,
+        time: u32,
+    ) -> Result<bool, AllocError>
+        requires capacities { length ground.now.capacities.now ≡ ground.now.net.now.resources }
+        requires root { HasBounds ground.now.net.now ground.now.root.now }
+        requires lower { length lower.items ≡ length ground.now.net.now.jobs }
+        requires small { All (λ x. x ≤ most_bound) lower.items }
+        requires early { IsEarly ground.now.net.now (slice_index lower.items) early }
+        ensures line { IfOk result (λ yes. IsLineAnswer ground.now.net.now ground.now.capacities.now (record { lower = lower.items; upper = ground.now.root.now.upper }) self.old (D time) yes self.new) }
+        ensures number { self.new.number ≡ self.old.number }
+    {
+        let upper = ground.root.upper();
+        let Some(active) = active_at(ground.net, ground.capacities, upper, &early, time) else {
+            return Ok(false);
+        };
+        let last = Vec::new(alloc);
+        let branch = Branch {
+            number: self.number,
+            lower,
+            early,
+            active,
+            time,
+            last,
+        };
+        self.branches.push(branch)?;
+        Ok(true)
+    }
+
+    /// The lower bounds of the next window, or `None` where no node is open any more. Open nodes without children to
+    /// come are closed.
+    fn next_window(
+        &mut self,
+        alloc: Global,
+        ground: &Ground,
+    ) -> Result<Option<Vec<u32>>, AllocError>
+        requires capacities { length ground.now.capacities.now ≡ ground.now.net.now.resources }
+        requires root { HasBounds ground.now.net.now ground.now.root.now }
+        requires ready { IsReady ground.now.net.now ground.now.capacities.now self.old }
+        ensures window { IfOk result (IsNextAnswer ground.now.net.now ground.now.capacities.now ground.now.root.now self.old self.new) }
+        ensures ready { IfOk result (λ _. StaysReady ground.now.net.now ground.now.capacities.now self.old self.new) }
+    {
+        while let Some(branch) = self.branches.pop() {
+            if let Some(lower) = self.go_on(alloc, ground, branch)? {
+                return Ok(Some(lower));
+            }
+        }
+        Ok(None)
+    }
+
+    /// The lower bounds of the next child window of a node, which is open then; or `None` where none is to come, and it
+    /// is closed.
+    fn go_on(
+        &mut self,
+        alloc: Global,
+        ground: &Ground,
+        branch: Branch,
+    ) -> Result<Option<Vec<u32>>, AllocError>
+        requires capacities { length ground.now.capacities.now ≡ ground.now.net.now.resources }
+        requires branch { IsBranch ground.now.net.now ground.now.capacities.now branch }
+        ensures { IfOk result (IsGoneOn ground.now.net.now ground.now.capacities.now self.old branch self.new) }
+    {
+        let mut branch = branch;
+        if let Some(lower) = branch.next_child(alloc, ground.net, ground.capacities)? {
+            self.branches.push(branch)?;
+            return Ok(Some(lower));
+        }
+        let kept = branch.record(alloc, ground.net, ground.capacities)?;
+        self.closed.keep(branch.number, kept)?;
+        Ok(None)
+    }
+}
