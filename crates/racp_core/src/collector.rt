@@ -129,8 +129,8 @@ impl<N: OfNetwork, S: Series> Core<N, S> {
         row.question()
     }
 
-    /// Whether the answer is known.
-    fn is_settled(&self) -> bool
+    /// Whether the answer is known: a yes before which each question is a no, or that no question of the series is a yes.
+    pub fn is_settled(&self) -> bool
         ensures { IsTrue result ↔ IsSettled self.now }
     {
         match self.answer() {

@@ -68,4 +68,5 @@ pub use board::Board;
 pub use local::Local;
 pub use node::Node;
 pub use nogood::Nogood;
+pub use rows::started_before;
 pub use shares::{DEFAULT_MEMORY, most_records};

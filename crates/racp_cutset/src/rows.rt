@@ -93,8 +93,8 @@ fn write_lower(ends: &mut [u32], early: &[u32], time: u32, lower: &[u32])
     }
 }
 
-/// The jobs that start before a time.
-pub(crate) fn started_before(early: &[u32], time: u32) -> JobSet
+/// The jobs that start before a time, by their numbers from 1. There are at most 512 starts, one for each job.
+pub fn started_before(early: &[u32], time: u32) -> JobSet
     requires { length early.now ≤ 512 }
     ensures { AreStartedBefore early.now time result }
 {

@@ -20,7 +20,7 @@ ghost use Rattle.racp_desk.specs.Closing.{IsClosed};
 
 use crate::book::{Book, Rules};
 use crate::log::{Cause, Entry};
-use racp_core::{Asked, Core, Merged, Outcome, Reply, Verdict};
+use racp_core::{Asked, Core, Merged, Outcome, Reply};
 use racp_model::{Capacities, Network, OfNetwork};
 use racp_questions::Series;
 use racp_search::{Finding, Piece, Rest};
@@ -270,14 +270,7 @@ impl<N: OfNetwork, M: Names, S: Series> State<N, M, S> {
     pub fn is_settled(&self) -> bool
         ensures { IsTrue result ↔ IsSettled self.now.core }
     {
-        match self.core.answer() {
-            Verdict::First {
-                index: _,
-                starts: _,
-            } => true,
-            Verdict::NoYes => true,
-            Verdict::Pending { first_open: _ } => false,
-        }
+        self.core.is_settled()
     }
 
     /// A share of all parts counts as many entries as the log has. Changes nothing.

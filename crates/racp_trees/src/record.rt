@@ -3,10 +3,10 @@
 ghost use Rattle.std.specs.Prelude.{◌≡◌, ◌↔◌, ◌<◌, ◌≤◌, ℕ, List, IsTrue, IfOk, length, slice_index, max};
 ghost use Rattle.racp_model.specs.Project.{IsSound};
 ghost use Rattle.racp_model.specs.Limits.{most_early};
-ghost use Rattle.racp_cutset.specs.Covering.{AreStartedBefore};
 ghost use Rattle.racp_trees.specs.Enough.{IsAtMost};
 ghost use Rattle.racp_trees.specs.Records.{IsRecordOf, RecordCovers, AreAlike, AreBounds};
 
+use racp_cutset::started_before;
 use racp_delay::JobSet;
 use racp_model::Network;
 use std::alloc::{AllocError, Global};
@@ -71,20 +71,6 @@ fn is_sooner(first: &[u32], limit: u32, second: &[u32]) -> bool
     ensures { IsTrue result ↔ ((i : ℕ) → i < length first.now → slice_index first.now i ≤ max limit (slice_index second.now i)) }
 {
     (0..first.len()).all(|i| first[i] <= limit.max(second[i]))
-}
-
-/// The jobs that start before a time.
-fn started_before(early: &[u32], time: u32) -> JobSet
-    requires { length early.now ≤ 512 }
-    ensures { AreStartedBefore early.now time result }
-{
-    let mut started = JobSet::new();
-    for i in 0..early.len() {
-        if early[i] < time {
-            started.insert(i as u32 + 1);
-        }
-    }
-    started
 }
 
 /// The ends of the jobs that start before a time, and the lower bounds of the others.
