@@ -1,3 +1,4 @@
 mod Precedence
 mod Excess
 mod OneAnswer
+mod Certified

@@ -28,8 +28,10 @@ mod check;
 pub mod laws;
 mod opening;
 mod plan_fault;
+mod proof;
 
 pub use check::check_plan;
 pub use opening::{Opening, opening_of};
 pub use plan_fault::PlanFault;
+pub use proof::check_proof;
 pub use racp_plan::{Plan, TextFault, TextFaultKind, lines, read_plan, write_plan};

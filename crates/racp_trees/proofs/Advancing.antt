@@ -4,7 +4,6 @@ use Rattle.std.specs.Prelude.{Some, None, Vec}
 use Rattle.std.specs.Global.{Global}
 use Rattle.racp_model.specs.Project.{Project}
 use Rattle.racp_model.specs.Limits.{most_bound}
-use Rattle.racp_model.specs.Terms.{Terms}
 use Rattle.racp_model.specs.Window.{Bounds}
 use Rattle.racp_delay.specs.Alternatives.{IsMinimalDelayingAlternative}
 use Rattle.racp_delay.specs.Branching.{IsConflict}
@@ -36,7 +35,7 @@ opened_one p a w t v u x y law g h =
     let same : v ≡ u = λ i. record { capacities = resources i; window = placed i; early = e i; time = when i } in
     (same, (law p v.capacities v.early v.time v.time x y g.clash (subst (λ (z : SearchNode). IsConflict p z.capacities z.early z.time y) (sym same) h.clash)).1)
 
-module _ (p : Project) (a : List ℕ) (root : Bounds) (goes : SomeJobGoes) (one : ConflictIsOne) (terms : Terms) (plan : List ℕ) (vectors : List (List ℕ)) where
+module _ (p : Project) (a : List ℕ) (root : Bounds) (goes : SomeJobGoes) (one : ConflictIsOne) (wanted vectors : List (List ℕ)) where
   some : (v : SearchNode) (active : List ℕ) (window : Bounds) (time : ℕ) → IsOpened p a window time v active → (gone : List ℕ) → IsMinimalDelayingAlternative p v.capacities active gone → gone ≢ []
   some v active window time o gone minimal = goes p v.capacities v.early v.time active gone o.clash minimal
 
@@ -44,17 +43,17 @@ module _ (p : Project) (a : List ℕ) (root : Bounds) (goes : SomeJobGoes) (one 
   window_of lower = record { lower = lower; upper = root.upper }
 
   abbrev Nexts : List (ℕ × SearchNode) → Reader → List ℕ → List ℕ → Type 0
-  Nexts = AsksNext p a terms plan root vectors
+  Nexts = AsksNext p a wanted root vectors
 
   abbrev All' : List (ℕ × SearchNode) → Reader → List ℕ → Type 0
-  All' = Asks p a terms plan root vectors
+  All' = Asks p a wanted root vectors
 
   -- what the next line asks
   next_line : (later : List (ℕ × SearchNode)) (now : Reader) (lower rest : List ℕ) (s : Step) (more : List ℕ) → step_number s ≤ most_number → rest ≡ step_line s ++ more →
-      Nexts later now lower rest ↔ IsStepped p a (rest_of p terms plan root vectors) later now.number (window_of lower) (open_nodes a root.upper now.branches.items) s more
+      Nexts later now lower rest ↔ IsStepped p a (rest_of p wanted root vectors) later now.number (window_of lower) (open_nodes a root.upper now.branches.items) s more
   next_line later now lower rest s more small same =
-      subst (λ (xs : List ℕ). Nexts later now lower xs ↔ IsStepped p a (rest_of p terms plan root vectors) later now.number (window_of lower) (open_nodes a root.upper now.branches.items) s more) (sym same)
-      (line_follows p a (rest_of p terms plan root vectors) (rest_stays p terms plan root vectors) some later now.number (window_of lower) (open_nodes a root.upper now.branches.items) s more small)
+      subst (λ (xs : List ℕ). Nexts later now lower xs ↔ IsStepped p a (rest_of p wanted root vectors) later now.number (window_of lower) (open_nodes a root.upper now.branches.items) s more) (sym same)
+      (line_follows p a (rest_of p wanted root vectors) (rest_stays p wanted root vectors) some later now.number (window_of lower) (open_nodes a root.upper now.branches.items) s more small)
 
   never : (b : Bool) → b ≡ false → IsTrue b → ⊥
   never b e y = absurd (cc (e, y))
@@ -74,10 +73,10 @@ module _ (p : Project) (a : List ℕ) (root : Bounds) (goes : SomeJobGoes) (one 
 
   -- a reader that read a line without children
   leaf_asks : (later : List (ℕ × SearchNode)) (now mid : Reader) (more : List ℕ) → mid.branches.items ≡ now.branches.items → mid.number ≡ now.number + 1 →
-      Follow p a (rest_of p terms plan root vectors) later (now.number + 1) (open_nodes a root.upper now.branches.items) more ↔ All' later mid more
+      Follow p a (rest_of p wanted root vectors) later (now.number + 1) (open_nodes a root.upper now.branches.items) more ↔ All' later mid more
   leaf_asks later now mid more same next =
-      subst (λ (xs : List Branch). Follow p a (rest_of p terms plan root vectors) later (now.number + 1) (open_nodes a root.upper now.branches.items) more ↔ Follow p a (rest_of p terms plan root vectors) later mid.number (open_nodes a root.upper xs) more) (sym same)
-      (subst (λ k. Follow p a (rest_of p terms plan root vectors) later (now.number + 1) (open_nodes a root.upper now.branches.items) more ↔ Follow p a (rest_of p terms plan root vectors) later k (open_nodes a root.upper now.branches.items) more) (sym next) ((λ x. x), λ x. x))
+      subst (λ (xs : List Branch). Follow p a (rest_of p wanted root vectors) later (now.number + 1) (open_nodes a root.upper now.branches.items) more ↔ Follow p a (rest_of p wanted root vectors) later mid.number (open_nodes a root.upper xs) more) (sym same)
+      (subst (λ k. Follow p a (rest_of p wanted root vectors) later (now.number + 1) (open_nodes a root.upper now.branches.items) more ↔ Follow p a (rest_of p wanted root vectors) later k (open_nodes a root.upper now.branches.items) more) (sym next) ((λ x. x), λ x. x))
 
   pub line_holds : (later : List (ℕ × SearchNode)) (now after mid : Reader) (lower rest : List ℕ) (s : Step) (more : List ℕ) (yes' : Bool) → HasRead p root.upper later now → step_number s ≤ most_number → rest ≡ step_line s ++ more →
       IsLineAnswer p a (window_of lower) now s yes' after → yes' ≡ true → mid.branches.items ≡ after.branches.items → mid.closed ≡ after.closed → mid.number ≡ now.number + 1 → Passed later now mid lower rest more
@@ -98,9 +97,9 @@ module _ (p : Project) (a : List ℕ) (root : Bounds) (goes : SomeJobGoes) (one 
       let frames : List OpenNode = open_nodes a root.upper now.branches.items in
       let f : OpenNode = open_node a root.upper o.branch in
       let mids : open_nodes a root.upper mid.branches.items ≡ f ∷ frames = ap (λ (xs : List Branch). open_nodes a root.upper xs) o.branches ∙ open_more a root.upper [] now.branches.items o.branch in
-      let asks : Follow p a (rest_of p terms plan root vectors) later (now.number + 1) (f ∷ frames) more ↔ All' later mid more =
-      subst (λ (fs : List OpenNode). Follow p a (rest_of p terms plan root vectors) later (now.number + 1) (f ∷ frames) more ↔ Follow p a (rest_of p terms plan root vectors) later mid.number fs more) (sym mids)
-      (subst (λ k. Follow p a (rest_of p terms plan root vectors) later (now.number + 1) (f ∷ frames) more ↔ Follow p a (rest_of p terms plan root vectors) later k (f ∷ frames) more) (sym next) ((λ x. x), λ x. x)) in
+      let asks : Follow p a (rest_of p wanted root vectors) later (now.number + 1) (f ∷ frames) more ↔ All' later mid more =
+      subst (λ (fs : List OpenNode). Follow p a (rest_of p wanted root vectors) later (now.number + 1) (f ∷ frames) more ↔ Follow p a (rest_of p wanted root vectors) later mid.number fs more) (sym mids)
+      (subst (λ k. Follow p a (rest_of p wanted root vectors) later (now.number + 1) (f ∷ frames) more ↔ Follow p a (rest_of p wanted root vectors) later k (f ∷ frames) more) (sym next) ((λ x. x), λ x. x)) in
       let same_node : (v : SearchNode) (active : List ℕ) → IsOpened p a (window_of lower) time v active → (record { number = now.number; node = v; active = active; last = [] }) ≡ f =
       λ v active is.
       let e = opened_one p a (window_of lower) time v f.node active f.active one is o.opened in
@@ -110,8 +109,8 @@ module _ (p : Project) (a : List ℕ) (root : Bounds) (goes : SomeJobGoes) (one 
         asks = (
           λ x.
               let is = line.0 x in
-              asks.0 (subst (λ (g : OpenNode). Follow p a (rest_of p terms plan root vectors) later (now.number + 1) (g ∷ frames) more) (same_node is.0 is.1 is.2) is.3),
-          λ x. line.1 (f.node, f.active, o.opened, subst (λ (g : OpenNode). Follow p a (rest_of p terms plan root vectors) later (now.number + 1) (g ∷ frames) more) (sym (same_node f.node f.active o.opened)) (asks.1 x)),
+              asks.0 (subst (λ (g : OpenNode). Follow p a (rest_of p wanted root vectors) later (now.number + 1) (g ∷ frames) more) (same_node is.0 is.1 is.2) is.3),
+          λ x. line.1 (f.node, f.active, o.opened, subst (λ (g : OpenNode). Follow p a (rest_of p wanted root vectors) later (now.number + 1) (g ∷ frames) more) (sym (same_node f.node f.active o.opened)) (asks.1 x)),
         );
       }
 
@@ -139,9 +138,9 @@ pub record IsReadingTree (p : Project) (a : List ℕ) (root : Bounds) (old : Rea
   pub whole : text ≡ front ++ rest
   pub lines : IsBeforeLine front
   pub room : now.number + length rest ≤ old.number + length text
-  pub told : (terms : Terms) (plan : List ℕ) (vectors : List (List ℕ)) (nodes : List (ℕ × SearchNode)) → HasRead p root.upper nodes old →
+  pub told : (wanted vectors : List (List ℕ)) (nodes : List (ℕ × SearchNode)) → HasRead p root.upper nodes old →
       (later : List (ℕ × SearchNode)) × HasRead p root.upper later now ×
-      (AsksNext p a terms plan root vectors nodes old root.lower text ↔ AsksNext p a terms plan root vectors later now lower rest)
+      (AsksNext p a wanted root vectors nodes old root.lower text ↔ AsksNext p a wanted root vectors later now lower rest)
 
 pub tree_first : (p : Project) (a : List ℕ) (root : Bounds) (old : Reader) (text lower : List ℕ) → IsReady p a old → lower ≡ root.lower → length root.lower ≡ length p.jobs → All (λ x. x ≤ most_bound) root.lower → IsReadingTree p a root old text old lower text
 tree_first p a root old text lower ready same low small = subst (λ (xs : List ℕ). IsReadingTree p a root old text old xs text) (sym same) (record {
@@ -153,7 +152,7 @@ tree_first p a root old text lower ready same low small = subst (λ (xs : List �
   whole = refl;
   lines = inl refl;
   room = omega arith;
-  told = λ terms plan vectors nodes h. (nodes, h, ((λ x. x), λ x. x));
+  told = λ wanted vectors nodes h. (nodes, h, ((λ x. x), λ x. x));
 })
 
 module _ (p : Project) (a : List ℕ) (root : Bounds) (old : Reader) (text : List ℕ) (now : Reader) (lower rest : List ℕ) (is : IsReadingTree p a root old text now lower rest) where
@@ -161,11 +160,11 @@ module _ (p : Project) (a : List ℕ) (root : Bounds) (old : Reader) (text : Lis
   window = record { lower = lower; upper = root.upper }
 
   -- no line of a tree is left
-  pub tree_missing : ((step : Step) (more : List ℕ) → step_number step ≤ most_number → rest ≡ step_line step ++ more → ⊥) → (terms : Terms) (plan : List ℕ) (vectors : List (List ℕ)) (nodes : List (ℕ × SearchNode)) → HasRead p root.upper nodes old →
-      AsksNext p a terms plan root vectors nodes old root.lower text → ⊥
-  tree_missing none terms plan vectors nodes h x =
-      let told = is.told terms plan vectors nodes h in
-      line_missing p a (rest_of p terms plan root vectors) (rest_stays p terms plan root vectors) told.0 now.number window (open_nodes a root.upper now.branches.items) rest none (told.2.0 x)
+  pub tree_missing : ((step : Step) (more : List ℕ) → step_number step ≤ most_number → rest ≡ step_line step ++ more → ⊥) → (wanted vectors : List (List ℕ)) (nodes : List (ℕ × SearchNode)) → HasRead p root.upper nodes old →
+      AsksNext p a wanted root vectors nodes old root.lower text → ⊥
+  tree_missing none wanted vectors nodes h x =
+      let told = is.told wanted vectors nodes h in
+      line_missing p a (rest_of p wanted root vectors) (rest_stays p wanted root vectors) told.0 now.number window (open_nodes a root.upper now.branches.items) rest none (told.2.0 x)
 
   module _ (s : Step) (more : List ℕ) (little : step_number s ≤ most_number) (same : rest ≡ step_line s ++ more) where
     -- the node that a line names has a place
@@ -179,10 +178,10 @@ module _ (p : Project) (a : List ℕ) (root : Bounds) (old : Reader) (text : Lis
     }))
 
     module _ (goes : SomeJobGoes) (one : ConflictIsOne) (after : Reader) (yes' : Bool) (answer : IsLineAnswer p a window now s yes' after) where
-      pub tree_fails : yes' ≡ false → (terms : Terms) (plan : List ℕ) (vectors : List (List ℕ)) (nodes : List (ℕ × SearchNode)) → HasRead p root.upper nodes old → AsksNext p a terms plan root vectors nodes old root.lower text → ⊥
-      tree_fails no' terms plan vectors nodes h x =
-          let told = is.told terms plan vectors nodes h in
-          line_fails p a root goes one terms plan vectors told.0 now after lower rest s more yes' told.1 little same answer no' (told.2.0 x)
+      pub tree_fails : yes' ≡ false → (wanted vectors : List (List ℕ)) (nodes : List (ℕ × SearchNode)) → HasRead p root.upper nodes old → AsksNext p a wanted root vectors nodes old root.lower text → ⊥
+      tree_fails no' wanted vectors nodes h x =
+          let told = is.told wanted vectors nodes h in
+          line_fails p a root goes one wanted vectors told.0 now after lower rest s more yes' told.1 little same answer no' (told.2.0 x)
 
       module _ (mid : Reader) (yes'' : yes' ≡ true) (branches : mid.branches.items ≡ after.branches.items) (closed : mid.closed ≡ after.closed) (next : mid.number ≡ now.number + 1) where
         shorter : length rest ≡ length (step_line s) + length more
@@ -191,8 +190,8 @@ module _ (p : Project) (a : List ℕ) (root : Bounds) (old : Reader) (text : Lis
         fewer : now.number + 1 + length more ≤ old.number + length text
         fewer = omega (arith, is.room, shorter, line_long s)
 
-        held : (terms : Terms) (plan : List ℕ) (vectors : List (List ℕ)) (later : List (ℕ × SearchNode)) → HasRead p root.upper later now → Passed p a root goes one terms plan vectors later now mid lower rest more
-        held terms plan vectors later h = line_holds p a root goes one terms plan vectors later now after mid lower rest s more yes' h little same answer yes'' branches closed next
+        held : (wanted vectors : List (List ℕ)) (later : List (ℕ × SearchNode)) → HasRead p root.upper later now → Passed p a root goes one wanted vectors later now mid lower rest more
+        held wanted vectors later h = line_holds p a root goes one wanted vectors later now after mid lower rest s more yes' h little same answer yes'' branches closed next
 
         pub tree_more : (new : Reader) (child : Vec ℕ Global) → IsNextAnswer p a root mid new (Some child) → StaysReady p a mid new → ((node : ℕ) → HasPlace now.closed node → HasPlace mid.closed node) → IsReadingTree p a root old text new child.items more
         tree_more new child h stays kept = record {
@@ -204,10 +203,10 @@ module _ (p : Project) (a : List ℕ) (root : Bounds) (old : Reader) (text : Lis
           whole = is.whole ∙ (ap (λ (xs : List ℕ). is.front ++ xs) same ∙ sym (append_assoc is.front (step_line s) more));
           lines = inr (after_line is.front s);
           room = omega (arith, fewer, stays.number, next);
-          told = λ terms plan vectors nodes r.
-              let told = is.told terms plan vectors nodes r in
-              let passed = held terms plan vectors told.0 told.1 in
-              let on = h.2 terms plan vectors told.0 more passed.read in
+          told = λ wanted vectors nodes r.
+              let told = is.told wanted vectors nodes r in
+              let passed = held wanted vectors told.0 told.1 in
+              let on = h.2 wanted vectors told.0 more passed.read in
               (on.0, on.1, ((λ x. on.2.0 (passed.asks.0 (told.2.0 x))), λ x. told.2.1 (passed.asks.1 (on.2.1 x))));
         }
 
@@ -220,12 +219,12 @@ module _ (p : Project) (a : List ℕ) (root : Bounds) (old : Reader) (text : Lis
           whole = is.whole ∙ (ap (λ (xs : List ℕ). is.front ++ xs) same ∙ sym (append_assoc is.front (step_line s) more));
           lines = after_line is.front s;
           room = omega (arith, fewer, stays.number, next);
-          told = λ terms plan vectors nodes r.
-              let told = is.told terms plan vectors nodes r in
-              let passed = held terms plan vectors told.0 told.1 in
-              let on = h.1 terms plan vectors told.0 more passed.read in
-              let rest_is : Asks p a terms plan root vectors on.0 new more ↔ IsRest p terms plan root vectors on.0 new.number more =
-              subst (λ (xs : List Branch). Follow p a (rest_of p terms plan root vectors) on.0 new.number (open_nodes a root.upper xs) more ↔ IsRest p terms plan root vectors on.0 new.number more) (sym h.0) ((λ x. x), λ x. x) in
+          told = λ wanted vectors nodes r.
+              let told = is.told wanted vectors nodes r in
+              let passed = held wanted vectors told.0 told.1 in
+              let on = h.1 wanted vectors told.0 more passed.read in
+              let rest_is : Asks p a wanted root vectors on.0 new more ↔ IsRest p wanted root vectors on.0 new.number more =
+              subst (λ (xs : List Branch). Follow p a (rest_of p wanted root vectors) on.0 new.number (open_nodes a root.upper xs) more ↔ IsRest p wanted root vectors on.0 new.number more) (sym h.0) ((λ x. x), λ x. x) in
               (on.0, on.1, ((λ x. rest_is.0 (on.2.0 (passed.asks.0 (told.2.0 x)))), λ x. told.2.1 (passed.asks.1 (on.2.1 (rest_is.1 x)))));
         }
 

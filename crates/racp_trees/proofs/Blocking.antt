@@ -5,14 +5,13 @@ use Rattle.std.specs.Fmt.{decimal}
 use Rattle.std.proofs.lemmas.List.{append_cancel_left}
 use Rattle.std.proofs.lemmas.List.Elements.{All-head, All-tail}
 use Rattle.racp_model.specs.Project.{Project}
-use Rattle.racp_model.specs.Terms.{Terms}
 use Rattle.racp_model.specs.Window.{Bounds}
 use Rattle.racp_model.proofs.lemmas.Relations.{member_cases, member_first, member_later, no_member}
 use Rattle.racp_plan.proofs.lemmas.Numbers.{same_number, feed_is_no_digit, blank_is_no_digit}
 use Rattle.racp_cutset.specs.Covering.{SearchNode}
 use Rattle.racp_trees.specs.Trees.{Hold}
 use Rattle.racp_trees.specs.Texts.{Block, HasSmallNumbers, most_number, vector_line, tree_text, block_text, last_line}
-use Rattle.racp_trees.specs.Certificates.{AllHold, AreEnough, vectors_of}
+use Rattle.racp_trees.specs.Certificates.{AllHold, vectors_of}
 use Rattle.racp_trees.specs.Following.{IsNext, IsRest}
 use Rattle.racp_trees.specs.Readers.{rest_of}
 use Rattle.racp_trees.proofs.Spelling.{AreSmall, ended, vector_ended, blank_then, last_number}
@@ -59,19 +58,19 @@ no_more : {X : Type 0} (xs : List X) → xs ++ [] ≡ xs
 no_more [] = refl
 no_more {X} (x ∷ xs) = ap (λ (ys : List X). x ∷ ys) (no_more xs)
 
-module _ (p : Project) (terms : Terms) (plan : List ℕ) (root : Bounds) (vectors : List (List ℕ)) (closed : List (ℕ × SearchNode)) (n : ℕ) where
+module _ (p : Project) (wanted : List (List ℕ)) (root : Bounds) (vectors : List (List ℕ)) (closed : List (ℕ × SearchNode)) (n : ℕ) where
   abbrev Rest : List ℕ → Type 0
-  Rest text = IsRest p terms plan root vectors closed n text
+  Rest text = IsRest p wanted root vectors closed n text
 
   -- a block is next
   module _ (a more : List ℕ) (some : 1 ≤ p.resources) (places : length a ≡ p.resources) (small : AreSmall a) where
     abbrev Next : Type 0
-    Next = IsNext p a (rest_of p terms plan root (vectors ++ a ∷ [])) closed n root [] more
+    Next = IsNext p a (rest_of p wanted root (vectors ++ a ∷ [])) closed n root [] more
 
     there : Rest (vector_line a ++ more) → Next
-    there h = go h.blocks h.whole h.small h.hold h.enough
+    there h = go h.blocks h.whole h.small h.hold h.all
       where
-        go : (blocks : List Block) → vector_line a ++ more ≡ flat_map block_text blocks ++ last_line → ((block : Block) → Contains blocks block → HasSmallNumbers block) → AllHold p root closed n blocks → AreEnough p terms plan (vectors ++ vectors_of blocks) → Next
+        go : (blocks : List Block) → vector_line a ++ more ≡ flat_map block_text blocks ++ last_line → ((block : Block) → Contains blocks block → HasSmallNumbers block) → AllHold p root closed n blocks → vectors ++ vectors_of blocks ≡ wanted → Next
         go [] e little hold enough = absurd (omega (arith, vector_letter a more, ap (λ (xs : List ℕ). get_or xs 0 0) (e ∙ sym (no_more last_line)), last_letter []))
         go (block ∷ blocks) e little hold enough =
             let own = little block (member_first block blocks block refl) in
@@ -84,7 +83,7 @@ module _ (p : Project) (terms : Terms) (plan : List ℕ) (root : Bounds) (vector
                 whole = refl;
                 small = λ x c. little x (member_later block blocks x c);
                 hold = hold.2;
-                enough = subst (λ (vs : List (List ℕ)). AreEnough p terms plan vs) (ap (λ (v : List ℕ). vectors ++ v ∷ vectors_of blocks) (sym is.0) ∙ sym (append_assoc vectors (a ∷ []) (vectors_of blocks))) enough;
+                all = subst (λ (vs : List (List ℕ)). vs ≡ wanted) (ap (λ (v : List ℕ). vectors ++ v ∷ vectors_of blocks) (sym is.0) ∙ sym (append_assoc vectors (a ∷ []) (vectors_of blocks))) enough;
               },
             )
 
@@ -100,33 +99,33 @@ module _ (p : Project) (terms : Terms) (plan : List ℕ) (root : Bounds) (vector
             | inr later ↦ rest.small x later
           ];
           hold = (places, h.2.holds, rest.hold);
-          enough = subst (λ (vs : List (List ℕ)). AreEnough p terms plan vs) (append_assoc vectors (a ∷ []) (vectors_of rest.blocks)) rest.enough;
+          all = subst (λ (vs : List (List ℕ)). vs ≡ wanted) (append_assoc vectors (a ∷ []) (vectors_of rest.blocks)) rest.all;
         }
 
     pub block_next : Rest (vector_line a ++ more) ↔ Next
     block_next = (there, back)
 
   -- the last line
-  pub last_is : (left : List ℕ) → Rest (last_line ++ left) ↔ ((left ≡ []) × AreEnough p terms plan vectors)
+  pub last_is : (left : List ℕ) → Rest (last_line ++ left) ↔ ((left ≡ []) × (vectors ≡ wanted))
   last_is left = (
-    λ h. go h.blocks h.whole h.enough,
+    λ h. go h.blocks h.whole h.all,
     λ h. record {
       blocks = [];
       whole = ap (λ (xs : List ℕ). last_line ++ xs) h.0 ∙ no_more last_line;
       small = λ x c. absurd (no_member x c);
       hold = tt;
-      enough = subst (λ (vs : List (List ℕ)). AreEnough p terms plan vs) (sym (no_more vectors)) h.1;
+      all = subst (λ (vs : List (List ℕ)). vs ≡ wanted) (sym (no_more vectors)) h.1;
     },
   )
     where
-      go : (blocks : List Block) → last_line ++ left ≡ flat_map block_text blocks ++ last_line → AreEnough p terms plan (vectors ++ vectors_of blocks) → (left ≡ []) × AreEnough p terms plan vectors
-      go [] e enough = (append_cancel_left last_line left [] (e ∙ sym (no_more last_line)), subst (λ (vs : List (List ℕ)). AreEnough p terms plan vs) (no_more vectors) enough)
+      go : (blocks : List Block) → last_line ++ left ≡ flat_map block_text blocks ++ last_line → vectors ++ vectors_of blocks ≡ wanted → (left ≡ []) × (vectors ≡ wanted)
+      go [] e enough = (append_cancel_left last_line left [] (e ∙ sym (no_more last_line)), subst (λ (vs : List (List ℕ)). vs ≡ wanted) (no_more vectors) enough)
       go (block ∷ blocks) e enough = absurd (omega (arith, last_letter left, ap (λ (xs : List ℕ). get_or xs 0 0) (e ∙ block_then block blocks), vector_letter block.vector (tree_text block.tree ++ (flat_map block_text blocks ++ last_line))))
 
-  -- any other line
-  pub no_rest : (text : List ℕ) → ((vector rest : List ℕ) → length vector ≡ p.resources → AreSmall vector → text ≡ vector_line vector ++ rest → ⊥) → ((rest : List ℕ) → text ≡ last_line ++ rest → ⊥) → Rest text → ⊥
-  no_rest text block last h = go h.blocks h.whole h.small h.hold
+  -- no block is next
+  pub only_last : (text : List ℕ) → ((vector rest : List ℕ) → length vector ≡ p.resources → AreSmall vector → text ≡ vector_line vector ++ rest → ⊥) → Rest text → text ≡ last_line
+  only_last text block h = go h.blocks h.whole h.small h.hold
     where
-      go : (blocks : List Block) → text ≡ flat_map block_text blocks ++ last_line → ((block : Block) → Contains blocks block → HasSmallNumbers block) → AllHold p root closed n blocks → ⊥
-      go [] e little hold = last [] (e ∙ sym (no_more last_line))
-      go (b ∷ blocks) e little hold = block b.vector (tree_text b.tree ++ (flat_map block_text blocks ++ last_line)) hold.0 (little b (member_first b blocks b refl)).vector (e ∙ block_then b blocks)
+      go : (blocks : List Block) → text ≡ flat_map block_text blocks ++ last_line → ((block : Block) → Contains blocks block → HasSmallNumbers block) → AllHold p root closed n blocks → text ≡ last_line
+      go [] e little hold = e
+      go (b ∷ blocks) e little hold = absurd (block b.vector (tree_text b.tree ++ (flat_map block_text blocks ++ last_line)) hold.0 (little b (member_first b blocks b refl)).vector (e ∙ block_then b blocks))

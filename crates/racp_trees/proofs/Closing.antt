@@ -2,7 +2,6 @@
 use Rattle.std.proofs.Common.{◌≡◌, ◌↔◌, ◌⊎◌, inl, inr, ◌∙◌, ℕ, ◌<◌, List, [], ◌∷◌, ◌++◌, length, Contains, arith, refl, sym, subst, ap}
 use Rattle.std.proofs.lemmas.List.{ext_get_or}
 use Rattle.racp_model.specs.Project.{Project, number}
-use Rattle.racp_model.specs.Terms.{Terms}
 use Rattle.racp_model.specs.Window.{Bounds}
 use Rattle.racp_model.proofs.lemmas.Relations.{member_cases, member_first, member_later, no_member}
 use Rattle.racp_delay.specs.Alternatives.{Splits}
@@ -49,30 +48,30 @@ child_one p early active window gone kept v w places s g h =
     let upper : v.upper ≡ w.upper = a.upper ∙ sym b.upper in
     λ i. record { lower = lower i; upper = upper i }
 
-module _ (p : Project) (a : List ℕ) (terms : Terms) (plan : List ℕ) (root : Bounds) (vectors : List (List ℕ)) (nodes : List (ℕ × SearchNode)) (n : ℕ) where
+module _ (p : Project) (a : List ℕ) (wanted : List (List ℕ)) (root : Bounds) (vectors : List (List ℕ)) (nodes : List (ℕ × SearchNode)) (n : ℕ) where
   abbrev Follows : List (ℕ × SearchNode) → List OpenNode → List ℕ → Type 0
-  Follows closed frames text = Follow p a (rest_of p terms plan root vectors) closed n frames text
+  Follows closed frames text = Follow p a (rest_of p wanted root vectors) closed n frames text
 
   -- a branch whose children were all read is closed
   pub branch_closes : (f : OpenNode) → IsReadUp p f → (frames : List OpenNode) (text : List ℕ) → Follows nodes (f ∷ frames) text ↔ Follows ((f.number, f.node) ∷ nodes) frames text
   branch_closes f up frames text = elim up [
-    | inl none ↦ node_closes p a (rest_of p terms plan root vectors) (rest_stays p terms plan root vectors) f none nodes n frames text
+    | inl none ↦ node_closes p a (rest_of p wanted root vectors) (rest_stays p wanted root vectors) f none nodes n frames text
     | inr whole ↦
-        let passed = whole_passed p a (rest_of p terms plan root vectors) (rest_stays p terms plan root vectors) f whole.0 whole.1 nodes n frames text whole.2 in
-        let closes = node_closes p a (rest_of p terms plan root vectors) (rest_stays p terms plan root vectors) (read_on f whole.0) whole.3 nodes n frames text in
+        let passed = whole_passed p a (rest_of p wanted root vectors) (rest_stays p wanted root vectors) f whole.0 whole.1 nodes n frames text whole.2 in
+        let closes = node_closes p a (rest_of p wanted root vectors) (rest_stays p wanted root vectors) (read_on f whole.0) whole.3 nodes n frames text in
         (λ h. closes.0 (passed.0 h), λ h. passed.1 (closes.1 h))
   ]
 
   -- the next child of a branch is the next window
   pub branch_goes_on : (old new : Branch) (lower : List ℕ) → IsBranch p a old → IsNextChild p a old new lower → (upper : List ℕ) (frames : List OpenNode) (text : List ℕ) →
-      Follows nodes (open_node a upper old ∷ frames) text ↔ IsNext p a (rest_of p terms plan root vectors) nodes n (record { lower = lower; upper = upper }) (open_node a upper new ∷ frames) text
+      Follows nodes (open_node a upper old ∷ frames) text ↔ IsNext p a (rest_of p wanted root vectors) nodes n (record { lower = lower; upper = upper }) (open_node a upper new ∷ frames) text
   branch_goes_on old new lower is next upper frames text =
       let f : OpenNode = open_node a upper old in
       let child : Bounds = record { lower = lower; upper = upper } in
       let minimal = (next.next upper).minimal in
-      let told = child_next p a (rest_of p terms plan root vectors) (rest_stays p terms plan root vectors) f next.gone (next.next upper) child next.window.some (next.window.child upper)
+      let told = child_next p a (rest_of p wanted root vectors) (rest_stays p wanted root vectors) f next.gone (next.next upper) child next.window.some (next.window.child upper)
       (λ other h. child_one p old.early old.active (record { lower = old.lower.items; upper = upper }) next.gone minimal.delays.0 other child is.places minimal.delays.1 h (next.window.child upper)) nodes n frames text in
-      subst (λ (g : OpenNode). Follows nodes (f ∷ frames) text ↔ IsNext p a (rest_of p terms plan root vectors) nodes n child (g ∷ frames) text) (sym (next.read upper)) told
+      subst (λ (g : OpenNode). Follows nodes (f ∷ frames) text ↔ IsNext p a (rest_of p wanted root vectors) nodes n child (g ∷ frames) text) (sym (next.read upper)) told
 
 -- a reader that passes on, whatever it closes
 pub record IsPassing (p : Project) (a : List ℕ) (root : Bounds) (old now : Reader) : Type 0 where
@@ -82,7 +81,7 @@ pub record IsPassing (p : Project) (a : List ℕ) (root : Bounds) (old now : Rea
 pub passing_first : (p : Project) (a : List ℕ) (root : Bounds) (old : Reader) → IsReady p a old → IsPassing p a root old old
 passing_first p a root old ready = record {
   stays = record { ready = ready; number = refl; places = λ m h. h };
-  passed = λ terms plan vectors nodes text h. (nodes, h, ((λ x. x), λ x. x));
+  passed = λ wanted vectors nodes text h. (nodes, h, ((λ x. x), λ x. x));
 }
 
 -- a place in the table after a record was kept
@@ -126,32 +125,32 @@ module _ (p : Project) (a : List ℕ) (root : Bounds) (old now new : Reader) (re
       number = same ∙ is.stays.number;
       places = λ m h. kept_place now.closed new.closed b.number row kept m (is.stays.places m h);
     };
-    passed = λ terms plan vectors nodes text h.
-        let told = is.passed terms plan vectors nodes text h in
+    passed = λ wanted vectors nodes text h.
+        let told = is.passed wanted vectors nodes text h in
         let later = told.0 in
         let more : List (ℕ × SearchNode) = (b.number, (open_node a root.upper b).node) ∷ later in
-        let closes = branch_closes p a terms plan root vectors later now.number (open_node a root.upper b) (up root.upper) (open_nodes a root.upper rest) text in
-        let split : Asks p a terms plan root vectors later now text ↔ Follow p a (rest_of p terms plan root vectors) more now.number (open_nodes a root.upper rest) text =
-        subst (λ (fs : List OpenNode). Follow p a (rest_of p terms plan root vectors) later now.number fs text ↔ Follow p a (rest_of p terms plan root vectors) more now.number (open_nodes a root.upper rest) text) (sym apart_frames) closes in
-        let all : Asks p a terms plan root vectors later now text ↔ Asks p a terms plan root vectors more new text =
-        subst (λ (xs : List Branch). Asks p a terms plan root vectors later now text ↔ Follow p a (rest_of p terms plan root vectors) more new.number (open_nodes a root.upper xs) text) (sym after)
-        (subst (λ k. Asks p a terms plan root vectors later now text ↔ Follow p a (rest_of p terms plan root vectors) more k (open_nodes a root.upper rest) text) (sym same) split) in
+        let closes = branch_closes p a wanted root vectors later now.number (open_node a root.upper b) (up root.upper) (open_nodes a root.upper rest) text in
+        let split : Asks p a wanted root vectors later now text ↔ Follow p a (rest_of p wanted root vectors) more now.number (open_nodes a root.upper rest) text =
+        subst (λ (fs : List OpenNode). Follow p a (rest_of p wanted root vectors) later now.number fs text ↔ Follow p a (rest_of p wanted root vectors) more now.number (open_nodes a root.upper rest) text) (sym apart_frames) closes in
+        let all : Asks p a wanted root vectors later now text ↔ Asks p a wanted root vectors more new text =
+        subst (λ (xs : List Branch). Asks p a wanted root vectors later now text ↔ Follow p a (rest_of p wanted root vectors) more new.number (open_nodes a root.upper xs) text) (sym after)
+        (subst (λ k. Asks p a wanted root vectors later now text ↔ Follow p a (rest_of p wanted root vectors) more k (open_nodes a root.upper rest) text) (sym same) split) in
         (more, read_closed p a root.upper later now new rest b row told.1 before after same places high last_branch kept (rows root.upper), ((λ x. all.0 (told.2.0 x)), λ x. told.2.1 (all.1 x)));
   }
 
   -- it goes on to its next child
   module _ (next : Branch) (lower : List ℕ) (after : new.branches.items ≡ rest ++ next ∷ []) (kept : new.closed ≡ now.closed) (same : new.number ≡ now.number) (number' : next.number ≡ b.number) (early' : next.early ≡ b.early) (fine : IsBranch p a next) (child : IsNextChild p a b next lower) where
     pub passing_child : IsPassedTo p a root old new lower
-    passing_child terms plan vectors nodes text h =
-        let told = is.passed terms plan vectors nodes text h in
+    passing_child wanted vectors nodes text h =
+        let told = is.passed wanted vectors nodes text h in
         let later = told.0 in
-        let goes = branch_goes_on p a terms plan root vectors later now.number b next lower last_branch child root.upper (open_nodes a root.upper rest) text in
+        let goes = branch_goes_on p a wanted root vectors later now.number b next lower last_branch child root.upper (open_nodes a root.upper rest) text in
         let frames : open_nodes a root.upper new.branches.items ≡ open_node a root.upper next ∷ open_nodes a root.upper rest = ap (λ (xs : List Branch). open_nodes a root.upper xs) after ∙ open_more a root.upper [] rest next in
-        let split : Asks p a terms plan root vectors later now text ↔ IsNext p a (rest_of p terms plan root vectors) later now.number (record { lower = lower; upper = root.upper }) (open_node a root.upper next ∷ open_nodes a root.upper rest) text =
-        subst (λ (fs : List OpenNode). Follow p a (rest_of p terms plan root vectors) later now.number fs text ↔ IsNext p a (rest_of p terms plan root vectors) later now.number (record { lower = lower; upper = root.upper }) (open_node a root.upper next ∷ open_nodes a root.upper rest) text) (sym apart_frames) goes in
-        let all : Asks p a terms plan root vectors later now text ↔ AsksNext p a terms plan root vectors later new lower text =
-        subst (λ (fs : List OpenNode). Asks p a terms plan root vectors later now text ↔ IsNext p a (rest_of p terms plan root vectors) later new.number (record { lower = lower; upper = root.upper }) fs text) (sym frames)
-        (subst (λ k. Asks p a terms plan root vectors later now text ↔ IsNext p a (rest_of p terms plan root vectors) later k (record { lower = lower; upper = root.upper }) (open_node a root.upper next ∷ open_nodes a root.upper rest) text) (sym same) split) in
+        let split : Asks p a wanted root vectors later now text ↔ IsNext p a (rest_of p wanted root vectors) later now.number (record { lower = lower; upper = root.upper }) (open_node a root.upper next ∷ open_nodes a root.upper rest) text =
+        subst (λ (fs : List OpenNode). Follow p a (rest_of p wanted root vectors) later now.number fs text ↔ IsNext p a (rest_of p wanted root vectors) later now.number (record { lower = lower; upper = root.upper }) (open_node a root.upper next ∷ open_nodes a root.upper rest) text) (sym apart_frames) goes in
+        let all : Asks p a wanted root vectors later now text ↔ AsksNext p a wanted root vectors later new lower text =
+        subst (λ (fs : List OpenNode). Asks p a wanted root vectors later now text ↔ IsNext p a (rest_of p wanted root vectors) later new.number (record { lower = lower; upper = root.upper }) fs text) (sym frames)
+        (subst (λ k. Asks p a wanted root vectors later now text ↔ IsNext p a (rest_of p wanted root vectors) later k (record { lower = lower; upper = root.upper }) (open_node a root.upper next ∷ open_nodes a root.upper rest) text) (sym same) split) in
         (later, read_again p root.upper later now new rest b next told.1 before after number' early' kept same, ((λ x. all.0 (told.2.0 x)), λ x. told.2.1 (all.1 x)))
 
     pub child_places : length lower ≡ length p.jobs
@@ -178,11 +177,11 @@ passing_ends p a root old now new is items size kept same =
     let left : new.branches.items ≡ [] = none_left new.branches.items (sym items ∙ none) in
     let equal : new.branches.items ≡ now.branches.items = left ∙ sym none in (
       left,
-      λ terms plan vectors nodes text h.
-          let told = is.passed terms plan vectors nodes text h in
-          let all : Asks p a terms plan root vectors told.0 now text ↔ Asks p a terms plan root vectors told.0 new text =
-          subst (λ (xs : List Branch). Asks p a terms plan root vectors told.0 now text ↔ Follow p a (rest_of p terms plan root vectors) told.0 new.number (open_nodes a root.upper xs) text) (sym equal)
-          (subst (λ k. Asks p a terms plan root vectors told.0 now text ↔ Follow p a (rest_of p terms plan root vectors) told.0 k (open_nodes a root.upper now.branches.items) text) (sym same) ((λ x. x), λ x. x)) in
+      λ wanted vectors nodes text h.
+          let told = is.passed wanted vectors nodes text h in
+          let all : Asks p a wanted root vectors told.0 now text ↔ Asks p a wanted root vectors told.0 new text =
+          subst (λ (xs : List Branch). Asks p a wanted root vectors told.0 now text ↔ Follow p a (rest_of p wanted root vectors) told.0 new.number (open_nodes a root.upper xs) text) (sym equal)
+          (subst (λ k. Asks p a wanted root vectors told.0 now text ↔ Follow p a (rest_of p wanted root vectors) told.0 k (open_nodes a root.upper now.branches.items) text) (sym same) ((λ x. x), λ x. x)) in
           (told.0, read_further p root.upper told.0 now new told.1 equal kept (omega (arith, same)), ((λ x. all.0 (told.2.0 x)), λ x. told.2.1 (all.1 x))),
     )
   where

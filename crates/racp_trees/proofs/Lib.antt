@@ -11,6 +11,7 @@ mod Starting
 mod Advancing
 mod Alternating
 mod Blocking
+mod Vectors
 mod Branching
 mod Closing
 mod Covered

@@ -5,7 +5,6 @@ use Rattle.std.proofs.lemmas.Bool.{cases_lt}
 use Rattle.std.proofs.lemmas.Option.{none-some}
 use Rattle.std.proofs.lemmas.List.Elements.{Contains-append_cases, Contains-append_left, Contains-append_right}
 use Rattle.racp_model.specs.Project.{Project}
-use Rattle.racp_model.specs.Terms.{Terms}
 use Rattle.racp_model.specs.Window.{Bounds}
 use Rattle.racp_model.proofs.lemmas.Relations.{member_cases, member_first, member_later, no_member, member_after, rising_tail}
 use Rattle.racp_cutset.specs.Covering.{SearchNode, IsNode, FitsBeforeTime}
@@ -42,8 +41,8 @@ all_hold-more p root xs ys n (block ∷ blocks) w h = (
   all_hold-more p root (divided n block.tree ++ xs) (divided n block.tree ++ ys) (n + node_count block.tree) blocks (within-more xs ys (divided n block.tree) w) h.2,
 )
 
-pub rest_stays : (p : Project) (terms : Terms) (plan : List ℕ) (root : Bounds) (vectors : List (List ℕ)) → Stays (rest_of p terms plan root vectors)
-rest_stays p terms plan root vectors xs ys n text w h = record { blocks = h.blocks; whole = h.whole; small = h.small; hold = all_hold-more p root xs ys n h.blocks w h.hold; enough = h.enough }
+pub rest_stays : (p : Project) (wanted : List (List ℕ)) (root : Bounds) (vectors : List (List ℕ)) → Stays (rest_of p wanted root vectors)
+rest_stays p wanted root vectors xs ys n text w h = record { blocks = h.blocks; whole = h.whole; small = h.small; hold = all_hold-more p root xs ys n h.blocks w h.hold; all = h.all }
 
 -- lines that name nodes behind a line
 pub named_behind : (front text rest : List ℕ) (node : ℕ) → text ≡ front ++ rest → ((more : List ℕ) × (front ≡ more ++ 10 ∷ [])) → IsNamed rest node → IsNamed text node

@@ -1,5 +1,6 @@
 -- Certificates that no capacities before those of a plan are enough.
-use Rattle.std.specs.Prelude.{◌≡◌, ℕ, ◌+◌, ◌<◌, ◌≤◌, List, [], ◌∷◌, ◌++◌, length, slice_index, Contains, All}
+use Rattle.std.specs.Prelude.{◌≡◌, ◌↔◌, ℕ, ◌+◌, ◌<◌, ◌≤◌, List, [], ◌∷◌, ◌++◌, length, map, slice_index, Contains, All, Option, Some, None, Vec}
+use Rattle.std.specs.Global.{Global}
 use Rattle.racp_model.specs.Project.{Project}
 use Rattle.racp_model.specs.Schedule.{roof}
 use Rattle.racp_model.specs.Terms.{Terms, release_of, due_of, IsBefore}
@@ -27,6 +28,23 @@ AreEnough p terms capacities vectors =
 abbrev pub vectors_of : List Block → List (List ℕ)
 vectors_of [] = []
 vectors_of (block ∷ blocks) = block.vector ∷ vectors_of blocks
+
+-- a text is one of blocks with these vectors, which hold with the root window
+pub record HasBlocks (p : Project) (root : Bounds) (vectors : List (List ℕ)) (text : List ℕ) : Type 0 where
+  pub blocks : List Block
+  pub with_text : text ≡ proof_text blocks
+  pub small : All HasSmallNumbers blocks
+  pub hold : AllHold p root [] 1 blocks
+  pub with_vectors : vectors_of blocks ≡ vectors
+
+-- vectors as the program has them
+abbrev pub rows_of : List (Vec ℕ Global) → List (List ℕ)
+rows_of rows = map (λ (row : Vec ℕ Global). row.items) rows
+
+-- the vectors of the blocks of a text, or none where it is not one of blocks that hold
+abbrev pub IsBlocksAnswer : Project → Bounds → List ℕ → Option (Vec (Vec ℕ Global) Global) → Type 0
+IsBlocksAnswer p root text (Some found) = (vectors : List (List ℕ)) → HasBlocks p root vectors text ↔ (rows_of found.items ≡ vectors)
+IsBlocksAnswer p root text None = (vectors : List (List ℕ)) → HasBlocks p root vectors text → ⊥
 
 -- a text is a certificate that no capacities before these are enough
 pub record IsCertificate (p : Project) (terms : Terms) (capacities text : List ℕ) : Type 0 where

@@ -1,7 +1,7 @@
 -- What a reader that goes line by line has to know: the nodes that are being read, and what has to follow in the text.
 use Rattle.std.specs.Prelude.{◌≡◌, ◌⊎◌, ℕ, ◌+◌, ◌<◌, ◌≤◌, List, [], ◌∷◌, ◌++◌, length, slice_index, Contains, AllPairs, flat_map}
 use Rattle.racp_model.specs.Project.{Project}
-use Rattle.racp_model.specs.Terms.{Terms, IsLexBefore}
+use Rattle.racp_model.specs.Terms.{IsLexBefore}
 use Rattle.racp_model.specs.Window.{Bounds}
 use Rattle.racp_delay.specs.Alternatives.{IsMinimalDelayingAlternative}
 use Rattle.racp_delay.specs.Branching.{IsConflict}
@@ -9,7 +9,7 @@ use Rattle.racp_cutset.specs.Covering.{SearchNode}
 use Rattle.racp_trees.specs.Children.{AreChildrenOf}
 use Rattle.racp_trees.specs.Texts.{Block, HasSmallLines, HasSmallNumbers, tree_text, block_text, last_line}
 use Rattle.racp_trees.specs.Trees.{Trees, node_count, divided, Hold, IsNodeOf, IsTooLate, IsCovered}
-use Rattle.racp_trees.specs.Certificates.{AllHold, AreEnough, vectors_of}
+use Rattle.racp_trees.specs.Certificates.{AllHold, vectors_of}
 use Rattle.racp_trees.specs.declared.step.Step.{Step}
 use Rattle.racp_trees.specs.declared.step.Step.TheVariants.{L, D, C}
 
@@ -86,10 +86,10 @@ IsStepped p capacities Ends closed n window frames (D time) more =
     (v : SearchNode) × (active : List ℕ) × IsOpened p capacities window time v active ×
     Follow p capacities Ends closed (n + 1) (record { number = n; node = v; active = active; last = [] } ∷ frames) more
 
--- a text ends with blocks that hold and the last line, and with them all blocks are enough
-pub record IsRest (p : Project) (terms : Terms) (capacities : List ℕ) (root : Bounds) (vectors : List (List ℕ)) (closed : List (ℕ × SearchNode)) (n : ℕ) (text : List ℕ) : Type 0 where
+-- a text ends with blocks that hold and the last line, and behind the vectors so far theirs are all that are wanted
+pub record IsRest (p : Project) (wanted : List (List ℕ)) (root : Bounds) (vectors : List (List ℕ)) (closed : List (ℕ × SearchNode)) (n : ℕ) (text : List ℕ) : Type 0 where
   pub blocks : List Block
   pub whole : text ≡ flat_map block_text blocks ++ last_line
   pub small : (block : Block) → Contains blocks block → HasSmallNumbers block
   pub hold : AllHold p root closed n blocks
-  pub enough : AreEnough p terms capacities (vectors ++ vectors_of blocks)
+  pub all : vectors ++ vectors_of blocks ≡ wanted

@@ -9,4 +9,5 @@ pub mod Records
 pub mod Branches
 pub mod Nodes
 pub mod Readers
+pub mod Blocks
 pub mod Laws

@@ -4,7 +4,6 @@ use Rattle.std.specs.Global.{Global}
 use denote.Ref.{Bor}
 use Rattle.racp_model.specs.Project.{Project}
 use Rattle.racp_model.specs.Limits.{most_bound}
-use Rattle.racp_model.specs.Terms.{Terms}
 use Rattle.racp_model.specs.Window.{Bounds}
 use Rattle.racp_cutset.specs.Covering.{SearchNode}
 use Rattle.racp_trees.specs.Trees.{IsNodeOf, IsTooLate}
@@ -60,31 +59,31 @@ IsLineAnswer p capacities window old (C node) yes' new =
 IsLineAnswer p capacities window old (D time) yes' new =
     MatchBool yes' (IsOpenedBy p capacities window time old new) ((v : SearchNode) (active : List ℕ) → IsOpened p capacities window time v active → ⊥)
 
--- what has to follow the tree of a block: the rest of a certificate, where these are the vectors of the blocks so far
-abbrev pub rest_of : Project → Terms → List ℕ → Bounds → List (List ℕ) → Ending
-rest_of p terms plan root vectors = λ closed n text. IsRest p terms plan root vectors closed n text
+-- what has to follow the tree of a block: the rest of a certificate, where these are the vectors of all blocks and of those so far
+abbrev pub rest_of : Project → List (List ℕ) → Bounds → List (List ℕ) → Ending
+rest_of p wanted root vectors = λ closed n text. IsRest p wanted root vectors closed n text
 
 -- a text goes on as the open nodes of a reader ask; and then as a certificate does
-abbrev pub Asks : Project → List ℕ → Terms → List ℕ → Bounds → List (List ℕ) → List (ℕ × SearchNode) → Reader → List ℕ → Type 0
-Asks p capacities terms plan root vectors nodes reader text =
-    Follow p capacities (rest_of p terms plan root vectors) nodes reader.number (open_nodes capacities root.upper reader.branches.items) text
+abbrev pub Asks : Project → List ℕ → List (List ℕ) → Bounds → List (List ℕ) → List (ℕ × SearchNode) → Reader → List ℕ → Type 0
+Asks p capacities wanted root vectors nodes reader text =
+    Follow p capacities (rest_of p wanted root vectors) nodes reader.number (open_nodes capacities root.upper reader.branches.items) text
 
 -- the same, where the tree of the window with these lower bounds is next
-abbrev pub AsksNext : Project → List ℕ → Terms → List ℕ → Bounds → List (List ℕ) → List (ℕ × SearchNode) → Reader → List ℕ → List ℕ → Type 0
-AsksNext p capacities terms plan root vectors nodes reader lower text =
-    IsNext p capacities (rest_of p terms plan root vectors) nodes reader.number (record { lower = lower; upper = root.upper }) (open_nodes capacities root.upper reader.branches.items) text
+abbrev pub AsksNext : Project → List ℕ → List (List ℕ) → Bounds → List (List ℕ) → List (ℕ × SearchNode) → Reader → List ℕ → List ℕ → Type 0
+AsksNext p capacities wanted root vectors nodes reader lower text =
+    IsNext p capacities (rest_of p wanted root vectors) nodes reader.number (record { lower = lower; upper = root.upper }) (open_nodes capacities root.upper reader.branches.items) text
 
 -- a reader passes on, and asks the same of each text, of the nodes that are closed then
 abbrev pub IsPassedOn : Project → List ℕ → Bounds → Reader → Reader → Type 0
 IsPassedOn p capacities root old new =
-    (terms : Terms) (plan : List ℕ) (vectors : List (List ℕ)) (nodes : List (ℕ × SearchNode)) (text : List ℕ) → HasRead p root.upper nodes old →
-    (later : List (ℕ × SearchNode)) × HasRead p root.upper later new × (Asks p capacities terms plan root vectors nodes old text ↔ Asks p capacities terms plan root vectors later new text)
+    (wanted vectors : List (List ℕ)) (nodes : List (ℕ × SearchNode)) (text : List ℕ) → HasRead p root.upper nodes old →
+    (later : List (ℕ × SearchNode)) × HasRead p root.upper later new × (Asks p capacities wanted root vectors nodes old text ↔ Asks p capacities wanted root vectors later new text)
 
 -- it passes on to a next window
 abbrev pub IsPassedTo : Project → List ℕ → Bounds → Reader → Reader → List ℕ → Type 0
 IsPassedTo p capacities root old new lower =
-    (terms : Terms) (plan : List ℕ) (vectors : List (List ℕ)) (nodes : List (ℕ × SearchNode)) (text : List ℕ) → HasRead p root.upper nodes old →
-    (later : List (ℕ × SearchNode)) × HasRead p root.upper later new × (Asks p capacities terms plan root vectors nodes old text ↔ AsksNext p capacities terms plan root vectors later new lower text)
+    (wanted vectors : List (List ℕ)) (nodes : List (ℕ × SearchNode)) (text : List ℕ) → HasRead p root.upper nodes old →
+    (later : List (ℕ × SearchNode)) × HasRead p root.upper later new × (Asks p capacities wanted root vectors nodes old text ↔ AsksNext p capacities wanted root vectors later new lower text)
 
 -- the next window, or that no node is open any more
 abbrev pub IsNextAnswer : Project → List ℕ → Bounds → Reader → Reader → Option (Vec ℕ Global) → Type 0
@@ -116,12 +115,12 @@ pub record HasReadTree (p : Project) (capacities : List ℕ) (root : Bounds) (ol
   pub whole : text ≡ front ++ rest
   pub lines : (more : List ℕ) × (front ≡ more ++ 10 ∷ [])
   pub room : new.number + length rest ≤ old.number + length text
-  pub told : (terms : Terms) (plan : List ℕ) (vectors : List (List ℕ)) (nodes : List (ℕ × SearchNode)) → HasRead p root.upper nodes old →
+  pub told : (wanted vectors : List (List ℕ)) (nodes : List (ℕ × SearchNode)) → HasRead p root.upper nodes old →
       (later : List (ℕ × SearchNode)) × HasRead p root.upper later new ×
-      (AsksNext p capacities terms plan root vectors nodes old root.lower text ↔ IsRest p terms plan root vectors later new.number rest)
+      (AsksNext p capacities wanted root vectors nodes old root.lower text ↔ IsRest p wanted root vectors later new.number rest)
 
 -- what reading a tree answers: what is left, or none where a text does not begin with one that holds
 abbrev pub IsTreeAnswer : Project → List ℕ → Bounds → Reader → List ℕ → Reader → Option (Bor (List ℕ)) → Type 0
 IsTreeAnswer p capacities root old text new (Some rest) = HasReadTree p capacities root old text new rest.now
 IsTreeAnswer p capacities root old text new None =
-    (terms : Terms) (plan : List ℕ) (vectors : List (List ℕ)) (nodes : List (ℕ × SearchNode)) → HasRead p root.upper nodes old → AsksNext p capacities terms plan root vectors nodes old root.lower text → ⊥
+    (wanted vectors : List (List ℕ)) (nodes : List (ℕ × SearchNode)) → HasRead p root.upper nodes old → AsksNext p capacities wanted root vectors nodes old root.lower text → ⊥

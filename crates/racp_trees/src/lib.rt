@@ -39,6 +39,7 @@
 #![tactic(auto)]
 
 mod before;
+mod blocks;
 mod branch;
 mod closed;
 mod enough;
@@ -50,5 +51,6 @@ mod reading;
 mod record;
 mod step;
 
+pub use blocks::block_vectors;
 pub use enough::are_enough;
 pub use step::Step;

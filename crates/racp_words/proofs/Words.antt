@@ -8,13 +8,13 @@ use Rattle.clap.proofs.ValueTestLemmas.{Accepts-accepts}
 use Rattle.clap.specs.declared.builder.value_parser.ValueParser.TheVariants.{Unsigned}
 use Rattle.clap.specs.Words.{IsUnsignedIn, Row, Text, fault_of, first_of, subcommand_of}
 use Rattle.clap.proofs.OnLiterals.{clap_on_literals}
-use Rattle.racp_words.specs.CommandLine.{IsCpmLine, AsksForCpm, IsPlanLine, AsksForPlan, IsWorkersLine, AsksForWorkers, IsOfWorkers, IsLimitOf, IsNumberOf, number_in, IsCheckLine, AsksForCheck, IsCrew, IsPlain, IsRequested, has_crew_option, is_set, path_at, racp}
+use Rattle.racp_words.specs.CommandLine.{IsCpmLine, AsksForCpm, IsPlanLine, AsksForPlan, IsWorkersLine, AsksForWorkers, IsOfWorkers, IsLimitOf, IsNumberOf, number_in, IsCheckLine, AsksForCheck, IsVerifyLine, AsksForVerify, IsCrew, IsPlain, IsRequested, has_crew_option, is_set, path_at, racp}
 use Rattle.clap.specs.Kinds.{Kinds, or_else}
 use Rattle.clap.specs.ValueTests.{is_unsigned_in}
 use Rattle.clap.specs.declared.error.kind.ErrorKind.TheVariants.{ValueValidation}
 use Rattle.racp_words.specs.declared.request.Crew.{Crew}
 use Rattle.racp_words.specs.declared.request.Request.{Request}
-use Rattle.racp_words.specs.declared.request.Request.TheVariants.{Cpm, Plan, Check}
+use Rattle.racp_words.specs.declared.request.Request.TheVariants.{Cpm, Plan, Check, Verify}
 
 -- the command that is named, and the word for its network
 with_network : Option (Text × List Row) → Option (Text × Option Text)
@@ -60,19 +60,23 @@ unfolding with_network
 none_asked None (Cpm network) e asked = asked
 none_asked None (Plan files memory crew) e asked = asked
 none_asked None (Check files) e asked = asked
+none_asked None (Verify files) e asked = asked
 none_asked (Some command) request e asked = absurd (search rules)
 
 -- `cpm` asks for the network that its word names
 cpm_asked : (command : Option (Text × List Row)) (word : Option Text) (request : Request) → with_network command ≡ Some (codes "cpm", word) → IsRequested command request → AsksForCpm word request
 unfolding with_network
 cpm_asked None word request e asked = absurd (search rules)
-cpm_asked (Some command) word (Cpm network) e asked = rw (← ap (λ c. c.1) (same_Some _ _ e)) asked.2
+cpm_asked (Some command) word (Cpm network) e asked = rw (← ap (λ c. c.1) (same_Some _ _ e)) asked.3
 cpm_asked (Some command) word (Plan files memory crew) e asked =
     let same : codes "cpm" ≡ codes "plan" = sym (ap (λ c. c.0) (same_Some _ _ e)) ∙ asked.0 in
     let letter : 99 ≡ 112 = ap (λ t. slice_index t 0) same in absurd (omega (arith, letter))
 cpm_asked (Some command) word (Check files) e asked =
     let same : codes "cpm" ≡ codes "check" = sym (ap (λ c. c.0) (same_Some _ _ e)) ∙ asked.0 in
     let letter : 112 ≡ 104 = ap (λ t. slice_index t 1) same in absurd (omega (arith, letter))
+cpm_asked (Some command) word (Verify files) e asked =
+    let same : codes "cpm" ≡ codes "verify" = sym (ap (λ c. c.0) (same_Some _ _ e)) ∙ asked.0 in
+    let letter : 99 ≡ 118 = ap (λ t. slice_index t 0) same in absurd (omega (arith, letter))
 
 -- the command that is named, the paths of its words for a network and an order, the word for memory, and whether an option about workers is given
 with_two_paths : Option (Text × List Row) → Option (Text × (Text × (Text × (Option Text × Bool))))
@@ -136,6 +140,9 @@ plan_asked (Some command) net order (Plan files memory crew) e asked =
 plan_asked (Some command) net order (Check files) e asked =
     let same : codes "plan" ≡ codes "check" = sym (ap (λ c. c.0) (same_Some _ _ e)) ∙ asked.0 in
     let letter : 112 ≡ 99 = ap (λ t. slice_index t 0) same in absurd (omega (arith, letter))
+plan_asked (Some command) net order (Verify files) e asked =
+    let same : codes "plan" ≡ codes "verify" = sym (ap (λ c. c.0) (same_Some _ _ e)) ∙ asked.0 in
+    let letter : 112 ≡ 118 = ap (λ t. slice_index t 0) same in absurd (omega (arith, letter))
 
 -- a number begins with no hyphen
 no_hyphen : (d : ℕ) (digits : Text) → IsUnsignedIn 1 64 (d ∷ digits) → (d == 45) ≡ false
@@ -183,6 +190,10 @@ workers_asked (Some command) net order number (Check files) in_range e asked =
     let same : codes "plan" ≡ codes "check" = sym (ap (λ c. c.0) (same_Some _ _ e)) ∙ asked.0 in
     let letter : 112 ≡ 99 = ap (λ t. slice_index t 0) same in absurd (omega (arith, letter))
 
+workers_asked (Some command) net order number (Verify files) in_range e asked =
+    let same : codes "plan" ≡ codes "verify" = sym (ap (λ c. c.0) (same_Some _ _ e)) ∙ asked.0 in
+    let letter : 112 ≡ 118 = ap (λ t. slice_index t 0) same in absurd (omega (arith, letter))
+
 -- the command that is named, and the paths of its words for a network, an order and a plan
 with_paths : Option (Text × List Row) → Option (Text × (Text × (Text × Text)))
 with_paths = option_map (λ command. (command.0, (path_at (codes "NET") command.1, (path_at (codes "ORDER") command.1, path_at (codes "PLAN") command.1))))
@@ -205,6 +216,35 @@ check_asked (Some command) net order plan (Plan files memory crew) e asked =
 check_asked (Some command) net order plan (Check files) e asked =
     let same = same_Some _ _ e in
     (asked.1 ∙ ap (λ c. c.1.0) same, asked.2 ∙ ap (λ c. c.1.1.0) same, asked.3 ∙ ap (λ c. c.1.1.1) same)
+check_asked (Some command) net order plan (Verify files) e asked =
+    let same : codes "check" ≡ codes "verify" = sym (ap (λ c. c.0) (same_Some _ _ e)) ∙ asked.0 in
+    let letter : 99 ≡ 118 = ap (λ t. slice_index t 0) same in absurd (omega (arith, letter))
+
+-- the command that is named, and the paths of its words for a network, an order, a plan and a certificate
+with_four_paths : Option (Text × List Row) → Option (Text × (Text × (Text × (Text × Text))))
+with_four_paths = option_map (λ command. (command.0, (path_at (codes "NET") command.1, (path_at (codes "ORDER") command.1, (path_at (codes "PLAN") command.1, path_at (codes "PROOF") command.1)))))
+
+verify_paths : (name : Text) (a b d f : ℕ) (net order plan proof : Text) → (a == 45) ≡ false → (b == 45) ≡ false → (d == 45) ≡ false → (f == 45) ≡ false →
+    (fault_of racp (name ∷ codes "verify" ∷ (a ∷ net) ∷ (b ∷ order) ∷ (d ∷ plan) ∷ (f ∷ proof) ∷ []) ≡ []) ×
+    (with_four_paths (subcommand_of racp (name ∷ codes "verify" ∷ (a ∷ net) ∷ (b ∷ order) ∷ (d ∷ plan) ∷ (f ∷ proof) ∷ [])) ≡ Some (codes "verify", (a ∷ net, (b ∷ order, (d ∷ plan, f ∷ proof)))))
+unfolding racp clap_on_literals with_four_paths
+verify_paths name a b d f net order plan proof p q r s = (rw (p, p, q, q, r, r, s, s) refl, rw (p, p, q, q, r, r, s, s) refl)
+
+-- `verify` asks for the files with these paths
+verify_asked : (command : Option (Text × List Row)) (net order plan proof : Text) (request : Request) → with_four_paths command ≡ Some (codes "verify", (net, (order, (plan, proof)))) → IsRequested command request →
+    AsksForVerify net order plan proof request
+unfolding with_four_paths
+verify_asked None net order plan proof request e asked = absurd (search rules)
+verify_asked (Some command) net order plan proof (Cpm network) e asked = absurd (asked.2 (ap (λ c. c.0) (same_Some _ _ e)))
+verify_asked (Some command) net order plan proof (Plan files memory crew) e asked =
+    let same : codes "verify" ≡ codes "plan" = sym (ap (λ c. c.0) (same_Some _ _ e)) ∙ asked.0 in
+    let letter : 118 ≡ 112 = ap (λ t. slice_index t 0) same in absurd (omega (arith, letter))
+verify_asked (Some command) net order plan proof (Check files) e asked =
+    let same : codes "verify" ≡ codes "check" = sym (ap (λ c. c.0) (same_Some _ _ e)) ∙ asked.0 in
+    let letter : 118 ≡ 99 = ap (λ t. slice_index t 0) same in absurd (omega (arith, letter))
+verify_asked (Some command) net order plan proof (Verify files) e asked =
+    let same = same_Some _ _ e in
+    (asked.1 ∙ ap (λ c. c.1.0) same, asked.2 ∙ ap (λ c. c.1.1.0) same, asked.3 ∙ ap (λ c. c.1.1.1.0) same, asked.4 ∙ ap (λ c. c.1.1.1.1) same)
 
 -- the parser takes each line that asks for `cpm`, and what is asked for is that
 pub cpm_line : (words : List Text) (network : Option Text) → IsCpmLine words network → (fault_of racp words ≡ []) × ((request : Request) → IsRequested (subcommand_of racp words) request → AsksForCpm network request)
@@ -255,4 +295,17 @@ check_line words (a ∷ net) (b ∷ order) (d ∷ plan) (name, first, second, th
     let taken = check_paths name a b d net order plan (ne_eqb a 45 first) (ne_eqb b 45 second) (ne_eqb d 45 third) in (
       ap (λ (ws : List Text). fault_of racp ws) is ∙ taken.0,
       λ request. check_asked (subcommand_of racp words) (a ∷ net) (b ∷ order) (d ∷ plan) request (ap (λ (ws : List Text). with_paths (subcommand_of racp ws)) is ∙ taken.1),
+    )
+
+-- the parser takes each line that asks for `verify`, and what is asked for is that
+pub verify_line : (words : List Text) (net order plan proof : Text) → IsVerifyLine words net order plan proof →
+    (fault_of racp words ≡ []) × ((request : Request) → IsRequested (subcommand_of racp words) request → AsksForVerify net order plan proof request)
+verify_line words [] order plan proof (name, none, second, third, fourth, is) = absurd none
+verify_line words (a ∷ net) [] plan proof (name, first, none, third, fourth, is) = absurd none
+verify_line words (a ∷ net) (b ∷ order) [] proof (name, first, second, none, fourth, is) = absurd none
+verify_line words (a ∷ net) (b ∷ order) (d ∷ plan) [] (name, first, second, third, none, is) = absurd none
+verify_line words (a ∷ net) (b ∷ order) (d ∷ plan) (f ∷ proof) (name, first, second, third, fourth, is) =
+    let taken = verify_paths name a b d f net order plan proof (ne_eqb a 45 first) (ne_eqb b 45 second) (ne_eqb d 45 third) (ne_eqb f 45 fourth) in (
+      ap (λ (ws : List Text). fault_of racp ws) is ∙ taken.0,
+      λ request. verify_asked (subcommand_of racp words) (a ∷ net) (b ∷ order) (d ∷ plan) (f ∷ proof) request (ap (λ (ws : List Text). with_four_paths (subcommand_of racp ws)) is ∙ taken.1),
     )

@@ -10,7 +10,7 @@ use Rattle.clap.specs.declared.builder.action.ArgAction.TheVariants.{SetTrue}
 use Rattle.clap.specs.declared.builder.value_parser.ValueParser.TheVariants.{Unsigned}
 use Rattle.racp_words.specs.declared.request.Crew.{Crew}
 use Rattle.racp_words.specs.declared.request.Request.{Request}
-use Rattle.racp_words.specs.declared.request.Request.TheVariants.{Cpm, Plan, Check}
+use Rattle.racp_words.specs.declared.request.Request.TheVariants.{Cpm, Plan, Check, Verify}
 use Rattle.racp_words.specs.declared.request.Source.{Source}
 use Rattle.racp_words.specs.declared.request.Source.TheVariants.{StandardInput, File}
 
@@ -49,14 +49,19 @@ abbrev pub check : App
 check = with_rule (with_rule (with_rule (new_app (codes "check")) (file_rule (codes "NET")))
     (file_rule (codes "ORDER"))) (file_rule (codes "PLAN"))
 
+-- `verify NET ORDER PLAN PROOF`
+abbrev pub verify : App
+verify = with_rule (with_rule (with_rule (with_rule (new_app (codes "verify")) (file_rule (codes "NET")))
+    (file_rule (codes "ORDER"))) (file_rule (codes "PLAN"))) (file_rule (codes "PROOF"))
+
 -- a program that tells its version
 abbrev pub with_version : App → App
 with_version a = record a { top = record a.top { has_version = true } }
 
--- `racp [cpm [NET] | plan NET ORDER [OPTIONS] | check NET ORDER PLAN]`
+-- `racp [cpm [NET] | plan NET ORDER [OPTIONS] | check NET ORDER PLAN | verify NET ORDER PLAN PROOF]`
 unfoldable pub racp : App
-racp = with_subcommand (with_subcommand (with_subcommand (with_version (new_app (codes "racp"))) cpm.top) plan.top)
-    check.top
+racp = with_subcommand (with_subcommand (with_subcommand (with_subcommand (with_version (new_app (codes "racp")))
+    cpm.top) plan.top) check.top) verify.top
 
 -- standard input where no word names a file, or `-` does; else the file of this path
 abbrev pub IsSource : Option Text → Source → Type 0
@@ -109,8 +114,9 @@ abbrev pub IsRequested : Option (Text × List Row) → Request → Type 0
 IsRequested None (Cpm network) = IsSource None network
 IsRequested None (Plan files memory crew) = ⊥
 IsRequested None (Check files) = ⊥
+IsRequested None (Verify files) = ⊥
 IsRequested (Some command) (Cpm network) =
-    (command.0 ≢ codes "plan") × (command.0 ≢ codes "check") × IsSource (first_of (codes "NET") command.1) network
+    (command.0 ≢ codes "plan") × (command.0 ≢ codes "check") × (command.0 ≢ codes "verify") × IsSource (first_of (codes "NET") command.1) network
 IsRequested (Some command) (Plan files memory crew) =
     (command.0 ≡ codes "plan") × (files.net.now ≡ path_at (codes "NET") command.1) ×
     (files.order.now ≡ path_at (codes "ORDER") command.1) ×
@@ -118,6 +124,10 @@ IsRequested (Some command) (Plan files memory crew) =
 IsRequested (Some command) (Check files) =
     (command.0 ≡ codes "check") × (files.net.now ≡ path_at (codes "NET") command.1) ×
     (files.order.now ≡ path_at (codes "ORDER") command.1) × (files.plan.now ≡ path_at (codes "PLAN") command.1)
+IsRequested (Some command) (Verify files) =
+    (command.0 ≡ codes "verify") × (files.net.now ≡ path_at (codes "NET") command.1) ×
+    (files.order.now ≡ path_at (codes "ORDER") command.1) × (files.plan.now ≡ path_at (codes "PLAN") command.1) ×
+    (files.proof.now ≡ path_at (codes "PROOF") command.1)
 
 -- the words ask for this
 abbrev pub AskFor : List Text → Request → Type 0
@@ -138,6 +148,7 @@ abbrev pub AsksForCpm : Option Text → Request → Type 0
 AsksForCpm word (Cpm network) = IsSource word network
 AsksForCpm word (Plan files memory crew) = ⊥
 AsksForCpm word (Check files) = ⊥
+AsksForCpm word (Verify files) = ⊥
 
 -- a word that is not empty, and no option
 abbrev pub IsPath : Text → Type 0
@@ -155,6 +166,7 @@ AsksForPlan net order (Cpm network) = ⊥
 AsksForPlan net order (Plan files memory crew) =
     (files.net.now ≡ net) × (files.order.now ≡ order) × (memory.mebibytes ≡ 1024) × (crew ≡ None)
 AsksForPlan net order (Check files) = ⊥
+AsksForPlan net order (Verify files) = ⊥
 
 -- After the program's name come `plan`, these two paths, `--workers` and this number from 1 to 64.
 abbrev pub IsWorkersLine : List Text → Text → Text → Text → Type 0
@@ -174,6 +186,7 @@ AsksForWorkers net order workers (Cpm network) = ⊥
 AsksForWorkers net order workers (Plan files memory crew) =
     (files.net.now ≡ net) × (files.order.now ≡ order) × (memory.mebibytes ≡ 1024) × IsOfWorkers workers crew
 AsksForWorkers net order workers (Check files) = ⊥
+AsksForWorkers net order workers (Verify files) = ⊥
 
 -- After the program's name come `check` and these three paths.
 abbrev pub IsCheckLine : List Text → Text → Text → Text → Type 0
@@ -187,3 +200,18 @@ AsksForCheck net order plan_path (Cpm network) = ⊥
 AsksForCheck net order plan_path (Plan files memory crew) = ⊥
 AsksForCheck net order plan_path (Check files) = (files.net.now ≡ net) × (files.order.now ≡ order) ×
     (files.plan.now ≡ plan_path)
+AsksForCheck net order plan_path (Verify files) = ⊥
+
+-- After the program's name come `verify` and these four paths.
+abbrev pub IsVerifyLine : List Text → Text → Text → Text → Text → Type 0
+IsVerifyLine words net order plan_path proof =
+    (name : Text) × IsPath net × IsPath order × IsPath plan_path × IsPath proof ×
+    (words ≡ name ∷ codes "verify" ∷ net ∷ order ∷ plan_path ∷ proof ∷ [])
+
+-- `verify` of the files with these paths
+abbrev pub AsksForVerify : Text → Text → Text → Text → Request → Type 0
+AsksForVerify net order plan_path proof (Cpm network) = ⊥
+AsksForVerify net order plan_path proof (Plan files memory crew) = ⊥
+AsksForVerify net order plan_path proof (Check files) = ⊥
+AsksForVerify net order plan_path proof (Verify files) = (files.net.now ≡ net) × (files.order.now ≡ order) ×
+    (files.plan.now ≡ plan_path) × (files.proof.now ≡ proof)

@@ -3,10 +3,10 @@
 ghost use Rattle.std.specs.Prelude.{◌≡◌, ◌≤◌, ℕ, List, Option, Some, IfOk, MatchResult, map, option_map, string_bytes, codes, false};
 ghost use Rattle.clap.specs.Words.{FailsBy, app_of, fault_of, first_of, first_value, found_of, kind_of, rows_of, rule_of, subcommand_rows_of};
 ghost use Rattle.clap.specs.declared.error.kind.ErrorKind.TheVariants.{OutOfMemory};
-ghost use Rattle.racp_words.specs.CommandLine.{AskFor, IsCheckLine, AsksForCheck, IsCpmLine, AsksForCpm, IsPlanLine, AsksForPlan, IsWorkersLine, AsksForWorkers, IsCrew, IsLimitOf, IsNumberOf, IsRequested, IsSource, check, cpm, file_rule, flag_rule, is_set, number_in, number_rule, path_at, plan, plan_of_files, plan_of_workers, racp};
+ghost use Rattle.racp_words.specs.CommandLine.{AskFor, IsCheckLine, AsksForCheck, IsVerifyLine, AsksForVerify, IsCpmLine, AsksForCpm, IsPlanLine, AsksForPlan, IsWorkersLine, AsksForWorkers, IsCrew, IsLimitOf, IsNumberOf, IsRequested, IsSource, check, cpm, file_rule, flag_rule, is_set, number_in, number_rule, path_at, plan, plan_of_files, plan_of_workers, racp, verify};
 ghost use Rattle.racp_words.specs.Commands.{IsCommandOf};
 
-use crate::request::{Crew, Memory, OrderFiles, PlanFiles, Request, Source};
+use crate::request::{Crew, Memory, OrderFiles, PlanFiles, ProofFiles, Request, Source};
 use clap::builder::ValueParser;
 use clap::{Arg, ArgAction, ArgMatches, Command, Error};
 use std::alloc::{AllocError, Global};
@@ -44,6 +44,9 @@ pub fn asked<'a>(alloc: Global, words: &'a [String]) -> Result<Request<'a>, Erro
     // With `check` and three paths, too.
     ensures check { (net order plan_path : List ℕ) → IsCheckLine (map string_bytes words.entry.now) net order plan_path
         → MatchResult result (AsksForCheck net order plan_path) (λ error. kind_of error ≡ OutOfMemory) }
+    // With `verify` and four paths, too.
+    ensures verify { (net order plan_path proof : List ℕ) → IsVerifyLine (map string_bytes words.entry.now) net order plan_path proof
+        → MatchResult result (AsksForVerify net order plan_path proof) (λ error. kind_of error ≡ OutOfMemory) }
     // Whatever the words are, the parser's account of them says what they ask for, or why they are refused.
     ensures asked { IfOk result (AskFor (map string_bytes words.entry.now)) }
     ensures faults { FailsBy (fault_of racp (map string_bytes words.entry.now)) result }
@@ -78,6 +81,13 @@ fn request_named<'a>(name: &str, words: &ArgMatches<'a>) -> Request<'a>
             order: path_of(words, "ORDER"),
             plan: path_of(words, "PLAN"),
         })
+    } else if name == "verify" {
+        Request::Verify(ProofFiles {
+            net: path_of(words, "NET"),
+            order: path_of(words, "ORDER"),
+            plan: path_of(words, "PLAN"),
+            proof: path_of(words, "PROOF"),
+        })
     } else {
         Request::Cpm(network_of(words))
     }
@@ -100,7 +110,8 @@ fn command<'a>(alloc: Global) -> Result<Command<'a>, AllocError>
         .version("0.1.0")
         .subcommand(cpm_command(alloc)?)?
         .subcommand(plan_command(alloc)?)?
-        .subcommand(check_command(alloc)?)
+        .subcommand(check_command(alloc)?)?
+        .subcommand(verify_command(alloc)?)
 }
 
 /// `cpm`, with its word.
@@ -160,6 +171,18 @@ fn check_command<'a>(alloc: Global) -> Result<Command<'a>, AllocError>
         .arg(file_word(alloc, "NET", "The network"))?
         .arg(file_word(alloc, "ORDER", "The order"))?
         .arg(file_word(alloc, "PLAN", "The plan"))
+}
+
+/// `verify`, with its words.
+fn verify_command<'a>(alloc: Global) -> Result<Command<'a>, AllocError>
+    ensures { IfOk result (IsCommandOf verify) }
+{
+    Command::new(alloc, "verify")
+        .about("Checks a plan, and a certificate that no cheaper capacities would do")
+        .arg(file_word(alloc, "NET", "The network"))?
+        .arg(file_word(alloc, "ORDER", "The order"))?
+        .arg(file_word(alloc, "PLAN", "The plan"))?
+        .arg(file_word(alloc, "PROOF", "The certificate"))
 }
 
 /// A word that has to be there, and names a file.

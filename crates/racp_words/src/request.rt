@@ -11,6 +11,8 @@ pub enum Request<'a> {
     Plan(OrderFiles<'a>, Memory, Option<Crew>),
     /// Whether a plan is one of a network on the terms of an order.
     Check(PlanFiles<'a>),
+    /// Whether a certificate shows that no capacities before a plan's are enough.
+    Verify(ProofFiles<'a>),
 }
 
 /// The paths of the files of a network and an order.
@@ -56,6 +58,19 @@ pub struct PlanFiles<'a> {
     pub order: &'a str,
     /// The path of the plan.
     pub plan: &'a str,
+}
+
+/// The paths of the files of a network, an order, a plan and a certificate.
+#[derive(Drop)]
+pub struct ProofFiles<'a> {
+    /// The path of the network.
+    pub net: &'a str,
+    /// The path of the order.
+    pub order: &'a str,
+    /// The path of the plan.
+    pub plan: &'a str,
+    /// The path of the certificate.
+    pub proof: &'a str,
 }
 
 /// Where a text is read from.

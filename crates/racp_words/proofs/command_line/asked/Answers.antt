@@ -4,7 +4,7 @@ use Rattle.clap.specs.Words.{App, HasKind, Kinds, Row, Text, app_of, fault_of, i
 use Rattle.clap.specs.declared.error.Error.{Error}
 use Rattle.clap.specs.declared.error.kind.ErrorKind.TheVariants.{OutOfMemory}
 use Rattle.racp_words.specs.CommandLine.{IsRequested, racp}
-use Rattle.racp_words.proofs.Words.{cpm_line, plan_line, workers_line, check_line}
+use Rattle.racp_words.proofs.Words.{cpm_line, plan_line, workers_line, check_line, verify_line}
 use Rattle.racp_words.proofs.command_line.asked.Goals as goal
 
 simple : is_simple racp ≡ true
@@ -53,6 +53,9 @@ returns-clause-workers c net order number line = (workers_line (map string_bytes
 pub returns-clause-check : goal.returns-clause-check
 returns-clause-check c net order plan line = (check_line (map string_bytes c.args.words.now) net order plan line).1 c.request_of.result (returns-clause-asked c)
 
+pub returns-clause-verify : goal.returns-clause-verify
+returns-clause-verify c net order plan proof line = (verify_line (map string_bytes c.args.words.now) net order plan proof line).1 c.request_of.result (returns-clause-asked c)
+
 -- an error of none of the kinds is want of memory
 only_memory : (e : Error) → HasKind [] e → kind_of e ≡ OutOfMemory
 only_memory e (inl memory) = memory
@@ -81,3 +84,8 @@ pub returns-in_err-matches-clause-check : goal.returns-in_err-matches-clause-che
 returns-in_err-matches-clause-check c net order plan line =
     let p = err_from_is_err_and c.from_residual-in_err-matches.result c.from_residual-in_err-matches.ensures.1 in
     rw (p.1, p.2) (free_of_fault c (check_line (map string_bytes c.args.words.now) net order plan line).0)
+
+pub returns-in_err-matches-clause-verify : goal.returns-in_err-matches-clause-verify
+returns-in_err-matches-clause-verify c net order plan proof line =
+    let p = err_from_is_err_and c.from_residual-in_err-matches.result c.from_residual-in_err-matches.ensures.1 in
+    rw (p.1, p.2) (free_of_fault c (verify_line (map string_bytes c.args.words.now) net order plan proof line).0)

@@ -1,0 +1,34 @@
+use Rattle.std.proofs.Common.{◌≡◌, ◌↔◌, ◌∙◌, ℕ, List, Vec, Option, Some, None, IsTrue, length, slice_index_or, ◌<◌, sym, subst}
+use Rattle.std.specs.Global.{Global}
+use Rattle.racp_model.specs.Terms.{release_of, due_of}
+use Rattle.racp_trees.specs.Certificates.{IsBlocksAnswer, IsCertificate}
+use Rattle.racp_trees.specs.Enough.{AreEnoughBlocks}
+use Rattle.racp_prices.specs.Units.{AreMostUnits}
+use Rattle.racp_check.proofs.Certified.{no_certificate, no_blocks, blocks_sized, certified}
+use Rattle.racp_check.proofs.proof.holds_in.Goals as goal
+
+pub returns-in_default : goal.returns-in_default
+returns-in_default c =
+    let p = c.args.net.now in
+    let none : IsBlocksAnswer p c.args.root.now c.args.text.now None = subst (λ (r : Option (Vec (Vec ℕ Global) Global)). IsBlocksAnswer p c.args.root.now c.args.text.now r) c.in_default.is c.in_ok-blocks.ensures in
+    no_certificate p c.args.order.now c.args.capacities.now c.args.text.now (no_blocks p c.args.order.now c.args.capacities.now c.args.text.now c.args.root.now c.requires.root none)
+
+pub are_enough-requires-clause-blocks : goal.are_enough-requires-clause-blocks
+are_enough-requires-clause-blocks c =
+    let p = c.args.net.now in
+    let there : IsBlocksAnswer p c.args.root.now c.args.text.now (Some c.in-Some.blocks) = subst (λ (r : Option (Vec (Vec ℕ Global) Global)). IsBlocksAnswer p c.args.root.now c.args.text.now r) c.in-Some.is c.in_ok-blocks.ensures in
+    let same : c.deref.result.now ≡ c.in-Some.blocks.items = c.deref.ensures.value in
+    subst (λ (rows : List (Vec ℕ Global)). (k : ℕ) → k < length rows → (d : Vec ℕ Global) → length (slice_index_or rows k d).items ≡ p.resources) (sym same)
+    (blocks_sized p c.args.order.now c.args.capacities.now c.args.text.now c.args.root.now c.requires.root c.in-Some.blocks.items there)
+
+pub returns : goal.returns
+returns c =
+    let p = c.args.net.now in
+    let there : IsBlocksAnswer p c.args.root.now c.args.text.now (Some c.in-Some.blocks) = subst (λ (r : Option (Vec (Vec ℕ Global) Global)). IsBlocksAnswer p c.args.root.now c.args.text.now r) c.in-Some.is c.in_ok-blocks.ensures in
+    let same : c.deref.result.now ≡ c.in-Some.blocks.items = c.deref.ensures.value in
+    let roofs : c.as_slice.result.now ≡ c.in_ok-roofs.roofs = c.as_slice.ensures in
+    let enough : IsTrue c.in_ok-enough.enough ↔ AreEnoughBlocks p c.args.order.now c.in_ok-roofs.roofs c.args.capacities.now c.in-Some.blocks.items =
+    subst (λ (rows : List (Vec ℕ Global)). IsTrue c.in_ok-enough.enough ↔ AreEnoughBlocks p c.args.order.now c.in_ok-roofs.roofs c.args.capacities.now rows) same
+    (subst (λ (most : List ℕ). IsTrue c.in_ok-enough.enough ↔ AreEnoughBlocks p c.args.order.now most c.args.capacities.now c.deref.result.now) roofs c.in_ok-enough.ensures) in
+    let is = certified p c.args.order.now c.args.capacities.now c.args.text.now c.args.root.now c.requires.root c.in-Some.blocks.items there c.in_ok-roofs.roofs c.in_ok-roofs.ensures in
+    (λ x. is.0 (enough.0 x), λ x. enough.1 (is.1 x))

@@ -1,0 +1,108 @@
+ghost use Rattle.std.specs.Prelude.{◌≡◌, ◌↔◌, ◌+◌, ◌<◌, ◌^◌, ℕ, IfOk, IsTrue, length};
+ghost use Rattle.racp_model.specs.Formed.{HasBounds};
+ghost use Rattle.racp_trees.specs.Texts.{last_line};
+ghost use Rattle.racp_trees.specs.Certificates.{IsBlocksAnswer};
+ghost use Rattle.racp_trees.specs.Reading.{IsNamed};
+ghost use Rattle.racp_trees.specs.Nodes.{HasPlace};
+ghost use Rattle.racp_trees.specs.Blocks.{IsBetween, IsBlockRead, AreBlocksRead};
+
+use crate::closed::Closed;
+use crate::reader::{Ground, Reader};
+use crate::reading::{behind, read_vector};
+use racp_model::{Capacities, Network, Window};
+use std::alloc::{AllocError, Global};
+
+/// The capacity vectors of the blocks of a certificate's text, in their order; `None` where the text is not one of blocks that
+/// hold with the root window. Whether the blocks are enough is not looked at.
+///
+/// # Errors
+///
+/// Memory was refused.
+pub fn block_vectors(
+    alloc: Global,
+    net: &Network,
+    root: &Window,
+    text: &[u8],
+) -> Result<Option<Vec<Vec<u32>>>, AllocError>
+    requires root { HasBounds net.now root.now }
+    ensures { IfOk result (IsBlocksAnswer net.now root.now text.now) }
+{
+    let Some(rest) = behind(text, "proof\n") else {
+        return Ok(None);
+    };
+    let closed = Closed::for_text(alloc, rest)?;
+    let reader = Reader {
+        closed,
+        branches: Vec::new(alloc),
+        number: 1,
+    };
+    read_blocks(alloc, net, root, reader, rest)
+}
+
+/// The vectors of the blocks that a text has up to its last line, or `None` where it has other lines.
+fn read_blocks(
+    alloc: Global,
+    net: &Network,
+    root: &Window,
+    reader: Reader,
+    text: &[u8],
+) -> Result<Option<Vec<Vec<u32>>>, AllocError>
+    requires root { HasBounds net.now root.now }
+    requires between { IsBetween net.now reader }
+    requires places { (node : ℕ) → IsNamed text.now node → HasPlace reader.closed node }
+    requires room { reader.number + length text.now < 2 ^ 64 }
+    ensures { IfOk result (AreBlocksRead net.now root.now reader text.now) }
+{
+    let mut reader = reader;
+    let mut vectors = Vec::new(alloc);
+    let mut rest = text;
+    while let Some((vector, more)) = read_block(alloc, net, root, &mut reader, rest)? {
+        vectors.push(vector)?;
+        rest = more;
+    }
+    if is_last_line(rest) {
+        Ok(Some(vectors))
+    } else {
+        Ok(None)
+    }
+}
+
+/// Reads the block that a text begins with, and answers its vector and what stands behind it; `None` where the text does not
+/// begin with a block that holds.
+fn read_block<'t>(
+    alloc: Global,
+    net: &Network,
+    root: &Window,
+    reader: &mut Reader,
+    text: &'t [u8],
+) -> Result<Option<(Vec<u32>, &'t [u8])>, AllocError>
+    requires root { HasBounds net.now root.now }
+    requires between { IsBetween net.now reader.old }
+    requires places { (node : ℕ) → IsNamed text.now node → HasPlace reader.old.closed node }
+    requires room { reader.old.number + length text.now < 2 ^ 64 }
+    ensures { IfOk result (IsBlockRead net.now root.now reader.old text.now reader.new) }
+{
+    let Some((vector, more)) = read_vector(alloc, text, net.resource_count())? else {
+        return Ok(None);
+    };
+    let capacities = Capacities::new(vector);
+    let ground = Ground {
+        net,
+        root,
+        capacities: &capacities,
+    };
+    match reader.read_tree(alloc, &ground, more)? {
+        Some(rest) => Ok(Some((capacities.into_vec(), rest))),
+        None => Ok(None),
+    }
+}
+
+/// Whether a text is the last line alone.
+fn is_last_line(text: &[u8]) -> bool
+    ensures { IsTrue result ↔ (text.now ≡ last_line) }
+{
+    match behind(text, "end\n") {
+        Some(rest) => rest.is_empty(),
+        None => false,
+    }
+}
