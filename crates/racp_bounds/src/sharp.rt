@@ -1,10 +1,10 @@
-ghost use Rattle.std.specs.Prelude.{◌≡◌, ◌↔◌, ◌+◌, ◌-◌, ◌<◌, ◌≤◌, [], ◌∷◌, ◌++◌, OnOk, OnErr, IfOk, IfErr, IsTrue, length, slice_index, set};
+ghost use Rattle.std.specs.Prelude.{◌≡◌, ◌↔◌, ℕ, ◌+◌, ◌-◌, ◌<◌, ◌≤◌, [], ◌∷◌, ◌++◌, List, OnOk, OnErr, IfOk, IfErr, IsTrue, length, slice_index, set};
 ghost use Rattle.racp_model.specs.Project.{number};
 ghost use Rattle.racp_model.specs.Formed.{HasBounds};
 ghost use Rattle.racp_model.specs.Window.{IsYes};
 ghost use Rattle.racp_candidates.specs.Box.{AreBounds};
 ghost use Rattle.racp_questions.specs.FirstYes.{MayGiveUp};
-ghost use Rattle.racp_bounds.specs.Sharp.{IsSharpened, IsRefutedPair, AreRefutedPairs, IsSharp, pair_count, IsUnsharpened};
+ghost use Rattle.racp_bounds.specs.Sharp.{AreSharpenedBefore, IsSharpened, IsRefutedPair, AreRefutedPairs, IsSharp, pair_count, IsUnsharpened};
 
 use racp_candidates::{AnySeries, One, Singles};
 use racp_model::{Capacities, Network, Window};
@@ -25,7 +25,7 @@ pub struct Sharp {
 /// number of units, from its floor on, with which some starts fit when the other resources have their roofs. A pair of
 /// resources is refuted where no starts fit when both have their sharpened floors and the others their roofs. Floors
 /// and roofs are by resource, from place 0, with no floor above its roof, and some starts in the root window fit the
-/// roofs.
+/// roofs. The asker is told the floors that were reached, each time that it is asked for a further one.
 ///
 /// # Errors
 ///
@@ -45,6 +45,8 @@ pub fn sharpen<A: Asker<AnySeries>>(
     requires roofs { length roofs.now ≡ net.now.resources }
     requires bounds { AreBounds floors roofs.now }
     requires admits { IsYes net.now roofs.now root.now }
+    requires heard { (n : ℕ) (reached : List ℕ) → AreSharpenedBefore net.now root.now floors roofs.now n reached →
+        A.may_hear_floors reached }
     ensures network { A.about asker.new net.now }
     ensures sharp { IfOk result (IsSharp net.now root.now floors roofs.now) }
     ensures answered { OnOk result
@@ -55,11 +57,13 @@ pub fn sharpen<A: Asker<AnySeries>>(
 {
     let mut reached = floors;
     for k in 0..net.resource_count() {
+        asker.hear_floors(&reached);
         match raised(alloc, net, root, &reached, roofs, k, asker) {
             Ok(units) => reached = reached.with_units(k, units),
             Err(stop) => return Err((reached, stop)),
         }
     }
+    asker.hear_floors(&reached);
     match refuted_pairs(alloc, net, root, &reached, roofs, asker) {
         Ok(pairs) => Ok(Sharp {
             floors: reached,

@@ -2,3 +2,4 @@ pub mod lemmas
 mod Cutting
 mod Learning
 mod Halves
+mod Cheapest

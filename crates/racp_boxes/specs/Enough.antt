@@ -1,6 +1,7 @@
 -- Capacities within roofs that are enough for a window.
 use Rattle.std.specs.Prelude.{◌≡◌, ℕ, ◌<◌, ◌≤◌, List, length, slice_index}
 use Rattle.racp_model.specs.Project.{Project}
+use Rattle.racp_model.specs.Terms.{Terms, cost}
 use Rattle.racp_model.specs.Window.{Bounds, IsYes}
 
 -- one vector is at most another, resource by resource
@@ -17,3 +18,8 @@ pub record IsEnoughWithin (p : Project) (window : Bounds) (roofs vector : List �
 pub record AreFloorsOf (p : Project) (window : Bounds) (floors roofs : List ℕ) : Type 0 where
   pub places : length floors ≡ p.resources
   pub below : (vector : List ℕ) → IsEnoughWithin p window roofs vector → IsAtMost p floors vector
+
+-- such capacities cost at least so much
+abbrev pub IsLeastCost : Project → Terms → Bounds → (roofs : List ℕ) → ℕ → Type 0
+IsLeastCost p terms window roofs least =
+    (vector : List ℕ) → IsEnoughWithin p window roofs vector → least ≤ cost terms vector

@@ -62,6 +62,11 @@ abbrev pub HasNoneBefore : Project → Terms → Bounds → Span → List ℕ �
 HasNoneBefore p terms window span best =
     (vector : List ℕ) → IsBetween span.low span.high vector → IsYes p vector window → IsBefore terms vector best → ⊥
 
+-- a box has all vectors within the roofs, with which some starts fit, that cost less than a number
+abbrev pub HasAllBelow : Project → Terms → Bounds → (roofs : List ℕ) → Span → ℕ → Type 0
+HasAllBelow p terms window roofs span rest = (vector : List ℕ) → IsEnoughWithin p window roofs vector →
+    cost terms vector < rest → IsBetween span.low span.high vector
+
 -- a box was searched
 pub record IsSearched (p : Project) (terms : Terms) (window : Bounds) (roofs : List ℕ) (span : Span) (old new : Known)
     : Type 0 where

@@ -5,14 +5,14 @@ ghost use Rattle.racp_model.specs.Formed.{HasBounds};
 ghost use Rattle.racp_model.specs.Plan.{IsLeast};
 ghost use Rattle.racp_model.specs.Terms.{AreTermsOf, IsBefore};
 ghost use Rattle.racp_questions.specs.FirstYes.{IsProbeStop};
-ghost use Rattle.racp_boxes.specs.Enough.{AreFloorsOf, IsEnoughWithin};
-ghost use Rattle.racp_boxes.specs.Searched.{AreHalved, IsKnown, IsSearched, IsSpan, IsWidest};
+ghost use Rattle.racp_boxes.specs.Enough.{AreFloorsOf, IsEnoughWithin, IsLeastCost};
+ghost use Rattle.racp_boxes.specs.Searched.{AreHalved, HasAllBelow, IsKnown, IsSearched, IsSpan, IsWidest};
 
 use crate::cut::cut;
 use crate::known::Known;
 use racp_candidates::AnySeries;
 use racp_model::{Capacities, Network, Window};
-use racp_prices::Order;
+use racp_prices::{Order, cost_of};
 use racp_questions::{AskStop, Asker};
 use std::alloc::{AllocError, Global};
 
@@ -40,6 +40,7 @@ pub fn first_enough<A: Asker<AnySeries>>(
     requires root { HasBounds net.now root.now }
     requires floors { AreFloorsOf net.now root.now floors.now roofs.now }
     requires roofs { IsEnoughWithin net.now root.now roofs.now roofs.now }
+    requires heard { (least : ℕ) → IsLeastCost net.now order.now root.now roofs.now least → A.may_hear_cost least }
     ensures network { A.about asker.new net.now }
     ensures first { IfOk result (IsLeast (IsBefore order.now) (IsEnoughWithin net.now root.now roofs.now)) }
     ensures answered { A.answered asker.new ≡ A.answered asker.old }
@@ -50,7 +51,7 @@ pub fn first_enough<A: Asker<AnySeries>>(
         low: floors.copy()?,
         high: roofs.copy()?,
     };
-    search(alloc, net, order, root, roofs, &mut known, whole, asker)?;
+    search(alloc, net, order, root, roofs, &mut known, whole, u64::MAX, asker)?;
     Ok(known.best)
 }
 
@@ -62,7 +63,8 @@ struct Span {
 }
 
 /// Searches a box of vectors: what is then known as the best vector is none that another one of the box, with which
-/// some starts fit, stands before.
+/// some starts fit, stands before. All vectors within the roofs with which some starts fit and that cost less than `rest`
+/// are in the box. The asker is told what they cost at least.
 fn search<A: Asker<AnySeries>>(
     alloc: Global,
     net: &Network,
@@ -71,6 +73,7 @@ fn search<A: Asker<AnySeries>>(
     roofs: &Capacities,
     known: &mut Known,
     span: Span,
+    rest: u64,
     asker: &mut A,
 ) -> Result<(), AskStop>
     requires named { A.about asker.old net.now }
@@ -78,12 +81,15 @@ fn search<A: Asker<AnySeries>>(
     requires root { HasBounds net.now root.now }
     requires span { IsSpan net.now roofs.now span }
     requires known { IsKnown net.now order.now root.now roofs.now known.old }
+    requires rest { HasAllBelow net.now order.now root.now roofs.now span rest }
+    requires heard { (least : ℕ) → IsLeastCost net.now order.now root.now roofs.now least → A.may_hear_cost least }
     ensures network { A.about asker.new net.now }
     ensures searched { IfOk result (λ _. IsSearched net.now order.now root.now roofs.now span known.old known.new) }
     ensures answered { A.answered asker.new ≡ A.answered asker.old }
     ensures stop { IfErr result (IsProbeStop (A.told asker.new) (A.may_stop asker.new) (A.may_want_thread asker.new)) }
 {
     let Span { low, high } = span;
+    asker.hear_cost(cost_of(net, order, low.as_slice()).min(rest));
     let Some(high) = cut(alloc, net, order, known, &low, &high)? else {
         return Ok(());
     };
@@ -97,8 +103,11 @@ fn search<A: Asker<AnySeries>>(
         return Ok(());
     };
     let (below, above) = halved(low, high, k)?;
-    search(alloc, net, order, root, roofs, known, below, asker)?;
-    search(alloc, net, order, root, roofs, known, above, asker)
+    let other = cost_of(net, order, above.low.as_slice());
+    let rest_of_below = rest.min(known.cost).min(other);
+    search(alloc, net, order, root, roofs, known, below, rest_of_below, asker)?;
+    let rest_of_above = rest.min(known.cost);
+    search(alloc, net, order, root, roofs, known, above, rest_of_above, asker)
 }
 
 /// The two halves of a box along the resource at place `k`: that with fewer units, and the other one.

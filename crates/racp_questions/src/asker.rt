@@ -53,7 +53,7 @@ impl From<AllocError> for AskStop {
 /// hand them to threads of its own. Contracts see which network the asker is about, while it may be asked of it, how
 /// many series it has answered, what it told when it last stopped, and for which reasons it may give up.
 pub trait Asker<S: Series> {
-    ghost use Rattle.std.specs.Prelude.{◌≡◌, ℕ, ◌+◌, List, Option, OnOk, OnErr, IfOk, IfErr};
+    ghost use Rattle.std.specs.Prelude.{◌≡◌, ℕ, ◌+◌, List, Option, OnOk, OnErr, IfOk, IfErr, ⊤};
     ghost use Rattle.racp_model.specs.Project.{Project};
     ghost use Rattle.racp_model.specs.Formed.{AreFormed, IsFormed};
     ghost use Rattle.racp_questions.specs.FirstYes.{IsFirst, IsProbed, IsProbeStop, IsStop};
@@ -68,6 +68,11 @@ pub trait Asker<S: Series> {
     ghost may_stop: { Self → Type 0 };
 
     ghost may_want_thread: { Self → Type 0 };
+
+    // These floors, and this cost, may be told to it.
+    ghost may_hear_floors: { List ℕ → Type 0 } = { λ _. ⊤ };
+
+    ghost may_hear_cost: { ℕ → Type 0 } = { λ _. ⊤ };
 
     /// The first yes of the series, with starts in that question's window that keep precedence and its capacities. The
     /// network is the one that the asker is about, and the questions have its form: a capacity for each resource, and
@@ -105,4 +110,14 @@ pub trait Asker<S: Series> {
         ensures probed { IfOk result (IsProbed net.now question most) }
         ensures answered { answered self.new ≡ answered self.old }
         ensures stop { IfErr result (IsProbeStop (told self.new) (may_stop self.new) (may_want_thread self.new)) };
+
+    /// Is told floors that planning has come to.
+    fn hear_floors(&self, _floors: &Capacities)
+        requires { may_hear_floors _floors.now }
+    {}
+
+    /// Is told what planning has found that capacities cost at least.
+    fn hear_cost(&self, _cost: u64)
+        requires { may_hear_cost _cost }
+    {}
 }

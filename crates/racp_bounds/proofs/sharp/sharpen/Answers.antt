@@ -12,3 +12,9 @@ loop-k-preserved g c = record {
       (one_sharpened c.args.net.now c.args.root.now c.args.floors c.args.roofs.now c.loop-k.k c.in-Ok.units c.loop-k.reached
       (omega (arith, c.loop-k-test.true, c.resource_count-k-end.ensures.count)) c.loop-k.invariant.sharpened c.in-Ok.ensures.sharp);
 }
+
+pub hear_floors-requires : goal.hear_floors-requires
+hear_floors-requires g c = c.requires.heard c.loop-k.k c.loop-k.reached c.loop-k.invariant.sharpened
+
+pub hear_floors-requires-2 : goal.hear_floors-requires-2
+hear_floors-requires-2 g c = c.requires.heard c.loop-k.k c.loop-k.reached c.loop-k.invariant.sharpened

@@ -1,6 +1,8 @@
-use Rattle.std.proofs.Common.{◌≡◌, None, arith, rules}
+use Rattle.std.proofs.Common.{◌≡◌, None, min, arith, rules}
+use Rattle.racp_model.specs.Terms.{cost}
 use Rattle.std.proofs.lemmas.Result.{IfOk-weaker}
-use Rattle.racp_boxes.specs.Searched.{IsSearched}
+use Rattle.racp_boxes.specs.Searched.{HasAllBelow, IsSearched}
+use Rattle.racp_boxes.proofs.Cheapest.{above-has_all, below-has_all, told-least}
 use Rattle.racp_boxes.proofs.Halves.{AreHalves, cut_some, enough_not_before, halved-halves, refuted_no, searched-both, searched-one, searched-refuted, widest_none, widest_some}
 use Rattle.racp_boxes.proofs.halving.+search.Goals as goal
 
@@ -31,6 +33,13 @@ search-requires g t c κs within =
     let are : AreHalves p terms c.args.roofs.now c.args.span c.ask.new.self.best (c.in_ok-below.below, c.in_ok-below.above) =
     halved-halves p terms c.args.root.now c.args.roofs.now c.args.span c.requires.terms c.requires.span c.args.known.now c.requires.known c.in-Some.high is_cut c.ask.new.self c.in_ok-told.ensures.better
     c.in-Some-lane.k (omega (arith, lane.0, c.requires.span.low)) (c.in_ok-below.below, c.in_ok-below.above) c.in_ok-below.ensures in
+    let known = c.in_ok-told.ensures.better.known in
+    let other : c.cost_of-other.result ≡ cost terms c.in_ok-below.above.low = cc (c.cost_of-other.ensures, c.as_slice-2.ensures) in
+    let first : c.min-2.result ≡ min c.args.rest c.ask.new.self.cost = c.min-2.ensures in
+    let then : c.min-rest_of_below.result ≡ min c.min-2.result c.cost_of-other.result = c.min-rest_of_below.ensures in
+    let has : HasAllBelow p terms c.args.root.now c.args.roofs.now c.in_ok-below.below c.min-rest_of_below.result =
+    below-has_all p terms c.args.root.now c.args.roofs.now c.requires.terms c.args.span c.requires.span c.args.rest c.requires.rest c.ask.new.self known (c.in_ok-below.below, c.in_ok-below.above) are c.min-rest_of_below.result
+    (omega (arith, then, first)) (omega (arith, then, first)) (omega (arith, then, other)) in
     search rules
 
 pub search-requires-2 : goal.search-requires-2
@@ -42,6 +51,10 @@ search-requires-2 g t c κs within =
     let are : AreHalves p terms c.args.roofs.now c.args.span c.ask.new.self.best (c.in_ok-below.below, c.in_ok-below.above) =
     halved-halves p terms c.args.root.now c.args.roofs.now c.args.span c.requires.terms c.requires.span c.args.known.now c.requires.known c.in-Some.high is_cut c.ask.new.self c.in_ok-told.ensures.better
     c.in-Some-lane.k (omega (arith, lane.0, c.requires.span.low)) (c.in_ok-below.below, c.in_ok-below.above) c.in_ok-below.ensures in
+    let known = c.in_ok-told.ensures.better.known in
+    let has : HasAllBelow p terms c.args.root.now c.args.roofs.now c.in_ok-below.above c.min-rest_of_above.result =
+    above-has_all p terms c.args.root.now c.args.roofs.now c.requires.terms c.args.span c.requires.span c.args.rest c.requires.rest c.ask.new.self known (c.in_ok-below.below, c.in_ok-below.above) are c.search.new.known c.min-rest_of_above.result
+    c.in_ok-search.ensures.searched (omega (arith, c.min-rest_of_above.ensures)) (omega (arith, c.min-rest_of_above.ensures)) in
     search rules
 
 pub returns-clause-searched : goal.returns-clause-searched
@@ -60,3 +73,11 @@ returns-clause-searched g t c =
     searched-both p terms root roofs c.args.span c.requires.terms c.requires.span c.args.known.now c.requires.known (c.in_ok-below.below, c.in_ok-below.above) c.ask.new.self c.search.new.known c.search-2.new.known
     c.in_ok-told.ensures.better are c.in_ok-search.ensures.searched then)
     c.search-2.ensures.searched
+
+pub hear_cost-requires : goal.hear_cost-requires
+hear_cost-requires g t c =
+    let low : c.cost_of.result ≡ cost c.args.order.now c.args.span.low = cc (c.cost_of.ensures, c.as_slice.ensures) in
+    let least : c.min.result ≡ min c.cost_of.result c.args.rest = c.min.ensures in
+    c.requires.heard c.min.result
+    (told-least c.args.net.now c.args.order.now c.args.root.now c.args.roofs.now c.requires.terms c.args.span c.requires.span c.args.rest c.requires.rest c.min.result
+    (omega (arith, least, low)) (omega (arith, least)))
