@@ -1,6 +1,8 @@
 //! Who is told how far planning has come.
 
-use racp_model::{Capacities, Network};
+ghost use Rattle.racp_model.specs.Terms.{AreTermsOf};
+
+use racp_model::Network;
 use racp_prices::{Order, cost_of};
 
 /// Is told how far planning has come, by the thread that plans.
@@ -33,6 +35,7 @@ pub(crate) struct Pricing<'a, O: Observer> {
     pub(crate) net: &'a Network,
     pub(crate) order: &'a Order,
     pub(crate) observer: &'a O,
+    pub(crate) ghost terms: { AreTermsOf net.now order.now },
 }
 
 impl<'a, O: Observer> Observer for Pricing<'a, O> {
