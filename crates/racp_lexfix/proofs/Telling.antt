@@ -23,7 +23,7 @@ module _ (p : Project) (terms : Terms) (root : Bounds) (floors roofs : List ℕ)
     places = are.places;
     below = λ enough e k l.
         let low = admitting_above_sharpened p (release_of terms) (due_of terms) root terms.deadline n floors roofs reached (cut p enough) h (due_by p terms root floors roofs t h lowest most) lowest most.places are
-            (cut_within p terms root floors roofs t h lowest most enough e) (cut_admits p terms root floors roofs t h lowest most enough e) k l in
+        (cut_within p terms root floors roofs t h lowest most enough e) (cut_admits p terms root floors roofs t h lowest most enough e) k l in
         omega (arith, low, cut_less p terms root floors roofs t h lowest most enough k l);
   }
 

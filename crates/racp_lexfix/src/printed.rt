@@ -273,11 +273,7 @@ fn plan_by<
     } = crew;
     observer.hear_deadline(order.deadline);
     let board: Board<N> = Board::within(alloc, net, memory, workers)?;
-    let pricing = Pricing {
-        net,
-        order,
-        observer,
-    };
+    let pricing = Pricing::new(net, order, observer);
     let mut crowd: Crowd<N, P, Pricing<'_, O>, _> = Crowd::new(
         workers,
         turns,

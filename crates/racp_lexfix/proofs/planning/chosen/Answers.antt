@@ -2,7 +2,8 @@ use Rattle.std.proofs.Common.{◌≡◌, ◌+◌, ◌-◌, ◌<◌, List, ℕ, O
 use Rattle.std.proofs.lemmas.Result.{err_from_is_err_and}
 use Rattle.racp_bounds.specs.Sharp.{pair_count}
 use Rattle.racp_lexfix.specs.Answers.{ceiling_series, IsStoppedAt, IsPlanStop}
-use Rattle.racp_model.specs.Terms.{cost}
+use Rattle.racp_bounds.proofs.lemmas.Sharpened.{admitting_yes}
+use Rattle.racp_model.specs.Terms.{cost, due_of, release_of}
 use Rattle.racp_lexfix.specs.Stages.{IsBounded, IsLeastOfEnough, IsStoppedInBox}
 use Rattle.racp_lexfix.specs.declared.answer.PlanStop.{PlanStop}
 use Rattle.racp_lexfix.proofs.Staging.{ends_with, told_too, stopped_in_box, stopped_behind, unsharpened, planned}
@@ -75,3 +76,7 @@ hear_cost-requires g c =
     let priced : c.cost_of.result ≡ cost c.args.order.now c.in_ok-capacities.capacities = cc (c.cost_of.ensures, c.as_slice.ensures) in
     c.requires.least c.cost_of.result
     (subst (λ (x : ℕ). IsLeastOfEnough c.args.net.now c.args.order.now x) (sym priced) (first_cost c.args.net.now c.args.order.now c.in_ok-capacities.capacities c.in_ok-capacities.ensures.least))
+
+pub least_starts-requires-clause-yes : goal.least_starts-requires-clause-yes
+least_starts-requires-clause-yes g c =
+    admitting_yes c.args.net.now (release_of c.args.order.now) (due_of c.args.order.now) c.args.root.now c.in_ok-capacities.capacities c.requires.root c.in_ok-capacities.ensures.least.is.admits
