@@ -4,7 +4,7 @@ use racp_lexfix::Observer;
 use std::alloc::{AllocError, Global};
 use std::fmt;
 use std::fmt::{Display, Formatter};
-use std::sync::atomic::{AtomicU64, Ordering};
+use std::sync::atomic::{AtomicBool, AtomicU64, Ordering};
 use std::time::Duration;
 
 /// How many seconds lie between two lines, at least.
@@ -22,6 +22,7 @@ const IN_PLACE: &str = "\x1b[A\x1b[K";
 pub(crate) struct Progress {
     nodes: AtomicU64,
     due: AtomicU64,
+    is_begun: AtomicBool,
     on_terminal: bool,
     told: Told,
 }
@@ -77,6 +78,7 @@ impl Progress {
         Ok(Progress {
             nodes: AtomicU64::new(0),
             due: AtomicU64::new(PERIOD),
+            is_begun: AtomicBool::new(false),
             on_terminal,
             told: Told::new(alloc)?,
         })
@@ -95,7 +97,8 @@ impl Progress {
     /// cannot be written, nothing is told.
     pub(crate) fn tell<E: Eprint>(&self, errors: &E, passed: Duration, memory: u64) {
         let seconds = passed.as_secs();
-        let place = if self.on_terminal && PERIOD < seconds {
+        let is_begun = self.is_begun.swap(true, Ordering::SeqCst);
+        let place = if self.on_terminal && is_begun {
             IN_PLACE
         } else {
             ""
