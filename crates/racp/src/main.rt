@@ -27,6 +27,7 @@
 
 mod failure;
 mod limit;
+mod memory;
 mod progress;
 mod run;
 

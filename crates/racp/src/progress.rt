@@ -1,48 +1,113 @@
 //! What is told of planning while it goes on.
 
-use std::sync::atomic::{AtomicU64, Ordering};
+use racp_lexfix::Observer;
+use std::alloc::{AllocError, Global};
+use std::fmt;
+use std::fmt::{Display, Formatter};
+use std::sync::atomic::{AtomicBool, AtomicU64, Ordering};
 use std::time::Duration;
 
 /// How many seconds lie between two lines, at least.
 const PERIOD: u64 = 2;
 
+/// How many resources a project has at most.
+const MOST_RESOURCES: usize = 16;
+
 /// What a terminal is sent before a line that takes the place of the one above: up one line, and clear it.
 const IN_PLACE: &str = "\x1b[A\x1b[K";
 
-/// Counts the nodes of a search, and tells how many there are: every two seconds, where a node is searched then.
+/// Counts the nodes of a search, is told how far planning has come, and tells both: every two seconds, where a node is
+/// searched then.
 #[derive(Drop)]
 pub(crate) struct Progress {
     nodes: AtomicU64,
     due: AtomicU64,
+    is_begun: AtomicBool,
     on_terminal: bool,
+    told: Told,
+}
+
+/// How far planning has come: the deadline, the floor of each resource, by place from 0, and what the plan costs at least.
+#[derive(Drop)]
+struct Told {
+    deadline: AtomicU64,
+    resources: AtomicU64,
+    floors: Vec<AtomicU64>,
+    cost: AtomicU64,
+}
+
+impl Told {
+    /// Nothing is told.
+    fn new(alloc: Global) -> Result<Self, AllocError> {
+        let mut floors = Vec::with_capacity(alloc, MOST_RESOURCES)?;
+        for _ in 0..MOST_RESOURCES {
+            floors.push(AtomicU64::new(0))?;
+        }
+        Ok(Told {
+            deadline: AtomicU64::new(0),
+            resources: AtomicU64::new(0),
+            floors,
+            cost: AtomicU64::new(0),
+        })
+    }
+}
+
+impl Display for Told {
+    fn fmt<W: fmt::Write>(&self, f: &mut Formatter<W>) -> fmt::Result {
+        write!(
+            f,
+            "deadline {} floors",
+            self.deadline.load(Ordering::SeqCst)
+        )?;
+        let resources = self.resources.load(Ordering::SeqCst) as usize;
+        for floor in self.floors.iter().take(resources) {
+            write!(f, " {}", floor.load(Ordering::SeqCst))?;
+        }
+        write!(f, " cost {}", self.cost.load(Ordering::SeqCst))
+    }
 }
 
 impl Progress {
-    /// No node is counted, and the first line is due after two seconds. On a terminal each line takes the place of the
-    /// one before it.
-    pub(crate) fn new(on_terminal: bool) -> Self {
-        Progress {
+    /// No node is counted, nothing is told, and the first line is due after two seconds. On a terminal each line takes the
+    /// place of the one before it.
+    ///
+    /// # Errors
+    ///
+    /// Memory was refused.
+    pub(crate) fn new(alloc: Global, on_terminal: bool) -> Result<Self, AllocError> {
+        Ok(Progress {
             nodes: AtomicU64::new(0),
             due: AtomicU64::new(PERIOD),
+            is_begun: AtomicBool::new(false),
             on_terminal,
-        }
+            told: Told::new(alloc)?,
+        })
     }
 
-    /// Counts a node that is searched when so much time has passed, and tells the line where it is due. Where that cannot
-    /// be written, nothing is told.
-    pub(crate) fn count<E: Eprint>(&self, errors: &E, passed: Duration) {
-        let nodes = self.nodes.fetch_add(1, Ordering::SeqCst);
+    /// Counts a node that is searched, and says whether a line is due when so much time has passed. It is then this
+    /// worker's to tell, and no other's.
+    pub(crate) fn count(&self, passed: Duration) -> bool {
+        let _ = self.nodes.fetch_add(1, Ordering::SeqCst);
         let seconds = passed.as_secs();
         let due = self.due.load(Ordering::SeqCst);
-        if seconds < due || !self.takes(due, seconds) {
-            return;
-        }
-        let place = if self.on_terminal && due > PERIOD {
+        due <= seconds && self.takes(due, seconds)
+    }
+
+    /// Tells the line that was due when so much time had passed, and so many mebibytes of memory were used. Where that
+    /// cannot be written, nothing is told.
+    pub(crate) fn tell<E: Eprint>(&self, errors: &E, passed: Duration, memory: u64) {
+        let seconds = passed.as_secs();
+        let is_begun = self.is_begun.swap(true, Ordering::SeqCst);
+        let place = if self.on_terminal && is_begun {
             IN_PLACE
         } else {
             ""
         };
-        let _ = errors.eprintln(format_args!("{place}progress seconds {seconds} nodes {nodes}"));
+        let nodes = self.nodes.load(Ordering::SeqCst);
+        let told = &self.told;
+        let _ = errors.eprintln(format_args!(
+            "{place}progress seconds {seconds} {told} nodes {nodes} memory {memory}"
+        ));
     }
 
     /// Whether the line that was due then is this worker's to tell, and no other's: the next is due two seconds later.
@@ -51,5 +116,24 @@ impl Progress {
         self.due
             .compare_exchange(due, next, Ordering::SeqCst, Ordering::SeqCst)
             .is_ok()
+    }
+}
+
+impl Observer for Progress {
+    fn hear_deadline(&self, deadline: u32) {
+        self.told.deadline.store(deadline as u64, Ordering::SeqCst);
+    }
+
+    fn hear_floors(&self, floors: &[u32]) {
+        for (told, floor) in self.told.floors.iter().zip(floors) {
+            told.store(*floor as u64, Ordering::SeqCst);
+        }
+        self.told
+            .resources
+            .store(floors.len() as u64, Ordering::SeqCst);
+    }
+
+    fn hear_cost(&self, cost: u64) {
+        let _ = self.told.cost.fetch_max(cost, Ordering::SeqCst);
     }
 }

@@ -11,6 +11,7 @@ use crate::progress::Progress;
 use racp_cli::{StreamFault, check_over, cpm_over, crowd_over_by, run_over_within};
 use racp_desk::Open;
 use racp_words::{Crew, Memory, OrderFiles, PlanFiles, Request, Source, asked};
+use std::alloc::{AllocError, Global};
 use std::fs::File;
 use std::io::ErrorKind;
 use std::rt::{Env, Files};
@@ -93,17 +94,18 @@ fn plan_by<R: Clock + Files + Print + Eprint + AllocGlobal + Threads + Wait + Sy
 {
     let mut net = open(rt, files.net)?;
     let mut order = open(rt, files.order)?;
-    let progress = if crew.progress {
-        Some(Progress::new(on_terminal))
-    } else {
-        None
+    let progress = match progress_of(rt.alloc(), crew.progress, on_terminal) {
+        Ok(progress) => progress,
+        Err(_) => return Err(StreamFault::Memory),
     };
+    let limit = Limit::of(rt, crew.time_limit, progress);
     let workers = racp_lexfix::Crew {
         workers: crew.workers,
         turns: crew.turns,
         memory: memory.mebibytes,
         gate: &Open,
-        stop: &Limit::of(rt, crew.time_limit, progress),
+        stop: &limit,
+        observer: &limit,
     };
     let (status, effort) = crowd_over_by(
         rt,
@@ -117,6 +119,19 @@ fn plan_by<R: Clock + Files + Print + Eprint + AllocGlobal + Threads + Wait + Sy
         let _ = rt.eprintln(format_args!("stats pieces {} nodes {}", effort.pieces, effort.nodes));
     }
     Ok(status)
+}
+
+/// What counts and tells how far planning has come, where that is asked for.
+fn progress_of(
+    alloc: Global,
+    is_asked: bool,
+    on_terminal: bool,
+) -> Result<Option<Progress>, AllocError> {
+    if is_asked {
+        Ok(Some(Progress::new(alloc, on_terminal)?))
+    } else {
+        Ok(None)
+    }
 }
 
 /// Writes the plan for these files, or why there is none.

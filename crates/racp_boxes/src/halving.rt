@@ -51,7 +51,17 @@ pub fn first_enough<A: Asker<AnySeries>>(
         low: floors.copy()?,
         high: roofs.copy()?,
     };
-    search(alloc, net, order, root, roofs, &mut known, whole, u64::MAX, asker)?;
+    search(
+        alloc,
+        net,
+        order,
+        root,
+        roofs,
+        &mut known,
+        whole,
+        u64::MAX,
+        asker,
+    )?;
     Ok(known.best)
 }
 
@@ -105,9 +115,29 @@ fn search<A: Asker<AnySeries>>(
     let (below, above) = halved(low, high, k)?;
     let other = cost_of(net, order, above.low.as_slice());
     let rest_of_below = rest.min(known.cost).min(other);
-    search(alloc, net, order, root, roofs, known, below, rest_of_below, asker)?;
+    search(
+        alloc,
+        net,
+        order,
+        root,
+        roofs,
+        known,
+        below,
+        rest_of_below,
+        asker,
+    )?;
     let rest_of_above = rest.min(known.cost);
-    search(alloc, net, order, root, roofs, known, above, rest_of_above, asker)
+    search(
+        alloc,
+        net,
+        order,
+        root,
+        roofs,
+        known,
+        above,
+        rest_of_above,
+        asker,
+    )
 }
 
 /// The two halves of a box along the resource at place `k`: that with fewer units, and the other one.

@@ -13,7 +13,7 @@ use crate::status::{STOPPED, STREAM_FAILED};
 use crate::streams::read_whole;
 use racp_cutset::DEFAULT_MEMORY;
 use racp_desk::Gate;
-use racp_lexfix::{Crew, Effort, PlanStop, Printed, Refusal, plan_crowd_by};
+use racp_lexfix::{Crew, Effort, Observer, PlanStop, Printed, Refusal, Unheard, plan_crowd_by};
 use racp_search::Stop;
 use std::alloc::{AllocError, Global};
 use std::io::{Read, Write};
@@ -63,6 +63,7 @@ pub fn crowd_over<
         memory,
         gate,
         stop,
+        observer: &Unheard,
     };
     crowd_over_by(rt, alloc, net, order, out, crew)
 }
@@ -78,6 +79,7 @@ pub fn crowd_over_by<
     W: Write,
     G: Gate + Sync,
     P: Stop + Sync,
+    B: Observer,
     R: Threads + Wait + Sync,
 >(
     rt: &R,
@@ -85,7 +87,7 @@ pub fn crowd_over_by<
     net: &mut N,
     order: &mut O,
     out: &mut W,
-    crew: Crew<'_, G, P>,
+    crew: Crew<'_, G, P, B>,
 ) -> Result<(u8, Option<Effort>), StreamFault>
     requires workers { crew.workers ≤ 64 }
     requires turns { crew.turns ≤ 1000000000000 }

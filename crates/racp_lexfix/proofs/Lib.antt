@@ -12,3 +12,4 @@ mod Existing
 mod ByLength
 mod SomeAnswer
 mod Asking
+mod Telling

@@ -1,7 +1,7 @@
 -- Contracts of private functions: what is known at each stage of planning.
 use Rattle.std.specs.Prelude.{◌≡◌, ℕ, ◌<◌, ◌≤◌, List, length, slice_index, Option, Some, None, IfSome, Bool, true, false}
 use Rattle.racp_model.specs.Project.{Project}
-use Rattle.racp_model.specs.Terms.{Terms, IsBefore}
+use Rattle.racp_model.specs.Terms.{Terms, cost, IsBefore}
 use Rattle.racp_model.specs.Plan.{IsPlan, IsEnough}
 use Rattle.racp_model.specs.Window.{Bounds, IsYes, IsNo}
 use Rattle.racp_prices.specs.Units.{AreMostUnits}
@@ -51,6 +51,16 @@ pub record IsStoppedInBox (p : Project) (terms : Terms) (floors : List ℕ) (tol
   pub none : IsNotAfterEnough p terms capacities
   pub above : (k : ℕ) → k < p.resources → slice_index floors k ≤ slice_index capacities k
   pub as_told : IfSome told (λ reached. capacities ≡ reached)
+
+-- all capacities that are enough are at or above these, resource by resource
+pub record AreFloorsOfEnough (p : Project) (terms : Terms) (floors : List ℕ) : Type 0 where
+  pub places : length floors ≡ p.resources
+  pub below : (enough : List ℕ) → IsEnough p terms enough → (k : ℕ) → k < p.resources →
+      slice_index floors k ≤ slice_index enough k
+
+-- they cost at least so much
+abbrev pub IsLeastOfEnough : Project → Terms → ℕ → Type 0
+IsLeastOfEnough p terms least = (enough : List ℕ) → IsEnough p terms enough → least ≤ cost terms enough
 
 -- the capacities and the starts of the plan, or none where no capacities are enough
 abbrev pub IsChosen : Project → Terms → Option (List ℕ × List ℕ) → Type 0

@@ -1,6 +1,6 @@
 //! Floors and roofs of an order, with its ceilings.
 
-ghost use Rattle.std.specs.Prelude.{◌≡◌, ◌↔◌, ℕ, ◌+◌, ◌-◌, ◌<◌, ◌≤◌, OnOk, OnErr, IfOk, IfErr, IsTrue, is_some, length, slice_index, min};
+ghost use Rattle.std.specs.Prelude.{◌≡◌, ◌↔◌, ℕ, ◌+◌, ◌-◌, ◌<◌, ◌≤◌, List, OnOk, OnErr, IfOk, IfErr, IsTrue, is_some, length, slice_index, min};
 ghost use Rattle.racp_model.specs.Formed.{HasBounds};
 ghost use Rattle.racp_model.specs.Terms.{AreTermsOf, release_of, due_of};
 ghost use Rattle.racp_model.specs.Window.{IsRootWindow};
@@ -8,7 +8,7 @@ ghost use Rattle.racp_bounds.specs.Floors.{AreFloors};
 ghost use Rattle.racp_candidates.specs.Box.{AreBounds};
 ghost use Rattle.racp_questions.specs.FirstYes.{MayGiveUp};
 ghost use Rattle.racp_lexfix.specs.Answers.{IsStoppedAt, IsPlanStop};
-ghost use Rattle.racp_lexfix.specs.Stages.{IsBounded, IsYesOrNo, given_up};
+ghost use Rattle.racp_lexfix.specs.Stages.{AreFloorsOfEnough, IsBounded, IsYesOrNo, given_up};
 
 use crate::answer::PlanStop;
 use racp_bounds::floors;
@@ -34,6 +34,7 @@ pub(crate) fn floors_and_roofs<A: Asker<AnySeries>>(
     requires named { A.about asker.old net.now }
     requires terms { AreTermsOf net.now order.now }
     requires root { IsRootWindow net.now (release_of order.now) (due_of order.now) root.now }
+    requires floors { (floors : List ℕ) → AreFloorsOfEnough net.now order.now floors → A.may_hear_floors floors }
     ensures network { A.about asker.new net.now }
     ensures bounded { IfOk result (IsBounded net.now order.now root.now (A.answered asker.new - A.answered asker.old)) }
     ensures no_fewer { A.answered asker.old ≤ A.answered asker.new }
@@ -49,6 +50,7 @@ pub(crate) fn floors_and_roofs<A: Asker<AnySeries>>(
     if !has_ceilings(order) {
         return Ok(Some((floors, roofs)));
     }
+    asker.hear_floors(&floors);
     match is_yes(alloc, net, &roofs, root, asker) {
         Ok(true) => Ok(Some((floors, roofs))),
         Ok(false) => Ok(None),

@@ -8,6 +8,7 @@ ghost use Rattle.racp_desk.specs.declared.log.Cause.TheVariants.{Stop};
 ghost use Rattle.racp_desk.specs.declared.log.Entry.TheVariants.{Halted};
 ghost use Rattle.racp_lexfix.specs.Crowds.{IsAnsweredBy, IsFault, IsOver, RunsDesks, probe_by};
 
+use crate::observer::Observer;
 use racp_candidates::{AnySeries, One};
 use racp_core::Outcome;
 use racp_desk::{Cause, Closed, DeskFault, Entry};
@@ -34,14 +35,17 @@ pub struct Effort {
 
 /// Answers series of questions about the network that `N` names, each by a run of a desk, and counts the turns over all
 /// of them: a turn is a piece that is taken. It is handed a call that runs a desk about a series with so many turns and
-/// a stop `P`. It stops only where no turn is left, or where its stop is not quiet.
+/// a stop `P`. It stops only where no turn is left, or where its stop is not quiet. What it is told of planning it tells an
+/// observer.
 #[derive(Drop)]
 pub struct Crowd<
     N: OfNetwork,
     P: Stop,
+    O: Observer + Drop,
     F: Fn(AnySeries, u64, u64) -> Result<Closed, DeskFault> + Drop,
 > {
     run: F,
+    observer: O,
     workers: u64,
     turns: u64,
     left: u64,
@@ -56,13 +60,14 @@ pub struct Crowd<
     ghost nodes_few: { nodes ≤ 1000000 * pieces },
 }
 
-impl<N: OfNetwork, P: Stop, F: Fn(AnySeries, u64, u64) -> Result<Closed, DeskFault> + Drop> Crowd<
-    N,
-    P,
-    F,
-> {
+impl<
+    N: OfNetwork,
+    P: Stop,
+    O: Observer + Drop,
+    F: Fn(AnySeries, u64, u64) -> Result<Closed, DeskFault> + Drop,
+> Crowd<N, P, O, F> {
     /// An asker with so many turns, which runs a desk of so many workers by this call.
-    pub fn new(workers: usize, turns: u64, run: F) -> Self
+    pub fn new(workers: usize, turns: u64, observer: O, run: F) -> Self
         requires workers { workers ≤ 64 }
         requires turns { turns ≤ 1000000000000 }
         ensures run { result.run ≡ run }
@@ -71,6 +76,7 @@ impl<N: OfNetwork, P: Stop, F: Fn(AnySeries, u64, u64) -> Result<Closed, DeskFau
     {
         Crowd {
             run,
+            observer,
             workers: workers as u64,
             turns,
             left: turns,
@@ -238,9 +244,12 @@ fn probe_of(outcome: Outcome, is_over: bool) -> Result<Probe, AskStop>
     }
 }
 
-impl<N: OfNetwork, P: Stop, F: Fn(AnySeries, u64, u64) -> Result<Closed, DeskFault> + Drop> Asker<
-    AnySeries,
-> for Crowd<N, P, F> {
+impl<
+    N: OfNetwork,
+    P: Stop,
+    O: Observer + Drop,
+    F: Fn(AnySeries, u64, u64) -> Result<Closed, DeskFault> + Drop,
+> Asker<AnySeries> for Crowd<N, P, O, F> {
     ghost use Rattle.std.specs.Prelude.{◌≡◌, ◌⊎◌, ⊤, false};
     ghost use Rattle.racp_lexfix.specs.Crowds.{RunsDesks};
 
@@ -281,5 +290,13 @@ impl<N: OfNetwork, P: Stop, F: Fn(AnySeries, u64, u64) -> Result<Closed, DeskFau
         let Closed { outcome, log, .. } = closed;
         let is_over = self.is_over(most, &log);
         probe_of(outcome, is_over)
+    }
+
+    fn hear_floors(&self, floors: &Capacities) {
+        self.observer.hear_floors(floors.as_slice());
+    }
+
+    fn hear_cost(&self, cost: u64) {
+        self.observer.hear_cost(cost);
     }
 }

@@ -33,7 +33,8 @@
 //! the first yes of stage 4 is not told by the asker: it is the peaks of the starts that were found, since these peaks
 //! are enough too, and none that are stand before it. `Crowd` is an asker with workers: for each series it runs a desk
 //! (racp_desk), by a call that it is handed, and counts over all series the turns, of which a desk takes one for each
-//! piece. A question with a bound on its nodes has as many turns as these are pieces of 250.
+//! piece. A question with a bound on its nodes has as many turns as these are pieces of 200. An `Observer` is told how far
+//! planning has come.
 //!
 //! `plan_alone(alloc, net_bytes, order_text)` answers the text of examples/b3.plan for the texts of b.sm and b3.toml,
 //! with the status 0; for a.sm and a2.toml it answers `impossible critical 3 deadline 2` with the status 3. `plan_crowd`
@@ -46,6 +47,8 @@
 //! fault of the first text that is refused, or that memory was refused (`IsPrinting`). `plan_crowd` prints the same,
 //! whatever the workers, or tells capacities before which none are enough (`IsCrowdPrinting`). Where an asker stops, `plan`
 //! tells capacities before which none are enough: the floors so far, the vector that was reached, or the plan's own.
+//! While it plans, it tells the asker floors that all capacities which are enough are at or above, and what these cost at
+//! least; that it tells them in time is tested alone.
 //! `Crowd` stops only where no turn is left, or where its stop may ask at all. In `laws`: an order for a network has an
 //! answer, and only one. Tested alone: that memory is not refused without need. How long planning takes is measured
 //! (docs/GATE.md), not promised.
@@ -57,6 +60,7 @@ mod bounds;
 mod crowd;
 pub mod laws;
 mod lines;
+mod observer;
 mod planning;
 mod printed;
 mod starts;
@@ -64,6 +68,7 @@ mod starts;
 pub use alone::Alone;
 pub use answer::{Answer, PlanStop};
 pub use crowd::{Crowd, Effort};
+pub use observer::{Observer, Unheard};
 pub use planning::plan;
 pub use printed::{
     Crew, Printed, Refusal, plan_alone, plan_alone_within, plan_crowd, plan_crowd_by,

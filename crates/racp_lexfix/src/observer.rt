@@ -1,7 +1,11 @@
 //! Who is told how far planning has come.
 
-use racp_model::{Capacities, Network};
+ghost use Rattle.std.specs.Prelude.{◌≡◌};
+ghost use Rattle.racp_model.specs.Terms.{AreTermsOf};
+
+use racp_model::Network;
 use racp_prices::{Order, cost_of};
+use std::marker::Model;
 
 /// Is told how far planning has come, by the thread that plans.
 pub trait Observer {
@@ -27,12 +31,37 @@ impl Observer for Unheard {
     fn hear_cost(&self, _cost: u64) {}
 }
 
-/// Tells another observer what it is told, and of floors also what they cost on the terms of an order.
+/// Tells another observer what it is told, and of floors also what they cost on the terms of an order. Contracts see the
+/// terms.
 #[derive(Drop)]
 pub(crate) struct Pricing<'a, O: Observer> {
-    pub(crate) net: &'a Network,
-    pub(crate) order: &'a Order,
-    pub(crate) observer: &'a O,
+    net: &'a Network,
+    order: &'a Order,
+    observer: &'a O,
+}
+
+impl<'a, O: Observer> Model for Pricing<'a, O> {
+    ghost use Rattle.racp_model.specs.Terms.{AreTermsOf, Terms};
+
+    ghost Value = { Terms };
+
+    ghost view = { λ s. s.order.now };
+
+    ghost invariant = { λ s. AreTermsOf s.net.now s.order.now };
+}
+
+impl<'a, O: Observer> Pricing<'a, O> {
+    /// By the terms of this order of the network, for this observer.
+    pub(crate) fn new(net: &'a Network, order: &'a Order, observer: &'a O) -> Self
+        requires { AreTermsOf net.now order.now }
+        ensures { result ≡ order.now }
+    {
+        Pricing {
+            net,
+            order,
+            observer,
+        }
+    }
 }
 
 impl<'a, O: Observer> Observer for Pricing<'a, O> {
@@ -41,11 +70,11 @@ impl<'a, O: Observer> Observer for Pricing<'a, O> {
     }
 
     fn hear_floors(&self, floors: &[u32]) {
-        self.observer.hear_floors(floors);
         if floors.len() == self.net.resource_count() {
             self.observer
                 .hear_cost(cost_of(self.net, self.order, floors));
         }
+        self.observer.hear_floors(floors);
     }
 
     fn hear_cost(&self, cost: u64) {

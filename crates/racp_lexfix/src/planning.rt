@@ -1,12 +1,12 @@
 //! From the root window to the plan.
 
-ghost use Rattle.std.specs.Prelude.{◌≡◌, ◌+◌, ◌-◌, OnOk, IfOk, IfErr};
+ghost use Rattle.std.specs.Prelude.{◌≡◌, ℕ, ◌+◌, ◌-◌, List, OnOk, IfOk, IfErr};
 ghost use Rattle.racp_model.specs.Plan.{IsLeast, IsEnough};
 ghost use Rattle.racp_model.specs.Terms.{AreTermsOf, IsBefore, release_of, due_of};
 ghost use Rattle.racp_model.specs.Window.{IsRootWindow};
 ghost use Rattle.racp_candidates.specs.Box.{AreBoxQuestions};
 ghost use Rattle.racp_lexfix.specs.Answers.{IsAnswer, IsStoppedAt, IsPlanStop};
-ghost use Rattle.racp_lexfix.specs.Stages.{AreSharpFloorsAndRoofs, IsStoppedInBox, IsChosen};
+ghost use Rattle.racp_lexfix.specs.Stages.{AreFloorsOfEnough, AreSharpFloorsAndRoofs, IsChosen, IsLeastOfEnough, IsStoppedInBox};
 
 use crate::answer::{Answer, PlanStop};
 use crate::bounds::floors_and_roofs;
@@ -27,7 +27,8 @@ const FEW_VECTORS: u64 = 64;
 /// The plan of an order, or why there is none. Questions go to the asker, which is about this network: first whether
 /// the ceilings admit, where there are such, then to sharpen the floors, then for each capacity vector of the box in
 /// the order of vectors, up to the first yes, then for the starts of each job. The order has an entry for each resource
-/// and each job of the network.
+/// and each job of the network. The asker is told the floors as far as they are sharpened, and what capacities that are
+/// enough cost at least, as soon as more is known.
 ///
 /// # Errors
 ///
@@ -40,6 +41,8 @@ pub fn plan<A: Asker<AnySeries>>(
 ) -> Result<Answer, PlanStop>
     requires named { A.about asker.old net.now }
     requires terms { AreTermsOf net.now order.now }
+    requires floors { (floors : List ℕ) → AreFloorsOfEnough net.now order.now floors → A.may_hear_floors floors }
+    requires least { (least : ℕ) → IsLeastOfEnough net.now order.now least → A.may_hear_cost least }
     ensures network { A.about asker.new net.now }
     ensures answer { IfOk result (IsAnswer net.now order.now) }
     ensures stop { IfErr result (IsPlanStop (IsStoppedAt net.now order.now
@@ -74,6 +77,8 @@ fn chosen<A: Asker<AnySeries>>(
     requires named { A.about asker.old net.now }
     requires terms { AreTermsOf net.now order.now }
     requires root { IsRootWindow net.now (release_of order.now) (due_of order.now) root.now }
+    requires floors { (floors : List ℕ) → AreFloorsOfEnough net.now order.now floors → A.may_hear_floors floors }
+    requires least { (least : ℕ) → IsLeastOfEnough net.now order.now least → A.may_hear_cost least }
     ensures network { A.about asker.new net.now }
     ensures chosen { IfOk result (IsChosen net.now order.now) }
     ensures stop { IfErr result (IsPlanStop (IsStoppedAt net.now order.now
@@ -88,6 +93,7 @@ fn chosen<A: Asker<AnySeries>>(
         Err((reached, stop)) => return Err(PlanStop::given_up(stop, reached)),
     };
     let capacities = cheapest(alloc, net, order, root, sharp, &roofs, asker)?;
+    asker.hear_cost(cost_of(net, order, capacities.as_slice()));
     match least_starts(alloc, net, &capacities, root, asker) {
         Ok(starts) => Ok(Some((capacities, starts))),
         Err(stop) => Err(PlanStop::given_up(stop, capacities)),
@@ -109,6 +115,7 @@ fn cheapest<A: Asker<AnySeries>>(
     requires terms { AreTermsOf net.now order.now }
     requires root { IsRootWindow net.now (release_of order.now) (due_of order.now) root.now }
     requires sharp { AreSharpFloorsAndRoofs net.now order.now root.now sharp roofs.now }
+    requires least { (least : ℕ) → IsLeastOfEnough net.now order.now least → A.may_hear_cost least }
     ensures network { A.about asker.new net.now }
     ensures least { IfOk result (IsLeast (IsBefore order.now) (IsEnough net.now order.now)) }
     ensures answered { OnOk result (A.answered asker.new ≡ A.answered asker.old + 1) }
@@ -179,6 +186,7 @@ fn cheapest_by_halves<A: Asker<AnySeries>>(
     requires terms { AreTermsOf net.now order.now }
     requires root { IsRootWindow net.now (release_of order.now) (due_of order.now) root.now }
     requires sharp { AreSharpFloorsAndRoofs net.now order.now root.now sharp roofs.now }
+    requires least { (least : ℕ) → IsLeastOfEnough net.now order.now least → A.may_hear_cost least }
     ensures network { A.about asker.new net.now }
     ensures least { IfOk result (IsLeast (IsBefore order.now) (IsEnough net.now order.now)) }
     ensures answered { OnOk result (A.answered asker.new ≡ A.answered asker.old + 1) }

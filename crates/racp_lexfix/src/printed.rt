@@ -12,6 +12,7 @@ use crate::alone::Alone;
 use crate::answer::{Answer, PlanStop};
 use crate::crowd::{Crowd, Effort};
 use crate::lines::answer_lines;
+use crate::observer::{Observer, Pricing, Unheard};
 use crate::planning::plan;
 use racp_candidates::AnySeries;
 use racp_cutset::{Board, DEFAULT_MEMORY};
@@ -163,13 +164,14 @@ pub fn plan_crowd<G: Gate + Sync, P: Stop + Sync, R: Threads + Wait + Sync>(
         memory,
         gate,
         stop,
+        observer: &Unheard,
     };
     plan_crowd_by(rt, alloc, net_bytes, order_text, crew)
 }
 
 /// How a plan is made by workers.
 #[derive(Drop)]
-pub struct Crew<'a, G: Gate, P: Stop> {
+pub struct Crew<'a, G: Gate, P: Stop, O: Observer> {
     /// How many workers there are, 1 to 64.
     pub workers: usize,
     /// How many pieces they take at most, up to 1,000,000,000,000.
@@ -181,6 +183,8 @@ pub struct Crew<'a, G: Gate, P: Stop> {
     pub gate: &'a G,
     /// Whether planning is to stop: asked before each node.
     pub stop: &'a P,
+    /// Who is told how far planning has come.
+    pub observer: &'a O,
 }
 
 /// The answer to the texts of a network and an order, made by such workers: what `plan_crowd` answers, whose records take
@@ -189,12 +193,12 @@ pub struct Crew<'a, G: Gate, P: Stop> {
 /// # Errors
 ///
 /// As with `plan_crowd`.
-pub fn plan_crowd_by<G: Gate + Sync, P: Stop + Sync, R: Threads + Wait + Sync>(
+pub fn plan_crowd_by<G: Gate + Sync, P: Stop + Sync, O: Observer, R: Threads + Wait + Sync>(
     rt: &R,
     alloc: Global,
     net_bytes: &[u8],
     order_text: &[u8],
-    crew: Crew<'_, G, P>,
+    crew: Crew<'_, G, P, O>,
 ) -> Result<(Printed, Effort), Refusal>
     requires workers { crew.workers ≤ 64 }
     requires turns { crew.turns ≤ 1000000000000 }
@@ -203,7 +207,7 @@ pub fn plan_crowd_by<G: Gate + Sync, P: Stop + Sync, R: Threads + Wait + Sync>(
 {
     let net = read_sm(alloc, net_bytes)?;
     let order = read_order(alloc, order_text, net.resource_count(), net.job_count())?;
-    let (answer, effort) = plan_by::<Brand, G, P, R>(rt, alloc, &net, &order, crew)?;
+    let (answer, effort) = plan_by::<Brand, G, P, O, R>(rt, alloc, &net, &order, crew)?;
     Ok((print_answer(alloc, &order, &answer)?, effort))
 }
 
@@ -238,12 +242,18 @@ fn plan_named<N: OfNetwork>(
 
 /// The plan of an order, or why there is none, made by workers, and how much work they did. The network is the one that
 /// `N` names.
-fn plan_by<N: OfNetwork + Send + Sync, G: Gate + Sync, P: Stop + Sync, R: Threads + Wait + Sync>(
+fn plan_by<
+    N: OfNetwork + Send + Sync,
+    G: Gate + Sync,
+    P: Stop + Sync,
+    O: Observer,
+    R: Threads + Wait + Sync,
+>(
     rt: &R,
     alloc: Global,
     net: &Network,
     order: &Order,
-    crew: Crew<'_, G, P>,
+    crew: Crew<'_, G, P, O>,
 ) -> Result<(Answer, Effort), PlanStop>
     requires named { net.now ≡ N.network }
     requires terms { AreTermsOf net.now order.now }
@@ -259,11 +269,15 @@ fn plan_by<N: OfNetwork + Send + Sync, G: Gate + Sync, P: Stop + Sync, R: Thread
         memory,
         gate,
         stop,
+        observer,
     } = crew;
+    observer.hear_deadline(order.deadline);
     let board: Board<N> = Board::within(alloc, net, memory, workers)?;
-    let mut crowd: Crowd<N, P, _> = Crowd::new(
+    let pricing = Pricing::new(net, order, observer);
+    let mut crowd: Crowd<N, P, Pricing<'_, O>, _> = Crowd::new(
         workers,
         turns,
+        pricing,
         |series: AnySeries, quantum: u64, turns: u64| -> Result<Closed, DeskFault>
             requires { (net.now ≡ N.network) × AreFormed net.now (any_questions series) ×
                 (workers ≤ 64) × (quantum ≤ 1000000) × (turns ≤ 1000000000000) }

@@ -11,7 +11,7 @@ use crate::stops::AtCall;
 use racp_candidates::AnySeries;
 use racp_cutset::Board;
 use racp_desk::{Closed, DeskFault, Open, run};
-use racp_lexfix::{Alone, Answer, Crowd, Effort, PlanStop, plan};
+use racp_lexfix::{Alone, Answer, Crowd, Effort, PlanStop, Unheard, plan};
 use racp_model::{Network, OfNetwork};
 use racp_prices::{Order, OrderFault, read_order};
 use racp_samples::crossed;
@@ -50,9 +50,10 @@ fn planned<N: OfNetwork + Send + Sync, P: Stop + Sync, R: Threads + Wait + Sync>
     requires turns { turns ≤ 1000000000000 }
 {
     let board: Board<N> = Board::new(alloc, net)?;
-    let mut crowd: Crowd<N, P, _> = Crowd::new(
+    let mut crowd: Crowd<N, P, Unheard, _> = Crowd::new(
         workers,
         turns,
+        Unheard,
         |series: AnySeries, quantum: u64, turns: u64| -> Result<Closed, DeskFault>
             requires { (net.now ≡ N.network) × AreFormed net.now (any_questions series) ×
                 (workers ≤ 64) × (quantum ≤ 1000000) × (turns ≤ 1000000000000) }

@@ -132,7 +132,7 @@ fn plan_command<'a>(alloc: Global) -> Result<Command<'a>, AllocError>
 {
     let memory = "How many mebibytes records take at most, about, 1 to 1,048,576; else 1,024";
     let seconds = "After how many seconds planning stops, 1 to 1,000,000,000";
-    let progress = "Tells on standard error, every two seconds, how many nodes were searched";
+    let progress = "Tells on standard error, every two seconds, how far planning has come";
     plan_of_workers(alloc)?
         .arg(number_option(alloc, "memory", "MIB", MOST_MEBIBYTES, memory))?
         .arg(number_option(alloc, "time-limit", "S", MOST_SECONDS, seconds))?

@@ -3,8 +3,9 @@ use Rattle.std.proofs.lemmas.Bool.{false≢true}
 use Rattle.racp_lexfix.specs.Stages.{IsYesOrNo}
 use Rattle.racp_lexfix.specs.Answers.{IsStoppedAt, IsPlanStop}
 use Rattle.racp_lexfix.specs.declared.answer.PlanStop.{PlanStop}
-use Rattle.racp_lexfix.proofs.Choosing.{enough_bounds, enough_roofs, plain_yes}
+use Rattle.racp_lexfix.proofs.Choosing.{enough_bounds, enough_roofs, first_reached, plain_yes}
 use Rattle.racp_lexfix.proofs.Staging.{none_there, no_ceilings, some_ceilings, ends_with, stopped_first}
+use Rattle.racp_lexfix.proofs.Telling.{reached_floors}
 use Rattle.racp_lexfix.proofs.bounds.floors_and_roofs.Goals as goal
 
 pub returns-then-not-is_below-clause-bounded : goal.returns-then-not-is_below-clause-bounded
@@ -54,3 +55,9 @@ returns-in-Err-clause-stop g c =
     c.in_ok-floors.ensures c.in_ok-roofs.ensures none (some_ceilings c.args.order.now (sym c.has_ceilings.ensures ∙ c.if-not-has_ceilings.false)) in
     subst (λ (stop : PlanStop). IsPlanStop IsTold may_stop may_want_thread stop) (sym c.given_up.ensures)
     (ends_with IsTold may_stop may_want_thread c.in-Err.stop c.in_ok-floors.floors c.in-Err.ensures.stop first)
+
+pub hear_floors-requires : goal.hear_floors-requires
+hear_floors-requires g c =
+    c.requires.floors c.in_ok-floors.floors
+    (reached_floors c.args.net.now c.args.order.now c.args.root.now c.in_ok-floors.floors c.in_ok-roofs.roofs c.requires.terms c.requires.root c.in_ok-floors.ensures c.in_ok-roofs.ensures 0 c.in_ok-floors.floors
+    (first_reached c.args.net.now c.args.order.now c.args.root.now c.in_ok-floors.floors c.in_ok-roofs.roofs c.requires.terms c.requires.root c.in_ok-floors.ensures c.in_ok-roofs.ensures))

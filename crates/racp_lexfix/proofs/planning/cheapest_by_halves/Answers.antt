@@ -3,6 +3,7 @@ use Rattle.racp_lexfix.specs.Answers.{IsPlanStop}
 use Rattle.racp_lexfix.specs.Stages.{IsStoppedInBox}
 use Rattle.racp_lexfix.specs.declared.answer.PlanStop.{PlanStop}
 use Rattle.racp_lexfix.proofs.Halving.{first_stopped, halves_stopped, roofs_enough, sharp_floors, within_least}
+use Rattle.racp_lexfix.proofs.Telling.{within_cost}
 use Rattle.racp_lexfix.proofs.planning.cheapest_by_halves.Goals as goal
 
 pub first_enough-requires-clause-floors : goal.first_enough-requires-clause-floors
@@ -30,3 +31,8 @@ returns-clause-stop g c =
     subst (λ (stop : PlanStop). IsPlanStop (IsStoppedInBox c.args.net.now c.args.order.now c.args.sharp.floors told) (may_stop × left) may_want_thread stop) (sym c.given_up-in-Err-first.ensures)
     (first_stopped c.args.net.now c.args.order.now c.args.root.now c.requires.terms c.requires.root c.args.sharp c.args.roofs.now c.requires.sharp c.in-Ok.first c.in-Ok.ensures.first c.in_ok-series.series
     told may_stop may_want_thread left c.in-Err-first.stop c.in_ok-series.ensures c.in-Err-first.ensures.stop (c.in-Err-first.ensures.unanswered ∙ c.in-Ok.ensures.answered))
+
+pub first_enough-requires-clause-heard : goal.first_enough-requires-clause-heard
+first_enough-requires-clause-heard g c = λ least is.
+    c.requires.least least
+    (within_cost c.args.net.now c.args.order.now c.args.root.now c.requires.sharp.first c.args.roofs.now c.requires.terms c.requires.root c.requires.sharp.ends.lowest c.requires.sharp.ends.most least is)

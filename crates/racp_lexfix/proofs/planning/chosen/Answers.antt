@@ -2,9 +2,12 @@ use Rattle.std.proofs.Common.{◌≡◌, ◌+◌, ◌-◌, ◌<◌, List, ℕ, O
 use Rattle.std.proofs.lemmas.Result.{err_from_is_err_and}
 use Rattle.racp_bounds.specs.Sharp.{pair_count}
 use Rattle.racp_lexfix.specs.Answers.{ceiling_series, IsStoppedAt, IsPlanStop}
-use Rattle.racp_lexfix.specs.Stages.{IsBounded, IsStoppedInBox}
+use Rattle.racp_bounds.proofs.lemmas.Sharpened.{admitting_yes}
+use Rattle.racp_model.specs.Terms.{cost, due_of, release_of}
+use Rattle.racp_lexfix.specs.Stages.{IsBounded, IsLeastOfEnough, IsStoppedInBox}
 use Rattle.racp_lexfix.specs.declared.answer.PlanStop.{PlanStop}
 use Rattle.racp_lexfix.proofs.Staging.{ends_with, told_too, stopped_in_box, stopped_behind, unsharpened, planned}
+use Rattle.racp_lexfix.proofs.Telling.{first_cost, reached_floors}
 use Rattle.racp_lexfix.proofs.planning.chosen.Goals as goal
 
 pub returns-in-Err-clause-stop : goal.returns-in-Err-clause-stop
@@ -61,3 +64,19 @@ returns-clause-stop g c =
     (ends_with IsTold may_stop may_want_thread c.in-Err-least_starts.stop c.in_ok-capacities.capacities c.in-Err-least_starts.ensures.stop
     (stopped_behind c.args.net.now c.args.order.now c.args.root.now c.requires.terms c.requires.root c.in-Some.floors c.in-Some.roofs bounded.0 (ended - begun) told c.in_ok-capacities.capacities counted
     c.in_ok-capacities.ensures.least))
+
+pub sharpen-requires-clause-heard : goal.sharpen-requires-clause-heard
+sharpen-requires-clause-heard g c = λ n reached are.
+    let bounded = subst (λ (o : Option (List ℕ × List ℕ)). IsBounded c.args.net.now c.args.order.now c.args.root.now (g.A.Asker.answered c.floors_and_roofs.new.asker - g.A.Asker.answered c.args.asker.now) o) c.in-Some.is c.in_ok-floors.ensures.bounded in
+    c.requires.floors reached
+    (reached_floors c.args.net.now c.args.order.now c.args.root.now c.in-Some.floors c.in-Some.roofs c.requires.terms c.requires.root bounded.0.lowest bounded.0.most n reached are)
+
+pub hear_cost-requires : goal.hear_cost-requires
+hear_cost-requires g c =
+    let priced : c.cost_of.result ≡ cost c.args.order.now c.in_ok-capacities.capacities = cc (c.cost_of.ensures, c.as_slice.ensures) in
+    c.requires.least c.cost_of.result
+    (subst (λ (x : ℕ). IsLeastOfEnough c.args.net.now c.args.order.now x) (sym priced) (first_cost c.args.net.now c.args.order.now c.in_ok-capacities.capacities c.in_ok-capacities.ensures.least))
+
+pub least_starts-requires-clause-yes : goal.least_starts-requires-clause-yes
+least_starts-requires-clause-yes g c =
+    admitting_yes c.args.net.now (release_of c.args.order.now) (due_of c.args.order.now) c.args.root.now c.in_ok-capacities.capacities c.requires.root c.in_ok-capacities.ensures.least.is.admits
