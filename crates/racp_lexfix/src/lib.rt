@@ -59,12 +59,14 @@ pub mod laws;
 mod lines;
 mod planning;
 mod printed;
+mod proving;
 mod starts;
 
 pub use alone::Alone;
 pub use answer::{Answer, PlanStop};
 pub use crowd::{Crowd, Effort};
 pub use planning::plan;
+pub use proving::prove_alone;
 pub use printed::{
     Crew, Printed, Refusal, plan_alone, plan_alone_within, plan_crowd, plan_crowd_by,
 };

@@ -5,6 +5,7 @@ mod Digits
 mod Lines
 mod Spelling
 mod Naming
+mod Making
 mod Opening
 mod Passing
 mod Starting

@@ -10,3 +10,4 @@ pub mod Branches
 pub mod Nodes
 pub mod Readers
 pub mod Laws
+pub mod Making

@@ -72,6 +72,11 @@ fn request_named<'a>(name: &str, words: &ArgMatches<'a>) -> Request<'a>
             order: path_of(words, "ORDER"),
         };
         Request::Plan(files, memory_of(words), crew_of(words))
+    } else if name == "prove" {
+        Request::Prove(OrderFiles {
+            net: path_of(words, "NET"),
+            order: path_of(words, "ORDER"),
+        })
     } else if name == "check" {
         Request::Check(PlanFiles {
             net: path_of(words, "NET"),
@@ -100,6 +105,7 @@ fn command<'a>(alloc: Global) -> Result<Command<'a>, AllocError>
         .version("0.1.0")
         .subcommand(cpm_command(alloc)?)?
         .subcommand(plan_command(alloc)?)?
+        .subcommand(prove_command(alloc)?)?
         .subcommand(check_command(alloc)?)
 }
 
@@ -147,6 +153,16 @@ fn plan_of_files<'a>(alloc: Global) -> Result<Command<'a>, AllocError>
 {
     Command::new(alloc, "plan")
         .about("Prints the cheapest capacities that meet an order, with the least starts")
+        .arg(file_word(alloc, "NET", "The network"))?
+        .arg(file_word(alloc, "ORDER", "The order"))
+}
+
+/// `prove`, with its words.
+fn prove_command<'a>(alloc: Global) -> Result<Command<'a>, AllocError>
+    ensures { IfOk result (IsCommandOf prove) }
+{
+    Command::new(alloc, "prove")
+        .about("Prints a certificate that no capacities before those of the plan are enough")
         .arg(file_word(alloc, "NET", "The network"))?
         .arg(file_word(alloc, "ORDER", "The order"))
 }

@@ -1,0 +1,43 @@
+//! The lines of a certificate.
+
+ghost use Rattle.std.specs.Prelude.{◌≡◌, ◌++◌, OnOk, codes};
+ghost use Rattle.std.specs.Fmt.{decimal};
+ghost use Rattle.racp_trees.specs.Texts.{step_line, vector_line};
+
+use crate::step::Step;
+use std::alloc::{AllocError, Global};
+
+/// Adds the line of a node.
+pub(crate) fn push_step(alloc: Global, text: &mut Vec<u8>, step: Step) -> Result<(), AllocError>
+    ensures { OnOk result (text.new.items ≡ text.old.items ++ step_line step) }
+{
+    let line = match step {
+        Step::L(job) => format!(in alloc; "L {job}\n")?,
+        Step::D(time) => format!(in alloc; "D {time}\n")?,
+        Step::C(node) => format!(in alloc; "C {node}\n")?,
+    };
+    text.extend_from_slice(line.as_bytes())
+}
+
+/// Adds the line of the vector of a block, by place from 0.
+pub(crate) fn push_vector(
+    alloc: Global,
+    text: &mut Vec<u8>,
+    vector: &[u32],
+) -> Result<(), AllocError>
+    ensures { OnOk result (text.new.items ≡ text.old.items ++ vector_line vector.now) }
+{
+    text.extend_from_slice(b"vector")?;
+    for units in vector {
+        push_number(alloc, text, *units)?;
+    }
+    text.push(b'\n')?;
+    Ok(())
+}
+
+/// Adds a number behind a blank.
+fn push_number(alloc: Global, text: &mut Vec<u8>, number: u32) -> Result<(), AllocError>
+    ensures { OnOk result (text.new.items ≡ text.old.items ++ (codes " " ++ decimal number)) }
+{
+    text.extend_from_slice(format!(in alloc; " {number}")?.as_bytes())
+}
