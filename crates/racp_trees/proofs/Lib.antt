@@ -6,6 +6,7 @@ mod Lines
 mod Spelling
 mod Naming
 mod Making
+mod Writing
 mod Opening
 mod Passing
 mod Starting

@@ -1,6 +1,6 @@
 //! The lines of a certificate.
 
-ghost use Rattle.std.specs.Prelude.{◌≡◌, ◌++◌, OnOk, codes};
+ghost use Rattle.std.specs.Prelude.{◌≡◌, ◌++◌, ◌∷◌, [], OnOk, codes};
 ghost use Rattle.std.specs.Fmt.{decimal};
 ghost use Rattle.racp_trees.specs.Texts.{step_line, vector_line};
 
@@ -8,15 +8,27 @@ use crate::step::Step;
 use std::alloc::{AllocError, Global};
 
 /// Adds the line of a node.
+#[tactic(auto, unfolding(crate::specs::Texts::step_line))]
 pub(crate) fn push_step(alloc: Global, text: &mut Vec<u8>, step: Step) -> Result<(), AllocError>
     ensures { OnOk result (text.new.items ≡ text.old.items ++ step_line step) }
 {
-    let line = match step {
-        Step::L(job) => format!(in alloc; "L {job}\n")?,
-        Step::D(time) => format!(in alloc; "D {time}\n")?,
-        Step::C(node) => format!(in alloc; "C {node}\n")?,
-    };
-    text.extend_from_slice(line.as_bytes())
+    match step {
+        Step::L(job) => push_line(alloc, text, "L ", job),
+        Step::D(time) => push_line(alloc, text, "D ", time),
+        Step::C(node) => push_line(alloc, text, "C ", node),
+    }
+}
+
+/// Adds a line of these letters and a number.
+fn push_line(
+    alloc: Global,
+    text: &mut Vec<u8>,
+    letters: &str,
+    number: u32,
+) -> Result<(), AllocError>
+    ensures { OnOk result (text.new.items ≡ text.old.items ++ (letters.now ++ (decimal number ++ 10 ∷ []))) }
+{
+    text.extend_from_slice(format!(in alloc; "{letters}{number}\n")?.as_bytes())
 }
 
 /// Adds the line of the vector of a block, by place from 0.
@@ -28,7 +40,7 @@ pub(crate) fn push_vector(
     ensures { OnOk result (text.new.items ≡ text.old.items ++ vector_line vector.now) }
 {
     text.extend_from_slice(b"vector")?;
-    for units in vector {
+    for (place, units) in vector.iter().enumerate() {
         push_number(alloc, text, *units)?;
     }
     text.push(b'\n')?;
