@@ -1,7 +1,6 @@
 //! Which closed nodes are offered to cover others.
 
-ghost use Rattle.std.specs.Prelude.{◌≡◌, ℕ, IfSome};
-ghost use Rattle.racp_model.specs.Project.{Project};
+ghost use Rattle.std.specs.Prelude.{IfSome, IsTrue};
 ghost use Rattle.racp_trees.specs.Nodes.{HaveRows, HasPlace};
 ghost use Rattle.racp_trees.specs.Records.{HasRows};
 

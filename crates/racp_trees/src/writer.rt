@@ -40,8 +40,8 @@ pub(crate) fn push_vector(
     ensures { OnOk result (text.new.items ≡ text.old.items ++ vector_line vector.now) }
 {
     text.extend_from_slice(b"vector")?;
-    for (place, units) in vector.iter().enumerate() {
-        push_number(alloc, text, *units)?;
+    for place in 0..vector.len() {
+        push_number(alloc, text, vector[place])?;
     }
     text.push(b'\n')?;
     Ok(())

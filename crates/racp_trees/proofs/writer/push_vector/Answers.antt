@@ -13,6 +13,6 @@ loop-place-preserved c =
 
 pub returns : goal.returns
 returns c =
-    let past : length c.args.vector.now ≤ c.loop-place.place = omega (arith, c.loop-place.auto.place-end, c.loop-place-test.false) in
+    let past : length c.args.vector.now ≤ c.loop-place.place = omega (arith, c.loop-place-test.false) in
     let ended : c.push.new.self.items ≡ c.loop-place.text.items ++ 10 ∷ [] = search rules in
     rw ended (vector_written c.args.vector.now c.args.text.now.items c.loop-place.text.items c.loop-place.place past c.loop-place.invariant)
