@@ -52,6 +52,27 @@ thinned_ready p a old new thin ready = record {
   branches = λ b c. ready.branches b (subst (λ (xs : Vec Branch Global). Contains xs.items b) thin.branches c);
 }
 
+-- nothing is forgotten, or something more
+pub thinned_same : (r : Reader) → IsThinnedReader r r
+thinned_same r = record { branches = refl; number = refl; closed = record { told = λ m kept e. e; empty = λ m less e. e } }
+
+pub thinned_then : (old mid : Reader) (closed : Closed) → IsThinnedReader old mid → IsThinned mid.closed closed mid.number → IsThinnedReader old (record { closed = closed; branches = mid.branches; number = mid.number })
+thinned_then old mid closed first second = record {
+  branches = first.branches;
+  number = first.number;
+  closed = record {
+    told = λ m kept e. first.closed.told m kept (second.told m kept e);
+    empty = λ m less e. first.closed.empty m less (second.empty m (omega (arith, less, first.number)) e);
+  };
+}
+
+pub thinned_more : (old mid new : Reader) → IsThinnedReader old mid → IsThinnedReader mid new → IsThinnedReader old new
+thinned_more old mid new first second = record {
+  branches = second.branches ∙ first.branches;
+  number = second.number ∙ first.number;
+  closed = (thinned_then old mid new.closed first second.closed).closed;
+}
+
 -- what is asked of a text does not depend on what is forgotten
 pub thinned_asks : (p : Project) (a : List ℕ) (terms : Terms) (plan : List ℕ) (root : Bounds) (vectors : List (List ℕ)) (nodes : List (ℕ × SearchNode)) (old new : Reader) (lower rest : List ℕ) → IsThinnedReader old new →
     AsksNext p a terms plan root vectors nodes old lower rest ↔ AsksNext p a terms plan root vectors nodes new lower rest

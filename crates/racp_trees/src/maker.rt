@@ -135,21 +135,38 @@ impl Maker {
         Ok(Some(Step::D(clash.time)))
     }
 
-    /// Makes a place for the next node, which has this record. Where there is no room, all others are forgotten.
+    /// Makes a place for the next node, which has this record.
     fn expect(&mut self, alloc: Global, net: &Network, row: &Record) -> Result<(), AllocError>
         ensures { OnOk result (IsThinnedReader self.old.reader self.new.reader) }
     {
         if self.reader.number > u32::MAX as u64 {
             return Ok(());
         }
+        self.make_room(alloc, net);
+        let number = self.reader.number;
+        self.enter(alloc, row, number as u32)?;
+        self.reader.closed.expect(number)?;
+        Ok(())
+    }
+
+    /// Forgets all closed nodes where there is no room for another one.
+    fn make_room(&mut self, alloc: Global, net: &Network)
+        ensures { IsThinnedReader self.old.reader self.new.reader }
+    {
         if self.offers.is_full() {
             self.forget(alloc, net);
         }
-        let number = self.reader.number as u32;
-        if let Some(oldest) = self.offers.enter(alloc, &row.started, number)? {
-            self.reader.closed.forget(oldest as u64);
-        }
-        self.reader.closed.expect(number as u64)
+    }
+
+    /// Offers the node with this number and this record. The one that gives way to it is forgotten.
+    fn enter(&mut self, alloc: Global, row: &Record, number: u32) -> Result<(), AllocError>
+        ensures { OnOk result (IsThinnedReader self.old.reader self.new.reader) }
+    {
+        let Some(oldest) = self.offers.enter(alloc, &row.started, number)? else {
+            return Ok(());
+        };
+        self.reader.closed.forget(oldest as u64);
+        Ok(())
     }
 }
 
@@ -168,14 +185,15 @@ fn row_of(
     ensures { IfOk result (HasRows ground.now.net.now) }
 {
     prove!(ground.net.job_count() == ground.net.job_count());
-    Record::new(
+    let row = Record::new(
         alloc,
         ground.net,
         ground.capacities.as_slice(),
         lower,
         early.as_slice(),
         time,
-    )
+    )?;
+    Ok(row)
 }
 
 /// The number of the first job whose early start exceeds its upper bound.
