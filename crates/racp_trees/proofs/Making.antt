@@ -1,5 +1,5 @@
 -- A certificate is made line by line: whatever text follows, a reader of it stands where the maker stands.
-use Rattle.std.proofs.Common.{◌≡◌, ◌↔◌, ◌∙◌, ℕ, ◌+◌, ◌<◌, ◌≤◌, List, [], ◌∷◌, ◌++◌, length, slice_index, Contains, All, AllPairs, Bool, Vec, arith, refl, sym, subst, ap, append_assoc, true}
+use Rattle.std.proofs.Common.{◌≡◌, ◌↔◌, ◌∙◌, ℕ, ◌+◌, ◌-◌, ◌<◌, ◌≤◌, List, [], ◌∷◌, ◌++◌, length, slice_index, Contains, All, AllPairs, Bool, Vec, arith, refl, sym, subst, ap, append_assoc, true}
 use Rattle.std.specs.Prelude.{Option, Some, None}
 use Rattle.std.specs.Global.{Global}
 use Rattle.std.proofs.lemmas.Option.{none-some}
@@ -23,6 +23,7 @@ use Rattle.racp_trees.specs.declared.closed.Closed.{Closed}
 use Rattle.racp_trees.specs.declared.record.Record.{Record}
 use Rattle.racp_trees.specs.declared.reader.Reader.{Reader}
 use Rattle.racp_trees.specs.declared.step.Step.{Step}
+use Rattle.racp_trees.specs.declared.step.Step.TheVariants.{L, D, C}
 use Rattle.racp_trees.proofs.Advancing.{IsReadingTree, tree_first, tree_more, tree_ends}
 
 -- what was read is still known of a reader that forgot some of it
@@ -175,3 +176,13 @@ module _ (p : Project) (a : List ℕ) (root : Bounds) (old : Reader) (text : Lis
           let told = (ended h stays rest).told terms plan vectors nodes (thinned_read p root.upper nodes was old thin r) in
           (told.0, told.1, λ x. (thinned_asks p a terms plan root vectors nodes was old root.lower ((is.lines ++ step_line s) ++ rest) thin).1 (told.2.1 x));
     }
+
+line_long : (s : Step) → 0 < length (step_line s)
+unfolding step_line
+line_long (L job) = omega arith
+line_long (D time) = omega arith
+line_long (C node) = omega arith
+
+-- a line more leaves less room
+pub making_longer : (whole longer : List ℕ) (s : Step) (most : ℕ) → longer ≡ whole ++ step_line s → length whole < most → most - length longer < most - length whole
+making_longer whole longer s most line room = omega (arith, room, ap (λ (xs : List ℕ). length xs) line, length-append whole (step_line s), line_long s)

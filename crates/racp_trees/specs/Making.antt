@@ -10,6 +10,7 @@ use Rattle.racp_trees.specs.Following.{IsRest}
 use Rattle.racp_trees.specs.Nodes.{HasPlace}
 use Rattle.racp_trees.specs.Readers.{HasRead, AsksNext}
 use Rattle.racp_trees.specs.Records.{record_at}
+use Rattle.racp_trees.specs.Texts.{step_number, most_number}
 use Rattle.racp_trees.specs.declared.closed.Closed.{Closed}
 use Rattle.racp_trees.specs.declared.record.Record.{Record}
 use Rattle.racp_trees.specs.declared.reader.Reader.{Reader}
@@ -27,10 +28,10 @@ pub record IsThinnedReader (old new : Reader) : Type 0 where
   pub number : new.number ≡ old.number
   pub closed : IsThinned old.closed new.closed old.number
 
--- a line was chosen: the node that it names has a place
+-- a line was chosen, which may stand in a text: the node that it names has a place
 abbrev pub IsChoice : Reader → Reader → Option Step → Type 0
 IsChoice old new None = ⊤
-IsChoice old new (Some step) = IsThinnedReader old new × ((node : ℕ) → step ≡ C node → HasPlace new.closed node)
+IsChoice old new (Some step) = IsThinnedReader old new × (step_number step ≤ most_number) × ((node : ℕ) → step ≡ C node → HasPlace new.closed node)
 
 -- the lines of a tree of the root window were added to a text, and what follows a certificate's rest may follow them
 pub record HasMadeTree (p : Project) (capacities : List ℕ) (root : Bounds) (old : Reader) (text : List ℕ) (new : Reader) (whole : List ℕ) : Type 0 where
