@@ -7,6 +7,7 @@ mod Spelling
 mod Naming
 mod Making
 mod Writing
+mod Gathering
 mod Opening
 mod Passing
 mod Starting
