@@ -1,5 +1,5 @@
 -- A certificate is made block by block: whatever ends it as a certificate's rest does, ends it as a certificate.
-use Rattle.std.proofs.Common.{◌≡◌, ◌∙◌, ◌⊎◌, inl, inr, ℕ, ◌+◌, ◌<◌, ◌≤◌, List, [], ◌∷◌, ◌++◌, length, slice_index, slice_index_or, Contains, All, AllPairs, Vec, arith, refl, sym, subst, ap, append_assoc}
+use Rattle.std.proofs.Common.{◌≡◌, ◌∙◌, ◌⊎◌, inl, inr, ℕ, ◌+◌, ◌<◌, ◌≤◌, List, [], ◌∷◌, ◌++◌, length, slice_index, slice_index_or, Contains, All, AllPairs, Vec, arith, refl, sym, subst, ap, append_assoc, codes}
 use Rattle.std.specs.Prelude.{Some, None, flat_map}
 use Rattle.std.specs.Global.{Global}
 use Rattle.std.proofs.lemmas.Option.{none-some}
@@ -152,3 +152,12 @@ module _ (p : Project) (root : Bounds) (blocks : List (Vec ℕ Global)) (text : 
       are_enough v places within before =
           let found = enough v places (λ k l. omega (arith, within k l, are.each k l)) before in
           (found.0.items, vector_in blocks found.0 found.1, found.2)
+
+-- the first line and the last, as they are written
+pub first_written : (text : List ℕ) → text ≡ codes "proof\n" → text ≡ first_line
+unfolding first_line
+first_written text e = e
+
+pub last_written : (text whole : List ℕ) → whole ≡ text ++ codes "end\n" → whole ≡ text ++ last_line
+unfolding last_line
+last_written text whole e = e
