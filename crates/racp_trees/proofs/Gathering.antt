@@ -33,11 +33,14 @@ block_made p a root old new text begun whole some places small none begins made 
   room = made.room;
   told = λ rest terms plan vectors nodes h.
       let told = made.told rest terms plan (vectors ++ a ∷ []) nodes h in
-      let more : List ℕ = made.lines ++ rest in
-      (told.0, told.1, λ x.
-          subst (λ (xs : List ℕ). IsRest p terms plan root vectors nodes old.number xs) (sym (append_assoc (vector_line a) made.lines rest))
-          ((block_next p terms plan root vectors nodes old.number a more some places small).1
-          (subst (λ (bs : List Branch). IsNext p a (rest_of p terms plan root (vectors ++ a ∷ [])) nodes old.number root (open_nodes a root.upper bs) more) none (told.2 x))));
+      let more : List ℕ = made.lines ++ rest in (
+        told.0,
+        told.1,
+        λ x.
+            subst (λ (xs : List ℕ). IsRest p terms plan root vectors nodes old.number xs) (sym (append_assoc (vector_line a) made.lines rest))
+            ((block_next p terms plan root vectors nodes old.number a more some places small).1
+            (subst (λ (bs : List Branch). IsNext p a (rest_of p terms plan root (vectors ++ a ∷ [])) nodes old.number root (open_nodes a root.upper bs) more) none (told.2 x))),
+      );
 }
 
 -- the vectors of blocks
@@ -86,24 +89,24 @@ certifying_first p root blocks text reader no_block first number fresh none = re
   lines = [];
   whole = first ∙ sym (no_more first_line);
   told = λ rest terms plan. (
-      [],
-      record {
-        records = record {
-          one = λ m v w c d. absurd (no_member (m, v) c);
-          node = λ m v c. absurd (no_member (m, v) c);
-          fits = λ m v c. absurd (no_member (m, v) c);
-          bounds = λ m v c. absurd (no_member (m, v) c);
-          told = λ m kept e. absurd (none-some (Some kept) (sym (fresh m) ∙ e));
-          all = λ m v c e. absurd (no_member (m, v) c);
-        };
-        closed = λ m v c. absurd (no_member (m, v) c);
-        opened = λ b c. absurd (no_branch b c);
-        fits = λ b c. absurd (no_branch b c);
-        rising = subst (λ (xs : List Branch). AllPairs (λ (x : Branch) (y : Branch). x.number < y.number) xs) (sym none) (λ i j d less l. absurd (omega (arith, l)));
-        apart = λ b c. absurd (no_branch b c);
-      },
-      λ x. subst (λ (k : ℕ). IsRest p terms plan root [] [] k rest) number (subst (λ (bs : List (Vec ℕ Global)). IsRest p terms plan root (vectors_from bs) [] reader.number rest) no_block x),
-    );
+    [],
+    record {
+      records = record {
+        one = λ m v w c d. absurd (no_member (m, v) c);
+        node = λ m v c. absurd (no_member (m, v) c);
+        fits = λ m v c. absurd (no_member (m, v) c);
+        bounds = λ m v c. absurd (no_member (m, v) c);
+        told = λ m kept e. absurd (none-some (Some kept) (sym (fresh m) ∙ e));
+        all = λ m v c e. absurd (no_member (m, v) c);
+      };
+      closed = λ m v c. absurd (no_member (m, v) c);
+      opened = λ b c. absurd (no_branch b c);
+      fits = λ b c. absurd (no_branch b c);
+      rising = subst (λ (xs : List Branch). AllPairs (λ (x : Branch) (y : Branch). x.number < y.number) xs) (sym none) (λ i j d less l. absurd (omega (arith, l)));
+      apart = λ b c. absurd (no_branch b c);
+    },
+    λ x. subst (λ (k : ℕ). IsRest p terms plan root [] [] k rest) number (subst (λ (bs : List (Vec ℕ Global)). IsRest p terms plan root (vectors_from bs) [] reader.number rest) no_block x),
+  );
 }
   where
     no_branch : (b : Branch) → Contains reader.branches.items b → ⊥
@@ -127,10 +130,13 @@ module _ (p : Project) (root : Bounds) (blocks : List (Vec ℕ Global)) (text : 
     whole = made.added ∙ (ap (λ (xs : List ℕ). xs ++ made.lines) is.whole ∙ append_assoc first_line is.lines made.lines);
     told = λ rest terms plan.
         let told = is.told (made.lines ++ rest) terms plan in
-        let on = made.told rest terms plan (vectors_from blocks) told.0 told.1 in
-        (on.0, on.1, λ x.
-            subst (λ (xs : List ℕ). IsRest p terms plan root [] [] 1 xs) (sym (append_assoc is.lines made.lines rest))
-            (told.2 (on.2 (subst (λ (vs : List (List ℕ)). IsRest p terms plan root vs on.0 new.number rest) (ap (λ (bs : List (Vec ℕ Global)). vectors_from bs) same ∙ vectors_more blocks block) x))));
+        let on = made.told rest terms plan (vectors_from blocks) told.0 told.1 in (
+          on.0,
+          on.1,
+          λ x.
+              subst (λ (xs : List ℕ). IsRest p terms plan root [] [] 1 xs) (sym (append_assoc is.lines made.lines rest))
+              (told.2 (on.2 (subst (λ (vs : List (List ℕ)). IsRest p terms plan root vs on.0 new.number rest) (ap (λ (bs : List (Vec ℕ Global)). vectors_from bs) same ∙ vectors_more blocks block) x))),
+        );
   }
 
   -- the last line, where the blocks are enough

@@ -136,13 +136,7 @@ fn is_above(hint: &[u32], low: &[u32]) -> bool
 }
 
 /// Raises the capacities of a vector, one place after another, each as far as the vector stands before these.
-fn raise_all(
-    net: &Network,
-    order: &Order,
-    roofs: &[u32],
-    capacities: &[u32],
-    vector: &mut [u32],
-)
+fn raise_all(net: &Network, order: &Order, roofs: &[u32], capacities: &[u32], vector: &mut [u32])
     requires terms { AreTermsOf net.now order.now }
     requires roofs { length roofs.now ≡ net.now.resources }
     requires capacities { length capacities.now ≡ net.now.resources }
@@ -155,14 +149,7 @@ fn raise_all(
 }
 
 /// Raises one capacity of a vector up to a roof, as far as the vector stands before these.
-fn raise(
-    net: &Network,
-    order: &Order,
-    roof: u32,
-    capacities: &[u32],
-    vector: &mut [u32],
-    k: usize,
-)
+fn raise(net: &Network, order: &Order, roof: u32, capacities: &[u32], vector: &mut [u32], k: usize)
     requires terms { AreTermsOf net.now order.now }
     requires capacities { length capacities.now ≡ net.now.resources }
     requires vector { length vector.old ≡ net.now.resources }

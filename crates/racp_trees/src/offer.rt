@@ -100,7 +100,9 @@ fn is_covered_by(net: &Network, closed: &Closed, number: u32, row: &Record) -> b
 fn key_of(jobs: &JobSet) -> u64 {
     let mut key: u64 = 0;
     for word in jobs.words() {
-        key = (key ^ *word).wrapping_mul(0x9E37_79B9_7F4A_7C15).rotate_left(29);
+        key = (key ^ *word)
+            .wrapping_mul(0x9E37_79B9_7F4A_7C15)
+            .rotate_left(29);
     }
     key
 }
