@@ -3,7 +3,7 @@
 ghost use Rattle.std.specs.Prelude.{◌≡◌, ◌≤◌, ℕ, List, Option, Some, IfOk, MatchResult, map, option_map, string_bytes, codes, false};
 ghost use Rattle.clap.specs.Words.{FailsBy, app_of, fault_of, first_of, first_value, found_of, kind_of, rows_of, rule_of, subcommand_rows_of};
 ghost use Rattle.clap.specs.declared.error.kind.ErrorKind.TheVariants.{OutOfMemory};
-ghost use Rattle.racp_words.specs.CommandLine.{AskFor, IsCheckLine, AsksForCheck, IsCpmLine, AsksForCpm, IsPlanLine, AsksForPlan, IsWorkersLine, AsksForWorkers, IsCrew, IsLimitOf, IsNumberOf, IsRequested, IsSource, check, cpm, file_rule, flag_rule, is_set, number_in, number_rule, path_at, plan, plan_of_files, plan_of_workers, racp};
+ghost use Rattle.racp_words.specs.CommandLine.{AskFor, IsCheckLine, AsksForCheck, IsProveLine, AsksForProve, IsCpmLine, AsksForCpm, IsPlanLine, AsksForPlan, IsWorkersLine, AsksForWorkers, IsCrew, IsLimitOf, IsNumberOf, IsRequested, IsSource, check, cpm, file_rule, flag_rule, is_set, number_in, number_rule, path_at, plan, plan_of_files, plan_of_workers, prove, racp};
 ghost use Rattle.racp_words.specs.Commands.{IsCommandOf};
 
 use crate::request::{Crew, Memory, OrderFiles, PlanFiles, Request, Source};
@@ -41,6 +41,9 @@ pub fn asked<'a>(alloc: Global, words: &'a [String]) -> Result<Request<'a>, Erro
     // With `--workers` and a number from 1 to 64 behind these, too.
     ensures workers { (net order number : List ℕ) → IsWorkersLine (map string_bytes words.entry.now) net order number
         → MatchResult result (AsksForWorkers net order (number_in number)) (λ error. kind_of error ≡ OutOfMemory) }
+    // With `prove` and two paths, too.
+    ensures prove { (net order : List ℕ) → IsProveLine (map string_bytes words.entry.now) net order
+        → MatchResult result (AsksForProve net order) (λ error. kind_of error ≡ OutOfMemory) }
     // With `check` and three paths, too.
     ensures check { (net order plan_path : List ℕ) → IsCheckLine (map string_bytes words.entry.now) net order plan_path
         → MatchResult result (AsksForCheck net order plan_path) (λ error. kind_of error ≡ OutOfMemory) }
