@@ -3,6 +3,7 @@ use Rattle.std.proofs.Common.{ℕ, List, [], ◌∷◌, Option, Ok, Err, IfOk, i
 use Rattle.std.specs.Prelude.{Result}
 use Rattle.racp_cli.specs.Crowds.{IsCrowdAnswer}
 use Rattle.racp_cli.specs.Plans.{IsPlanAnswer}
+use Rattle.racp_cli.specs.Proofs.{IsProofAnswer, IsProofRun}
 use Rattle.racp_cli.specs.Streams.{Reader, ToTwo, IsPlanRun}
 use Rattle.racp_cli.specs.declared.fault.StreamFault.{StreamFault}
 use Rattle.racp.specs.Statuses.{IsStatusOfAnswer}
@@ -24,3 +25,14 @@ on_one_thread (net ∷ (order ∷ (other ∷ inputs))) status text answer = absu
 pub planned_alone : (net order : Reader) (old new : Option (List ℕ)) (result : Result ℕ StreamFault) → IsPlanRun net order old new result → IfOk result IsStatusOfAnswer
 planned_alone net order old new (Ok status) run = on_one_thread run.0 status run.2.0 run.2.1
 planned_alone net order old new (Err fault) run = tt
+
+-- what is answered with a certificate, or where there is none
+with_certificate : (inputs : List (List ℕ)) (status : ℕ) (text : List ℕ) → ToTwo IsProofAnswer inputs status text → IsStatusOfAnswer status
+with_certificate [] status text answer = absurd answer
+with_certificate (net ∷ []) status text answer = absurd answer
+with_certificate (net ∷ (order ∷ [])) status text answer = inr (inr (inr (net, order, text, answer)))
+with_certificate (net ∷ (order ∷ (other ∷ inputs))) status text answer = absurd answer
+
+pub proved_alone : (net order : Reader) (old new : Option (List ℕ)) (result : Result ℕ StreamFault) → IsProofRun net order old new result → IfOk result IsStatusOfAnswer
+proved_alone net order old new (Ok status) run = with_certificate run.0 status run.2.0 run.2.1
+proved_alone net order old new (Err fault) run = tt

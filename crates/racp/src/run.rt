@@ -8,7 +8,7 @@ ghost use Rattle.racp_cli.specs.declared.fault.StreamFault.TheVariants as stream
 use crate::failure::{Failure, report};
 use crate::limit::Limit;
 use crate::progress::Progress;
-use racp_cli::{StreamFault, check_over, cpm_over, crowd_over_by, run_over_within};
+use racp_cli::{StreamFault, check_over, cpm_over, crowd_over_by, prove_over, run_over_within};
 use racp_desk::Open;
 use racp_words::{Crew, Memory, OrderFiles, PlanFiles, Request, Source, asked};
 use std::alloc::{AllocError, Global};
@@ -50,6 +50,7 @@ fn answer<R: Clock + Env + Files + Input + Print + Eprint + AllocGlobal + Thread
             crew,
             on_terminal,
         )?),
+        Request::Prove(files) => Ok(prove(rt, files)?),
         Request::Check(files) => Ok(check(rt, files)?),
     }
 }
@@ -151,6 +152,18 @@ fn plan<R: Files + Print + AllocGlobal>(
         &mut io::writer(rt),
         memory.mebibytes,
     )
+}
+
+/// Writes a certificate for the plan of these files, or why there is none.
+fn prove<R: Files + Print + AllocGlobal>(
+    rt: &R,
+    files: OrderFiles<'_>,
+) -> Result<u8, StreamFault>
+    ensures { IfOk result IsStatusOfAnswer }
+{
+    let mut net = open(rt, files.net)?;
+    let mut order = open(rt, files.order)?;
+    prove_over(rt.alloc(), &mut net, &mut order, &mut io::writer(rt))
 }
 
 /// Writes whether the plan in these files is right.

@@ -2,6 +2,7 @@ pub mod Texts
 pub mod Answers
 pub mod Checks
 pub mod Plans
+pub mod Proofs
 pub mod Crowds
 pub mod Streams
 pub mod Pieces

@@ -5,7 +5,7 @@
 //!
 //! Each command is a function over readers and a writer, so that what it does can be proved and tested without files.
 //! `cpm_over` answers a network with its critical length and early starts, `run_over` a network and an order with the
-//! plan or why there is none, `crowd_over` the same by workers, and `check_over` a network, an order and a plan with `ok`
+//! plan or why there is none, `crowd_over` the same by workers, `prove_over` a network and an order with a certificate for the plan, and `check_over` a network, an order and a plan with `ok`
 //! or what is wrong. Each returns the status with which the program ends. `run_over_within` and `crowd_over_by` also take
 //! how much memory the records of refuted nodes may have. docs/FORMATS.md has every line and every status.
 //!
@@ -31,7 +31,7 @@
 //! flushed once. A call that takes no byte, or fails, is `Write`; a call that is interrupted counts as failed.
 //!
 //! In `specs/`, an answer is a value, with the text and the status that stand for it. `IsCpmAnswer`, `IsPlanAnswer`,
-//! `IsCrowdAnswer` and `IsCheckAnswer` say when text and status are right for the bytes of one, two and three inputs, and `IsRun` ties
+//! `IsProofAnswer`, `IsCrowdAnswer` and `IsCheckAnswer` say when text and status are right for the bytes of one, two and three inputs, and `IsRun` ties
 //! answers to what the readers had and what the writer holds, for all commands.
 //!
 //! Proved: where a command returns a status, all of each reader was read, and what was written is exactly the text of a
@@ -51,6 +51,7 @@ mod fault;
 pub mod laws;
 mod lines;
 mod plan;
+mod prove;
 mod refusal;
 mod respond;
 mod status;
@@ -61,4 +62,5 @@ pub use cpm::cpm_over;
 pub use crowd::{crowd_over, crowd_over_by};
 pub use fault::StreamFault;
 pub use plan::{run_over, run_over_within};
+pub use prove::prove_over;
 pub use status::{CHECK_FAILED, DONE, OUT_OF_MEMORY, REFUSED, STOPPED, STREAM_FAILED};

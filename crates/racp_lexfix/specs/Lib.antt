@@ -1,6 +1,7 @@
 pub mod Answers
 pub mod Texts
 pub mod Printing
+pub mod Proving
 pub mod Working
 pub mod Fixing
 pub mod Stages

@@ -49,12 +49,35 @@ pub fn plan<A: Asker<AnySeries>>(
         (A.answered asker.new - A.answered asker.old) (A.told asker.new))
         (A.may_stop asker.new) (A.may_want_thread asker.new)) }
 {
+    plan_and_keep(alloc, net, order, asker, &mut None)
+}
+
+/// The same, which also keeps the sharpened floors and the refuted pairs, once they are known.
+///
+/// # Errors
+///
+/// As with `plan`.
+pub(crate) fn plan_and_keep<A: Asker<AnySeries>>(
+    alloc: Global,
+    net: &Network,
+    order: &Order,
+    asker: &mut A,
+    kept: &mut Option<Sharp>,
+) -> Result<Answer, PlanStop>
+    requires named { A.about asker.old net.now }
+    requires terms { AreTermsOf net.now order.now }
+    ensures network { A.about asker.new net.now }
+    ensures answer { IfOk result (IsAnswer net.now order.now) }
+    ensures stop { IfErr result (IsPlanStop (IsStoppedAt net.now order.now
+        (A.answered asker.new - A.answered asker.old) (A.told asker.new))
+        (A.may_stop asker.new) (A.may_want_thread asker.new)) }
+{
     let (critical, root) = match opening_of(alloc, net, order)? {
         Opening::Root { critical, window } => (critical, window),
         Opening::TooLong { critical } => return Ok(Answer::Impossible { longest: critical }),
         Opening::TooLate { job } => return Ok(Answer::Due { job }),
     };
-    let Some((capacities, starts)) = chosen(alloc, net, order, &root, asker)? else {
+    let Some((capacities, starts)) = chosen(alloc, net, order, &root, asker, kept)? else {
         return Ok(Answer::Ceiling);
     };
     Ok(Answer::Plan(Plan {
@@ -66,13 +89,15 @@ pub fn plan<A: Asker<AnySeries>>(
     }))
 }
 
-/// The capacities and the starts of the plan, or none where no capacities are enough.
+/// The capacities and the starts of the plan, or none where no capacities are enough. The sharpened floors and the refuted
+/// pairs are kept, once they are known.
 fn chosen<A: Asker<AnySeries>>(
     alloc: Global,
     net: &Network,
     order: &Order,
     root: &Window,
     asker: &mut A,
+    kept: &mut Option<Sharp>,
 ) -> Result<Option<(Capacities, Starts)>, PlanStop>
     requires named { A.about asker.old net.now }
     requires terms { AreTermsOf net.now order.now }
@@ -92,12 +117,21 @@ fn chosen<A: Asker<AnySeries>>(
         Ok(sharp) => sharp,
         Err((reached, stop)) => return Err(PlanStop::given_up(stop, reached)),
     };
+    *kept = Some(copied(alloc, &sharp)?);
     let capacities = cheapest(alloc, net, order, root, sharp, &roofs, asker)?;
     asker.hear_cost(cost_of(net, order, capacities.as_slice()));
     match least_starts(alloc, net, &capacities, root, asker) {
         Ok(starts) => Ok(Some((capacities, starts))),
         Err(stop) => Err(PlanStop::given_up(stop, capacities)),
     }
+}
+
+/// The same floors and pairs.
+fn copied(alloc: Global, sharp: &Sharp) -> Result<Sharp, AllocError> {
+    Ok(Sharp {
+        floors: sharp.floors.copy()?,
+        pairs: sharp.pairs.to_vec(alloc)?,
+    })
 }
 
 /// The first capacities of all that are enough: asked for in their order where they are among few vectors, and else

@@ -1,6 +1,7 @@
 -- Boxes of capacity vectors: what one box goes on as.
-use Rattle.std.proofs.Common.{◌≡◌, ◌⊎◌, inl, inr, ◌∙◌, ℕ, zero, suc, ◌+◌, ◌-◌, ◌*◌, ◌^◌, ◌<◌, ◌≤◌, List, [], ◌∷◌, ◌++◌, length, slice_index, slice_index_or, Contains, Vec, arith, refl, sym, subst, ap, IsTrue, Bool, true, false}
+use Rattle.std.proofs.Common.{◌≡◌, ◌↔◌, ◌⊎◌, inl, inr, ◌∙◌, ℕ, zero, suc, ◌+◌, ◌-◌, ◌*◌, ◌^◌, ◌<◌, ◌≤◌, List, [], ◌∷◌, ◌++◌, length, slice_index, slice_index_or, Contains, Vec, arith, refl, sym, subst, ap, IsTrue, Bool, true, false}
 use Rattle.std.specs.Global.{Global}
+use Rattle.std.specs.Prelude.{Option, Some, None, is_some, not}
 use Rattle.std.proofs.Math.Nat.{mul-le-mul_left, one-le-pow, pow-le-pow_right, pow-suc}
 use Rattle.std.proofs.lemmas.Bool.{cases_lt}
 use Rattle.std.proofs.lemmas.List.{get_or_default, length-append}
@@ -13,7 +14,7 @@ use Rattle.racp_model.proofs.lemmas.Orders.{HasFirstPlace, first_from_lex, vecto
 use Rattle.racp_model.proofs.lemmas.Costs.{before_cases, before_trans}
 use Rattle.racp_model.proofs.lemmas.Relations.{member_cases, member_first, member_later, no_member}
 use Rattle.racp_trees.specs.declared.parts.Part.{Part}
-use Rattle.racp_trees.specs.Enough.{IsAtMost, IsBelowSome, AreEnoughBlocks, IsPartAt, AreParts, ArePartsAdded, IsPart, IsIn, IsLeft, IsLooking, slack, weights}
+use Rattle.racp_trees.specs.Enough.{IsGapAnswer, IsAtMost, IsBelowSome, AreEnoughBlocks, IsPartAt, AreParts, ArePartsAdded, IsPart, IsIn, IsLeft, IsLooking, slack, weights}
 
 -- a vector that is at or above another in each place does not stand before it (from racp_lexfix)
 above-no_before : (p : Project) (terms : Terms) (low high : List ℕ) → AreTermsOf p terms → length low ≡ p.resources → length high ≡ p.resources →
@@ -294,10 +295,6 @@ module _ (p : Project) (terms : Terms) (roofs capacities : List ℕ) (blocks : L
       let is_old : weights p.resources roofs old ≡ weights p.resources roofs (rest ++ part ∷ []) = ap (λ (xs : List Part). weights p.resources roofs xs) taken in
       omega (arith, is_old, weights-append p.resources roofs rest (part ∷ []), weights-one p.resources roofs part, weight-some (slack p.resources roofs part))
 
-  -- a least vector that is above each block is one that matters
-  pub not-enough : IsBefore terms part.low.items capacities → (IsBelowSome p.resources blocks part.low.items → ⊥) → AreEnoughBlocks p terms roofs capacities blocks → ⊥
-  not-enough before above enough = above (enough part.low.items taken-is.low_places taken-is.low_within before)
-
 -- where no box is left, the blocks are enough
 pub enough-none : (p : Project) (terms : Terms) (roofs capacities : List ℕ) (blocks : List (Vec ℕ Global)) (parts : List Part) → parts ≡ [] → IsLooking p terms roofs capacities blocks parts → AreEnoughBlocks p terms roofs capacities blocks
 enough-none p terms roofs capacities blocks parts e h v places most before = elim (h.left v places most before) [
@@ -331,3 +328,10 @@ at_of n seen v block same places h = subst (λ (m : ℕ). IsAtMost m v block) pl
 pub empty : (parts : List Part) → length parts ≡ 0 → parts ≡ []
 empty [] e = refl
 empty (x ∷ xs) e = absurd (omega (arith, e))
+
+-- whether the blocks are enough is whether no vector is above each of them
+pub gap_told : (p : Project) (terms : Terms) (roofs capacities : List ℕ) (blocks : List (Vec ℕ Global)) (found : Option (Vec ℕ Global)) (b : Bool) → is_some found ≡ not b → IsGapAnswer p terms roofs capacities blocks found → IsTrue b ↔ AreEnoughBlocks p terms roofs capacities blocks
+gap_told p terms roofs capacities blocks (Some low) true e gap = absurd (cc e)
+gap_told p terms roofs capacities blocks (Some low) false e gap = (λ yes'. absurd (never false refl yes'), λ enough. absurd (gap.above (enough low.items gap.places gap.within gap.before)))
+gap_told p terms roofs capacities blocks None true e enough = (λ yes'. enough, λ h. refl)
+gap_told p terms roofs capacities blocks None false e enough = absurd (cc e)

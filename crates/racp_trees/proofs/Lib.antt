@@ -5,6 +5,9 @@ mod Digits
 mod Lines
 mod Spelling
 mod Naming
+mod Making
+mod Writing
+mod Gathering
 mod Opening
 mod Passing
 mod Starting

@@ -19,6 +19,18 @@ abbrev pub AreEnoughBlocks : Project → Terms → List ℕ → List ℕ → Lis
 AreEnoughBlocks p terms roofs capacities blocks =
     (v : List ℕ) → length v ≡ p.resources → IsAtMost p.resources v roofs → IsBefore terms v capacities → IsBelowSome p.resources blocks v
 
+-- a capacity vector up to the roofs that stands before the capacities, and that no block is at or above
+pub record IsGap (p : Project) (terms : Terms) (roofs capacities : List ℕ) (blocks : List (Vec ℕ Global)) (low : List ℕ) : Type 0 where
+  pub places : length low ≡ p.resources
+  pub within : IsAtMost p.resources low roofs
+  pub before : IsBefore terms low capacities
+  pub above : IsBelowSome p.resources blocks low → ⊥
+
+-- such a vector, or none where the blocks are enough
+abbrev pub IsGapAnswer : Project → Terms → List ℕ → List ℕ → List (Vec ℕ Global) → Option (Vec ℕ Global) → Type 0
+IsGapAnswer p terms roofs capacities blocks (Some low) = IsGap p terms roofs capacities blocks low.items
+IsGapAnswer p terms roofs capacities blocks None = AreEnoughBlocks p terms roofs capacities blocks
+
 -- the place of the first block at or above a vector, or none where none is
 abbrev pub IsBlockAnswer : List (Vec ℕ Global) → List ℕ → Option ℕ → Type 0
 IsBlockAnswer blocks v (Some k) = (k < length blocks) × ((d : Vec ℕ Global) → IsAtMost (length v) v (slice_index_or blocks k d).items)

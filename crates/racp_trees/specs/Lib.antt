@@ -11,3 +11,4 @@ pub mod Nodes
 pub mod Readers
 pub mod Blocks
 pub mod Laws
+pub mod Making

@@ -1,9 +1,10 @@
 //! The closed nodes that lines of a text name.
 
-ghost use Rattle.std.specs.Prelude.{◌≡◌, ◌<◌, IfOk, OnOk, MatchOption, None, Some, length, nat_eq};
+ghost use Rattle.std.specs.Prelude.{◌≡◌, ℕ, ◌<◌, IfOk, OnOk, MatchOption, None, Some, length, nat_eq};
 ghost use Rattle.std.specs.HashMap.{Updates};
 ghost use Rattle.racp_trees.specs.declared.record.Record.{Record};
 ghost use Rattle.racp_trees.specs.Reading.{IsNamedAt};
+ghost use Rattle.racp_trees.specs.Making.{IsThinned};
 ghost use Rattle.racp_trees.specs.Records.{AreNamed, IsKept, record_at};
 
 use crate::reading::read_step;
@@ -30,6 +31,29 @@ impl Closed {
             }
         }
         Ok(Closed { records })
+    }
+
+    /// No places.
+    pub(crate) fn none(alloc: Global) -> Self
+        ensures { (number : ℕ) → record_at result number ≡ None }
+    {
+        Closed {
+            records: HashMap::new(alloc),
+        }
+    }
+
+    /// Makes a place for the node with a number, which is not closed.
+    pub(crate) fn expect(&mut self, number: u64) -> Result<(), AllocError>
+        ensures { OnOk result (IsThinned self.old self.new number) }
+    {
+        add_place(&mut self.records, number)
+    }
+
+    /// Forgets the node with a number.
+    pub(crate) fn forget(&mut self, number: u64)
+        ensures { (next : ℕ) → IsThinned self.old self.new next }
+    {
+        let _ = self.records.remove(&number);
     }
 
     /// Keeps the record of a node that is closed, if some line names it.

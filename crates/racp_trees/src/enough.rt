@@ -1,7 +1,7 @@
 ghost use Rattle.std.specs.Prelude.{◌≡◌, ◌↔◌, ◌≤◌, ℕ, ◌<◌, IfOk, IsTrue, length, slice_index, slice_index_or};
 ghost use Rattle.racp_model.specs.Project.{IsSound};
 ghost use Rattle.racp_model.specs.Terms.{AreTermsOf};
-ghost use Rattle.racp_trees.specs.Enough.{AreEnoughBlocks, IsPart, AreParts};
+ghost use Rattle.racp_trees.specs.Enough.{AreEnoughBlocks, IsGapAnswer, IsPart, AreParts};
 
 use crate::before::{is_before, place_above};
 use crate::parts::{Part, push_parts};
@@ -31,6 +31,26 @@ pub fn are_enough(
     requires blocks { (k : ℕ) → k < length blocks.now → (d : _) → length (slice_index_or blocks.now k d).items ≡ net.now.resources }
     ensures { IfOk result (λ yes. IsTrue yes ↔ AreEnoughBlocks net.now order.now roofs.now capacities.now blocks.now) }
 {
+    Ok(gap(alloc, net, order, roofs, capacities, blocks)?.is_none())
+}
+
+/// A capacity vector up to the roofs that stands before the capacities and is above each block, or `None` where the blocks
+/// are enough.
+pub(crate) fn gap(
+    alloc: Global,
+    net: &Network,
+    order: &Order,
+    roofs: &[u32],
+    capacities: &[u32],
+    blocks: &[Vec<u32>],
+) -> Result<Option<Vec<u32>>, AllocError>
+    requires sound { IsSound net.now }
+    requires terms { AreTermsOf net.now order.now }
+    requires roofs { length roofs.now ≡ net.now.resources }
+    requires capacities { length capacities.now ≡ net.now.resources }
+    requires blocks { (k : ℕ) → k < length blocks.now → (d : _) → length (slice_index_or blocks.now k d).items ≡ net.now.resources }
+    ensures { IfOk result (IsGapAnswer net.now order.now roofs.now capacities.now blocks.now) }
+{
     let mut parts = Vec::new(alloc);
     parts.push(whole(alloc, roofs)?)?;
     while let Some(part) = parts.pop() {
@@ -39,10 +59,10 @@ pub fn are_enough(
         }
         match place_above(blocks, &part.low) {
             Some(k) => push_parts(alloc, &mut parts, &part.low, &part.high, &blocks[k])?,
-            None => return Ok(false),
+            None => return Ok(Some(part.low)),
         }
     }
-    Ok(true)
+    Ok(None)
 }
 
 /// All vectors up to the roofs.

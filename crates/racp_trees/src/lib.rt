@@ -41,16 +41,21 @@
 mod before;
 mod blocks;
 mod branch;
+mod certifying;
 mod closed;
 mod enough;
 pub mod laws;
+mod maker;
 mod node;
+mod offer;
 mod parts;
 mod reader;
 mod reading;
 mod record;
 mod step;
+mod writer;
 
 pub use blocks::block_vectors;
+pub use certifying::certificate;
 pub use enough::are_enough;
 pub use step::Step;

@@ -73,7 +73,7 @@ impl Reader {
 
     /// Whether a line holds of the node of the window with these lower bounds. Where it divides the node, that is open
     /// then.
-    fn read_line(
+    pub(crate) fn read_line(
         &mut self,
         alloc: Global,
         ground: &Ground,
@@ -147,7 +147,7 @@ impl Reader {
 
     /// The lower bounds of the next window, or `None` where no node is open any more. Open nodes without children to
     /// come are closed.
-    fn next_window(
+    pub(crate) fn next_window(
         &mut self,
         alloc: Global,
         ground: &Ground,

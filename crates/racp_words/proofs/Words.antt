@@ -8,13 +8,13 @@ use Rattle.clap.proofs.ValueTestLemmas.{Accepts-accepts}
 use Rattle.clap.specs.declared.builder.value_parser.ValueParser.TheVariants.{Unsigned}
 use Rattle.clap.specs.Words.{IsUnsignedIn, Row, Text, fault_of, first_of, subcommand_of}
 use Rattle.clap.proofs.OnLiterals.{clap_on_literals}
-use Rattle.racp_words.specs.CommandLine.{IsCpmLine, AsksForCpm, IsPlanLine, AsksForPlan, IsWorkersLine, AsksForWorkers, IsOfWorkers, IsLimitOf, IsNumberOf, number_in, IsCheckLine, AsksForCheck, IsVerifyLine, AsksForVerify, IsCrew, IsPlain, IsRequested, has_crew_option, is_set, path_at, racp}
+use Rattle.racp_words.specs.CommandLine.{IsCpmLine, AsksForCpm, IsPlanLine, AsksForPlan, IsWorkersLine, AsksForWorkers, IsOfWorkers, IsLimitOf, IsNumberOf, number_in, IsProveLine, AsksForProve, IsCheckLine, AsksForCheck, IsVerifyLine, AsksForVerify, IsCrew, IsPlain, IsRequested, has_crew_option, is_set, path_at, racp}
 use Rattle.clap.specs.Kinds.{Kinds, or_else}
 use Rattle.clap.specs.ValueTests.{is_unsigned_in}
 use Rattle.clap.specs.declared.error.kind.ErrorKind.TheVariants.{ValueValidation}
 use Rattle.racp_words.specs.declared.request.Crew.{Crew}
 use Rattle.racp_words.specs.declared.request.Request.{Request}
-use Rattle.racp_words.specs.declared.request.Request.TheVariants.{Cpm, Plan, Check, Verify}
+use Rattle.racp_words.specs.declared.request.Request.TheVariants.{Cpm, Plan, Prove, Check, Verify}
 
 -- the command that is named, and the word for its network
 with_network : Option (Text × List Row) → Option (Text × Option Text)
@@ -59,6 +59,7 @@ none_asked : (command : Option (Text × List Row)) (request : Request) → with_
 unfolding with_network
 none_asked None (Cpm network) e asked = asked
 none_asked None (Plan files memory crew) e asked = asked
+none_asked None (Prove files) e asked = asked
 none_asked None (Check files) e asked = asked
 none_asked None (Verify files) e asked = asked
 none_asked (Some command) request e asked = absurd (search rules)
@@ -67,9 +68,12 @@ none_asked (Some command) request e asked = absurd (search rules)
 cpm_asked : (command : Option (Text × List Row)) (word : Option Text) (request : Request) → with_network command ≡ Some (codes "cpm", word) → IsRequested command request → AsksForCpm word request
 unfolding with_network
 cpm_asked None word request e asked = absurd (search rules)
-cpm_asked (Some command) word (Cpm network) e asked = rw (← ap (λ c. c.1) (same_Some _ _ e)) asked.3
+cpm_asked (Some command) word (Cpm network) e asked = rw (← ap (λ c. c.1) (same_Some _ _ e)) asked.4
 cpm_asked (Some command) word (Plan files memory crew) e asked =
     let same : codes "cpm" ≡ codes "plan" = sym (ap (λ c. c.0) (same_Some _ _ e)) ∙ asked.0 in
+    let letter : 99 ≡ 112 = ap (λ t. slice_index t 0) same in absurd (omega (arith, letter))
+cpm_asked (Some command) word (Prove files) e asked =
+    let same : codes "cpm" ≡ codes "prove" = sym (ap (λ c. c.0) (same_Some _ _ e)) ∙ asked.0 in
     let letter : 99 ≡ 112 = ap (λ t. slice_index t 0) same in absurd (omega (arith, letter))
 cpm_asked (Some command) word (Check files) e asked =
     let same : codes "cpm" ≡ codes "check" = sym (ap (λ c. c.0) (same_Some _ _ e)) ∙ asked.0 in
@@ -137,6 +141,9 @@ plan_asked (Some command) net order (Plan files memory crew) e asked =
       subst (λ (w : Option Text). IsNumberOf 1048576 1024 w memory.mebibytes) (ap (λ c. c.1.1.1.0) same) asked.3,
       no_crew command.1 crew (ap (λ c. c.1.1.1.1) same) asked.4,
     )
+plan_asked (Some command) net order (Prove files) e asked =
+    let same : codes "plan" ≡ codes "prove" = sym (ap (λ c. c.0) (same_Some _ _ e)) ∙ asked.0 in
+    let letter : 108 ≡ 114 = ap (λ t. slice_index t 1) same in absurd (omega (arith, letter))
 plan_asked (Some command) net order (Check files) e asked =
     let same : codes "plan" ≡ codes "check" = sym (ap (λ c. c.0) (same_Some _ _ e)) ∙ asked.0 in
     let letter : 112 ≡ 99 = ap (λ t. slice_index t 0) same in absurd (omega (arith, letter))
@@ -186,12 +193,42 @@ workers_asked (Some command) net order number (Plan files memory crew) in_range 
       workers_crew command.1 crew number (ap (λ c. c.1.1.1.1.0) same) (ap (λ c. c.1.1.1.1.1.0) same) (ap (λ c. c.1.1.1.1.1.1.0) same)
           (ap (λ c. c.1.1.1.1.1.1.1.0) same) (ap (λ c. c.1.1.1.1.1.1.1.1) same) in_range asked.4,
     )
+workers_asked (Some command) net order number (Prove files) in_range e asked =
+    let same : codes "plan" ≡ codes "prove" = sym (ap (λ c. c.0) (same_Some _ _ e)) ∙ asked.0 in
+    let letter : 108 ≡ 114 = ap (λ t. slice_index t 1) same in absurd (omega (arith, letter))
 workers_asked (Some command) net order number (Check files) in_range e asked =
     let same : codes "plan" ≡ codes "check" = sym (ap (λ c. c.0) (same_Some _ _ e)) ∙ asked.0 in
     let letter : 112 ≡ 99 = ap (λ t. slice_index t 0) same in absurd (omega (arith, letter))
-
 workers_asked (Some command) net order number (Verify files) in_range e asked =
     let same : codes "plan" ≡ codes "verify" = sym (ap (λ c. c.0) (same_Some _ _ e)) ∙ asked.0 in
+    let letter : 112 ≡ 118 = ap (λ t. slice_index t 0) same in absurd (omega (arith, letter))
+
+-- the command that is named, and the paths of its words for a network and an order
+with_files : Option (Text × List Row) → Option (Text × (Text × Text))
+with_files = option_map (λ command. (command.0, (path_at (codes "NET") command.1, path_at (codes "ORDER") command.1)))
+
+prove_paths : (name : Text) (a b : ℕ) (net order : Text) → (a == 45) ≡ false → (b == 45) ≡ false →
+    (fault_of racp (name ∷ codes "prove" ∷ (a ∷ net) ∷ (b ∷ order) ∷ []) ≡ []) ×
+    (with_files (subcommand_of racp (name ∷ codes "prove" ∷ (a ∷ net) ∷ (b ∷ order) ∷ [])) ≡ Some (codes "prove", (a ∷ net, b ∷ order)))
+unfolding racp clap_on_literals with_files
+prove_paths name a b net order p q = (rw (p, p, q, q) refl, rw (p, p, q, q) refl)
+
+-- `prove` asks for the files with these paths
+prove_asked : (command : Option (Text × List Row)) (net order : Text) (request : Request) → with_files command ≡ Some (codes "prove", (net, order)) → IsRequested command request → AsksForProve net order request
+unfolding with_files
+prove_asked None net order request e asked = absurd (search rules)
+prove_asked (Some command) net order (Cpm network) e asked = absurd (asked.1 (ap (λ c. c.0) (same_Some _ _ e)))
+prove_asked (Some command) net order (Plan files memory crew) e asked =
+    let same : codes "prove" ≡ codes "plan" = sym (ap (λ c. c.0) (same_Some _ _ e)) ∙ asked.0 in
+    let letter : 114 ≡ 108 = ap (λ t. slice_index t 1) same in absurd (omega (arith, letter))
+prove_asked (Some command) net order (Prove files) e asked =
+    let same = same_Some _ _ e in
+    (asked.1 ∙ ap (λ c. c.1.0) same, asked.2 ∙ ap (λ c. c.1.1) same)
+prove_asked (Some command) net order (Check files) e asked =
+    let same : codes "prove" ≡ codes "check" = sym (ap (λ c. c.0) (same_Some _ _ e)) ∙ asked.0 in
+    let letter : 112 ≡ 99 = ap (λ t. slice_index t 0) same in absurd (omega (arith, letter))
+prove_asked (Some command) net order (Verify files) e asked =
+    let same : codes "prove" ≡ codes "verify" = sym (ap (λ c. c.0) (same_Some _ _ e)) ∙ asked.0 in
     let letter : 112 ≡ 118 = ap (λ t. slice_index t 0) same in absurd (omega (arith, letter))
 
 -- the command that is named, and the paths of its words for a network, an order and a plan
@@ -209,9 +246,12 @@ check_asked : (command : Option (Text × List Row)) (net order plan : Text) (req
     AsksForCheck net order plan request
 unfolding with_paths
 check_asked None net order plan request e asked = absurd (search rules)
-check_asked (Some command) net order plan (Cpm network) e asked = absurd (asked.1 (ap (λ c. c.0) (same_Some _ _ e)))
+check_asked (Some command) net order plan (Cpm network) e asked = absurd (asked.2 (ap (λ c. c.0) (same_Some _ _ e)))
 check_asked (Some command) net order plan (Plan files memory crew) e asked =
     let same : codes "check" ≡ codes "plan" = sym (ap (λ c. c.0) (same_Some _ _ e)) ∙ asked.0 in
+    let letter : 99 ≡ 112 = ap (λ t. slice_index t 0) same in absurd (omega (arith, letter))
+check_asked (Some command) net order plan (Prove files) e asked =
+    let same : codes "check" ≡ codes "prove" = sym (ap (λ c. c.0) (same_Some _ _ e)) ∙ asked.0 in
     let letter : 99 ≡ 112 = ap (λ t. slice_index t 0) same in absurd (omega (arith, letter))
 check_asked (Some command) net order plan (Check files) e asked =
     let same = same_Some _ _ e in
@@ -235,9 +275,12 @@ verify_asked : (command : Option (Text × List Row)) (net order plan proof : Tex
     AsksForVerify net order plan proof request
 unfolding with_four_paths
 verify_asked None net order plan proof request e asked = absurd (search rules)
-verify_asked (Some command) net order plan proof (Cpm network) e asked = absurd (asked.2 (ap (λ c. c.0) (same_Some _ _ e)))
+verify_asked (Some command) net order plan proof (Cpm network) e asked = absurd (asked.3 (ap (λ c. c.0) (same_Some _ _ e)))
 verify_asked (Some command) net order plan proof (Plan files memory crew) e asked =
     let same : codes "verify" ≡ codes "plan" = sym (ap (λ c. c.0) (same_Some _ _ e)) ∙ asked.0 in
+    let letter : 118 ≡ 112 = ap (λ t. slice_index t 0) same in absurd (omega (arith, letter))
+verify_asked (Some command) net order plan proof (Prove files) e asked =
+    let same : codes "verify" ≡ codes "prove" = sym (ap (λ c. c.0) (same_Some _ _ e)) ∙ asked.0 in
     let letter : 118 ≡ 112 = ap (λ t. slice_index t 0) same in absurd (omega (arith, letter))
 verify_asked (Some command) net order plan proof (Check files) e asked =
     let same : codes "verify" ≡ codes "check" = sym (ap (λ c. c.0) (same_Some _ _ e)) ∙ asked.0 in
@@ -282,6 +325,17 @@ workers_line words (a ∷ net) (b ∷ order) (d ∷ digits) (name, first, second
       ap (λ (ws : List Text). fault_of racp ws) is ∙ (workers_fault name a b d net order digits p q r ∙ ap fault_of_value passes),
       λ request. workers_asked (subcommand_of racp words) (a ∷ net) (b ∷ order) (d ∷ digits) request in_range
           (ap (λ (ws : List Text). with_crew (subcommand_of racp ws)) is ∙ workers_words name a b d net order digits p q r),
+    )
+
+-- the parser takes each line that asks for `prove`, and what is asked for is that
+pub prove_line : (words : List Text) (net order : Text) → IsProveLine words net order →
+    (fault_of racp words ≡ []) × ((request : Request) → IsRequested (subcommand_of racp words) request → AsksForProve net order request)
+prove_line words [] order (name, none, second, is) = absurd none
+prove_line words (a ∷ net) [] (name, first, none, is) = absurd none
+prove_line words (a ∷ net) (b ∷ order) (name, first, second, is) =
+    let taken = prove_paths name a b net order (ne_eqb a 45 first) (ne_eqb b 45 second) in (
+      ap (λ (ws : List Text). fault_of racp ws) is ∙ taken.0,
+      λ request. prove_asked (subcommand_of racp words) (a ∷ net) (b ∷ order) request (ap (λ (ws : List Text). with_files (subcommand_of racp ws)) is ∙ taken.1),
     )
 
 -- the parser takes each line that asks for `check`, and what is asked for is that

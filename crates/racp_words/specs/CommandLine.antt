@@ -10,7 +10,7 @@ use Rattle.clap.specs.declared.builder.action.ArgAction.TheVariants.{SetTrue}
 use Rattle.clap.specs.declared.builder.value_parser.ValueParser.TheVariants.{Unsigned}
 use Rattle.racp_words.specs.declared.request.Crew.{Crew}
 use Rattle.racp_words.specs.declared.request.Request.{Request}
-use Rattle.racp_words.specs.declared.request.Request.TheVariants.{Cpm, Plan, Check, Verify}
+use Rattle.racp_words.specs.declared.request.Request.TheVariants.{Cpm, Plan, Prove, Check, Verify}
 use Rattle.racp_words.specs.declared.request.Source.{Source}
 use Rattle.racp_words.specs.declared.request.Source.TheVariants.{StandardInput, File}
 
@@ -44,6 +44,10 @@ abbrev pub plan : App
 plan = with_rule (with_rule (with_rule plan_of_workers (number_rule (codes "memory") 1048576))
     (number_rule (codes "time-limit") 1000000000)) (flag_rule (codes "progress"))
 
+-- `prove NET ORDER`
+abbrev pub prove : App
+prove = with_rule (with_rule (new_app (codes "prove")) (file_rule (codes "NET"))) (file_rule (codes "ORDER"))
+
 -- `check NET ORDER PLAN`
 abbrev pub check : App
 check = with_rule (with_rule (with_rule (new_app (codes "check")) (file_rule (codes "NET")))
@@ -58,10 +62,10 @@ verify = with_rule (with_rule (with_rule (with_rule (new_app (codes "verify")) (
 abbrev pub with_version : App → App
 with_version a = record a { top = record a.top { has_version = true } }
 
--- `racp [cpm [NET] | plan NET ORDER [OPTIONS] | check NET ORDER PLAN | verify NET ORDER PLAN PROOF]`
+-- `racp [cpm [NET] | plan NET ORDER [OPTIONS] | prove NET ORDER | check NET ORDER PLAN | verify NET ORDER PLAN PROOF]`
 unfoldable pub racp : App
-racp = with_subcommand (with_subcommand (with_subcommand (with_subcommand (with_version (new_app (codes "racp")))
-    cpm.top) plan.top) check.top) verify.top
+racp = with_subcommand (with_subcommand (with_subcommand (with_subcommand (with_subcommand (with_version (new_app (codes "racp")))
+    cpm.top) plan.top) prove.top) check.top) verify.top
 
 -- standard input where no word names a file, or `-` does; else the file of this path
 abbrev pub IsSource : Option Text → Source → Type 0
@@ -113,14 +117,19 @@ IsCrew words (Some crew) = (has_crew_option words ≡ true) ×
 abbrev pub IsRequested : Option (Text × List Row) → Request → Type 0
 IsRequested None (Cpm network) = IsSource None network
 IsRequested None (Plan files memory crew) = ⊥
+IsRequested None (Prove files) = ⊥
 IsRequested None (Check files) = ⊥
 IsRequested None (Verify files) = ⊥
 IsRequested (Some command) (Cpm network) =
-    (command.0 ≢ codes "plan") × (command.0 ≢ codes "check") × (command.0 ≢ codes "verify") × IsSource (first_of (codes "NET") command.1) network
+    (command.0 ≢ codes "plan") × (command.0 ≢ codes "prove") × (command.0 ≢ codes "check") ×
+    (command.0 ≢ codes "verify") × IsSource (first_of (codes "NET") command.1) network
 IsRequested (Some command) (Plan files memory crew) =
     (command.0 ≡ codes "plan") × (files.net.now ≡ path_at (codes "NET") command.1) ×
     (files.order.now ≡ path_at (codes "ORDER") command.1) ×
     IsNumberOf 1048576 1024 (first_of (codes "memory") command.1) memory.mebibytes × IsCrew command.1 crew
+IsRequested (Some command) (Prove files) =
+    (command.0 ≡ codes "prove") × (files.net.now ≡ path_at (codes "NET") command.1) ×
+    (files.order.now ≡ path_at (codes "ORDER") command.1)
 IsRequested (Some command) (Check files) =
     (command.0 ≡ codes "check") × (files.net.now ≡ path_at (codes "NET") command.1) ×
     (files.order.now ≡ path_at (codes "ORDER") command.1) × (files.plan.now ≡ path_at (codes "PLAN") command.1)
@@ -147,6 +156,7 @@ IsCpmLine words (Some word) = (name : Text) × IsPlain word × (words ≡ name �
 abbrev pub AsksForCpm : Option Text → Request → Type 0
 AsksForCpm word (Cpm network) = IsSource word network
 AsksForCpm word (Plan files memory crew) = ⊥
+AsksForCpm word (Prove files) = ⊥
 AsksForCpm word (Check files) = ⊥
 AsksForCpm word (Verify files) = ⊥
 
@@ -165,6 +175,7 @@ abbrev pub AsksForPlan : Text → Text → Request → Type 0
 AsksForPlan net order (Cpm network) = ⊥
 AsksForPlan net order (Plan files memory crew) =
     (files.net.now ≡ net) × (files.order.now ≡ order) × (memory.mebibytes ≡ 1024) × (crew ≡ None)
+AsksForPlan net order (Prove files) = ⊥
 AsksForPlan net order (Check files) = ⊥
 AsksForPlan net order (Verify files) = ⊥
 
@@ -185,8 +196,22 @@ abbrev pub AsksForWorkers : Text → Text → ℕ → Request → Type 0
 AsksForWorkers net order workers (Cpm network) = ⊥
 AsksForWorkers net order workers (Plan files memory crew) =
     (files.net.now ≡ net) × (files.order.now ≡ order) × (memory.mebibytes ≡ 1024) × IsOfWorkers workers crew
+AsksForWorkers net order workers (Prove files) = ⊥
 AsksForWorkers net order workers (Check files) = ⊥
 AsksForWorkers net order workers (Verify files) = ⊥
+
+-- After the program's name come `prove` and these two paths.
+abbrev pub IsProveLine : List Text → Text → Text → Type 0
+IsProveLine words net order = (name : Text) × IsPath net × IsPath order ×
+    (words ≡ name ∷ codes "prove" ∷ net ∷ order ∷ [])
+
+-- `prove` of the files with these paths
+abbrev pub AsksForProve : Text → Text → Request → Type 0
+AsksForProve net order (Cpm network) = ⊥
+AsksForProve net order (Plan files memory crew) = ⊥
+AsksForProve net order (Prove files) = (files.net.now ≡ net) × (files.order.now ≡ order)
+AsksForProve net order (Check files) = ⊥
+AsksForProve net order (Verify files) = ⊥
 
 -- After the program's name come `check` and these three paths.
 abbrev pub IsCheckLine : List Text → Text → Text → Text → Type 0
@@ -198,6 +223,7 @@ IsCheckLine words net order plan_path =
 abbrev pub AsksForCheck : Text → Text → Text → Request → Type 0
 AsksForCheck net order plan_path (Cpm network) = ⊥
 AsksForCheck net order plan_path (Plan files memory crew) = ⊥
+AsksForCheck net order plan_path (Prove files) = ⊥
 AsksForCheck net order plan_path (Check files) = (files.net.now ≡ net) × (files.order.now ≡ order) ×
     (files.plan.now ≡ plan_path)
 AsksForCheck net order plan_path (Verify files) = ⊥
@@ -212,6 +238,7 @@ IsVerifyLine words net order plan_path proof =
 abbrev pub AsksForVerify : Text → Text → Text → Text → Request → Type 0
 AsksForVerify net order plan_path proof (Cpm network) = ⊥
 AsksForVerify net order plan_path proof (Plan files memory crew) = ⊥
+AsksForVerify net order plan_path proof (Prove files) = ⊥
 AsksForVerify net order plan_path proof (Check files) = ⊥
 AsksForVerify net order plan_path proof (Verify files) = (files.net.now ≡ net) × (files.order.now ≡ order) ×
     (files.plan.now ≡ plan_path) × (files.proof.now ≡ proof)

@@ -3,7 +3,7 @@
 ghost use Rattle.std.specs.Prelude.{◌≡◌, ◌≤◌, ℕ, List, Option, Some, IfOk, MatchResult, map, option_map, string_bytes, codes, false};
 ghost use Rattle.clap.specs.Words.{FailsBy, app_of, fault_of, first_of, first_value, found_of, kind_of, rows_of, rule_of, subcommand_rows_of};
 ghost use Rattle.clap.specs.declared.error.kind.ErrorKind.TheVariants.{OutOfMemory};
-ghost use Rattle.racp_words.specs.CommandLine.{AskFor, IsCheckLine, AsksForCheck, IsVerifyLine, AsksForVerify, IsCpmLine, AsksForCpm, IsPlanLine, AsksForPlan, IsWorkersLine, AsksForWorkers, IsCrew, IsLimitOf, IsNumberOf, IsRequested, IsSource, check, cpm, file_rule, flag_rule, is_set, number_in, number_rule, path_at, plan, plan_of_files, plan_of_workers, racp, verify};
+ghost use Rattle.racp_words.specs.CommandLine.{AskFor, IsCheckLine, AsksForCheck, IsProveLine, AsksForProve, IsVerifyLine, AsksForVerify, IsCpmLine, AsksForCpm, IsPlanLine, AsksForPlan, IsWorkersLine, AsksForWorkers, IsCrew, IsLimitOf, IsNumberOf, IsRequested, IsSource, check, cpm, file_rule, flag_rule, is_set, number_in, number_rule, path_at, plan, plan_of_files, plan_of_workers, prove, racp, verify};
 ghost use Rattle.racp_words.specs.Commands.{IsCommandOf};
 
 use crate::request::{Crew, Memory, OrderFiles, PlanFiles, ProofFiles, Request, Source};
@@ -41,6 +41,9 @@ pub fn asked<'a>(alloc: Global, words: &'a [String]) -> Result<Request<'a>, Erro
     // With `--workers` and a number from 1 to 64 behind these, too.
     ensures workers { (net order number : List ℕ) → IsWorkersLine (map string_bytes words.entry.now) net order number
         → MatchResult result (AsksForWorkers net order (number_in number)) (λ error. kind_of error ≡ OutOfMemory) }
+    // With `prove` and two paths, too.
+    ensures prove { (net order : List ℕ) → IsProveLine (map string_bytes words.entry.now) net order
+        → MatchResult result (AsksForProve net order) (λ error. kind_of error ≡ OutOfMemory) }
     // With `check` and three paths, too.
     ensures check { (net order plan_path : List ℕ) → IsCheckLine (map string_bytes words.entry.now) net order plan_path
         → MatchResult result (AsksForCheck net order plan_path) (λ error. kind_of error ≡ OutOfMemory) }
@@ -75,6 +78,11 @@ fn request_named<'a>(name: &str, words: &ArgMatches<'a>) -> Request<'a>
             order: path_of(words, "ORDER"),
         };
         Request::Plan(files, memory_of(words), crew_of(words))
+    } else if name == "prove" {
+        Request::Prove(OrderFiles {
+            net: path_of(words, "NET"),
+            order: path_of(words, "ORDER"),
+        })
     } else if name == "check" {
         Request::Check(PlanFiles {
             net: path_of(words, "NET"),
@@ -110,6 +118,7 @@ fn command<'a>(alloc: Global) -> Result<Command<'a>, AllocError>
         .version("0.1.0")
         .subcommand(cpm_command(alloc)?)?
         .subcommand(plan_command(alloc)?)?
+        .subcommand(prove_command(alloc)?)?
         .subcommand(check_command(alloc)?)?
         .subcommand(verify_command(alloc)?)
 }
@@ -158,6 +167,16 @@ fn plan_of_files<'a>(alloc: Global) -> Result<Command<'a>, AllocError>
 {
     Command::new(alloc, "plan")
         .about("Prints the cheapest capacities that meet an order, with the least starts")
+        .arg(file_word(alloc, "NET", "The network"))?
+        .arg(file_word(alloc, "ORDER", "The order"))
+}
+
+/// `prove`, with its words.
+fn prove_command<'a>(alloc: Global) -> Result<Command<'a>, AllocError>
+    ensures { IfOk result (IsCommandOf prove) }
+{
+    Command::new(alloc, "prove")
+        .about("Prints a certificate that no capacities before those of the plan are enough")
         .arg(file_word(alloc, "NET", "The network"))?
         .arg(file_word(alloc, "ORDER", "The order"))
 }

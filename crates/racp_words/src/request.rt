@@ -9,6 +9,8 @@ pub enum Request<'a> {
     /// The plan of a network on the terms of an order, with so much memory for records: made on one thread, or by workers
     /// where an option is given.
     Plan(OrderFiles<'a>, Memory, Option<Crew>),
+    /// A certificate for the plan of a network on the terms of an order.
+    Prove(OrderFiles<'a>),
     /// Whether a plan is one of a network on the terms of an order.
     Check(PlanFiles<'a>),
     /// Whether a certificate shows that no capacities before a plan's are enough.

@@ -4,7 +4,7 @@ use Rattle.clap.specs.Words.{App, HasKind, Kinds, Row, Text, app_of, fault_of, i
 use Rattle.clap.specs.declared.error.Error.{Error}
 use Rattle.clap.specs.declared.error.kind.ErrorKind.TheVariants.{OutOfMemory}
 use Rattle.racp_words.specs.CommandLine.{IsRequested, racp}
-use Rattle.racp_words.proofs.Words.{cpm_line, plan_line, workers_line, check_line, verify_line}
+use Rattle.racp_words.proofs.Words.{cpm_line, plan_line, workers_line, prove_line, check_line, verify_line}
 use Rattle.racp_words.proofs.command_line.asked.Goals as goal
 
 simple : is_simple racp ≡ true
@@ -50,6 +50,9 @@ returns-clause-plan c net order line = (plan_line (map string_bytes c.args.words
 pub returns-clause-workers : goal.returns-clause-workers
 returns-clause-workers c net order number line = (workers_line (map string_bytes c.args.words.now) net order number line).1 c.request_of.result (returns-clause-asked c)
 
+pub returns-clause-prove : goal.returns-clause-prove
+returns-clause-prove c net order line = (prove_line (map string_bytes c.args.words.now) net order line).1 c.request_of.result (returns-clause-asked c)
+
 pub returns-clause-check : goal.returns-clause-check
 returns-clause-check c net order plan line = (check_line (map string_bytes c.args.words.now) net order plan line).1 c.request_of.result (returns-clause-asked c)
 
@@ -79,6 +82,11 @@ pub returns-in_err-matches-clause-workers : goal.returns-in_err-matches-clause-w
 returns-in_err-matches-clause-workers c net order number line =
     let p = err_from_is_err_and c.from_residual-in_err-matches.result c.from_residual-in_err-matches.ensures.1 in
     rw (p.1, p.2) (free_of_fault c (workers_line (map string_bytes c.args.words.now) net order number line).0)
+
+pub returns-in_err-matches-clause-prove : goal.returns-in_err-matches-clause-prove
+returns-in_err-matches-clause-prove c net order line =
+    let p = err_from_is_err_and c.from_residual-in_err-matches.result c.from_residual-in_err-matches.ensures.1 in
+    rw (p.1, p.2) (free_of_fault c (prove_line (map string_bytes c.args.words.now) net order line).0)
 
 pub returns-in_err-matches-clause-check : goal.returns-in_err-matches-clause-check
 returns-in_err-matches-clause-check c net order plan line =

@@ -1,5 +1,5 @@
 use Rattle.racp_trees.specs.Enough.{IsLooking, weights}
-use Rattle.racp_trees.proofs.enough.are_enough.Given as goal
+use Rattle.racp_trees.proofs.enough.gap.Given as goal
 
 abbrev pub invariant-loop-part : goal.invariant-loop-part
 invariant-loop-part l = IsLooking l.net l.order l.roofs l.capacities l.blocks l.parts.items

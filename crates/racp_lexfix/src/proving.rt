@@ -1,0 +1,176 @@
+//! A certificate that no capacities before those of a plan are enough.
+
+ghost use Rattle.std.specs.Prelude.{◌≡◌, ℕ, IfOk, IfErr, IfSome, length};
+ghost use Rattle.racp_model.specs.Terms.{AreTermsOf};
+ghost use Rattle.racp_trees.specs.Certificates.{IsCertificate};
+ghost use Rattle.racp_lexfix.specs.Answers.{IsAnswer};
+ghost use Rattle.racp_lexfix.specs.Proving.{IsProofOf, IsProving, unproved_line};
+ghost use Rattle.racp_lexfix.specs.declared.answer.Answer.TheVariants.{Plan as ThePlan};
+ghost use Rattle.racp_lexfix.specs.declared.answer.PlanStop.TheVariants.{Memory};
+
+use crate::alone::Alone;
+use crate::answer::{Answer, PlanStop};
+use crate::planning::plan_and_keep;
+use crate::printed::{Printed, Refusal, print_answer};
+use racp_bounds::Sharp;
+use racp_check::{Opening, opening_of};
+use racp_model::{Capacities, Network, OfNetwork};
+use racp_plan::Plan;
+use racp_prices::{Order, most_units, read_order};
+use racp_sm::read_sm;
+use racp_trees::certificate;
+use std::alloc::{AllocError, Global};
+use std::marker::Brand;
+
+/// The status of a certificate.
+const PROVED: u8 = 0;
+
+/// The status where none was made.
+const UNPROVED: u8 = 8;
+
+/// A certificate for the plan of the texts of a network and an order, made on the calling thread: a text that shows that
+/// no capacities before those of the plan are enough. Where there is no plan, the line that says why. Where the certificate would
+/// have more than 16,777,216 bytes, the line `unproved`, with the status 8.
+///
+/// # Errors
+///
+/// A text is refused, the network's first; or memory was refused. It neither stops nor wants a thread.
+pub fn prove_alone(alloc: Global, net_bytes: &[u8], order_text: &[u8]) -> Result<Printed, Refusal>
+    ensures { IsProving net_bytes.now order_text.now result }
+{
+    let net = read_sm(alloc, net_bytes)?;
+    let order = read_order(alloc, order_text, net.resource_count(), net.job_count())?;
+    let (answer, sharp) = plan_with_floors::<Brand>(alloc, &net, &order)?;
+    Ok(print_proof(alloc, &net, &order, &answer, &sharp)?)
+}
+
+/// The plan of an order, or why there is none, and the sharpened floors where they were asked for. The network is the
+/// one that `N` names.
+fn plan_with_floors<N: OfNetwork>(
+    alloc: Global,
+    net: &Network,
+    order: &Order,
+) -> Result<(Answer, Option<Sharp>), PlanStop>
+    requires named { net.now ≡ N.network }
+    requires terms { AreTermsOf net.now order.now }
+    ensures answer { IfOk result (λ planned. IsAnswer net.now order.now planned.0) }
+    ensures stop { IfErr result (λ stop. stop ≡ Memory) }
+{
+    let mut sharp = None;
+    let mut alone: Alone<N> = Alone::new(alloc, net)?;
+    let answer = plan_and_keep(alloc, net, order, &mut alone, &mut sharp)?;
+    Ok((answer, sharp))
+}
+
+/// The text and the status for an answer: a certificate for the plan, or why there is no plan.
+fn print_proof(
+    alloc: Global,
+    net: &Network,
+    order: &Order,
+    answer: &Answer,
+    sharp: &Option<Sharp>,
+) -> Result<Printed, AllocError>
+    requires terms { AreTermsOf net.now order.now }
+    requires answer { IsAnswer net.now order.now answer.now }
+    ensures { IfOk result (λ printed. IsProofOf net.now order.now answer.now printed.text.items printed.status) }
+{
+    match answer {
+        Answer::Plan(plan) => print_certificate(alloc, net, order, plan, sharp),
+        _ => Ok(print_answer(alloc, order, answer)?),
+    }
+}
+
+/// A certificate for a plan, or that none was made, with its status.
+fn print_certificate(
+    alloc: Global,
+    net: &Network,
+    order: &Order,
+    plan: &Plan,
+    sharp: &Option<Sharp>,
+) -> Result<Printed, AllocError>
+    requires terms { AreTermsOf net.now order.now }
+    requires plan { IsAnswer net.now order.now (ThePlan plan.now) }
+    ensures { IfOk result (λ printed. IsProofOf net.now order.now (ThePlan plan.now) printed.text.items printed.status) }
+{
+    let Some(text) = certificate_of(alloc, net, order, plan.capacities.as_slice(), sharp)? else {
+        return Ok(Printed {
+            text: b"unproved\n".to_vec(alloc)?,
+            status: UNPROVED,
+        });
+    };
+    Ok(Printed {
+        text,
+        status: PROVED,
+    })
+}
+
+/// A certificate that no capacities before these are enough, or `None` where none was made.
+fn certificate_of(
+    alloc: Global,
+    net: &Network,
+    order: &Order,
+    capacities: &[u32],
+    sharp: &Option<Sharp>,
+) -> Result<Option<Vec<u8>>, AllocError>
+    requires terms { AreTermsOf net.now order.now }
+    requires capacities { length capacities.now ≡ net.now.resources }
+    ensures { IfOk result (λ text. IfSome text (λ text. IsCertificate net.now order.now capacities.now text.items)) }
+{
+    let Opening::Root { window, .. } = opening_of(alloc, net, order)? else {
+        return Ok(None);
+    };
+    let roofs = most_units(alloc, net, order)?;
+    let hints = hints_of(alloc, sharp, &roofs)?;
+    certificate(
+        alloc,
+        net,
+        order,
+        &window,
+        roofs.as_slice(),
+        capacities,
+        &hints,
+    )
+}
+
+/// Capacities that are not enough, where the floors are sharpened: of each resource one unit less than its floor, and of
+/// each refuted pair both floors, with the roofs of the other resources.
+fn hints_of(
+    alloc: Global,
+    sharp: &Option<Sharp>,
+    roofs: &Capacities,
+) -> Result<Vec<Vec<u32>>, AllocError> {
+    let mut hints = Vec::new(alloc);
+    let Some(sharp) = sharp else {
+        return Ok(hints);
+    };
+    let (floors, roofs) = (sharp.floors.as_slice(), roofs.as_slice());
+    for k in 0..floors.len() {
+        if floors[k] > 0 {
+            let mut hint = roofs.to_vec(alloc)?;
+            put(&mut hint, k, floors[k] - 1);
+            hints.push(hint)?;
+        }
+    }
+    for (first, second) in &sharp.pairs {
+        let mut hint = roofs.to_vec(alloc)?;
+        put_floor(&mut hint, floors, *first);
+        put_floor(&mut hint, floors, *second);
+        hints.push(hint)?;
+    }
+    Ok(hints)
+}
+
+/// Writes the floor of the resource with this number to its place.
+fn put_floor(hint: &mut [u32], floors: &[u32], resource: u32) {
+    let k = (resource as usize).saturating_sub(1);
+    if k < floors.len() {
+        put(hint, k, floors[k]);
+    }
+}
+
+/// Writes a number of units to a place, if there is such a place.
+fn put(hint: &mut [u32], k: usize, units: u32) {
+    if k < hint.len() {
+        hint[k] = units;
+    }
+}

@@ -1,0 +1,60 @@
+-- Contracts of private functions: a certificate is made, by a reader of the lines that are chosen.
+use Rattle.std.specs.Prelude.{◌≡◌, ◌⊎◌, ⊤, ℕ, ◌+◌, ◌<◌, ◌≤◌, List, [], ◌∷◌, ◌++◌, length, Contains, Option, Some, None, Vec}
+use Rattle.std.specs.Global.{Global}
+use Rattle.racp_model.specs.Project.{Project}
+use Rattle.racp_model.specs.Terms.{Terms, IsBefore}
+use Rattle.racp_model.specs.Window.{Bounds}
+use Rattle.racp_cutset.specs.Covering.{SearchNode}
+use Rattle.racp_trees.specs.Enough.{IsAtMost}
+use Rattle.racp_trees.specs.Following.{IsRest}
+use Rattle.racp_trees.specs.Nodes.{HasPlace}
+use Rattle.racp_trees.specs.Readers.{HasRead, AsksNext}
+use Rattle.racp_trees.specs.Records.{record_at}
+use Rattle.racp_trees.specs.Texts.{step_number, most_number}
+use Rattle.racp_trees.specs.declared.closed.Closed.{Closed}
+use Rattle.racp_trees.specs.declared.record.Record.{Record}
+use Rattle.racp_trees.specs.declared.reader.Reader.{Reader}
+use Rattle.racp_trees.specs.declared.step.Step.{Step}
+use Rattle.racp_trees.specs.declared.step.Step.TheVariants.{C}
+
+-- some records were forgotten, and places were made for nodes from this number on
+pub record IsThinned (old new : Closed) (number : ℕ) : Type 0 where
+  pub told : (n : ℕ) (kept : Record) → record_at new n ≡ Some (Some kept) → record_at old n ≡ Some (Some kept)
+  pub empty : (n : ℕ) → n < number → record_at new n ≡ Some None → record_at old n ≡ Some None
+
+-- so it is with a reader, which stands where it stood
+pub record IsThinnedReader (old new : Reader) : Type 0 where
+  pub branches : new.branches ≡ old.branches
+  pub number : new.number ≡ old.number
+  pub closed : IsThinned old.closed new.closed old.number
+
+-- a line was chosen, which may stand in a text: the node that it names has a place
+abbrev pub IsChoice : Reader → Reader → Option Step → Type 0
+IsChoice old new None = ⊤
+IsChoice old new (Some step) = IsThinnedReader old new × (step_number step ≤ most_number) × ((node : ℕ) → step ≡ C node → HasPlace new.closed node)
+
+-- the lines of a tree of the root window were added to a text, and what follows a certificate's rest may follow them
+pub record HasMadeTree (p : Project) (capacities : List ℕ) (root : Bounds) (old : Reader) (text : List ℕ) (new : Reader) (whole : List ℕ) : Type 0 where
+  pub lines : List ℕ
+  pub added : whole ≡ text ++ lines
+  pub empty : new.branches.items ≡ []
+  pub room : new.number ≤ length whole
+  pub told : (rest : List ℕ) (terms : Terms) (plan : List ℕ) (vectors : List (List ℕ)) (nodes : List (ℕ × SearchNode)) → HasRead p root.upper nodes old →
+      (later : List (ℕ × SearchNode)) × HasRead p root.upper later new ×
+      (IsRest p terms plan root vectors later new.number rest → AsksNext p capacities terms plan root vectors nodes old root.lower (lines ++ rest))
+
+-- a block was added to a text: where a certificate's rest follows, with its vector among those so far, the block and that are one
+pub record HasMadeBlock (p : Project) (capacities : List ℕ) (root : Bounds) (old : Reader) (text : List ℕ) (new : Reader) (whole : List ℕ) : Type 0 where
+  pub lines : List ℕ
+  pub added : whole ≡ text ++ lines
+  pub empty : new.branches.items ≡ []
+  pub room : new.number ≤ length whole
+  pub told : (rest : List ℕ) (terms : Terms) (plan : List ℕ) (vectors : List (List ℕ)) (nodes : List (ℕ × SearchNode)) → HasRead p root.upper nodes old →
+      (later : List (ℕ × SearchNode)) × HasRead p root.upper later new ×
+      (IsRest p terms plan root (vectors ++ capacities ∷ []) later new.number rest → IsRest p terms plan root vectors nodes old.number (lines ++ rest))
+
+-- a vector at or above another: one of these, or one up to the roofs that stands before the capacities
+pub record IsAbove (p : Project) (terms : Terms) (roofs capacities : List ℕ) (hints : List (Vec ℕ Global)) (low vector : List ℕ) : Type 0 where
+  pub places : length vector ≡ p.resources
+  pub above : IsAtMost p.resources low vector
+  pub from : ((hint : Vec ℕ Global) × Contains hints hint × (hint.items ≡ vector)) ⊎ (IsAtMost p.resources vector roofs × IsBefore terms vector capacities)

@@ -1,0 +1,171 @@
+//! Making a certificate.
+
+ghost use Rattle.std.specs.Prelude.{◌≡◌, ◌<◌, ◌≤◌, [], IfOk, IfSome, IsTrue, length};
+ghost use Rattle.racp_model.specs.Formed.{HasBounds};
+ghost use Rattle.racp_model.specs.Terms.{AreTermsOf, release_of, due_of};
+ghost use Rattle.racp_model.specs.Window.{IsRootWindow};
+ghost use Rattle.racp_prices.specs.Units.{AreMostUnits};
+ghost use Rattle.racp_trees.specs.Certificates.{IsCertificate};
+ghost use Rattle.racp_trees.specs.Making.{HasMadeBlock};
+ghost use Rattle.racp_trees.specs.declared.maker.Made.TheVariants.{Tree};
+
+use crate::before::is_before;
+use crate::enough::gap;
+use crate::maker::{Made, Maker};
+use crate::reader::Ground;
+use crate::writer::push_vector;
+use racp_model::{Capacities, Network, Window};
+use racp_prices::Order;
+use std::alloc::{AllocError, Global};
+
+/// How many blocks a certificate has at most. One has 13 bytes or more.
+const MOST_BLOCKS: usize = 1_290_555;
+
+/// A certificate that no capacities before these are enough; or `None` where none was made, since some capacities before
+/// them are enough, or it would have more than 16,777,216 bytes and the rest of a line. Blocks are made while some vector up to the roofs
+/// stands before the capacities and is above each block: for one of the hints at or above it, or else for a vector
+/// before the capacities that is as great as can be. A hint is a capacity vector, by place from 0, of which the caller
+/// knows that it is not enough; others cost the certificate. There are a roof, cut to the ceiling, and a capacity for
+/// each resource, and the window is the root window of the order.
+///
+/// # Errors
+///
+/// Memory was refused.
+pub fn certificate(
+    alloc: Global,
+    net: &Network,
+    order: &Order,
+    root: &Window,
+    roofs: &[u32],
+    capacities: &[u32],
+    hints: &[Vec<u32>],
+) -> Result<Option<Vec<u8>>, AllocError>
+    requires terms { AreTermsOf net.now order.now }
+    requires root { IsRootWindow net.now (release_of order.now) (due_of order.now) root.now }
+    requires roofs { AreMostUnits net.now order.now roofs.now }
+    requires capacities { length capacities.now ≡ net.now.resources }
+    ensures { IfOk result (λ text. IfSome text (λ text. IsCertificate net.now order.now capacities.now text.items)) }
+{
+    prove!(net.job_count() == net.job_count());
+    let mut maker = Maker::new(alloc, net);
+    let mut text = b"proof\n".to_vec(alloc)?;
+    let mut blocks = Vec::new(alloc);
+    for _ in 0..MOST_BLOCKS {
+        let Some(low) = gap(alloc, net, order, roofs, capacities, &blocks)? else {
+            text.extend_from_slice(b"end\n")?;
+            return Ok(Some(text));
+        };
+        let vector = vector_above(alloc, net, order, roofs, capacities, hints, low)?;
+        if !push_block(alloc, &mut maker, net, root, &vector, &mut text)? {
+            return Ok(None);
+        }
+        blocks.push(vector)?;
+    }
+    Ok(None)
+}
+
+/// Adds the block of these capacities. False where none was made.
+fn push_block(
+    alloc: Global,
+    maker: &mut Maker,
+    net: &Network,
+    root: &Window,
+    vector: &Vec<u32>,
+    text: &mut Vec<u8>,
+) -> Result<bool, AllocError>
+    requires vector { length vector.now.items ≡ net.now.resources }
+    requires root { HasBounds net.now root.now }
+    requires branches { maker.old.reader.branches.items ≡ [] }
+    requires room { maker.old.reader.number ≤ length text.old.items }
+    ensures { IfOk result (λ yes. IsTrue yes → HasMadeBlock net.now vector.now.items root.now maker.old.reader text.old.items maker.new.reader text.new.items) }
+{
+    prove!(net.job_count() == net.job_count());
+    push_vector(alloc, text, vector)?;
+    let capacities = Capacities::new(vector.to_vec(alloc)?);
+    let ground = Ground {
+        net,
+        root,
+        capacities: &capacities,
+    };
+    let made = maker.make_tree(alloc, &ground, text)?;
+    Ok(is_tree(&made))
+}
+
+/// Whether a tree was made.
+fn is_tree(made: &Made) -> bool
+    ensures { IsTrue result → made.now ≡ Tree }
+{
+    match made {
+        Made::Tree => true,
+        Made::Open | Made::Long => false,
+    }
+}
+
+/// The first of the hints that is at or above a vector that stands before the capacities, or else a vector at or above
+/// it that still does and is as great as can be.
+fn vector_above(
+    alloc: Global,
+    net: &Network,
+    order: &Order,
+    roofs: &[u32],
+    capacities: &[u32],
+    hints: &[Vec<u32>],
+    low: Vec<u32>,
+) -> Result<Vec<u32>, AllocError>
+    requires terms { AreTermsOf net.now order.now }
+    requires roofs { length roofs.now ≡ net.now.resources }
+    requires capacities { length capacities.now ≡ net.now.resources }
+    requires low { length low.items ≡ net.now.resources }
+    ensures { IfOk result (λ vector. length vector.items ≡ net.now.resources) }
+{
+    for hint in hints {
+        if is_above(hint, &low) {
+            return hint.to_vec(alloc);
+        }
+    }
+    let mut vector = low;
+    raise_all(net, order, roofs, capacities, &mut vector);
+    Ok(vector)
+}
+
+/// Whether a hint has a capacity for each place of a vector, and none that is less.
+fn is_above(hint: &[u32], low: &[u32]) -> bool
+    ensures { IsTrue result → length hint.now ≡ length low.now }
+{
+    hint.len() == low.len() && (0..low.len()).all(|k| low[k] <= hint[k])
+}
+
+/// Raises the capacities of a vector, one place after another, each as far as the vector stands before these.
+fn raise_all(net: &Network, order: &Order, roofs: &[u32], capacities: &[u32], vector: &mut [u32])
+    requires terms { AreTermsOf net.now order.now }
+    requires roofs { length roofs.now ≡ net.now.resources }
+    requires capacities { length capacities.now ≡ net.now.resources }
+    requires vector { length vector.old ≡ net.now.resources }
+    ensures { length vector.new ≡ length vector.old }
+{
+    for k in 0..vector.len() {
+        raise(net, order, roofs[k], capacities, vector, k);
+    }
+}
+
+/// Raises one capacity of a vector up to a roof, as far as the vector stands before these.
+fn raise(net: &Network, order: &Order, roof: u32, capacities: &[u32], vector: &mut [u32], k: usize)
+    requires terms { AreTermsOf net.now order.now }
+    requires capacities { length capacities.now ≡ net.now.resources }
+    requires vector { length vector.old ≡ net.now.resources }
+    requires place { k < length vector.old }
+    ensures { length vector.new ≡ length vector.old }
+{
+    let mut low = vector[k];
+    let mut high = roof;
+    while low < high {
+        let middle = high - (high - low) / 2;
+        vector[k] = middle;
+        if is_before(net, order, vector, capacities) {
+            low = middle;
+        } else {
+            high = middle - 1;
+        }
+    }
+    vector[k] = low;
+}
