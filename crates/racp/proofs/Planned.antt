@@ -1,9 +1,10 @@
--- The status of a plan is that of an answer.
+-- The status of a plan, and that of a certificate, is that of an answer.
 use Rattle.std.proofs.Common.{ℕ, List, [], ◌∷◌, Option, Ok, Err, IfOk, inl, inr}
 use Rattle.std.specs.Prelude.{Result}
 use Rattle.racp_cli.specs.Crowds.{IsCrowdAnswer}
 use Rattle.racp_cli.specs.Plans.{IsPlanAnswer}
-use Rattle.racp_cli.specs.Streams.{Reader, ToTwo, IsPlanRun}
+use Rattle.racp_cli.specs.Verifies.{IsVerifyAnswer}
+use Rattle.racp_cli.specs.Streams.{Reader, ToTwo, ToFour, IsPlanRun, IsVerifyRun}
 use Rattle.racp_cli.specs.declared.fault.StreamFault.{StreamFault}
 use Rattle.racp.specs.Statuses.{IsStatusOfAnswer}
 
@@ -24,3 +25,16 @@ on_one_thread (net ∷ (order ∷ (other ∷ inputs))) status text answer = absu
 pub planned_alone : (net order : Reader) (old new : Option (List ℕ)) (result : Result ℕ StreamFault) → IsPlanRun net order old new result → IfOk result IsStatusOfAnswer
 planned_alone net order old new (Ok status) run = on_one_thread run.0 status run.2.0 run.2.1
 planned_alone net order old new (Err fault) run = tt
+
+-- what is answered to a certificate
+of_certificate : (inputs : List (List ℕ)) (status : ℕ) (text : List ℕ) → ToFour IsVerifyAnswer inputs status text → IsStatusOfAnswer status
+of_certificate [] status text answer = absurd answer
+of_certificate (net ∷ []) status text answer = absurd answer
+of_certificate (net ∷ (order ∷ [])) status text answer = absurd answer
+of_certificate (net ∷ (order ∷ (plan ∷ []))) status text answer = absurd answer
+of_certificate (net ∷ (order ∷ (plan ∷ (proof ∷ [])))) status text answer = inr (inr (inr (net, order, plan, proof, text, answer)))
+of_certificate (net ∷ (order ∷ (plan ∷ (proof ∷ (other ∷ inputs))))) status text answer = absurd answer
+
+pub verified : (net order plan proof : Reader) (old new : Option (List ℕ)) (result : Result ℕ StreamFault) → IsVerifyRun net order plan proof old new result → IfOk result IsStatusOfAnswer
+verified net order plan proof old new (Ok status) run = of_certificate run.0 status run.2.0 run.2.1
+verified net order plan proof old new (Err fault) run = tt

@@ -2,7 +2,8 @@
 //!
 //! It plans the capacities of a project. `racp plan NET ORDER` prints the cheapest capacities under which the project
 //! ends in time, with the least starts; `racp check NET ORDER PLAN` whether a plan, whoever made it, is right;
-//! `racp cpm NET` the critical length and the early starts. What the commands do is proved in racp_cli, over any
+//! `racp verify NET ORDER PLAN PROOF` whether a certificate shows that nothing cheaper would do; `racp cpm NET` the
+//! critical length and the early starts. What the commands do is proved in racp_cli, over any
 //! readers and any writer; this crate opens files and standard streams, hands them over, and ends with the status.
 //!
 //! ```text
