@@ -157,10 +157,7 @@ fn check<R: Files + Print + AllocGlobal>(rt: &R, files: PlanFiles<'_>) -> Result
 
 /// Writes whether the plan in these files is right, and the certificate shows that no capacities before its own are
 /// enough.
-fn verify<R: Files + Print + AllocGlobal>(
-    rt: &R,
-    files: ProofFiles<'_>,
-) -> Result<u8, StreamFault>
+fn verify<R: Files + Print + AllocGlobal>(rt: &R, files: ProofFiles<'_>) -> Result<u8, StreamFault>
     ensures { IfOk result IsStatusOfAnswer }
 {
     let mut net = open(rt, files.net)?;

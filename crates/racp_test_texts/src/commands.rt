@@ -159,7 +159,10 @@ fn reads(place: usize, fails_at: usize) -> ([usize; 4], [usize; 4]) {
         0 => ([fails_at, never, never, never], [fails_at, 0, 0, 0]),
         1 => ([never, fails_at, never, never], [net, fails_at, 0, 0]),
         2 => ([never, never, fails_at, never], [net, order, fails_at, 0]),
-        _ => ([never, never, never, fails_at], [net, order, plan, fails_at]),
+        _ => (
+            [never, never, never, fails_at],
+            [net, order, plan, fails_at],
+        ),
     }
 }
 

@@ -189,7 +189,6 @@ workers_asked (Some command) net order number (Plan files memory crew) in_range 
 workers_asked (Some command) net order number (Check files) in_range e asked =
     let same : codes "plan" ≡ codes "check" = sym (ap (λ c. c.0) (same_Some _ _ e)) ∙ asked.0 in
     let letter : 112 ≡ 99 = ap (λ t. slice_index t 0) same in absurd (omega (arith, letter))
-
 workers_asked (Some command) net order number (Verify files) in_range e asked =
     let same : codes "plan" ≡ codes "verify" = sym (ap (λ c. c.0) (same_Some _ _ e)) ∙ asked.0 in
     let letter : 112 ≡ 118 = ap (λ t. slice_index t 0) same in absurd (omega (arith, letter))
