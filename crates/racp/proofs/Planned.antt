@@ -1,10 +1,11 @@
--- The status of a plan is that of an answer.
+-- The status of a plan, and that of a certificate, is that of an answer.
 use Rattle.std.proofs.Common.{ℕ, List, [], ◌∷◌, Option, Ok, Err, IfOk, inl, inr}
 use Rattle.std.specs.Prelude.{Result}
 use Rattle.racp_cli.specs.Crowds.{IsCrowdAnswer}
 use Rattle.racp_cli.specs.Plans.{IsPlanAnswer}
 use Rattle.racp_cli.specs.Proofs.{IsProofAnswer, IsProofRun}
-use Rattle.racp_cli.specs.Streams.{Reader, ToTwo, IsPlanRun}
+use Rattle.racp_cli.specs.Verifies.{IsVerifyAnswer}
+use Rattle.racp_cli.specs.Streams.{Reader, ToTwo, ToFour, IsPlanRun, IsVerifyRun}
 use Rattle.racp_cli.specs.declared.fault.StreamFault.{StreamFault}
 use Rattle.racp.specs.Statuses.{IsStatusOfAnswer}
 
@@ -30,9 +31,22 @@ planned_alone net order old new (Err fault) run = tt
 with_certificate : (inputs : List (List ℕ)) (status : ℕ) (text : List ℕ) → ToTwo IsProofAnswer inputs status text → IsStatusOfAnswer status
 with_certificate [] status text answer = absurd answer
 with_certificate (net ∷ []) status text answer = absurd answer
-with_certificate (net ∷ (order ∷ [])) status text answer = inr (inr (inr (net, order, text, answer)))
+with_certificate (net ∷ (order ∷ [])) status text answer = inr (inr (inr (inl (net, order, text, answer))))
 with_certificate (net ∷ (order ∷ (other ∷ inputs))) status text answer = absurd answer
 
 pub proved_alone : (net order : Reader) (old new : Option (List ℕ)) (result : Result ℕ StreamFault) → IsProofRun net order old new result → IfOk result IsStatusOfAnswer
 proved_alone net order old new (Ok status) run = with_certificate run.0 status run.2.0 run.2.1
 proved_alone net order old new (Err fault) run = tt
+
+-- what is answered to a certificate
+of_certificate : (inputs : List (List ℕ)) (status : ℕ) (text : List ℕ) → ToFour IsVerifyAnswer inputs status text → IsStatusOfAnswer status
+of_certificate [] status text answer = absurd answer
+of_certificate (net ∷ []) status text answer = absurd answer
+of_certificate (net ∷ (order ∷ [])) status text answer = absurd answer
+of_certificate (net ∷ (order ∷ (plan ∷ []))) status text answer = absurd answer
+of_certificate (net ∷ (order ∷ (plan ∷ (proof ∷ [])))) status text answer = inr (inr (inr (inr (net, order, plan, proof, text, answer))))
+of_certificate (net ∷ (order ∷ (plan ∷ (proof ∷ (other ∷ inputs))))) status text answer = absurd answer
+
+pub verified : (net order plan proof : Reader) (old new : Option (List ℕ)) (result : Result ℕ StreamFault) → IsVerifyRun net order plan proof old new result → IfOk result IsStatusOfAnswer
+verified net order plan proof old new (Ok status) run = of_certificate run.0 status run.2.0 run.2.1
+verified net order plan proof old new (Err fault) run = tt

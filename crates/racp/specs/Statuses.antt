@@ -7,6 +7,7 @@ use Rattle.racp_cli.specs.Answers.{IsCpmAnswer}
 use Rattle.racp_cli.specs.Crowds.{IsCrowdAnswer}
 use Rattle.racp_cli.specs.Checks.{IsCheckAnswer}
 use Rattle.racp_cli.specs.Proofs.{IsProofAnswer}
+use Rattle.racp_cli.specs.Verifies.{IsVerifyAnswer}
 use Rattle.racp_cli.specs.Streams.{fault_status}
 use Rattle.racp_cli.specs.declared.fault.StreamFault.TheVariants as stream
 use Rattle.racp.specs.declared.failure.Failure.{Failure}
@@ -32,7 +33,8 @@ IsStatusOfAnswer status =
     ((input : List ℕ) × (text : List ℕ) × IsCpmAnswer input status text) ⊎
     ((net order : List ℕ) × (text : List ℕ) × IsCrowdAnswer net order status text) ⊎
     ((net order plan : List ℕ) × (text : List ℕ) × IsCheckAnswer net order plan status text) ⊎
-    ((net order : List ℕ) × (text : List ℕ) × IsProofAnswer net order status text)
+    ((net order : List ℕ) × (text : List ℕ) × IsProofAnswer net order status text) ⊎
+    ((net order plan proof : List ℕ) × (text : List ℕ) × IsVerifyAnswer net order plan proof status text)
 
 -- some answer, or some reason why there is none, has this status
 abbrev pub IsStatus : ℕ → Type 0

@@ -2,7 +2,8 @@
 //!
 //! It plans the capacities of a project. `racp plan NET ORDER` prints the cheapest capacities under which the project
 //! ends in time, with the least starts; `racp check NET ORDER PLAN` whether a plan, whoever made it, is right;
-//! `racp prove NET ORDER` a certificate that no capacities before those of the plan are enough; `racp cpm NET` the
+//! `racp prove NET ORDER` a certificate that no capacities before those of the plan are enough, `racp verify NET ORDER
+//! PLAN PROOF` whether a text, whoever made it, is one; `racp cpm NET` the
 //! critical length and the early starts. What the commands do is proved in racp_cli, over any
 //! readers and any writer; this crate opens files and standard streams, hands them over, and ends with the status.
 //!

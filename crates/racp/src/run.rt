@@ -8,9 +8,11 @@ ghost use Rattle.racp_cli.specs.declared.fault.StreamFault.TheVariants as stream
 use crate::failure::{Failure, report};
 use crate::limit::Limit;
 use crate::progress::Progress;
-use racp_cli::{StreamFault, check_over, cpm_over, crowd_over_by, prove_over, run_over_within};
+use racp_cli::{
+    StreamFault, check_over, cpm_over, crowd_over_by, prove_over, run_over_within, verify_over,
+};
 use racp_desk::Open;
-use racp_words::{Crew, Memory, OrderFiles, PlanFiles, Request, Source, asked};
+use racp_words::{Crew, Memory, OrderFiles, PlanFiles, ProofFiles, Request, Source, asked};
 use std::alloc::{AllocError, Global};
 use std::fs::File;
 use std::io::ErrorKind;
@@ -52,6 +54,7 @@ fn answer<R: Clock + Env + Files + Input + Print + Eprint + AllocGlobal + Thread
         )?),
         Request::Prove(files) => Ok(prove(rt, files)?),
         Request::Check(files) => Ok(check(rt, files)?),
+        Request::Verify(files) => Ok(verify(rt, files)?),
     }
 }
 
@@ -178,6 +181,25 @@ fn check<R: Files + Print + AllocGlobal>(rt: &R, files: PlanFiles<'_>) -> Result
         &mut net,
         &mut order,
         &mut plan,
+        &mut io::writer(rt),
+    )
+}
+
+/// Writes whether the plan in these files is right, and the certificate shows that no capacities before its own are
+/// enough.
+fn verify<R: Files + Print + AllocGlobal>(rt: &R, files: ProofFiles<'_>) -> Result<u8, StreamFault>
+    ensures { IfOk result IsStatusOfAnswer }
+{
+    let mut net = open(rt, files.net)?;
+    let mut order = open(rt, files.order)?;
+    let mut plan = open(rt, files.plan)?;
+    let mut proof = open(rt, files.proof)?;
+    verify_over(
+        rt.alloc(),
+        &mut net,
+        &mut order,
+        &mut plan,
+        &mut proof,
         &mut io::writer(rt),
     )
 }

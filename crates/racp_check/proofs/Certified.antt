@@ -1,12 +1,12 @@
 -- A certificate, told by the vectors of its blocks.
-use Rattle.std.proofs.Common.{◌≡◌, ◌↔◌, inl, inr, ◌∙◌, ℕ, zero, suc, ◌+◌, ◌<◌, ◌≤◌, min, List, [], ◌∷◌, ◌++◌, length, slice_index, slice_index_or, map, Contains, All, IsTrue, true, false, arith, refl, sym, subst, ap}
+use Rattle.std.proofs.Common.{◌≡◌, ◌↔◌, inl, inr, ◌∙◌, ℕ, zero, suc, ◌+◌, ◌<◌, List, [], ◌∷◌, ◌++◌, length, slice_index, slice_index_or, Contains, All, IsTrue, true, false, arith, refl, sym, subst, ap}
 use Rattle.std.specs.Prelude.{Vec}
 use Rattle.std.specs.Global.{Global}
 use Rattle.std.proofs.lemmas.List.{ext_get_or}
 use Rattle.std.proofs.lemmas.List.Elements.{All-nil, All-cons, All-head, All-tail}
 use Rattle.racp_model.specs.Project.{Project, IsSound}
-use Rattle.racp_model.specs.Path.{IsEarly, IsLate, IsCriticalLength}
-use Rattle.racp_model.specs.Terms.{Terms, AreTermsOf, IsBefore, release_of, due_of}
+use Rattle.racp_model.specs.Path.{IsEarly, IsLate}
+use Rattle.racp_model.specs.Terms.{Terms, release_of, due_of}
 use Rattle.racp_model.specs.Plan.{IsTooLong, IsTooLateAt}
 use Rattle.racp_model.specs.Window.{Bounds, IsRootWindow}
 use Rattle.racp_model.specs.Formed.{HasBounds}

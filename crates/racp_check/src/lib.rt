@@ -14,12 +14,18 @@
 //! A usage is greatest where some job starts, so only these times are looked at, in at most jobs * jobs * resources
 //! steps. What a plan is, and its text, stand in racp_plan; its names can be taken from here too.
 //!
+//! `check_proof(alloc, &net, &order, &plan, bytes)` tells whether a text is a certificate that no capacities before the
+//! plan's are enough. racp_trees has what a certificate is and reads it; here its blocks get the root window of the
+//! order and the roofs, cut to the ceilings.
+//!
 //! `opening_of(alloc, &net, &order)` is where planning and each check of a plan's leastness begin: the critical length
 //! and the root window, or why no starts are in time.
 //!
 //! Proved: `check_plan` answers `Ok` exactly where the cost is right and the starts fit the capacities on the order's
 //! terms and within its ceilings; else the first fault, with its least names. `opening_of` answers the critical length
-//! and the root window, or the first reason for which there is none. In `laws`: nothing is wrong with the plan of an
+//! and the root window, or the first reason for which there is none. `check_proof` says yes exactly where the text is a
+//! certificate; then no capacities that are enough stand before the plan's, and the critical length is at most the
+//! deadline. In `laws`: nothing is wrong with the plan of an
 //! order, and the check answers one thing of a plan. Not looked at by `check_plan`: the deadline and the critical length
 //! that a plan names, and whether cheaper capacities or lesser starts would do.
 #![tactic(auto)]

@@ -1,6 +1,7 @@
 pub mod Texts
 pub mod Answers
 pub mod Checks
+pub mod Verifies
 pub mod Plans
 pub mod Proofs
 pub mod Crowds

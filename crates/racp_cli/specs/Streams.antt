@@ -5,6 +5,7 @@ use Rattle.std.specs.Io.KnownBytes.{Consumes, Appends, Keeps, IsAtEnd}
 use Rattle.racp_cli.specs.Answers.{IsCpmAnswer}
 use Rattle.racp_cli.specs.Checks.{IsCheckAnswer}
 use Rattle.racp_cli.specs.Plans.{IsPlanAnswer}
+use Rattle.racp_cli.specs.Verifies.{IsVerifyAnswer}
 use Rattle.racp_cli.specs.declared.fault.StreamFault.{StreamFault}
 use Rattle.racp_cli.specs.declared.fault.StreamFault.TheVariants.{Read, Write, TooLong, Memory}
 
@@ -99,6 +100,11 @@ abbrev pub ToThree : (List ℕ → List ℕ → List ℕ → ℕ → List ℕ �
 ToThree Answer (first ∷ (second ∷ (third ∷ []))) status text = Answer first second third status text
 ToThree Answer _ status text = ⊥
 
+-- the answers to four inputs
+abbrev pub ToFour : (List ℕ → List ℕ → List ℕ → List ℕ → ℕ → List ℕ → Type 0) → List (List ℕ) → ℕ → List ℕ → Type 0
+ToFour Answer (first ∷ (second ∷ (third ∷ (fourth ∷ [])))) status text = Answer first second third fourth status text
+ToFour Answer _ status text = ⊥
+
 -- a run of `cpm`
 abbrev pub IsCpmRun : Reader → Option (List ℕ) → Option (List ℕ) → Result ℕ StreamFault → Type 0
 IsCpmRun net = IsRun (ToOne IsCpmAnswer) (net ∷ [])
@@ -110,6 +116,10 @@ IsPlanRun net order = IsRun (ToTwo IsPlanAnswer) (net ∷ (order ∷ []))
 -- a run of `check`
 abbrev pub IsCheckRun : Reader → Reader → Reader → Option (List ℕ) → Option (List ℕ) → Result ℕ StreamFault → Type 0
 IsCheckRun net order plan = IsRun (ToThree IsCheckAnswer) (net ∷ (order ∷ (plan ∷ [])))
+
+-- a run of `verify`
+abbrev pub IsVerifyRun : Reader → Reader → Reader → Reader → Option (List ℕ) → Option (List ℕ) → Result ℕ StreamFault → Type 0
+IsVerifyRun net order plan proof = IsRun (ToFour IsVerifyAnswer) (net ∷ (order ∷ (plan ∷ (proof ∷ []))))
 
 -- what is printed of a fault
 abbrev pub fault_line : StreamFault → List ℕ

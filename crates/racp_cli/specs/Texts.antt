@@ -49,6 +49,13 @@ memory_line = line (codes "memory")
 unfoldable pub ok_line : List ℕ
 ok_line = line (codes "ok")
 
+-- what is written where a text is a certificate for a plan, and where it is none
+unfoldable pub verified_line : List ℕ
+verified_line = line (codes "verified")
+
+unfoldable pub unproved_line : List ℕ
+unproved_line = line (codes "unproved")
+
 -- what is written where a plan names another deadline than the order, or another critical length than the project has
 unfoldable pub head_line : List ℕ
 head_line = line (codes "fault head")

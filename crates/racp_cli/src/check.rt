@@ -3,13 +3,13 @@
 ghost use Rattle.std.specs.Prelude.{◌≡◌, ◌↔◌, IfOk, IsTrue, length};
 ghost use Rattle.racp_model.specs.Terms.{AreTermsOf};
 ghost use Rattle.racp_cli.specs.Checks.{HasRightHead, IsCheck, IsCheckAnswer, check_status, check_text};
+ghost use Rattle.racp_cli.specs.Verifies.{AreChecked};
 ghost use Rattle.racp_cli.specs.Streams.{IsCheckRun};
 
 use crate::check_fault::CheckFault;
 use crate::fault::StreamFault;
-use crate::lines::{order_refused_line, plan_fault_line, plan_refused_line, refused_line};
 use crate::respond::respond;
-use crate::status::{CHECK_FAILED, DONE, OUT_OF_MEMORY, REFUSED};
+use crate::status::DONE;
 use crate::streams::read_whole;
 use racp_check::check_plan;
 use racp_cpm::longest;
@@ -59,6 +59,27 @@ fn answer(alloc: Global, net: &[u8], order: &[u8], plan: &[u8]) -> Result<(u8, V
 fn check(alloc: Global, net: &[u8], order: &[u8], plan: &[u8]) -> Result<(), CheckFault>
     ensures { IsCheck net.now order.now plan.now result }
 {
+    read_checked(alloc, net, order, plan)?;
+    Ok(())
+}
+
+/// A network, an order for it, and a plan with which nothing is wrong.
+#[derive(Drop)]
+pub(crate) struct Checked {
+    pub(crate) net: Network,
+    pub(crate) order: Order,
+    pub(crate) plan: Plan,
+}
+
+/// What the texts of a network, an order and a plan are read as, where nothing is wrong with the plan.
+pub(crate) fn read_checked(
+    alloc: Global,
+    net: &[u8],
+    order: &[u8],
+    plan: &[u8],
+) -> Result<Checked, CheckFault>
+    ensures { AreChecked net.now order.now plan.now result }
+{
     let net = read_sm(alloc, net)?;
     let order = read_order(alloc, order, net.resource_count(), net.job_count())?;
     let plan = read_plan(alloc, plan, &net)?;
@@ -66,7 +87,7 @@ fn check(alloc: Global, net: &[u8], order: &[u8], plan: &[u8]) -> Result<(), Che
         return Err(CheckFault::Head);
     }
     check_plan(&net, &order, &plan)?;
-    Ok(())
+    Ok(Checked { net, order, plan })
 }
 
 /// Whether the plan names the order's deadline and the project's critical length.
@@ -88,9 +109,7 @@ fn status_of(outcome: &Result<(), CheckFault>) -> u8
 {
     match outcome {
         Ok(()) => DONE,
-        Err(CheckFault::Network(_) | CheckFault::Order(_) | CheckFault::PlanText(_)) => REFUSED,
-        Err(CheckFault::OutOfMemory) => OUT_OF_MEMORY,
-        Err(CheckFault::Head | CheckFault::Wrong(_)) => CHECK_FAILED,
+        Err(fault) => fault.status(),
     }
 }
 
@@ -100,11 +119,6 @@ fn line_of(alloc: Global, outcome: &Result<(), CheckFault>) -> Result<Vec<u8>, A
 {
     match outcome {
         Ok(()) => b"ok\n".to_vec(alloc),
-        Err(CheckFault::Network(fault)) => refused_line(alloc, *fault),
-        Err(CheckFault::Order(fault)) => order_refused_line(alloc, *fault),
-        Err(CheckFault::PlanText(fault)) => plan_refused_line(alloc, *fault),
-        Err(CheckFault::OutOfMemory) => b"memory\n".to_vec(alloc),
-        Err(CheckFault::Head) => b"fault head\n".to_vec(alloc),
-        Err(CheckFault::Wrong(fault)) => plan_fault_line(alloc, *fault),
+        Err(fault) => fault.line(alloc),
     }
 }

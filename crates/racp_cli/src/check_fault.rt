@@ -1,8 +1,13 @@
+ghost use Rattle.std.specs.Prelude.{◌≡◌, IfOk, Err};
+ghost use Rattle.racp_cli.specs.Checks.{check_status, check_text};
+
+use crate::lines::{order_refused_line, plan_fault_line, plan_refused_line, refused_line};
+use crate::status::{CHECK_FAILED, OUT_OF_MEMORY, REFUSED};
 use racp_check::PlanFault;
 use racp_plan::{TextFault, TextFaultKind};
 use racp_prices::OrderFault;
 use racp_sm::{SmFault, SmFaultKind};
-use std::alloc::AllocError;
+use std::alloc::{AllocError, Global};
 
 /// Why nothing says that the plan is right: a text that is refused, the first one; that memory ran out; or what is
 /// wrong with the plan.
@@ -20,6 +25,33 @@ pub(crate) enum CheckFault {
     Head,
     /// The first fault of the plan.
     Wrong(PlanFault),
+}
+
+impl CheckFault {
+    /// The status that tells of the fault.
+    pub(crate) fn status(self) -> u8
+        ensures { result ≡ check_status (Err self) }
+    {
+        match self {
+            CheckFault::Network(_) | CheckFault::Order(_) | CheckFault::PlanText(_) => REFUSED,
+            CheckFault::OutOfMemory => OUT_OF_MEMORY,
+            CheckFault::Head | CheckFault::Wrong(_) => CHECK_FAILED,
+        }
+    }
+
+    /// The line that tells of the fault.
+    pub(crate) fn line(self, alloc: Global) -> Result<Vec<u8>, AllocError>
+        ensures { IfOk result (λ text. text.items ≡ check_text (Err self)) }
+    {
+        match self {
+            CheckFault::Network(fault) => refused_line(alloc, fault),
+            CheckFault::Order(fault) => order_refused_line(alloc, fault),
+            CheckFault::PlanText(fault) => plan_refused_line(alloc, fault),
+            CheckFault::OutOfMemory => b"memory\n".to_vec(alloc),
+            CheckFault::Head => b"fault head\n".to_vec(alloc),
+            CheckFault::Wrong(fault) => plan_fault_line(alloc, fault),
+        }
+    }
 }
 
 impl From<AllocError> for CheckFault {

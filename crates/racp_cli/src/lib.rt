@@ -5,8 +5,10 @@
 //!
 //! Each command is a function over readers and a writer, so that what it does can be proved and tested without files.
 //! `cpm_over` answers a network with its critical length and early starts, `run_over` a network and an order with the
-//! plan or why there is none, `crowd_over` the same by workers, `prove_over` a network and an order with a certificate for the plan, and `check_over` a network, an order and a plan with `ok`
-//! or what is wrong. Each returns the status with which the program ends. `run_over_within` and `crowd_over_by` also take
+//! plan or why there is none, `crowd_over` the same by workers, `prove_over` a network and an order with a certificate for
+//! the plan, `check_over` a network, an order and a plan with `ok` or what is wrong, and `verify_over` these and a
+//! certificate with whether that shows that no cheaper capacities would do. Each returns the status with which the
+//! program ends. `run_over_within` and `crowd_over_by` also take
 //! how much memory the records of refuted nodes may have. docs/FORMATS.md has every line and every status.
 //!
 //! Two jobs, 1 before 2, run for 2 time units and 1, and use 1 unit and 3; the order has the deadline 4 and the price
@@ -31,7 +33,8 @@
 //! flushed once. A call that takes no byte, or fails, is `Write`; a call that is interrupted counts as failed.
 //!
 //! In `specs/`, an answer is a value, with the text and the status that stand for it. `IsCpmAnswer`, `IsPlanAnswer`,
-//! `IsProofAnswer`, `IsCrowdAnswer` and `IsCheckAnswer` say when text and status are right for the bytes of one, two and three inputs, and `IsRun` ties
+//! `IsCrowdAnswer`, `IsProofAnswer`, `IsCheckAnswer` and `IsVerifyAnswer` say when text and status are right for the bytes
+//! of one to four inputs, and `IsRun` ties
 //! answers to what the readers had and what the writer holds, for all commands.
 //!
 //! Proved: where a command returns a status, all of each reader was read, and what was written is exactly the text of a
@@ -56,6 +59,7 @@ mod refusal;
 mod respond;
 mod status;
 mod streams;
+mod verify;
 
 pub use check::check_over;
 pub use cpm::cpm_over;
@@ -64,3 +68,4 @@ pub use fault::StreamFault;
 pub use plan::{run_over, run_over_within};
 pub use prove::prove_over;
 pub use status::{CHECK_FAILED, DONE, OUT_OF_MEMORY, REFUSED, STOPPED, STREAM_FAILED};
+pub use verify::verify_over;

@@ -1,7 +1,9 @@
 //! The commands over readers that give a byte at a time, or fail, and writers that take little at a time, or fail.
 
 use crate::devices::{Dripping, Ending, Narrow};
-use racp_cli::{CHECK_FAILED, DONE, REFUSED, StreamFault, check_over, cpm_over, run_over};
+use racp_cli::{
+    CHECK_FAILED, DONE, REFUSED, StreamFault, check_over, cpm_over, run_over, verify_over,
+};
 use std::alloc::Global;
 
 #[derive(Clone, Copy)]
@@ -9,6 +11,7 @@ enum Command {
     Cpm,
     Plan,
     Check,
+    Verify,
 }
 
 /// A network of two jobs, the first before the second, that run for two time units and one, and use one unit and three.
@@ -21,63 +24,80 @@ const ORDER: &[u8] = b"deadline = 4\nprices = [5]\n";
 /// Its plan.
 const PLAN: &[u8] = b"deadline 4\ncritical 3\ncost 15\ncapacity 1 3\nstart 1 0\nstart 2 2\nend\n";
 
+/// A certificate that nothing before the plan is enough.
+const PROOF: &[u8] = b"proof\nvector 2\nD 2\nend\n";
+
 /// Its critical length and early starts.
 const EARLY: &[u8] = b"critical 3\nstart 1 0\nstart 2 2\nend\n";
 
 /// A command, what its readers give, the status that it returns, and what it writes.
-type Answer = (Command, [&'static [u8]; 3], u8, &'static [u8]);
+type Answer = (Command, [&'static [u8]; 4], u8, &'static [u8]);
 
-const ANSWERS: [Answer; 7] = [
-    (Command::Cpm, [NETWORK, b"", b""], DONE, EARLY),
-    (Command::Plan, [NETWORK, ORDER, b""], DONE, PLAN),
-    (Command::Check, [NETWORK, ORDER, PLAN], DONE, b"ok\n"),
+const ANSWERS: [Answer; 9] = [
+    (Command::Cpm, [NETWORK, b"", b"", b""], DONE, EARLY),
+    (Command::Plan, [NETWORK, ORDER, b"", b""], DONE, PLAN),
+    (Command::Check, [NETWORK, ORDER, PLAN, b""], DONE, b"ok\n"),
     (
         Command::Cpm,
-        [b"", b"", b""],
+        [b"", b"", b"", b""],
         REFUSED,
         b"refused sm 1 NoJobs line 0\n",
     ),
     (
         Command::Plan,
-        [NETWORK, b"deadline = 4", b""],
+        [NETWORK, b"deadline = 4", b"", b""],
         REFUSED,
         b"refused order 2 Missing\n",
     ),
     (
         Command::Check,
-        [NETWORK, ORDER, b""],
+        [NETWORK, ORDER, b"", b""],
         REFUSED,
         b"refused plan 1 Syntax line 1\n",
     ),
     (
         Command::Check,
-        [NETWORK, b"deadline = 5\nprices = [5]\n", PLAN],
+        [NETWORK, b"deadline = 5\nprices = [5]\n", PLAN, b""],
         CHECK_FAILED,
         b"fault head\n",
+    ),
+    (
+        Command::Verify,
+        [NETWORK, ORDER, PLAN, PROOF],
+        DONE,
+        b"verified\n",
+    ),
+    (
+        Command::Verify,
+        [NETWORK, ORDER, PLAN, b""],
+        CHECK_FAILED,
+        b"unproved\n",
     ),
 ];
 
 /// For each reader, at which read it fails.
-const NEVER: [usize; 3] = [usize::MAX; 3];
+const NEVER: [usize; 4] = [usize::MAX; 4];
 
 /// Runs a command over readers of these texts, each of which fails at a read, and tells what it returned and how often each
 /// reader was read. A command leaves the readers alone that it does not take.
 fn run(
     alloc: Global,
     command: Command,
-    texts: [&[u8]; 3],
-    fails_at: [usize; 3],
+    texts: [&[u8]; 4],
+    fails_at: [usize; 4],
     out: &mut Narrow,
-) -> (Result<u8, StreamFault>, [usize; 3]) {
+) -> (Result<u8, StreamFault>, [usize; 4]) {
     let mut net = Dripping::new(texts[0], fails_at[0]);
     let mut order = Dripping::new(texts[1], fails_at[1]);
     let mut plan = Dripping::new(texts[2], fails_at[2]);
+    let mut proof = Dripping::new(texts[3], fails_at[3]);
     let result = match command {
         Command::Cpm => cpm_over(alloc, &mut net, out),
         Command::Plan => run_over(alloc, &mut net, &mut order, out),
         Command::Check => check_over(alloc, &mut net, &mut order, &mut plan, out),
+        Command::Verify => verify_over(alloc, &mut net, &mut order, &mut plan, &mut proof, out),
     };
-    (result, [net.reads, order.reads, plan.reads])
+    (result, [net.reads, order.reads, plan.reads, proof.reads])
 }
 
 /// Whether all of an answer is written where nothing fails.
@@ -117,24 +137,32 @@ fn write_an_answer_or_its_beginning(rt: HostRuntime) {
 }
 
 /// The commands, the place of each reader that they take, and how many bytes it gives.
-const READERS: [(Command, usize, usize); 6] = [
+const READERS: [(Command, usize, usize); 10] = [
     (Command::Cpm, 0, NETWORK.len()),
     (Command::Plan, 0, NETWORK.len()),
     (Command::Plan, 1, ORDER.len()),
     (Command::Check, 0, NETWORK.len()),
     (Command::Check, 1, ORDER.len()),
     (Command::Check, 2, PLAN.len()),
+    (Command::Verify, 0, NETWORK.len()),
+    (Command::Verify, 1, ORDER.len()),
+    (Command::Verify, 2, PLAN.len()),
+    (Command::Verify, 3, PROOF.len()),
 ];
 
 /// For each reader, at which read it fails where the one at this place does, and how often it is read then: to its end before
 /// that one, and not at all after it.
-fn reads(place: usize, fails_at: usize) -> ([usize; 3], [usize; 3]) {
+fn reads(place: usize, fails_at: usize) -> ([usize; 4], [usize; 4]) {
     let never = usize::MAX;
-    let (net, order) = (NETWORK.len() + 1, ORDER.len() + 1);
+    let (net, order, plan) = (NETWORK.len() + 1, ORDER.len() + 1, PLAN.len() + 1);
     match place {
-        0 => ([fails_at, never, never], [fails_at, 0, 0]),
-        1 => ([never, fails_at, never], [net, fails_at, 0]),
-        _ => ([never, never, fails_at], [net, order, fails_at]),
+        0 => ([fails_at, never, never, never], [fails_at, 0, 0, 0]),
+        1 => ([never, fails_at, never, never], [net, fails_at, 0, 0]),
+        2 => ([never, never, fails_at, never], [net, order, fails_at, 0]),
+        _ => (
+            [never, never, never, fails_at],
+            [net, order, plan, fails_at],
+        ),
     }
 }
 
@@ -142,7 +170,13 @@ fn reads(place: usize, fails_at: usize) -> ([usize; 3], [usize; 3]) {
 fn stops(alloc: Global, command: Command, place: usize, fails_at: usize) -> bool {
     let (fails_at, want) = reads(place, fails_at);
     let mut out = Narrow::new(alloc, usize::MAX, Ending::Fails);
-    let (result, reads) = run(alloc, command, [NETWORK, ORDER, PLAN], fails_at, &mut out);
+    let (result, reads) = run(
+        alloc,
+        command,
+        [NETWORK, ORDER, PLAN, PROOF],
+        fails_at,
+        &mut out,
+    );
     result == Err(StreamFault::Read) && reads == want && out.taken.is_empty()
 }
 

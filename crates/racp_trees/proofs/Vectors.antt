@@ -1,8 +1,7 @@
 -- The vectors of blocks, read one block after another.
-use Rattle.std.proofs.Common.{◌≡◌, ◌↔◌, ◌∙◌, ℕ, ◌+◌, ◌^◌, ◌<◌, ◌≤◌, List, [], ◌∷◌, ◌++◌, length, map, Contains, AllPairs, Bool, IsTrue, true, ◌==◌, arith, refl, sym, subst, ap, append_assoc, length-append, codes}
+use Rattle.std.proofs.Common.{◌≡◌, ◌↔◌, ◌∙◌, ℕ, ◌+◌, ◌^◌, ◌<◌, ◌≤◌, List, [], ◌∷◌, ◌++◌, length, Contains, AllPairs, Bool, IsTrue, true, ◌==◌, arith, refl, sym, subst, ap, append_assoc, length-append, codes}
 use Rattle.std.specs.Prelude.{flat_map, Option, Some, None, Result, Ok, Err, IfOk, Vec}
 use Rattle.std.specs.Global.{Global}
-use denote.Ref.{Bor}
 use Rattle.std.proofs.lemmas.Bool.{eqb-true}
 use Rattle.std.proofs.lemmas.List.{append_cancel_left, map-append}
 use Rattle.std.proofs.lemmas.List.Elements.{All-contains}
@@ -15,7 +14,7 @@ use Rattle.racp_trees.specs.Certificates.{HasBlocks, rows_of, IsBlocksAnswer}
 use Rattle.racp_trees.specs.Following.{IsNext, IsRest}
 use Rattle.racp_trees.specs.Reading.{IsNamed, IsBehind, IsVectorAnswer}
 use Rattle.racp_trees.specs.Records.{AreNamed}
-use Rattle.racp_trees.specs.Nodes.{HasPlace, AreRecords}
+use Rattle.racp_trees.specs.Nodes.{HasPlace}
 use Rattle.racp_trees.specs.Readers.{open_nodes, HasRead, IsReady, rest_of, AsksNext, HasReadTree, IsTreeAnswer}
 use Rattle.racp_trees.specs.Blocks.{IsBetween, HasReadBlock, IsBlockRead, AreBlocksRead}
 use Rattle.racp_trees.specs.declared.branch.Branch.{Branch}

@@ -22,6 +22,9 @@
 //! At time 0 the jobs 2, 3 and 4 need 4 units. The alternative [2] puts job 2 off to the time 2, past its upper bound
 //! 1; the alternative [3, 4] puts job 3 off to 3, past 2.
 //!
+//! `block_vectors` reads a whole text, block by block, and answers the capacities of its blocks; `are_enough` tells
+//! whether they are enough. `check_proof` of racp_check has both.
+//!
 //! The text is read line by line. `Follow` in specs/ says what has to come of it while nodes are open, and each line
 //! changes that in one of three ways. Of an open node the reader knows the alternative whose child was read last, and
 //! looks for the one behind it once that child is closed; so no line makes it list alternatives for which the text has
@@ -32,7 +35,8 @@
 //! block. That is decided by boxes of vectors, in `are_enough`: the least vector of a box that is at most a block's
 //! leads to the parts of the box above that block, one for each place that can be the first such place.
 //!
-//! Proved: the tree of a block is read exactly where the text begins with one that holds, and of the closed nodes those
+//! Proved: the vectors of a text are answered exactly where it is one of blocks that hold, and they are those of its
+//! blocks; the tree of a block is read exactly where the text begins with one that holds, and of the closed nodes those
 //! that lines name are known after it; `are_enough` is true exactly where the blocks are enough. In `laws`: trees that
 //! hold refute their windows, and where a text is a certificate, no capacities that are enough stand before the plan's.
 //! Not proved: how many boxes `are_enough` takes; of m blocks and R resources it can be about m ^ (R / 2).

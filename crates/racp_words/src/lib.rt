@@ -14,6 +14,7 @@
 //! racp plan b.sm b3.toml --memory 64       the same on one thread, with 64 MiB
 //! racp prove b.sm b3.toml                  Prove with the paths b.sm and b3.toml
 //! racp check a.sm a4.toml p                Check with the paths a.sm, a4.toml and p
+//! racp verify a.sm a4.toml p q             Verify with the paths a.sm, a4.toml, p and q
 //! racp plan b.sm b3.toml --workers 65      an error: this is no number from 1 to 64
 //! racp plan b.sm                           an error: a word is missing
 //! racp --help                              an error of the kind DisplayHelp
@@ -23,12 +24,13 @@
 //! 1,000,000,000,000 pieces, no limit of time and nothing told, where the others do not say otherwise. `--memory MIB` says
 //! how much memory the records of a search take at most, with a crew or without.
 //!
-//! The commands stand in `specs/` a second time, as values of the library's definitions: `racp`, `cpm`, `plan`,
-//! `prove` and `check`. What `clap` is proved to do with them says what any words ask for.
+//! The commands stand in `specs/` a second time, as values of the library's definitions: `racp`, `cpm`, `plan`, `prove`,
+//! `check` and `verify`. What `clap` is proved to do with them says what any words ask for.
 //!
 //! Proved: without words, with `cpm`, and with `cpm` and a word that does not begin with a hyphen or is a hyphen alone,
-//! `cpm` is asked for, of standard input or of the file with that path; with `plan` or `prove` and two paths, and
-//! `check` and three, that command of these files, and `plan` on one thread; with `--workers` and a number from 1 to 64 behind the
+//! `cpm` is asked for, of standard input or of the file with that path; with `plan` or `prove` and two paths, `check` and
+//! three, and `verify` and four, that command of these files, and `plan` on one thread; with `--workers` and a number from
+//! 1 to 64 behind the
 //! two paths, `plan` by a crew of so many. In these cases only memory can fail. A path here is a word that is not empty
 //! and does not begin with a hyphen. For any other words `asked` answers what `clap` is proved to find, or refuses with
 //! the kind of error that it is proved to give: `plan` asks for a crew exactly where `clap` finds one of the five
@@ -40,4 +42,4 @@ mod command_line;
 mod request;
 
 pub use command_line::asked;
-pub use request::{Crew, Memory, OrderFiles, PlanFiles, Request, Source};
+pub use request::{Crew, Memory, OrderFiles, PlanFiles, ProofFiles, Request, Source};

@@ -1,9 +1,7 @@
-use Rattle.std.proofs.Common.{◌≡◌, ◌↔◌, ◌∙◌, ℕ, List, Vec, Option, Some, None, IsTrue, length, slice_index_or, ◌<◌, sym, subst}
+use Rattle.std.proofs.Common.{◌≡◌, ◌↔◌, ℕ, List, Vec, Option, Some, None, IsTrue, length, slice_index_or, ◌<◌, sym, subst}
 use Rattle.std.specs.Global.{Global}
-use Rattle.racp_model.specs.Terms.{release_of, due_of}
-use Rattle.racp_trees.specs.Certificates.{IsBlocksAnswer, IsCertificate}
+use Rattle.racp_trees.specs.Certificates.{IsBlocksAnswer}
 use Rattle.racp_trees.specs.Enough.{AreEnoughBlocks}
-use Rattle.racp_prices.specs.Units.{AreMostUnits}
 use Rattle.racp_check.proofs.Certified.{no_certificate, no_blocks, blocks_sized, certified}
 use Rattle.racp_check.proofs.proof.holds_in.Goals as goal
 

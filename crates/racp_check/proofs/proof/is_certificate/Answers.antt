@@ -1,4 +1,4 @@
-use Rattle.std.proofs.Common.{sym, subst}
+use Rattle.std.proofs.Common.{subst}
 use Rattle.racp_check.specs.Openings.{IsOpening}
 use Rattle.racp_check.specs.declared.opening.Opening.{Opening}
 use Rattle.racp_check.specs.declared.opening.Opening.TheVariants.{TooLong, TooLate}

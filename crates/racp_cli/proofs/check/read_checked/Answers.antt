@@ -3,7 +3,7 @@ use Rattle.std.proofs.lemmas.Result.{err_from_is_err_and}
 use Rattle.racp_lexfix.specs.Printing.{AreTextsOf}
 use Rattle.racp_cli.specs.Checks.{AreRead, HasRightHead}
 use Rattle.racp_cli.proofs.Checking.{plan_refused}
-use Rattle.racp_cli.proofs.check.check.Goals as goal
+use Rattle.racp_cli.proofs.check.read_checked.Goals as goal
 
 pub returns-in_err-plan : goal.returns-in_err-plan
 returns-in_err-plan c =

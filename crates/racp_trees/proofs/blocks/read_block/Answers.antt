@@ -1,4 +1,4 @@
-use Rattle.std.proofs.Common.{◌≡◌, ◌∙◌, ℕ, ◌≤◌, List, Vec, Option, Some, None, arith, refl, sym, subst, ap}
+use Rattle.std.proofs.Common.{◌≡◌, ◌∙◌, ℕ, List, Vec, Option, Some, None, sym, subst}
 use Rattle.std.specs.Global.{Global}
 use denote.Ref.{Bor}
 use Rattle.racp_trees.specs.Blocks.{HasReadBlock}

@@ -1,0 +1,24 @@
+use Rattle.std.proofs.Common.{Err, [], ◌∷◌, IfOk, refl}
+use Rattle.racp_cli.specs.Verifies.{IsVerifyAnswer}
+use Rattle.racp_cli.specs.Streams.{Reader, AreInputs, ToFour}
+use Rattle.racp_cli.specs.Texts.{memory_line}
+use Rattle.racp_cli.specs.declared.check_fault.CheckFault.TheVariants.{OutOfMemory}
+use Rattle.racp_cli.proofs.Responding.{answered_as, made_right, run_answered}
+use Rattle.racp_cli.proofs.verify.verify_over.Goals as goal
+
+pub returns : goal.returns
+returns g c =
+    let net = c.in_ok-net.net.items in
+    let order = c.in_ok-order.order.items in
+    let plan = c.in_ok-plan.plan.items in
+    let first : Reader = record { unread = g.N.Read.remaining c.args.net.now; left = g.N.Read.remaining c.read_whole.new.reader } in
+    let second : Reader = record { unread = g.O.Read.remaining c.args.order.now; left = g.O.Read.remaining c.read_whole-2.new.reader } in
+    let proof = c.in_ok-proof.proof.items in
+    let third : Reader = record { unread = g.P.Read.remaining c.args.plan.now; left = g.P.Read.remaining c.read_whole-3.new.reader } in
+    let fourth : Reader = record { unread = g.C.Read.remaining c.args.proof.now; left = g.C.Read.remaining c.read_whole-4.new.reader } in
+    let are : AreInputs (first ∷ (second ∷ (third ∷ (fourth ∷ [])))) (net ∷ (order ∷ (plan ∷ (proof ∷ [])))) = (c.in_ok-net.ensures, (c.in_ok-order.ensures, (c.in_ok-plan.ensures, (c.in_ok-proof.ensures, tt)))) in
+    let made : IfOk c.answer.result (λ answer. IsVerifyAnswer net order plan proof answer.0 answer.1.items) =
+    rw (← c.deref.ensures.value, ← c.deref-2.ensures.value, ← c.deref-3.ensures.value, ← c.deref-4.ensures.value) c.answer.ensures in
+    let memory : IsVerifyAnswer net order plan proof 6 memory_line = record { answer = Err OutOfMemory; right = tt; with_status = refl; with_text = refl } in
+    run_answered (ToFour IsVerifyAnswer) (first ∷ (second ∷ (third ∷ (fourth ∷ [])))) (net ∷ (order ∷ (plan ∷ (proof ∷ [])))) _ _ c.respond.result are
+    (answered_as _ (IsVerifyAnswer net order plan proof) _ _ c.respond.result (made_right (IsVerifyAnswer net order plan proof) c.answer.result made memory) c.respond.ensures)

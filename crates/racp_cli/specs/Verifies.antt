@@ -1,0 +1,54 @@
+-- What `verify` answers to the texts of a network, an order, a plan and a certificate.
+use Rattle.std.specs.Prelude.{◌≡◌, ◌↔◌, ℕ, Bool, true, false, IsTrue, List, length, Result, Ok, Err}
+use Rattle.racp_model.specs.Project.{Project}
+use Rattle.racp_model.specs.Terms.{Terms, AreTermsOf}
+use Rattle.racp_plan.specs.declared.plan.Plan.{Plan}
+use Rattle.racp_trees.specs.Certificates.{IsCertificate}
+use Rattle.racp_check.specs.PlanFaults.{IsChecked}
+use Rattle.racp_check.specs.Leastness.{HasNoneEnoughBefore, IsLongEnough}
+use Rattle.racp_cli.specs.Texts.{verified_line, unproved_line}
+use Rattle.racp_cli.specs.Checks.{AreRead, HasRightHead, IsCheck, check_text, check_status}
+use Rattle.racp_cli.specs.declared.check.Checked.{Checked}
+use Rattle.racp_cli.specs.declared.check_fault.CheckFault.{CheckFault}
+
+-- what the texts of a network, an order and a plan are read as, where nothing is wrong with the plan; or what `check` says
+abbrev pub AreChecked : List ℕ → List ℕ → List ℕ → Result Checked CheckFault → Type 0
+AreChecked net order text (Ok found) =
+    AreTermsOf found.net found.order × (length found.plan.capacities ≡ found.net.resources) ×
+    AreRead net order text found.net found.order found.plan × HasRightHead found.net found.order found.plan ×
+    IsChecked found.net found.order found.plan (Ok tt)
+AreChecked net order text (Err fault) = IsCheck net order text (Err fault)
+
+-- whether a text is a certificate for the plan; where it is, no capacities that are enough stand before the plan's, and the
+-- critical length is at most the deadline
+pub record IsProofAnswer (network : Project) (terms : Terms) (plan : Plan) (proof : List ℕ) (proved : Bool) : Type 0 where
+  pub exact : IsTrue proved ↔ IsCertificate network terms plan.capacities proof
+  pub leastness : IsTrue proved → HasNoneEnoughBefore network terms plan.capacities
+  pub in_time : IsTrue proved → IsLongEnough network terms
+
+-- what is right for the texts of a network, an order, a plan and a certificate: where nothing is wrong with the plan, whether the
+-- last text is a certificate for it; else what `check` says
+abbrev pub IsVerify : List ℕ → List ℕ → List ℕ → List ℕ → Result Bool CheckFault → Type 0
+IsVerify net order text proof (Ok proved) =
+    (network : Project) × (terms : Terms) × (plan : Plan) × AreRead net order text network terms plan ×
+    HasRightHead network terms plan × IsChecked network terms plan (Ok tt) × IsProofAnswer network terms plan proof proved
+IsVerify net order text proof (Err fault) = IsCheck net order text (Err fault)
+
+-- the text that is written
+abbrev pub verify_text : Result Bool CheckFault → List ℕ
+verify_text (Ok true) = verified_line
+verify_text (Ok false) = unproved_line
+verify_text (Err fault) = check_text (Err fault)
+
+-- the status
+abbrev pub verify_status : Result Bool CheckFault → ℕ
+verify_status (Ok true) = 0
+verify_status (Ok false) = 8
+verify_status (Err fault) = check_status (Err fault)
+
+-- status and text stand for what is right for the inputs
+pub record IsVerifyAnswer (net order text proof : List ℕ) (status : ℕ) (written : List ℕ) : Type 0 where
+  pub answer : Result Bool CheckFault
+  pub right : IsVerify net order text proof answer
+  pub with_status : verify_status answer ≡ status
+  pub with_text : verify_text answer ≡ written
