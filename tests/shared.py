@@ -4,6 +4,8 @@ docs/FORMATS.md and docs/PROBLEM.md: rule by rule over the table of an order, an
 import collections
 import concurrent.futures
 import contextlib
+import importlib.machinery
+import importlib.util
 import pathlib
 import re
 import subprocess
@@ -40,6 +42,14 @@ class Written(Exception):
 
     def run(self):
         return Run(self.status, f"{self.line}\n".encode(), b"")
+
+
+def script(name):
+    """The functions of a script of this folder."""
+    loader = importlib.machinery.SourceFileLoader(name, str(ROOT / "tests" / name))
+    module = importlib.util.module_from_spec(importlib.util.spec_from_loader(name, loader))
+    loader.exec_module(module)
+    return module
 
 
 # Runs of the program.

@@ -158,10 +158,7 @@ fn plan<R: Files + Print + AllocGlobal>(
 }
 
 /// Writes a certificate for the plan of these files, or why there is none.
-fn prove<R: Files + Print + AllocGlobal>(
-    rt: &R,
-    files: OrderFiles<'_>,
-) -> Result<u8, StreamFault>
+fn prove<R: Files + Print + AllocGlobal>(rt: &R, files: OrderFiles<'_>) -> Result<u8, StreamFault>
     ensures { IfOk result IsStatusOfAnswer }
 {
     let mut net = open(rt, files.net)?;

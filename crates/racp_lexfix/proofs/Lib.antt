@@ -1,4 +1,5 @@
 mod TextLines
+mod Certified
 mod Working
 mod Choosing
 mod Fixing

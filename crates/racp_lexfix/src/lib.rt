@@ -71,7 +71,7 @@ pub use answer::{Answer, PlanStop};
 pub use crowd::{Crowd, Effort};
 pub use observer::{Observer, Unheard};
 pub use planning::plan;
-pub use proving::prove_alone;
 pub use printed::{
     Crew, Printed, Refusal, plan_alone, plan_alone_within, plan_crowd, plan_crowd_by,
 };
+pub use proving::prove_alone;

@@ -212,7 +212,11 @@ pub fn plan_crowd_by<G: Gate + Sync, P: Stop + Sync, O: Observer, R: Threads + W
 }
 
 /// The text of an answer on the terms of an order, with its status.
-pub(crate) fn print_answer(alloc: Global, order: &Order, answer: &Answer) -> Result<Printed, AllocError>
+pub(crate) fn print_answer(
+    alloc: Global,
+    order: &Order,
+    answer: &Answer,
+) -> Result<Printed, AllocError>
     ensures text { IfOk result (λ printed. printed.text.items ≡ answer_text order.now.deadline answer.now) }
     ensures status { IfOk result (λ printed. printed.status ≡ answer_status answer.now) }
 {

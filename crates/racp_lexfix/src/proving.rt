@@ -76,7 +76,10 @@ fn print_proof(
 {
     match answer {
         Answer::Plan(plan) => print_certificate(alloc, net, order, plan, sharp),
-        _ => Ok(print_answer(alloc, order, answer)?),
+        _ => {
+            let printed = print_answer(alloc, order, answer)?;
+            Ok(printed)
+        }
     }
 }
 
