@@ -1,9 +1,12 @@
-use Rattle.std.proofs.Common.{Err, [], ◌∷◌, IfOk, refl}
+use Rattle.std.proofs.Common.{◌≡◌, ℕ, Err, [], ◌∷◌, Option, List, IfOk, inl, inr, refl, sym, subst, rules}
+use Rattle.std.specs.Prelude.{Result}
+use Rattle.std.specs.Io.KnownBytes.{Keeps}
 use Rattle.racp_cli.specs.Verifies.{IsVerifyAnswer}
-use Rattle.racp_cli.specs.Streams.{Reader, AreInputs, ToFour}
+use Rattle.racp_cli.specs.Streams.{Reader, AreInputs, IsStopped, ToFour, IsVerifyRun}
 use Rattle.racp_cli.specs.Texts.{memory_line}
+use Rattle.racp_cli.specs.declared.fault.StreamFault.{StreamFault}
 use Rattle.racp_cli.specs.declared.check_fault.CheckFault.TheVariants.{OutOfMemory}
-use Rattle.racp_cli.proofs.Responding.{answered_as, made_right, run_answered}
+use Rattle.racp_cli.proofs.Responding.{answered_as, made_right, run_answered, run_stopped}
 use Rattle.racp_cli.proofs.verify.verify_over.Goals as goal
 
 pub returns : goal.returns
@@ -22,3 +25,18 @@ returns g c =
     let memory : IsVerifyAnswer net order plan proof 6 memory_line = record { answer = Err OutOfMemory; right = tt; with_status = refl; with_text = refl } in
     run_answered (ToFour IsVerifyAnswer) (first ∷ (second ∷ (third ∷ (fourth ∷ [])))) (net ∷ (order ∷ (plan ∷ (proof ∷ [])))) _ _ c.respond.result are
     (answered_as _ (IsVerifyAnswer net order plan proof) _ _ c.respond.result (made_right (IsVerifyAnswer net order plan proof) c.answer.result made memory) c.respond.ensures)
+
+pub returns-in_err-proof : goal.returns-in_err-proof
+returns-in_err-proof g c =
+    let first : Reader = record { unread = g.N.Read.remaining c.args.net.now; left = g.N.Read.remaining c.read_whole.new.reader } in
+    let second : Reader = record { unread = g.O.Read.remaining c.args.order.now; left = g.O.Read.remaining c.read_whole-2.new.reader } in
+    let third : Reader = record { unread = g.P.Read.remaining c.args.plan.now; left = g.P.Read.remaining c.read_whole-3.new.reader } in
+    let fourth : Reader = record { unread = g.C.Read.remaining c.args.proof.now; left = g.C.Read.remaining c.read_whole-4.new.reader } in
+    let out : Option (List ℕ) = g.W.Write.contents c.args.out.now in
+    let fault : StreamFault = c.in_err-proof.field-0.0 in
+    let stopped : IsStopped (first ∷ (second ∷ (third ∷ (fourth ∷ [])))) fault =
+    inr (c.in_ok-net.net.items, c.in_ok-net.ensures, inr (c.in_ok-order.order.items, c.in_ok-order.ensures, inr (c.in_ok-plan.plan.items, c.in_ok-plan.ensures, inl (c.in_err-proof.ensures, tt)))) in
+    let keeps : Keeps out out = search rules in
+    let is : c.from_residual-in_err-proof.result ≡ Err fault = search rules in
+    subst (λ (r : Result ℕ StreamFault). IsVerifyRun first second third fourth out out r) (sym is)
+    (run_stopped (ToFour IsVerifyAnswer) (first ∷ (second ∷ (third ∷ (fourth ∷ [])))) out out fault fourth.unread fourth.left c.in_err-proof.ensures stopped keeps)
