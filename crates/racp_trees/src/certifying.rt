@@ -11,7 +11,7 @@ ghost use Rattle.racp_trees.specs.declared.maker.Made.TheVariants.{Tree};
 
 use crate::before::is_before;
 use crate::enough::gap;
-use crate::maker::{Made, Maker};
+use crate::maker::{MOST_BYTES, Made, Maker};
 use crate::reader::Ground;
 use crate::writer::push_vector;
 use racp_model::{Capacities, Network, Window};
@@ -22,9 +22,9 @@ use std::alloc::{AllocError, Global};
 const MOST_BLOCKS: usize = 1_290_555;
 
 /// A certificate that no capacities before these are enough; or `None` where none was made, since some capacities before
-/// them are enough, or it would have more than 16,777,216 bytes and the rest of a line. Blocks are made while some vector up to the roofs
-/// stands before the capacities and is above each block: for one of the hints at or above it, or else for a vector
-/// before the capacities that is as great as can be. A hint is a capacity vector, by place from 0, of which the caller
+/// them are enough, or it would have more than 16,777,216 bytes. Blocks are made while some vector up to the roofs stands
+/// before the capacities and is above each block: for one of the hints at or above it, or else for a vector before the
+/// capacities that is as great as can be. A hint is a capacity vector, by place from 0, of which the caller
 /// knows that it is not enough; others cost the certificate. There are a roof, cut to the ceiling, and a capacity for
 /// each resource, and the window is the root window of the order.
 ///
@@ -53,6 +53,9 @@ pub fn certificate(
     for _ in 0..MOST_BLOCKS {
         let Some(low) = gap(alloc, net, order, roofs, capacities, &blocks)? else {
             text.extend_from_slice(b"end\n")?;
+            if text.len() > MOST_BYTES {
+                return Ok(None);
+            }
             return Ok(Some(text));
         };
         let vector = vector_above(alloc, net, order, roofs, capacities, hints, low)?;
