@@ -1,24 +1,21 @@
 //! When planning is stopped by the clock, and told of until then.
 
-use crate::memory::mebibytes_used;
 use crate::progress::Progress;
-use racp_lexfix::Observer;
 use racp_search::Stop;
-use std::rt::Files;
 use std::time::{Clock, Duration, Instant};
 
 /// Stops planning when so much time has passed since it was made; without a limit it never does. Where there is a limit
 /// and the clock cannot be read, it stops at once. Each time that it is asked counts as a node of the search, of which it
 /// tells on standard error where that is wanted.
 #[derive(Drop)]
-pub(crate) struct Limit<C: Clock + Eprint + Files + Drop> {
+pub(crate) struct Limit<C: Clock + Eprint + Drop> {
     host: C,
     limit: Option<Duration>,
     begun: Option<Instant>,
     progress: Option<Progress>,
 }
 
-impl<C: Clock + Eprint + Files + Drop> Limit<C> {
+impl<C: Clock + Eprint + Drop> Limit<C> {
     /// A limit of so many seconds from now on, or none, which counts and tells as this says, or does not.
     pub(crate) fn of(host: C, seconds: Option<u64>, progress: Option<Progress>) -> Self {
         let begun = match Instant::now(&host) {
@@ -31,6 +28,11 @@ impl<C: Clock + Eprint + Files + Drop> Limit<C> {
             begun,
             progress,
         }
+    }
+
+    /// What counts the nodes and tells of planning, where that is wanted.
+    pub(crate) fn progress(&self) -> Option<&Progress> {
+        self.progress.as_ref()
     }
 
     /// How much time has passed, where the clock can be read.
@@ -51,7 +53,7 @@ impl<C: Clock + Eprint + Files + Drop> Limit<C> {
     }
 }
 
-impl<C: Clock + Eprint + Files + Drop> Stop for Limit<C> {
+impl<C: Clock + Eprint + Drop> Stop for Limit<C> {
     ghost use Rattle.std.specs.Prelude.{false};
 
     ghost QUIET = { false };
@@ -65,29 +67,9 @@ impl<C: Clock + Eprint + Files + Drop> Stop for Limit<C> {
         let passed = self.passed();
         if let (Some(progress), Some(passed)) = (&self.progress, passed) {
             if progress.count(passed) {
-                progress.tell(&self.host, passed, mebibytes_used(&self.host));
+                progress.tell(&self.host, passed);
             }
         }
         self.is_over(passed)
-    }
-}
-
-impl<C: Clock + Eprint + Files + Drop> Observer for Limit<C> {
-    fn hear_deadline(&self, deadline: u32) {
-        if let Some(progress) = &self.progress {
-            progress.hear_deadline(deadline);
-        }
-    }
-
-    fn hear_floors(&self, floors: &[u32]) {
-        if let Some(progress) = &self.progress {
-            progress.hear_floors(floors);
-        }
-    }
-
-    fn hear_cost(&self, cost: u64) {
-        if let Some(progress) = &self.progress {
-            progress.hear_cost(cost);
-        }
     }
 }

@@ -1,9 +1,11 @@
 //! What is told of planning while it goes on.
 
+use crate::memory::mebibytes_used;
 use racp_lexfix::Observer;
 use std::alloc::{AllocError, Global};
 use std::fmt;
 use std::fmt::{Display, Formatter};
+use std::rt::Files;
 use std::sync::atomic::{AtomicBool, AtomicU64, Ordering};
 use std::time::Duration;
 
@@ -27,13 +29,15 @@ pub(crate) struct Progress {
     told: Told,
 }
 
-/// How far planning has come: the deadline, the floor of each resource, by place from 0, and what the plan costs at least.
+/// How far planning has come: the deadline, the floor of each resource, by place from 0, what the plan costs at least, and
+/// how many mebibytes of memory were used when that was last told.
 #[derive(Drop)]
 struct Told {
     deadline: AtomicU64,
     resources: AtomicU64,
     floors: Vec<AtomicU64>,
     cost: AtomicU64,
+    memory: AtomicU64,
 }
 
 impl Told {
@@ -48,6 +52,7 @@ impl Told {
             resources: AtomicU64::new(0),
             floors,
             cost: AtomicU64::new(0),
+            memory: AtomicU64::new(0),
         })
     }
 }
@@ -93,9 +98,8 @@ impl Progress {
         due <= seconds && self.takes(due, seconds)
     }
 
-    /// Tells the line that was due when so much time had passed, and so many mebibytes of memory were used. Where that
-    /// cannot be written, nothing is told.
-    pub(crate) fn tell<E: Eprint>(&self, errors: &E, passed: Duration, memory: u64) {
+    /// Tells the line that was due when so much time had passed. Where that cannot be written, nothing is told.
+    pub(crate) fn tell<E: Eprint>(&self, errors: &E, passed: Duration) {
         let seconds = passed.as_secs();
         let is_begun = self.is_begun.swap(true, Ordering::SeqCst);
         let place = if self.on_terminal && is_begun {
@@ -105,6 +109,7 @@ impl Progress {
         };
         let nodes = self.nodes.load(Ordering::SeqCst);
         let told = &self.told;
+        let memory = told.memory.load(Ordering::SeqCst);
         let _ = errors.eprintln(format_args!(
             "{place}progress seconds {seconds} {told} nodes {nodes} memory {memory}"
         ));
@@ -119,21 +124,60 @@ impl Progress {
     }
 }
 
-impl Observer for Progress {
-    fn hear_deadline(&self, deadline: u32) {
-        self.told.deadline.store(deadline as u64, Ordering::SeqCst);
-    }
-
-    fn hear_floors(&self, floors: &[u32]) {
+impl Progress {
+    /// Notes the floors that planning has come to.
+    fn note_floors(&self, floors: &[u32]) {
         for (told, floor) in self.told.floors.iter().zip(floors) {
             told.store(*floor as u64, Ordering::SeqCst);
         }
-        self.told
-            .resources
-            .store(floors.len() as u64, Ordering::SeqCst);
+        let resources = floors.len() as u64;
+        self.told.resources.store(resources, Ordering::SeqCst);
+    }
+
+    /// Notes what the plan costs at least.
+    fn note_cost(&self, cost: u64) {
+        let _ = self.told.cost.fetch_max(cost, Ordering::SeqCst);
+    }
+
+    /// Notes how many mebibytes of memory are used.
+    fn note_memory(&self, memory: u64) {
+        self.told.memory.store(memory, Ordering::SeqCst);
+    }
+}
+
+/// Hears how far planning has come, and notes it, with the memory that is used then, where that is wanted.
+#[derive(Drop)]
+pub(crate) struct Listener<'a, F: Files + Drop> {
+    host: F,
+    progress: Option<&'a Progress>,
+}
+
+impl<'a, F: Files + Drop> Listener<'a, F> {
+    /// Notes it there.
+    pub(crate) fn of(host: F, progress: Option<&'a Progress>) -> Self {
+        Listener { host, progress }
+    }
+}
+
+impl<'a, F: Files + Drop> Observer for Listener<'a, F> {
+    fn hear_deadline(&self, deadline: u32) {
+        if let Some(progress) = self.progress {
+            let deadline = deadline as u64;
+            progress.told.deadline.store(deadline, Ordering::SeqCst);
+        }
+    }
+
+    fn hear_floors(&self, floors: &[u32]) {
+        if let Some(progress) = self.progress {
+            progress.note_floors(floors);
+            progress.note_memory(mebibytes_used(&self.host));
+        }
     }
 
     fn hear_cost(&self, cost: u64) {
-        let _ = self.told.cost.fetch_max(cost, Ordering::SeqCst);
+        if let Some(progress) = self.progress {
+            progress.note_cost(cost);
+            progress.note_memory(mebibytes_used(&self.host));
+        }
     }
 }

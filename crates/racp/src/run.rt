@@ -7,7 +7,7 @@ ghost use Rattle.racp_cli.specs.declared.fault.StreamFault.TheVariants as stream
 
 use crate::failure::{Failure, report};
 use crate::limit::Limit;
-use crate::progress::Progress;
+use crate::progress::{Listener, Progress};
 use racp_cli::{
     StreamFault, check_over, cpm_over, crowd_over_by, prove_over, run_over_within, verify_over,
 };
@@ -103,13 +103,14 @@ fn plan_by<R: Clock + Files + Print + Eprint + AllocGlobal + Threads + Wait + Sy
         Err(_) => return Err(StreamFault::Memory),
     };
     let limit = Limit::of(rt, crew.time_limit, progress);
+    let listener = Listener::of(rt, limit.progress());
     let workers = racp_lexfix::Crew {
         workers: crew.workers,
         turns: crew.turns,
         memory: memory.mebibytes,
         gate: &Open,
         stop: &limit,
-        observer: &limit,
+        observer: &listener,
     };
     let (status, effort) = crowd_over_by(
         rt,
