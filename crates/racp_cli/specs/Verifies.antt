@@ -21,7 +21,7 @@ AreChecked net order text (Err fault) = IsCheck net order text (Err fault)
 
 -- whether a text is a certificate for the plan; where it is, no capacities that are enough stand before the plan's, and the
 -- critical length is at most the deadline
-pub record IsProofAnswer (network : Project) (terms : Terms) (plan : Plan) (proof : List ℕ) (proved : Bool) : Type 0 where
+pub record IsVerdict (network : Project) (terms : Terms) (plan : Plan) (proof : List ℕ) (proved : Bool) : Type 0 where
   pub exact : IsTrue proved ↔ IsCertificate network terms plan.capacities proof
   pub leastness : IsTrue proved → HasNoneEnoughBefore network terms plan.capacities
   pub in_time : IsTrue proved → IsLongEnough network terms
@@ -31,7 +31,7 @@ pub record IsProofAnswer (network : Project) (terms : Terms) (plan : Plan) (proo
 abbrev pub IsVerify : List ℕ → List ℕ → List ℕ → List ℕ → Result Bool CheckFault → Type 0
 IsVerify net order text proof (Ok proved) =
     (network : Project) × (terms : Terms) × (plan : Plan) × AreRead net order text network terms plan ×
-    HasRightHead network terms plan × IsChecked network terms plan (Ok tt) × IsProofAnswer network terms plan proof proved
+    HasRightHead network terms plan × IsChecked network terms plan (Ok tt) × IsVerdict network terms plan proof proved
 IsVerify net order text proof (Err fault) = IsCheck net order text (Err fault)
 
 -- the text that is written
