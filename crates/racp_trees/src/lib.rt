@@ -31,6 +31,11 @@
 //! no lines. Of a closed node it keeps a record, one number for each job, and only where some line of the text names
 //! the node: which numbers lines name is told by a pass over the text before.
 //!
+//! A certificate is made by a reader of the lines that are chosen (`Maker`): of the next window a late job, if there is
+//! one, else the newest closed node of the block that covers it, else its first conflict. Each line is written and then
+//! read as any reader reads it, so how it was chosen needs no proof. Blocks are made for vectors above all blocks so far,
+//! until there is none. What `certificate` makes is proved to be a certificate.
+//!
 //! Blocks are enough where each vector within the roofs that stands before the plan is at most the vector of some
 //! block. That is decided by boxes of vectors, in `are_enough`: the least vector of a box that is at most a block's
 //! leads to the parts of the box above that block, one for each place that can be the first such place.
