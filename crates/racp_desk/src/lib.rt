@@ -24,7 +24,9 @@
 //!                         hands in a no            Handed(1, 1, 0, false, ..)
 //! ```
 //!
-//! `run` starts the workers and joins them. A worker's turn: it takes a piece; where no window is open, fewer than two
+//! `run` starts the workers but the first, works as the first on the calling thread, and joins the others.
+//!
+//! A worker's turn: it takes a piece; where no window is open, fewer than two
 //! questions a worker are undecided, the series has not ended and no yes is known, it asks the next question and takes
 //! once more; else it waits until something has changed. With a piece it lets the lock go, enters the gate, searches as
 //! many nodes as the quantum allows, with the records of the board and its own, shares the records that it made (where

@@ -67,8 +67,9 @@ fn refuse<'a, N: OfNetwork, M: Names, S: Series, G: Gate, P: Stop, R: Wait>(
     shared.idle.notify_all();
 }
 
-/// Starts the workers. Where one cannot be started, the desk is halted, no further one is started, and the work that it
-/// would have done ends at once on the calling thread.
+/// Starts the workers but the first, each on a thread of its own, and does the work of the first on the calling thread.
+/// Where one cannot be started, the desk is halted, no further one is started, and the work that it would have done ends
+/// at once on the calling thread.
 ///
 /// # Errors
 ///
@@ -95,7 +96,7 @@ fn start<
     let workers = shared.job.workers;
     let mut share = all;
     let mut handles = Vec::with_capacity(shared.job.alloc, workers)?;
-    for seat in 0..workers {
+    for seat in 1..workers {
         let mine = share.split_off(1, 0);
         let job = move || -> Spent<M>
             requires { mine.parts ≡ 1 }
@@ -109,6 +110,10 @@ fn start<
             }
         }
     }
+    if workers > 0 {
+        let mine = share.split_off(1, 0);
+        join_share(&mut share, work(rt, shared, 0, mine));
+    }
     Ok(Started { handles, share })
 }
 
@@ -117,7 +122,7 @@ fn join_all<M: Names, R: Threads + Wait>(rt: &R, started: Started<M>, workers: u
     ensures { result.share.parts ≡ started.share.parts + length started.handles.items }
 {
     let Started { handles, share } = started;
-    let refused = handles.len() < workers;
+    let refused = handles.len() + 1 < workers;
     let mut handles = handles;
     let mut share = share;
     while let Some(handle) = handles.pop() {
