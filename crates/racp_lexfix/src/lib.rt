@@ -39,8 +39,8 @@
 //! `plan_alone(alloc, net_bytes, order_text)` answers the text of examples/b3.plan for the texts of b.sm and b3.toml,
 //! with the status 0; for a.sm and a2.toml it answers `impossible critical 3 deadline 2` with the status 3. `plan_crowd`
 //! has workers make the plan: it hands `Crowd` a call that runs them over one board of records, for all series.
-//! `plan_alone_within` and `plan_crowd_by` do the same, and are told how many mebibytes the records of refuted nodes take at
-//! most (racp_cutset); the others take 1,024.
+//! `plan_alone_within` and `plan_crowd_by` do the same, and are told how many mebibytes the records of refuted nodes take
+//! at most (racp_cutset); the others take 1,024.
 //!
 //! Proved: the answer of `plan` is right (`IsAnswer`): the plan, without any bound on the numbers of units, or the
 //! first reason for which there is none. `plan_alone` prints that answer for what the texts are read as, or tells the

@@ -29,8 +29,8 @@ const PROVED: u8 = 0;
 const UNPROVED: u8 = 8;
 
 /// A certificate for the plan of the texts of a network and an order, made on the calling thread: a text that shows that
-/// no capacities before those of the plan are enough. Where there is no plan, the line that says why. Where the certificate would
-/// have more than 16,777,216 bytes, the line `unproved`, with the status 8.
+/// no capacities before those of the plan are enough. Where there is no plan, the line that says why. Where the
+/// certificate would have more than 16,777,216 bytes, the line `unproved`, with the status 8.
 ///
 /// # Errors
 ///

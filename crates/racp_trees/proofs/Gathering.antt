@@ -31,15 +31,15 @@ block_made p a root old new text begun whole some places small none begins made 
   added = made.added ∙ (ap (λ (xs : List ℕ). xs ++ made.lines) begins ∙ append_assoc text (vector_line a) made.lines);
   empty = made.empty;
   room = made.room;
-  told = λ rest terms plan vectors nodes h.
-      let told = made.told rest terms plan (vectors ++ a ∷ []) nodes h in
+  told = λ rest wanted vectors nodes h.
+      let told = made.told rest wanted (vectors ++ a ∷ []) nodes h in
       let more : List ℕ = made.lines ++ rest in (
         told.0,
         told.1,
         λ x.
-            subst (λ (xs : List ℕ). IsRest p terms plan root vectors nodes old.number xs) (sym (append_assoc (vector_line a) made.lines rest))
-            ((block_next p terms plan root vectors nodes old.number a more some places small).1
-            (subst (λ (bs : List Branch). IsNext p a (rest_of p terms plan root (vectors ++ a ∷ [])) nodes old.number root (open_nodes a root.upper bs) more) none (told.2 x))),
+            subst (λ (xs : List ℕ). IsRest p wanted root vectors nodes old.number xs) (sym (append_assoc (vector_line a) made.lines rest))
+            ((block_next p wanted root vectors nodes old.number a more some places small).1
+            (subst (λ (bs : List Branch). IsNext p a (rest_of p wanted root (vectors ++ a ∷ [])) nodes old.number root (open_nodes a root.upper bs) more) none (told.2 x))),
       );
 }
 
@@ -78,8 +78,8 @@ pub record IsCertifying (p : Project) (root : Bounds) (blocks : List (Vec ℕ Gl
   pub room : reader.number ≤ length text
   pub lines : List ℕ
   pub whole : text ≡ first_line ++ lines
-  pub told : (rest : List ℕ) (terms : Terms) (plan : List ℕ) →
-      (later : List (ℕ × SearchNode)) × HasRead p root.upper later reader × (IsRest p terms plan root (vectors_from blocks) later reader.number rest → IsRest p terms plan root [] [] 1 (lines ++ rest))
+  pub told : (rest : List ℕ) (wanted : List (List ℕ)) →
+      (later : List (ℕ × SearchNode)) × HasRead p root.upper later reader × (IsRest p wanted root (vectors_from blocks) later reader.number rest → IsRest p wanted root [] [] 1 (lines ++ rest))
 
 pub certifying_first : (p : Project) (root : Bounds) (blocks : List (Vec ℕ Global)) (text : List ℕ) (reader : Reader) → blocks ≡ [] → text ≡ first_line → reader.number ≡ 1 → ((n : ℕ) → record_at reader.closed n ≡ None) → reader.branches.items ≡ [] → IsCertifying p root blocks text reader
 certifying_first p root blocks text reader no_block first number fresh none = record {
@@ -88,7 +88,7 @@ certifying_first p root blocks text reader no_block first number fresh none = re
   room = omega (arith, number, ap (λ (xs : List ℕ). length xs) first, first_long);
   lines = [];
   whole = first ∙ sym (no_more first_line);
-  told = λ rest terms plan. (
+  told = λ rest wanted. (
     [],
     record {
       records = record {
@@ -105,7 +105,7 @@ certifying_first p root blocks text reader no_block first number fresh none = re
       rising = subst (λ (xs : List Branch). AllPairs (λ (x : Branch) (y : Branch). x.number < y.number) xs) (sym none) (λ i j d less l. absurd (omega (arith, l)));
       apart = λ b c. absurd (no_branch b c);
     },
-    λ x. subst (λ (k : ℕ). IsRest p terms plan root [] [] k rest) number (subst (λ (bs : List (Vec ℕ Global)). IsRest p terms plan root (vectors_from bs) [] reader.number rest) no_block x),
+    λ x. subst (λ (k : ℕ). IsRest p wanted root [] [] k rest) number (subst (λ (bs : List (Vec ℕ Global)). IsRest p wanted root (vectors_from bs) [] reader.number rest) no_block x),
   );
 }
   where
@@ -128,22 +128,22 @@ module _ (p : Project) (root : Bounds) (blocks : List (Vec ℕ Global)) (text : 
     room = made.room;
     lines = is.lines ++ made.lines;
     whole = made.added ∙ (ap (λ (xs : List ℕ). xs ++ made.lines) is.whole ∙ append_assoc first_line is.lines made.lines);
-    told = λ rest terms plan.
-        let told = is.told (made.lines ++ rest) terms plan in
-        let on = made.told rest terms plan (vectors_from blocks) told.0 told.1 in (
+    told = λ rest wanted.
+        let told = is.told (made.lines ++ rest) wanted in
+        let on = made.told rest wanted (vectors_from blocks) told.0 told.1 in (
           on.0,
           on.1,
           λ x.
-              subst (λ (xs : List ℕ). IsRest p terms plan root [] [] 1 xs) (sym (append_assoc is.lines made.lines rest))
-              (told.2 (on.2 (subst (λ (vs : List (List ℕ)). IsRest p terms plan root vs on.0 new.number rest) (ap (λ (bs : List (Vec ℕ Global)). vectors_from bs) same ∙ vectors_more blocks block) x))),
+              subst (λ (xs : List ℕ). IsRest p wanted root [] [] 1 xs) (sym (append_assoc is.lines made.lines rest))
+              (told.2 (on.2 (subst (λ (vs : List (List ℕ)). IsRest p wanted root vs on.0 new.number rest) (ap (λ (bs : List (Vec ℕ Global)). vectors_from bs) same ∙ vectors_more blocks block) x))),
         );
   }
 
   -- the last line, where the blocks are enough
   pub certifying_ends : (terms : Terms) (roofs plan whole : List ℕ) → IsRootWindow p (release_of terms) (due_of terms) root → AreMostUnits p terms roofs → AreEnoughBlocks p terms roofs plan blocks → whole ≡ text ++ last_line → IsCertificate p terms plan whole
   certifying_ends terms roofs plan whole is_root are enough ends =
-      let told = is.told last_line terms plan in
-      let rest = told.2 (subst (λ (xs : List ℕ). IsRest p terms plan root (vectors_from blocks) told.0 reader.number xs) (no_more last_line) ((last_is p terms plan root (vectors_from blocks) told.0 reader.number []).1 (refl, are_enough))) in
+      let told = is.told last_line wanted in
+      let rest = told.2 (subst (λ (xs : List ℕ). IsRest p wanted root (vectors_from blocks) told.0 reader.number xs) (no_more last_line) ((last_is p wanted root (vectors_from blocks) told.0 reader.number []).1 (refl, refl))) in
       record {
         root = root;
         blocks = rest.blocks;
@@ -151,9 +151,12 @@ module _ (p : Project) (root : Bounds) (blocks : List (Vec ℕ Global)) (text : 
         with_text = ends ∙ (ap (λ (xs : List ℕ). xs ++ last_line) is.whole ∙ (append_assoc first_line is.lines last_line ∙ (ap (λ (xs : List ℕ). first_line ++ xs) rest.whole ∙ text_is rest.blocks)));
         small = λ k d l. rest.small (slice_index_or rest.blocks k d) (All-contains_itself rest.blocks k d l);
         hold = rest.hold;
-        enough = rest.enough;
+        enough = subst (λ (vs : List (List ℕ)). AreEnough p terms plan vs) (sym rest.all) are_enough;
       }
     where
+      wanted : List (List ℕ)
+      wanted = vectors_from blocks
+
       are_enough : AreEnough p terms plan (vectors_from blocks)
       are_enough v places within before =
           let found = enough v places (λ k l. omega (arith, within k l, are.each k l)) before in

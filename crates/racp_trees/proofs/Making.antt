@@ -75,12 +75,12 @@ thinned_more old mid new first second = record {
 }
 
 -- what is asked of a text does not depend on what is forgotten
-pub thinned_asks : (p : Project) (a : List ℕ) (terms : Terms) (plan : List ℕ) (root : Bounds) (vectors : List (List ℕ)) (nodes : List (ℕ × SearchNode)) (old new : Reader) (lower rest : List ℕ) → IsThinnedReader old new →
-    AsksNext p a terms plan root vectors nodes old lower rest ↔ AsksNext p a terms plan root vectors nodes new lower rest
-thinned_asks p a terms plan root vectors nodes old new lower rest thin =
+pub thinned_asks : (p : Project) (a : List ℕ) (wanted : List (List ℕ)) (root : Bounds) (vectors : List (List ℕ)) (nodes : List (ℕ × SearchNode)) (old new : Reader) (lower rest : List ℕ) → IsThinnedReader old new →
+    AsksNext p a wanted root vectors nodes old lower rest ↔ AsksNext p a wanted root vectors nodes new lower rest
+thinned_asks p a wanted root vectors nodes old new lower rest thin =
     let window : Bounds = record { lower = lower; upper = root.upper } in
-    subst (λ (xs : Vec Branch Global). AsksNext p a terms plan root vectors nodes old lower rest ↔ IsNext p a (rest_of p terms plan root vectors) nodes new.number window (open_nodes a root.upper xs.items) rest) (sym thin.branches)
-    (subst (λ k. AsksNext p a terms plan root vectors nodes old lower rest ↔ IsNext p a (rest_of p terms plan root vectors) nodes k window (open_nodes a root.upper old.branches.items) rest) (sym thin.number) ((λ x. x), λ x. x))
+    subst (λ (xs : Vec Branch Global). AsksNext p a wanted root vectors nodes old lower rest ↔ IsNext p a (rest_of p wanted root vectors) nodes new.number window (open_nodes a root.upper xs.items) rest) (sym thin.branches)
+    (subst (λ k. AsksNext p a wanted root vectors nodes old lower rest ↔ IsNext p a (rest_of p wanted root vectors) nodes k window (open_nodes a root.upper old.branches.items) rest) (sym thin.number) ((λ x. x), λ x. x))
 
 -- lines of a tree were added to a text: with any rest they are read up to where the maker stands
 pub record IsMaking (p : Project) (a : List ℕ) (root : Bounds) (old : Reader) (text : List ℕ) (now : Reader) (lower whole : List ℕ) : Type 0 where
@@ -132,9 +132,9 @@ module _ (p : Project) (a : List ℕ) (root : Bounds) (old : Reader) (text : Lis
           whole = r.whole;
           lines = r.lines;
           room = omega (arith, r.room, t.number);
-          told = λ terms plan vectors nodes h.
-              let told = r.told terms plan vectors nodes h in
-              let asks = thinned_asks p a terms plan root vectors told.0 now thin lower rest t in
+          told = λ wanted vectors nodes h.
+              let told = r.told wanted vectors nodes h in
+              let asks = thinned_asks p a wanted root vectors told.0 now thin lower rest t in
               (told.0, thinned_read p root.upper told.0 now thin t told.1, ((λ x. asks.0 (told.2.0 x)), λ x. told.2.1 (asks.1 x)));
         };
   }
@@ -172,9 +172,9 @@ module _ (p : Project) (a : List ℕ) (root : Bounds) (old : Reader) (text : Lis
       added = all;
       empty = (ended h stays []).empty;
       room = omega (arith, (ended h stays []).room, length-append (is.lines ++ step_line s) [], length-append text (is.lines ++ step_line s), ap (λ (xs : List ℕ). length xs) all, room, thin.number);
-      told = λ rest terms plan vectors nodes r.
-          let told = (ended h stays rest).told terms plan vectors nodes (thinned_read p root.upper nodes was old thin r) in
-          (told.0, told.1, λ x. (thinned_asks p a terms plan root vectors nodes was old root.lower ((is.lines ++ step_line s) ++ rest) thin).1 (told.2.1 x));
+      told = λ rest wanted vectors nodes r.
+          let told = (ended h stays rest).told wanted vectors nodes (thinned_read p root.upper nodes was old thin r) in
+          (told.0, told.1, λ x. (thinned_asks p a wanted root vectors nodes was old root.lower ((is.lines ++ step_line s) ++ rest) thin).1 (told.2.1 x));
     }
 
 line_long : (s : Step) → 0 < length (step_line s)

@@ -2,10 +2,8 @@
 use Rattle.std.specs.Prelude.{◌≡◌, ◌⊎◌, ⊤, ℕ, ◌+◌, ◌<◌, ◌≤◌, List, [], ◌∷◌, ◌++◌, length, Contains, Option, Some, None, Vec}
 use Rattle.std.specs.Global.{Global}
 use Rattle.racp_model.specs.Project.{Project}
-use Rattle.racp_model.specs.Terms.{Terms, IsBefore}
 use Rattle.racp_model.specs.Window.{Bounds}
 use Rattle.racp_cutset.specs.Covering.{SearchNode}
-use Rattle.racp_trees.specs.Enough.{IsAtMost}
 use Rattle.racp_trees.specs.Following.{IsRest}
 use Rattle.racp_trees.specs.Nodes.{HasPlace}
 use Rattle.racp_trees.specs.Readers.{HasRead, AsksNext}
@@ -39,9 +37,9 @@ pub record HasMadeTree (p : Project) (capacities : List ℕ) (root : Bounds) (ol
   pub added : whole ≡ text ++ lines
   pub empty : new.branches.items ≡ []
   pub room : new.number ≤ length whole
-  pub told : (rest : List ℕ) (terms : Terms) (plan : List ℕ) (vectors : List (List ℕ)) (nodes : List (ℕ × SearchNode)) → HasRead p root.upper nodes old →
+  pub told : (rest : List ℕ) (wanted : List (List ℕ)) (vectors : List (List ℕ)) (nodes : List (ℕ × SearchNode)) → HasRead p root.upper nodes old →
       (later : List (ℕ × SearchNode)) × HasRead p root.upper later new ×
-      (IsRest p terms plan root vectors later new.number rest → AsksNext p capacities terms plan root vectors nodes old root.lower (lines ++ rest))
+      (IsRest p wanted root vectors later new.number rest → AsksNext p capacities wanted root vectors nodes old root.lower (lines ++ rest))
 
 -- a block was added to a text: where a certificate's rest follows, with its vector among those so far, the block and that are one
 pub record HasMadeBlock (p : Project) (capacities : List ℕ) (root : Bounds) (old : Reader) (text : List ℕ) (new : Reader) (whole : List ℕ) : Type 0 where
@@ -49,12 +47,6 @@ pub record HasMadeBlock (p : Project) (capacities : List ℕ) (root : Bounds) (o
   pub added : whole ≡ text ++ lines
   pub empty : new.branches.items ≡ []
   pub room : new.number ≤ length whole
-  pub told : (rest : List ℕ) (terms : Terms) (plan : List ℕ) (vectors : List (List ℕ)) (nodes : List (ℕ × SearchNode)) → HasRead p root.upper nodes old →
+  pub told : (rest : List ℕ) (wanted : List (List ℕ)) (vectors : List (List ℕ)) (nodes : List (ℕ × SearchNode)) → HasRead p root.upper nodes old →
       (later : List (ℕ × SearchNode)) × HasRead p root.upper later new ×
-      (IsRest p terms plan root (vectors ++ capacities ∷ []) later new.number rest → IsRest p terms plan root vectors nodes old.number (lines ++ rest))
-
--- a vector at or above another: one of these, or one up to the roofs that stands before the capacities
-pub record IsAbove (p : Project) (terms : Terms) (roofs capacities : List ℕ) (hints : List (Vec ℕ Global)) (low vector : List ℕ) : Type 0 where
-  pub places : length vector ≡ p.resources
-  pub above : IsAtMost p.resources low vector
-  pub from : ((hint : Vec ℕ Global) × Contains hints hint × (hint.items ≡ vector)) ⊎ (IsAtMost p.resources vector roofs × IsBefore terms vector capacities)
+      (IsRest p wanted root (vectors ++ capacities ∷ []) later new.number rest → IsRest p wanted root vectors nodes old.number (lines ++ rest))

@@ -9,9 +9,9 @@ use racp_model::Network;
 use racp_prices::Order;
 use std::alloc::{AllocError, Global};
 
-/// Whether each capacity vector up to the roofs that stands before the capacities is at most that of some block. Goes by boxes of
-/// vectors: a box whose least vector is at most some block's goes on as the parts of it that are above that block, each at
-/// its first such place.
+/// Whether each capacity vector up to the roofs that stands before the capacities is at most that of some block. Goes by
+/// boxes of vectors: a box whose least vector is at most some block's goes on as the parts of it that are above that
+/// block, each at its first such place.
 ///
 /// # Errors
 ///

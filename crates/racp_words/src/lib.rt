@@ -30,12 +30,12 @@
 //! Proved: without words, with `cpm`, and with `cpm` and a word that does not begin with a hyphen or is a hyphen alone,
 //! `cpm` is asked for, of standard input or of the file with that path; with `plan` or `prove` and two paths, `check` and
 //! three, and `verify` and four, that command of these files, and `plan` on one thread; with `--workers` and a number from
-//! 1 to 64 behind the
-//! two paths, `plan` by a crew of so many. In these cases only memory can fail. A path here is a word that is not empty
+//! 1 to 64 behind the two paths, `plan` by a crew of so many. In these cases only memory can fail. A path here is a word that is not empty
 //! and does not begin with a hyphen. For any other words `asked` answers what `clap` is proved to find, or refuses with
 //! the kind of error that it is proved to give: `plan` asks for a crew exactly where `clap` finds one of the five
-//! options, and where it finds a number that is in range the crew has it, or the memory. No crew has more than 64 workers or
-//! 1,000,000,000,000 pieces, and no more than 1,048,576 MiB are asked for. Tested alone, over the built program: the texts of help, of the version and of errors.
+//! options, and where it finds a number that is in range the crew has it, or the memory. No crew has more than 64 workers
+//! or 1,000,000,000,000 pieces, and no more than 1,048,576 MiB are asked for. Tested alone, over the built program: the
+//! texts of help, of the version and of errors.
 #![tactic(auto)]
 
 mod command_line;
