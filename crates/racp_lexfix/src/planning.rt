@@ -66,6 +66,8 @@ pub(crate) fn plan_and_keep<A: Asker<AnySeries>>(
 ) -> Result<Answer, PlanStop>
     requires named { A.about asker.old net.now }
     requires terms { AreTermsOf net.now order.now }
+    requires floors { (floors : List ℕ) → AreFloorsOfEnough net.now order.now floors → A.may_hear_floors floors }
+    requires least { (least : ℕ) → IsLeastOfEnough net.now order.now least → A.may_hear_cost least }
     ensures network { A.about asker.new net.now }
     ensures answer { IfOk result (IsAnswer net.now order.now) }
     ensures stop { IfErr result (IsPlanStop (IsStoppedAt net.now order.now
