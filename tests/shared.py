@@ -119,6 +119,21 @@ def main(comparisons, usual):
 
 # Networks, and starts in them.
 
+# Those of examples/a.sm and examples/b.sm.
+FIVE_JOBS = Network(1, [0, 3, 2, 2, 0], [[0], [2], [1], [1], [0]], {(0, 1), (0, 2), (0, 3), (1, 4), (2, 4), (3, 4)})
+SIX_JOBS = Network(2, [0, 1, 1, 1, 1, 0], [[0, 0], [1, 0], [1, 0], [0, 1], [0, 1], [0, 0]],
+                   {(0, 1), (0, 2), (1, 3), (1, 4), (2, 3), (2, 4), (3, 5), (4, 5)})
+EXAMPLES = ROOT / "examples"
+
+
+def broken(text):
+    """A text up to each of its bytes, and with each of its bytes as an `x`, with names."""
+    for at in range(len(text) + 1):
+        yield f"up to byte {at}", text[:at]
+    for at in range(len(text)):
+        yield f"byte {at} as x", text[:at] + "x" + text[at + 1:]
+
+
 def random_network(chance, most_jobs):
     jobs, resources = chance.randint(1, most_jobs), chance.randint(1, 3)
     durations = [chance.randint(0, 4) for _ in range(jobs)]
