@@ -9,7 +9,7 @@ use crate::stops::AtOnce;
 use racp_candidates::AnySeries;
 use racp_cutset::Board;
 use racp_desk::{Closed, DeskFault, Open, run};
-use racp_lexfix::Crowd;
+use racp_lexfix::{Crowd, Unheard};
 use racp_model::{Network, OfNetwork, Question};
 use racp_questions::{AskStop, Asker, Probe};
 use racp_samples::{crossed, question, root_window};
@@ -55,9 +55,10 @@ fn probed<N: OfNetwork + Send + Sync, P: Stop + Sync, R: Threads + Wait + Sync>(
     requires turns { turns ≤ 1000000000000 }
 {
     let board: Board<N> = Board::new(alloc, net)?;
-    let mut crowd: Crowd<N, P, _> = Crowd::new(
+    let mut crowd: Crowd<N, P, Unheard, _> = Crowd::new(
         2,
         turns,
+        Unheard,
         |series: AnySeries, quantum: u64, turns: u64| -> Result<Closed, DeskFault>
             requires { (net.now ≡ N.network) × AreFormed net.now (any_questions series) ×
                 (quantum ≤ 1000000) × (turns ≤ 1000000000000) }
