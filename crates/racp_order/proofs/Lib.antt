@@ -1,0 +1,4 @@
+mod Factors
+mod Commas
+mod Tables
+mod ReadBack

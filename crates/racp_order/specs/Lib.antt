@@ -1,0 +1,4 @@
+pub mod Factors
+pub mod Numbers
+pub mod Wishes
+pub mod Steps
