@@ -1,0 +1,5 @@
+use Rattle.racp_show.specs.Labels.{IsWithinColumns}
+use Rattle.racp_show.proofs.label.cut.Given as goal
+
+abbrev pub invariant-loop-letter : goal.invariant-loop-letter
+invariant-loop-letter l = IsWithinColumns l.most l.label

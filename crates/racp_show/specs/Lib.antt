@@ -1,0 +1,10 @@
+pub mod Scales
+pub mod Uses
+pub mod Changes
+pub mod Charts
+pub mod Sheets
+pub mod Called
+pub mod Tables
+pub mod Laws
+pub mod Labels
+pub mod Levels

@@ -1,0 +1,50 @@
+-- A plan as a sheet of numbers, as it is written as JSON.
+use Rattle.std.specs.Prelude.{◌≡◌, ℕ, ◌+◌, ◌<◌, List, length, slice_index, slice_index_or, option_map}
+use Rattle.racp_model.specs.Project.{Project, number, duration}
+use Rattle.racp_model.specs.Terms.{Terms}
+use Rattle.racp_plan.specs.declared.plan.Plan.{Plan}
+use Rattle.racp_show.specs.declared.sheet.JobEntry.{JobEntry}
+use Rattle.racp_show.specs.declared.sheet.ResourceEntry.{ResourceEntry}
+use Rattle.racp_show.specs.declared.sheet.Sheet.{Sheet}
+use Rattle.racp_show.specs.Called.{name_at}
+use Rattle.racp_show.specs.Uses.{AreSteps}
+
+-- the entry of the job at place i: its number, its name if it has one, and when it starts and ends
+pub record IsJobEntry (p : Project) (starts : List ℕ) (names : List (List ℕ)) (i : ℕ) (entry : JobEntry) : Type 0 where
+  pub numbered : entry.job ≡ number i
+  pub called : option_map (λ name. name.now) entry.name ≡ name_at names i
+  pub begins : entry.start ≡ slice_index starts i
+  pub stops : entry.end ≡ slice_index starts i + duration p i
+
+-- an entry for each job
+pub record AreJobEntries (p : Project) (starts : List ℕ) (names : List (List ℕ))
+    (entries : List JobEntry) : Type 0 where
+  pub places : length entries ≡ length p.jobs
+  pub each : (i : ℕ) (d : JobEntry) → i < length p.jobs → IsJobEntry p starts names i (slice_index_or entries i d)
+
+-- the entry of the resource at place k: its number, its name if it has one, what the order says of it, how many units
+-- there are, and their usage
+pub record IsResourceEntry (p : Project) (terms : Terms) (plan : Plan) (names : List (List ℕ)) (k : ℕ)
+    (entry : ResourceEntry) : Type 0 where
+  pub numbered : entry.resource ≡ number k
+  pub called : option_map (λ name. name.now) entry.name ≡ name_at names (length p.jobs + k)
+  pub priced : entry.price ≡ slice_index terms.prices k
+  pub owned_is : entry.owned ≡ slice_index terms.owned k
+  pub units : entry.capacity ≡ slice_index plan.capacities k
+  pub used : AreSteps p plan.starts k entry.usage.items
+
+-- an entry for each resource
+pub record AreResourceEntries (p : Project) (terms : Terms) (plan : Plan) (names : List (List ℕ))
+    (entries : List ResourceEntry) : Type 0 where
+  pub places : length entries ≡ p.resources
+  pub each : (k : ℕ) (d : ResourceEntry) → k < p.resources →
+      IsResourceEntry p terms plan names k (slice_index_or entries k d)
+
+-- the sheet of a plan: the deadline of the order, the critical length and the cost that the plan says, and an entry for
+-- each job and each resource
+pub record IsSheet (p : Project) (terms : Terms) (plan : Plan) (names : List (List ℕ)) (sheet : Sheet) : Type 0 where
+  pub deadline_is : sheet.deadline ≡ terms.deadline
+  pub critical_is : sheet.critical ≡ plan.critical
+  pub cost_is : sheet.cost ≡ plan.cost
+  pub job_entries : AreJobEntries p plan.starts names sheet.jobs.items
+  pub resource_entries : AreResourceEntries p terms plan names sheet.resources.items

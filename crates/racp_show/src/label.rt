@@ -1,0 +1,88 @@
+//! What stands at the left of a line.
+
+ghost use Rattle.std.specs.Prelude.{◌≡◌, ◌≤◌, IfOk, All, chars, false};
+ghost use Rattle.unicode_width.specs.Width.{str_width};
+ghost use Rattle.racp_show.specs.Labels.{IsWithinColumns};
+
+use crate::names::Names;
+use racp_model::Network;
+use std::alloc::{AllocError, Global};
+use unicode_width::UnicodeWidthStr;
+
+/// The most characters of a label: some of them may take no column.
+const MOST_LETTERS: usize = 96;
+
+/// The labels of the jobs and then of the resources, by place from 0: their names cut to so many columns, or their
+/// numbers.
+pub(crate) fn labels(
+    alloc: Global,
+    net: &Network,
+    names: &Names,
+    most: usize,
+) -> Result<Vec<String>, AllocError>
+    ensures { IfOk result (λ labels. All (IsWithinColumns most) labels.items) }
+{
+    let mut labels = Vec::new(alloc);
+    let jobs = net.job_count();
+    for i in 0..jobs {
+        labels.push(label(alloc, names.job(i), "job", i, most)?)?;
+    }
+    for k in 0..net.resource_count() {
+        labels.push(label(alloc, names.resource(jobs, k), "resource", k, most)?)?;
+    }
+    Ok(labels)
+}
+
+/// A name cut to so many columns; or a word and the number of what stands at this place.
+fn label(
+    alloc: Global,
+    name: Option<&str>,
+    word: &str,
+    place: usize,
+    most: usize,
+) -> Result<String, AllocError>
+    ensures { IfOk result (IsWithinColumns most) }
+{
+    match name {
+        Some(name) => cut(alloc, name, most),
+        None => {
+            let number = place.saturating_add(1);
+            let numbered = format!(in alloc; "{word} {number}")?;
+            cut(alloc, numbered.as_str(), most)
+        }
+    }
+}
+
+/// As much of a text as so many columns take.
+fn cut(alloc: Global, text: &str, most: usize) -> Result<String, AllocError>
+    ensures { IfOk result (IsWithinColumns most) }
+{
+    let mut label = String::new(alloc);
+    for letter in text.chars().take(MOST_LETTERS) {
+        let mut longer = label.clone()?;
+        longer.push(letter)?;
+        if most < columns_of(longer.as_str()) {
+            break;
+        }
+        label = longer;
+    }
+    Ok(label)
+}
+
+/// How many columns a label takes.
+pub(crate) fn columns_of(label: &str) -> usize
+    ensures { result ≡ str_width false (chars label.now) }
+{
+    label.width()
+}
+
+/// The most columns that one of the labels takes.
+pub(crate) fn widest(labels: &[String]) -> usize
+    ensures { All (IsWithinColumns result) labels.now }
+{
+    let mut most = 0usize;
+    for label in labels {
+        most = most.max(columns_of(label.as_str()));
+    }
+    most
+}

@@ -1,0 +1,185 @@
+//! A plan as a sheet of numbers.
+
+ghost use Rattle.std.specs.Prelude.{◌≡◌, ℕ, ◌<◌, IfOk, length};
+ghost use Rattle.racp_model.specs.Plan.{FitsTerms};
+ghost use Rattle.racp_model.specs.Schedule.{EndsBy};
+ghost use Rattle.racp_model.specs.Terms.{AreTermsOf};
+ghost use Rattle.racp_show.specs.Sheets.{AreJobEntries, AreResourceEntries, IsJobEntry, IsResourceEntry, IsSheet};
+
+use crate::names::Names;
+use crate::order::{deadline_of, owned_of, price_of};
+use crate::usage::{Step, usage_steps};
+use racp_model::Network;
+use racp_plan::Plan;
+use racp_prices::Order;
+use serde::Serialize;
+use std::alloc::{AllocError, Global};
+
+/// What a sheet says of a job.
+#[derive(Drop, Serialize)]
+pub struct JobEntry<'a> {
+    /// Its number, from 1.
+    pub job: usize,
+    /// Its name, or `None` where it has none.
+    pub name: Option<&'a str>,
+    /// When it starts, in time units.
+    pub start: u32,
+    /// When it has ended, in time units.
+    pub end: u32,
+}
+
+/// What a sheet says of a resource.
+#[derive(Drop, Serialize)]
+pub struct ResourceEntry<'a> {
+    /// Its number, from 1.
+    pub resource: usize,
+    /// Its name, or `None` where it has none.
+    pub name: Option<&'a str>,
+    /// What a unit of it costs.
+    pub price: u32,
+    /// How many units are owned already.
+    pub owned: u32,
+    /// How many units there are.
+    pub capacity: u32,
+    /// From which time on how many units are used.
+    pub usage: Vec<Step>,
+}
+
+/// A plan as numbers: an entry for each job and each resource, by place from 0.
+#[derive(Drop, Serialize)]
+pub struct Sheet<'a> {
+    /// The deadline of the order, in time units.
+    pub deadline: u32,
+    /// The critical length that the plan says, in time units.
+    pub critical: u64,
+    /// What the capacities cost, as the plan says.
+    pub cost: u64,
+    /// The jobs.
+    pub jobs: Vec<JobEntry<'a>>,
+    /// The resources.
+    pub resources: Vec<ResourceEntry<'a>>,
+}
+
+/// The sheet of a plan that fits the order, as `check_plan` of racp_check tells.
+///
+/// # Errors
+///
+/// Memory was refused.
+pub fn sheet_of<'a>(
+    alloc: Global,
+    net: &Network,
+    order: &Order,
+    plan: &Plan,
+    names: &'a Names,
+) -> Result<Sheet<'a>, AllocError>
+    requires terms { AreTermsOf net.now order.now }
+    requires capacities { length plan.now.capacities ≡ net.now.resources }
+    requires fits { FitsTerms net.now order.now plan.now.capacities plan.now.starts }
+    ensures { IfOk result (IsSheet net.now order.now plan.now names.now) }
+{
+    let deadline = deadline_of(order);
+    let jobs = job_entries(alloc, net, plan.starts.as_slice(), deadline, names)?;
+    let resources = resource_entries(alloc, net, order, plan, names)?;
+    Ok(Sheet {
+        deadline,
+        critical: plan.critical,
+        cost: plan.cost,
+        jobs,
+        resources,
+    })
+}
+
+/// An entry for each job.
+pub(crate) fn job_entries<'a>(
+    alloc: Global,
+    net: &Network,
+    starts: &[u32],
+    deadline: u32,
+    names: &'a Names,
+) -> Result<Vec<JobEntry<'a>>, AllocError>
+    requires starts { length starts.now ≡ length net.now.jobs }
+    requires ends { EndsBy net.now (λ _. deadline) starts.now }
+    ensures { IfOk result (λ entries. AreJobEntries net.now starts.now names.now entries.items) }
+{
+    let mut entries = Vec::with_capacity(alloc, net.job_count())?;
+    for i in 0..net.job_count() {
+        entries.push(job_entry(net, starts, deadline, names, i))?;
+    }
+    Ok(entries)
+}
+
+/// The entry of the job at place `i`.
+fn job_entry<'a>(
+    net: &Network,
+    starts: &[u32],
+    deadline: u32,
+    names: &'a Names,
+    i: usize,
+) -> JobEntry<'a>
+    requires job { i < length net.now.jobs }
+    requires starts { length starts.now ≡ length net.now.jobs }
+    requires ends { EndsBy net.now (λ _. deadline) starts.now }
+    ensures { IsJobEntry net.now starts.now names.now i result }
+{
+    prove!(i < net.job_count());
+    let start = starts[i];
+    let end = start + net.duration(i);
+    JobEntry {
+        job: i + 1,
+        name: names.job(i),
+        start,
+        end,
+    }
+}
+
+/// An entry for each resource.
+fn resource_entries<'a>(
+    alloc: Global,
+    net: &Network,
+    order: &Order,
+    plan: &Plan,
+    names: &'a Names,
+) -> Result<Vec<ResourceEntry<'a>>, AllocError>
+    requires terms { AreTermsOf net.now order.now }
+    requires capacities { length plan.now.capacities ≡ net.now.resources }
+    requires fits { FitsTerms net.now order.now plan.now.capacities plan.now.starts }
+    ensures { IfOk result (λ entries. AreResourceEntries net.now order.now plan.now names.now entries.items) }
+{
+    let mut entries = Vec::with_capacity(alloc, net.resource_count())?;
+    for k in 0..net.resource_count() {
+        entries.push(resource_entry(alloc, net, order, plan, names, k)?)?;
+    }
+    Ok(entries)
+}
+
+/// The entry of the resource at place `k`.
+fn resource_entry<'a>(
+    alloc: Global,
+    net: &Network,
+    order: &Order,
+    plan: &Plan,
+    names: &'a Names,
+    k: usize,
+) -> Result<ResourceEntry<'a>, AllocError>
+    requires resource { k < net.now.resources }
+    requires terms { AreTermsOf net.now order.now }
+    requires capacities { length plan.now.capacities ≡ net.now.resources }
+    requires fits { FitsTerms net.now order.now plan.now.capacities plan.now.starts }
+    ensures { IfOk result (IsResourceEntry net.now order.now plan.now names.now k) }
+{
+    prove!(k < net.resource_count());
+    let deadline = deadline_of(order);
+    let usage = usage_steps(alloc, net, plan.starts.as_slice(), k, deadline)?;
+    let price = price_of(order, k);
+    let owned = owned_of(order, k);
+    let capacity = plan.capacities.as_slice()[k];
+    let name = names.resource(net.job_count(), k);
+    Ok(ResourceEntry {
+        resource: k + 1,
+        name,
+        price,
+        owned,
+        capacity,
+        usage,
+    })
+}

@@ -1,0 +1,268 @@
+//! A plan as a picture.
+
+ghost use Rattle.std.specs.Prelude.{◌≡◌, length};
+ghost use Rattle.racp_model.specs.Plan.{FitsTerms};
+ghost use Rattle.racp_model.specs.Terms.{AreTermsOf};
+
+use crate::label::labels;
+use crate::names::Names;
+use crate::sheet::{JobEntry, ResourceEntry, Sheet, sheet_of};
+use racp_model::Network;
+use racp_plan::Plan;
+use racp_prices::Order;
+use std::alloc::{AllocError, Global};
+
+/// How wide labels are, in columns of text.
+const LABEL: usize = 24;
+
+/// Where the times begin, from the left.
+const LEFT: u64 = 190;
+
+/// How wide all times up to the deadline are drawn.
+const SPAN: u64 = 720;
+
+/// How wide the picture is.
+const WIDTH: u64 = 930;
+
+/// How high the head of the picture is.
+const TOP: u64 = 24;
+
+/// How high the line of a job is.
+const LINE: u64 = 18;
+
+/// How high the capacity of a resource is drawn.
+const HEIGHT: u64 = 48;
+
+/// How high the line of a resource is.
+const STRIP: u64 = 66;
+
+/// The most numbers of the axis of times behind the first.
+const MOST_MARKS: u64 = 12;
+
+/// A plan as a picture in SVG: a bar for each job, whose name is also a tooltip, and for each resource its usage as a
+/// stair, with the capacity as a dashed line. The axis of times has round numbers. The text grows with the jobs and the
+/// resources, and not with the deadline. The plan fits the order, as `check_plan` of racp_check tells.
+///
+/// # Errors
+///
+/// Memory was refused.
+pub fn svg_text(
+    alloc: Global,
+    net: &Network,
+    order: &Order,
+    plan: &Plan,
+    names: &Names,
+) -> Result<String, AllocError>
+    requires terms { AreTermsOf net.now order.now }
+    requires capacities { length plan.now.capacities ≡ net.now.resources }
+    requires fits { FitsTerms net.now order.now plan.now.capacities plan.now.starts }
+{
+    let sheet = sheet_of(alloc, net, order, plan, names)?;
+    let labels = labels(alloc, net, names, LABEL)?;
+    picture(alloc, &sheet, &labels)
+}
+
+/// The picture of a sheet, with labels for its jobs and then its resources.
+fn picture(alloc: Global, sheet: &Sheet<'_>, labels: &[String]) -> Result<String, AllocError> {
+    let mut text = String::new(alloc);
+    let jobs = sheet.jobs.len() as u64;
+    let resources = sheet.resources.len() as u64;
+    let bottom = TOP
+        .saturating_add(jobs.saturating_mul(LINE))
+        .saturating_add(resources.saturating_mul(STRIP));
+    push_head(&mut text, bottom.saturating_add(10))?;
+    push_axis(&mut text, sheet.deadline as u64, bottom)?;
+    push_jobs(&mut text, sheet, labels)?;
+    push_resources(&mut text, sheet, labels)?;
+    text.push_str("</svg>\n")?;
+    Ok(text)
+}
+
+/// Adds the beginning of a picture of this height.
+fn push_head(text: &mut String, height: u64) -> Result<(), AllocError> {
+    text.push_str("<svg xmlns=\"http://www.w3.org/2000/svg\" ")?;
+    writeln!(
+        text,
+        "width=\"{WIDTH}\" height=\"{height}\" font-family=\"sans-serif\" font-size=\"11\">"
+    )
+}
+
+/// Where a time is drawn, from the left.
+fn across(time: u64, deadline: u64) -> u64 {
+    if deadline == 0 {
+        return LEFT;
+    }
+    LEFT.saturating_add(time.saturating_mul(SPAN) / deadline)
+}
+
+/// How many time units there are from one number of the axis to the next: 1, 2 or 5 times a power of ten, the least
+/// that has no more than `MOST_MARKS`.
+fn mark_of(deadline: u64) -> u64 {
+    let mut power = 1u64;
+    for _ in 0..18 {
+        for factor in [1u64, 2, 5] {
+            let mark = power.saturating_mul(factor);
+            if deadline <= mark.saturating_mul(MOST_MARKS) {
+                return mark;
+            }
+        }
+        power = power.saturating_mul(10);
+    }
+    power
+}
+
+/// Adds the axis of times, with a line down to the bottom at each number.
+fn push_axis(text: &mut String, deadline: u64, bottom: u64) -> Result<(), AllocError> {
+    let mark = mark_of(deadline);
+    for number in 0..MOST_MARKS + 1 {
+        let time = mark.saturating_mul(number);
+        if time <= deadline {
+            push_mark(text, time, across(time, deadline), bottom)?;
+        }
+    }
+    Ok(())
+}
+
+/// Adds one number of the axis.
+fn push_mark(text: &mut String, time: u64, x: u64, bottom: u64) -> Result<(), AllocError> {
+    write!(text, "<path d=\"M{x} {TOP}V{bottom}\" stroke=\"#ddd\"/>")?;
+    writeln!(
+        text,
+        "<text x=\"{x}\" y=\"16\" text-anchor=\"middle\">{time}</text>"
+    )
+}
+
+/// Adds a bar for each job.
+fn push_jobs(text: &mut String, sheet: &Sheet<'_>, labels: &[String]) -> Result<(), AllocError> {
+    let deadline = sheet.deadline as u64;
+    for (place, entry) in sheet.jobs.iter().enumerate() {
+        let top = TOP.saturating_add((place as u64).saturating_mul(LINE));
+        push_label(text, labels, place, top.saturating_add(13))?;
+        push_bar(text, entry, labels, deadline, top.saturating_add(3))?;
+    }
+    Ok(())
+}
+
+/// Adds the label at this place.
+fn push_label(
+    text: &mut String,
+    labels: &[String],
+    place: usize,
+    y: u64,
+) -> Result<(), AllocError> {
+    write!(text, "<text x=\"184\" y=\"{y}\" text-anchor=\"end\">")?;
+    push_label_text(text, labels, place)?;
+    text.push_str("</text>")
+}
+
+/// Adds the text of the label at this place.
+fn push_label_text(text: &mut String, labels: &[String], place: usize) -> Result<(), AllocError> {
+    match labels.get(place) {
+        Some(label) => push_escaped(text, label.as_str()),
+        None => Ok(()),
+    }
+}
+
+/// Adds the bar of a job.
+fn push_bar(
+    text: &mut String,
+    entry: &JobEntry<'_>,
+    labels: &[String],
+    deadline: u64,
+    y: u64,
+) -> Result<(), AllocError> {
+    let start = entry.start;
+    let end = entry.end;
+    let x = across(start as u64, deadline);
+    let width = across(end as u64, deadline).saturating_sub(x).max(1);
+    write!(
+        text,
+        "<rect x=\"{x}\" y=\"{y}\" width=\"{width}\" height=\"12\" fill=\"#4a7ebb\"><title>"
+    )?;
+    match entry.name {
+        Some(name) => push_escaped(text, name)?,
+        None => push_label_text(text, labels, entry.job.saturating_sub(1))?,
+    }
+    writeln!(text, ": {start} to {end}</title></rect>")
+}
+
+/// Adds a stair for each resource.
+fn push_resources(
+    text: &mut String,
+    sheet: &Sheet<'_>,
+    labels: &[String],
+) -> Result<(), AllocError> {
+    let jobs = sheet.jobs.len();
+    let first = TOP.saturating_add((jobs as u64).saturating_mul(LINE));
+    for (place, entry) in sheet.resources.iter().enumerate() {
+        let top = first.saturating_add((place as u64).saturating_mul(STRIP));
+        push_label(
+            text,
+            labels,
+            jobs.saturating_add(place),
+            top.saturating_add(40),
+        )?;
+        push_stair(text, entry, sheet.deadline as u64, top.saturating_add(12))?;
+        push_capacity(text, entry.capacity, top.saturating_add(12))?;
+    }
+    Ok(())
+}
+
+/// Adds the dashed line of a capacity, and its number.
+fn push_capacity(text: &mut String, capacity: u32, y: u64) -> Result<(), AllocError> {
+    let right = LEFT.saturating_add(SPAN);
+    write!(
+        text,
+        "<path d=\"M{LEFT} {y}H{right}\" stroke=\"#b33\" stroke-dasharray=\"4 3\"/>"
+    )?;
+    let base = y.saturating_sub(2);
+    writeln!(
+        text,
+        "<text x=\"{LEFT}\" y=\"{base}\" fill=\"#b33\">{capacity}</text>"
+    )
+}
+
+/// Adds the stair of a usage, of which the capacity is drawn at `top`.
+fn push_stair(
+    text: &mut String,
+    entry: &ResourceEntry<'_>,
+    deadline: u64,
+    top: u64,
+) -> Result<(), AllocError> {
+    let base = top.saturating_add(HEIGHT);
+    write!(text, "<path d=\"M{LEFT} {base}")?;
+    for step in &entry.usage {
+        let x = across(step.from as u64, deadline);
+        let y = base.saturating_sub(height(step.units, entry.capacity));
+        write!(text, "H{x}V{y}")?;
+    }
+    let right = LEFT.saturating_add(SPAN);
+    writeln!(
+        text,
+        "H{right}V{base}Z\" fill=\"#bcd\" stroke=\"#4a7ebb\"/>"
+    )
+}
+
+/// How high a usage is drawn.
+fn height(units: u32, capacity: u32) -> u64 {
+    if capacity == 0 {
+        return 0;
+    }
+    (units as u64).saturating_mul(HEIGHT) / capacity as u64
+}
+
+/// Adds a text in which no character stands for itself that means something else in XML.
+fn push_escaped(text: &mut String, name: &str) -> Result<(), AllocError> {
+    for letter in name.chars() {
+        match letter {
+            '&' => text.push_str("&amp;")?,
+            '<' => text.push_str("&lt;")?,
+            '>' => text.push_str("&gt;")?,
+            '"' => text.push_str("&quot;")?,
+            // No text in XML has these two.
+            '\u{fffe}' | '\u{ffff}' => {}
+            _ => text.push(letter)?,
+        }
+    }
+    Ok(())
+}

@@ -1,0 +1,129 @@
+//! A plan as a table of comma-separated values.
+
+ghost use Rattle.std.specs.Prelude.{◌≡◌, ◌++◌, ◌∷◌, [], ◌<◌, IfOk, OnOk, length, map, decimal};
+ghost use Rattle.csv.specs.Writing.{default_writer, row_text};
+ghost use Rattle.racp_model.specs.Plan.{FitsTerms};
+ghost use Rattle.racp_model.specs.Schedule.{EndsBy};
+ghost use Rattle.racp_show.specs.Tables.{head_fields, job_fields, table_text};
+
+use crate::names::Names;
+use crate::order::deadline_of;
+use csv::{Error, WriterBuilder};
+use racp_model::Network;
+use racp_plan::Plan;
+use racp_prices::Order;
+use std::alloc::{AllocError, Global};
+
+/// The starts of a plan as a table of comma-separated values: the row `job,name,start,end`, and a row for each job,
+/// with its number from 1, its name, which is empty where it has none, and its start and end in time units. Names are
+/// in quotes where they have to be. The plan fits the order, as `check_plan` of racp_check tells.
+///
+/// # Errors
+///
+/// Memory was refused.
+pub fn csv_text(
+    alloc: Global,
+    net: &Network,
+    order: &Order,
+    plan: &Plan,
+    names: &Names,
+) -> Result<Vec<u8>, AllocError>
+    requires { FitsTerms net.now order.now plan.now.capacities plan.now.starts }
+    ensures { IfOk result (λ text. text.items ≡ table_text net.now plan.now.starts names.now) }
+{
+    rows(
+        alloc,
+        net,
+        plan.starts.as_slice(),
+        deadline_of(order),
+        names,
+    )
+}
+
+/// The first row, and a row for each job.
+fn rows(
+    alloc: Global,
+    net: &Network,
+    starts: &[u32],
+    deadline: u32,
+    names: &Names,
+) -> Result<Vec<u8>, AllocError>
+    requires starts { length starts.now ≡ length net.now.jobs }
+    requires ends { EndsBy net.now (λ _. deadline) starts.now }
+    ensures { IfOk result (λ text. text.items ≡ table_text net.now starts.now names.now) }
+{
+    let mut text = head_row(alloc)?;
+    for i in 0..net.job_count() {
+        let row = job_row(alloc, net, starts, deadline, names, i)?;
+        text.extend_from_slice(&row)?;
+    }
+    Ok(text)
+}
+
+/// The first row.
+fn head_row(alloc: Global) -> Result<Vec<u8>, AllocError>
+    ensures { IfOk result (λ text. text.items ≡ row_text default_writer head_fields) }
+{
+    row_of(alloc, "job", "name", "start", "end")
+}
+
+/// The row of the job at place `i`.
+fn job_row(
+    alloc: Global,
+    net: &Network,
+    starts: &[u32],
+    deadline: u32,
+    names: &Names,
+    i: usize,
+) -> Result<Vec<u8>, AllocError>
+    requires job { i < length net.now.jobs }
+    requires starts { length starts.now ≡ length net.now.jobs }
+    requires ends { EndsBy net.now (λ _. deadline) starts.now }
+    ensures { IfOk result (λ row. row.items ≡ row_text default_writer (job_fields net.now starts.now names.now i)) }
+{
+    prove!(i < net.job_count());
+    let start = starts[i];
+    let end = start + net.duration(i);
+    numbered_row(alloc, i + 1, names.at(i), start, end)
+}
+
+/// The row of a job with this number.
+fn numbered_row(
+    alloc: Global,
+    number: usize,
+    name: &str,
+    start: u32,
+    end: u32,
+) -> Result<Vec<u8>, AllocError>
+    ensures { IfOk result (λ row. row.items ≡
+        row_text default_writer (decimal number ∷ (name.now ∷ (decimal start ∷ (decimal end ∷ []))))) }
+{
+    let number = format!(in alloc; "{number}")?;
+    let start = format!(in alloc; "{start}")?;
+    let end = format!(in alloc; "{end}")?;
+    row_of(alloc, number.as_str(), name, start.as_str(), end.as_str())
+}
+
+/// The row of four fields.
+fn row_of(alloc: Global, a: &str, b: &str, c: &str, d: &str) -> Result<Vec<u8>, AllocError>
+    ensures { IfOk result (λ row. row.items ≡ row_text default_writer (a.now ∷ (b.now ∷ (c.now ∷ (d.now ∷ []))))) }
+{
+    let fields = [a.as_bytes(), b.as_bytes(), c.as_bytes(), d.as_bytes()];
+    match row(alloc, &fields) {
+        Ok(text) => Ok(text),
+        // A writer over memory fails only where that is refused.
+        Err(_) => Err(AllocError),
+    }
+}
+
+/// The row of some fields.
+fn row(alloc: Global, fields: &[&[u8]]) -> Result<Vec<u8>, Error>
+    ensures { IfOk result (λ row. row.items ≡ row_text default_writer (map (λ f. f.now) fields.now)) }
+{
+    let mut writer = WriterBuilder::new().from_writer(Vec::new(alloc));
+    writer.write_fields(fields)?;
+    match writer.into_inner() {
+        Ok(text) => Ok(text),
+        Err(error) => Err(error.into_error()),
+    }
+}
