@@ -8,13 +8,17 @@ use Rattle.clap.proofs.ValueTestLemmas.{Accepts-accepts}
 use Rattle.clap.specs.declared.builder.value_parser.ValueParser.TheVariants.{Unsigned}
 use Rattle.clap.specs.Words.{IsUnsignedIn, Row, Text, fault_of, first_of, subcommand_of}
 use Rattle.clap.proofs.OnLiterals.{clap_on_literals}
-use Rattle.racp_words.specs.CommandLine.{IsCpmLine, AsksForCpm, IsPlanLine, AsksForPlan, IsWorkersLine, AsksForWorkers, IsOfWorkers, IsLimitOf, IsNumberOf, number_in, IsProveLine, AsksForProve, IsCheckLine, AsksForCheck, IsVerifyLine, AsksForVerify, IsCrew, IsPlain, IsRequested, has_crew_option, is_set, path_at, racp}
+use Rattle.racp_words.specs.CommandLine.{IsCpmLine, AsksForCpm, IsPlanLine, AsksForPlan, IsWorkersLine, AsksForWorkers, IsOfWorkers, IsLimitOf, IsProveLine, AsksForProve, IsCheckLine, AsksForCheck, IsVerifyLine, AsksForVerify, IsCrew, IsPlain, IsRequested, has_crew_option, racp}
+use Rattle.racp_words.specs.Rules.{IsNumberOf, number_in, is_set, path_at}
+use Rattle.racp_words.specs.Tools.{IsToolOf}
 use Rattle.clap.specs.Kinds.{Kinds, or_else}
 use Rattle.clap.specs.ValueTests.{is_unsigned_in}
 use Rattle.clap.specs.declared.error.kind.ErrorKind.TheVariants.{ValueValidation}
 use Rattle.racp_words.specs.declared.request.Crew.{Crew}
 use Rattle.racp_words.specs.declared.request.Request.{Request}
-use Rattle.racp_words.specs.declared.request.Request.TheVariants.{Cpm, Plan, Prove, Check, Verify}
+use Rattle.racp_words.specs.declared.request.Request.TheVariants.{Cpm, Plan, Prove, Check, Verify, Tool}
+use Rattle.racp_words.specs.declared.request.Tool as declared
+use Rattle.racp_words.specs.declared.request.Tool.TheVariants.{Show, Order}
 
 -- the command that is named, and the word for its network
 with_network : Option (Text × List Row) → Option (Text × Option Text)
@@ -54,6 +58,41 @@ cpm_word name (first ∷ rest) plain = by_first (first == 45) refl
         let is : first ≡ 45 = eqb-true first 45 hyphen in
         subst (λ (word : Text). IsTaken (name ∷ codes "cpm" ∷ word ∷ []) (Some (codes "cpm", Some word))) (ap (λ f. f ∷ []) (sym is) ∙ ap (λ r. first ∷ r) (sym (plain is))) (cpm_hyphen name)
 
+-- a tool has another name than the other commands
+by_name : (command : Text × List Row) (tool : declared.Tool) (name : Text) → command.0 ≡ name → IsToolOf command tool →
+    (name ≡ codes "show" → ⊥) → (name ≡ codes "order" → ⊥) → ⊥
+by_name command (Show files look) name is asked no_show no_order = no_show (sym is ∙ asked.0)
+by_name command (Order net terms) name is asked no_show no_order = no_order (sym is ∙ asked.0)
+
+-- texts that are equal have one first letter
+first_differs : (s t : Text) → s ≡ t → slice_index s 0 ≡ slice_index t 0
+first_differs s t e = ap (λ x. slice_index x 0) e
+
+no_tool_cpm : (command : Text × List Row) (tool : declared.Tool) → command.0 ≡ codes "cpm" → IsToolOf command tool → ⊥
+no_tool_cpm command tool is asked = by_name command tool (codes "cpm") is asked
+    (λ e. let letter : 99 ≡ 115 = first_differs (codes "cpm") (codes "show") e in omega (arith, letter))
+    (λ e. let letter : 99 ≡ 111 = first_differs (codes "cpm") (codes "order") e in omega (arith, letter))
+
+no_tool_plan : (command : Text × List Row) (tool : declared.Tool) → command.0 ≡ codes "plan" → IsToolOf command tool → ⊥
+no_tool_plan command tool is asked = by_name command tool (codes "plan") is asked
+    (λ e. let letter : 112 ≡ 115 = first_differs (codes "plan") (codes "show") e in omega (arith, letter))
+    (λ e. let letter : 112 ≡ 111 = first_differs (codes "plan") (codes "order") e in omega (arith, letter))
+
+no_tool_prove : (command : Text × List Row) (tool : declared.Tool) → command.0 ≡ codes "prove" → IsToolOf command tool → ⊥
+no_tool_prove command tool is asked = by_name command tool (codes "prove") is asked
+    (λ e. let letter : 112 ≡ 115 = first_differs (codes "prove") (codes "show") e in omega (arith, letter))
+    (λ e. let letter : 112 ≡ 111 = first_differs (codes "prove") (codes "order") e in omega (arith, letter))
+
+no_tool_check : (command : Text × List Row) (tool : declared.Tool) → command.0 ≡ codes "check" → IsToolOf command tool → ⊥
+no_tool_check command tool is asked = by_name command tool (codes "check") is asked
+    (λ e. let letter : 99 ≡ 115 = first_differs (codes "check") (codes "show") e in omega (arith, letter))
+    (λ e. let letter : 99 ≡ 111 = first_differs (codes "check") (codes "order") e in omega (arith, letter))
+
+no_tool_verify : (command : Text × List Row) (tool : declared.Tool) → command.0 ≡ codes "verify" → IsToolOf command tool → ⊥
+no_tool_verify command tool is asked = by_name command tool (codes "verify") is asked
+    (λ e. let letter : 118 ≡ 115 = first_differs (codes "verify") (codes "show") e in omega (arith, letter))
+    (λ e. let letter : 118 ≡ 111 = first_differs (codes "verify") (codes "order") e in omega (arith, letter))
+
 -- no command asks for the network that no word names
 none_asked : (command : Option (Text × List Row)) (request : Request) → with_network command ≡ None → IsRequested command request → AsksForCpm None request
 unfolding with_network
@@ -62,13 +101,14 @@ none_asked None (Plan files memory crew) e asked = asked
 none_asked None (Prove files) e asked = asked
 none_asked None (Check files) e asked = asked
 none_asked None (Verify files) e asked = asked
+none_asked None (Tool tool) e asked = asked
 none_asked (Some command) request e asked = absurd (search rules)
 
 -- `cpm` asks for the network that its word names
 cpm_asked : (command : Option (Text × List Row)) (word : Option Text) (request : Request) → with_network command ≡ Some (codes "cpm", word) → IsRequested command request → AsksForCpm word request
 unfolding with_network
 cpm_asked None word request e asked = absurd (search rules)
-cpm_asked (Some command) word (Cpm network) e asked = rw (← ap (λ c. c.1) (same_Some _ _ e)) asked.4
+cpm_asked (Some command) word (Cpm network) e asked = rw (← ap (λ c. c.1) (same_Some _ _ e)) asked.5
 cpm_asked (Some command) word (Plan files memory crew) e asked =
     let same : codes "cpm" ≡ codes "plan" = sym (ap (λ c. c.0) (same_Some _ _ e)) ∙ asked.0 in
     let letter : 99 ≡ 112 = ap (λ t. slice_index t 0) same in absurd (omega (arith, letter))
@@ -81,6 +121,7 @@ cpm_asked (Some command) word (Check files) e asked =
 cpm_asked (Some command) word (Verify files) e asked =
     let same : codes "cpm" ≡ codes "verify" = sym (ap (λ c. c.0) (same_Some _ _ e)) ∙ asked.0 in
     let letter : 99 ≡ 118 = ap (λ t. slice_index t 0) same in absurd (omega (arith, letter))
+cpm_asked (Some command) word (Tool tool) e asked = absurd (no_tool_cpm command tool (ap (λ c. c.0) (same_Some _ _ e)) asked)
 
 -- the command that is named, the paths of its words for a network and an order, the word for memory, and whether an option about workers is given
 with_two_paths : Option (Text × List Row) → Option (Text × (Text × (Text × (Option Text × Bool))))
@@ -136,10 +177,10 @@ plan_asked None net order request e asked = absurd (search rules)
 plan_asked (Some command) net order (Cpm network) e asked = absurd (asked.0 (ap (λ c. c.0) (same_Some _ _ e)))
 plan_asked (Some command) net order (Plan files memory crew) e asked =
     let same = same_Some _ _ e in (
-      asked.1 ∙ ap (λ c. c.1.0) same,
-      asked.2 ∙ ap (λ c. c.1.1.0) same,
-      subst (λ (w : Option Text). IsNumberOf 1048576 1024 w memory.mebibytes) (ap (λ c. c.1.1.1.0) same) asked.3,
-      no_crew command.1 crew (ap (λ c. c.1.1.1.1) same) asked.4,
+      asked.1.net ∙ ap (λ c. c.1.0) same,
+      asked.1.order ∙ ap (λ c. c.1.1.0) same,
+      subst (λ (w : Option Text). IsNumberOf 1048576 1024 w memory.mebibytes) (ap (λ c. c.1.1.1.0) same) asked.2,
+      no_crew command.1 crew (ap (λ c. c.1.1.1.1) same) asked.3,
     )
 plan_asked (Some command) net order (Prove files) e asked =
     let same : codes "plan" ≡ codes "prove" = sym (ap (λ c. c.0) (same_Some _ _ e)) ∙ asked.0 in
@@ -150,6 +191,7 @@ plan_asked (Some command) net order (Check files) e asked =
 plan_asked (Some command) net order (Verify files) e asked =
     let same : codes "plan" ≡ codes "verify" = sym (ap (λ c. c.0) (same_Some _ _ e)) ∙ asked.0 in
     let letter : 112 ≡ 118 = ap (λ t. slice_index t 0) same in absurd (omega (arith, letter))
+plan_asked (Some command) net order (Tool tool) e asked = absurd (no_tool_plan command tool (ap (λ c. c.0) (same_Some _ _ e)) asked)
 
 -- a number begins with no hyphen
 no_hyphen : (d : ℕ) (digits : Text) → IsUnsignedIn 1 64 (d ∷ digits) → (d == 45) ≡ false
@@ -187,11 +229,11 @@ workers_asked None net order number request in_range e asked = absurd (search ru
 workers_asked (Some command) net order number (Cpm network) in_range e asked = absurd (asked.0 (ap (λ c. c.0) (same_Some _ _ e)))
 workers_asked (Some command) net order number (Plan files memory crew) in_range e asked =
     let same = same_Some _ _ e in (
-      asked.1 ∙ ap (λ c. c.1.0) same,
-      asked.2 ∙ ap (λ c. c.1.1.0) same,
-      subst (λ (w : Option Text). IsNumberOf 1048576 1024 w memory.mebibytes) (ap (λ c. c.1.1.1.0) same) asked.3,
+      asked.1.net ∙ ap (λ c. c.1.0) same,
+      asked.1.order ∙ ap (λ c. c.1.1.0) same,
+      subst (λ (w : Option Text). IsNumberOf 1048576 1024 w memory.mebibytes) (ap (λ c. c.1.1.1.0) same) asked.2,
       workers_crew command.1 crew number (ap (λ c. c.1.1.1.1.0) same) (ap (λ c. c.1.1.1.1.1.0) same) (ap (λ c. c.1.1.1.1.1.1.0) same)
-          (ap (λ c. c.1.1.1.1.1.1.1.0) same) (ap (λ c. c.1.1.1.1.1.1.1.1) same) in_range asked.4,
+          (ap (λ c. c.1.1.1.1.1.1.1.0) same) (ap (λ c. c.1.1.1.1.1.1.1.1) same) in_range asked.3,
     )
 workers_asked (Some command) net order number (Prove files) in_range e asked =
     let same : codes "plan" ≡ codes "prove" = sym (ap (λ c. c.0) (same_Some _ _ e)) ∙ asked.0 in
@@ -202,6 +244,7 @@ workers_asked (Some command) net order number (Check files) in_range e asked =
 workers_asked (Some command) net order number (Verify files) in_range e asked =
     let same : codes "plan" ≡ codes "verify" = sym (ap (λ c. c.0) (same_Some _ _ e)) ∙ asked.0 in
     let letter : 112 ≡ 118 = ap (λ t. slice_index t 0) same in absurd (omega (arith, letter))
+workers_asked (Some command) net order number (Tool tool) in_range e asked = absurd (no_tool_plan command tool (ap (λ c. c.0) (same_Some _ _ e)) asked)
 
 -- the command that is named, and the paths of its words for a network and an order
 with_files : Option (Text × List Row) → Option (Text × (Text × Text))
@@ -223,13 +266,14 @@ prove_asked (Some command) net order (Plan files memory crew) e asked =
     let letter : 114 ≡ 108 = ap (λ t. slice_index t 1) same in absurd (omega (arith, letter))
 prove_asked (Some command) net order (Prove files) e asked =
     let same = same_Some _ _ e in
-    (asked.1 ∙ ap (λ c. c.1.0) same, asked.2 ∙ ap (λ c. c.1.1) same)
+    (asked.1.net ∙ ap (λ c. c.1.0) same, asked.1.order ∙ ap (λ c. c.1.1) same)
 prove_asked (Some command) net order (Check files) e asked =
     let same : codes "prove" ≡ codes "check" = sym (ap (λ c. c.0) (same_Some _ _ e)) ∙ asked.0 in
     let letter : 112 ≡ 99 = ap (λ t. slice_index t 0) same in absurd (omega (arith, letter))
 prove_asked (Some command) net order (Verify files) e asked =
     let same : codes "prove" ≡ codes "verify" = sym (ap (λ c. c.0) (same_Some _ _ e)) ∙ asked.0 in
     let letter : 112 ≡ 118 = ap (λ t. slice_index t 0) same in absurd (omega (arith, letter))
+prove_asked (Some command) net order (Tool tool) e asked = absurd (no_tool_prove command tool (ap (λ c. c.0) (same_Some _ _ e)) asked)
 
 -- the command that is named, and the paths of its words for a network, an order and a plan
 with_paths : Option (Text × List Row) → Option (Text × (Text × (Text × Text)))
@@ -255,10 +299,11 @@ check_asked (Some command) net order plan (Prove files) e asked =
     let letter : 99 ≡ 112 = ap (λ t. slice_index t 0) same in absurd (omega (arith, letter))
 check_asked (Some command) net order plan (Check files) e asked =
     let same = same_Some _ _ e in
-    (asked.1 ∙ ap (λ c. c.1.0) same, asked.2 ∙ ap (λ c. c.1.1.0) same, asked.3 ∙ ap (λ c. c.1.1.1) same)
+    (asked.1.net ∙ ap (λ c. c.1.0) same, asked.1.order ∙ ap (λ c. c.1.1.0) same, asked.1.plan ∙ ap (λ c. c.1.1.1) same)
 check_asked (Some command) net order plan (Verify files) e asked =
     let same : codes "check" ≡ codes "verify" = sym (ap (λ c. c.0) (same_Some _ _ e)) ∙ asked.0 in
     let letter : 99 ≡ 118 = ap (λ t. slice_index t 0) same in absurd (omega (arith, letter))
+check_asked (Some command) net order plan (Tool tool) e asked = absurd (no_tool_check command tool (ap (λ c. c.0) (same_Some _ _ e)) asked)
 
 -- the command that is named, and the paths of its words for a network, an order, a plan and a certificate
 with_four_paths : Option (Text × List Row) → Option (Text × (Text × (Text × (Text × Text))))
@@ -287,7 +332,8 @@ verify_asked (Some command) net order plan proof (Check files) e asked =
     let letter : 118 ≡ 99 = ap (λ t. slice_index t 0) same in absurd (omega (arith, letter))
 verify_asked (Some command) net order plan proof (Verify files) e asked =
     let same = same_Some _ _ e in
-    (asked.1 ∙ ap (λ c. c.1.0) same, asked.2 ∙ ap (λ c. c.1.1.0) same, asked.3 ∙ ap (λ c. c.1.1.1.0) same, asked.4 ∙ ap (λ c. c.1.1.1.1) same)
+    (asked.1.net ∙ ap (λ c. c.1.0) same, asked.1.order ∙ ap (λ c. c.1.1.0) same, asked.1.plan ∙ ap (λ c. c.1.1.1.0) same, asked.1.proof ∙ ap (λ c. c.1.1.1.1) same)
+verify_asked (Some command) net order plan proof (Tool tool) e asked = absurd (no_tool_verify command tool (ap (λ c. c.0) (same_Some _ _ e)) asked)
 
 -- the parser takes each line that asks for `cpm`, and what is asked for is that
 pub cpm_line : (words : List Text) (network : Option Text) → IsCpmLine words network → (fault_of racp words ≡ []) × ((request : Request) → IsRequested (subcommand_of racp words) request → AsksForCpm network request)

@@ -1,16 +1,13 @@
 -- The words that the program takes, and what they ask for.
 use Rattle.std.specs.Prelude.{◌≡◌, ◌≢◌, ◌⊎◌, ◌||◌, Bool, ℕ, List, [], ◌∷◌, Option, Some, None, codes, false, true}
-use Rattle.std.specs.Prelude.{is_some, unwrap_or}
-use Rattle.std.specs.Option.{option_map_or}
-use Rattle.std.specs.Str.{bytes_eq}
-use Rattle.std.specs.Str.Parse.{digits_value, without_leading_plus}
-use Rattle.clap.specs.Words.{App, IsUnsignedIn, Row, Rule, Text, first_of, new_app, new_rule, subcommand_of, with_rule}
+use Rattle.std.specs.Prelude.{is_some}
+use Rattle.clap.specs.Words.{App, IsUnsignedIn, Row, Text, first_of, new_app, new_rule, subcommand_of, with_rule}
 use Rattle.clap.specs.Words.{with_subcommand}
-use Rattle.clap.specs.declared.builder.action.ArgAction.TheVariants.{SetTrue}
-use Rattle.clap.specs.declared.builder.value_parser.ValueParser.TheVariants.{Unsigned}
+use Rattle.racp_words.specs.Rules.{AreOrderFiles, ArePlanFiles, AreProofFiles, IsNumberOf, file_rule, flag_rule, is_set, number_in, number_rule, of_order, of_plan}
+use Rattle.racp_words.specs.Tools.{IsNoTool, IsToolOf, show, order as order_app}
 use Rattle.racp_words.specs.declared.request.Crew.{Crew}
 use Rattle.racp_words.specs.declared.request.Request.{Request}
-use Rattle.racp_words.specs.declared.request.Request.TheVariants.{Cpm, Plan, Prove, Check, Verify}
+use Rattle.racp_words.specs.declared.request.Request.TheVariants.{Cpm, Plan, Prove, Check, Verify, Tool}
 use Rattle.racp_words.specs.declared.request.Source.{Source}
 use Rattle.racp_words.specs.declared.request.Source.TheVariants.{StandardInput, File}
 
@@ -18,67 +15,44 @@ use Rattle.racp_words.specs.declared.request.Source.TheVariants.{StandardInput, 
 abbrev pub cpm : App
 cpm = with_rule (new_app (codes "cpm")) (new_rule (codes "NET"))
 
--- a word that has to be there
-abbrev pub file_rule : Text → Rule
-file_rule id = record (new_rule id) { required = true }
-
--- `--ID N`, where N is a number from 1 to `most`
-abbrev pub number_rule : Text → ℕ → Rule
-number_rule id most = record (new_rule id) { long = Some id; parser = Some (Unsigned 1 most); value_names = 1 }
-
--- `--ID`
-abbrev pub flag_rule : Text → Rule
-flag_rule id = record (new_rule id) { long = Some id; action = Some SetTrue }
-
--- `plan NET ORDER`
-abbrev pub plan_of_files : App
-plan_of_files = with_rule (with_rule (new_app (codes "plan")) (file_rule (codes "NET"))) (file_rule (codes "ORDER"))
-
--- `plan NET ORDER [--workers N] [--turns N] [--stats]`
+-- `plan NET ORDER [--workers N] [--turns N]`
 abbrev pub plan_of_workers : App
-plan_of_workers = with_rule (with_rule (with_rule plan_of_files (number_rule (codes "workers") 64))
-    (number_rule (codes "turns") 1000000000000)) (flag_rule (codes "stats"))
+plan_of_workers = with_rule (with_rule (of_order (codes "plan")) (number_rule (codes "workers") 64))
+    (number_rule (codes "turns") 1000000000000)
+
+-- `plan NET ORDER [--workers N] [--turns N] [--stats] [--memory MIB]`
+abbrev pub plan_within : App
+plan_within = with_rule (with_rule plan_of_workers (flag_rule (codes "stats"))) (number_rule (codes "memory") 1048576)
 
 -- `plan NET ORDER [--workers N] [--turns N] [--stats] [--memory MIB] [--time-limit S] [--progress]`
 abbrev pub plan : App
-plan = with_rule (with_rule (with_rule plan_of_workers (number_rule (codes "memory") 1048576))
-    (number_rule (codes "time-limit") 1000000000)) (flag_rule (codes "progress"))
-
--- `prove NET ORDER`
-abbrev pub prove : App
-prove = with_rule (with_rule (new_app (codes "prove")) (file_rule (codes "NET"))) (file_rule (codes "ORDER"))
-
--- `check NET ORDER PLAN`
-abbrev pub check : App
-check = with_rule (with_rule (with_rule (new_app (codes "check")) (file_rule (codes "NET")))
-    (file_rule (codes "ORDER"))) (file_rule (codes "PLAN"))
+plan = with_rule (with_rule plan_within (number_rule (codes "time-limit") 1000000000)) (flag_rule (codes "progress"))
 
 -- `verify NET ORDER PLAN PROOF`
 abbrev pub verify : App
-verify = with_rule (with_rule (with_rule (with_rule (new_app (codes "verify")) (file_rule (codes "NET")))
-    (file_rule (codes "ORDER"))) (file_rule (codes "PLAN"))) (file_rule (codes "PROOF"))
+verify = with_rule (of_plan (codes "verify")) (file_rule (codes "PROOF"))
 
 -- a program that tells its version
 abbrev pub with_version : App → App
 with_version a = record a { top = record a.top { has_version = true } }
 
--- `racp [cpm [NET] | plan NET ORDER [OPTIONS] | prove NET ORDER | check NET ORDER PLAN | verify NET ORDER PLAN PROOF]`
+-- `racp [cpm [NET] | plan NET ORDER [OPTIONS]]`
+abbrev pub racp_planning : App
+racp_planning = with_subcommand (with_subcommand (with_version (new_app (codes "racp"))) cpm.top) plan.top
+
+-- `racp [.. | prove NET ORDER | check NET ORDER PLAN | verify NET ORDER PLAN PROOF]`
+abbrev pub racp_checking : App
+racp_checking = with_subcommand (with_subcommand (with_subcommand racp_planning (of_order (codes "prove")).top)
+    (of_plan (codes "check")).top) verify.top
+
+-- `racp [.. | show NET ORDER PLAN [OPTIONS] | order NET OPTIONS]`
 unfoldable pub racp : App
-racp = with_subcommand (with_subcommand (with_subcommand (with_subcommand (with_subcommand (with_version (new_app (codes "racp")))
-    cpm.top) plan.top) prove.top) check.top) verify.top
+racp = with_subcommand (with_subcommand racp_checking show.top) order_app.top
 
 -- standard input where no word names a file, or `-` does; else the file of this path
 abbrev pub IsSource : Option Text → Source → Type 0
 IsSource word StandardInput = (word ≡ None) ⊎ (word ≡ Some (codes "-"))
 IsSource word (File path) = (word ≡ Some path.now) × (path.now ≢ codes "-")
-
--- the path that the word with this name gives
-abbrev pub path_at : Text → List Row → Text
-path_at name words = unwrap_or (first_of name words) []
-
--- the flag with this name is given
-abbrev pub is_set : Text → List Row → Bool
-is_set name words = option_map_or (λ text. bytes_eq text (codes "true")) (first_of name words) false
 
 -- an option that is about workers is given
 abbrev pub has_crew_option : List Row → Bool
@@ -87,16 +61,6 @@ has_crew_option words =
     (is_some (first_of (codes "turns") words) ||
     (is_set (codes "stats") words ||
     (is_some (first_of (codes "time-limit") words) || is_set (codes "progress") words)))
-
--- the number that a word of digits writes
-abbrev pub number_in : Text → ℕ
-number_in word = digits_value 10 (without_leading_plus word)
-
--- The number of an option is the one that its word writes, from 1 to `most` by the option's rule; without a word it is
--- `otherwise`.
-abbrev pub IsNumberOf : ℕ → ℕ → Option Text → ℕ → Type 0
-IsNumberOf most otherwise None number = number ≡ otherwise
-IsNumberOf most otherwise (Some word) number = IsUnsignedIn 1 most word → number ≡ number_in word
 
 -- The number of seconds is the one that the option's word writes, from 1 to 1,000,000,000 by the option's rule; without a
 -- word there is no limit.
@@ -120,23 +84,17 @@ IsRequested None (Plan files memory crew) = ⊥
 IsRequested None (Prove files) = ⊥
 IsRequested None (Check files) = ⊥
 IsRequested None (Verify files) = ⊥
+IsRequested None (Tool tool) = ⊥
 IsRequested (Some command) (Cpm network) =
     (command.0 ≢ codes "plan") × (command.0 ≢ codes "prove") × (command.0 ≢ codes "check") ×
-    (command.0 ≢ codes "verify") × IsSource (first_of (codes "NET") command.1) network
+    (command.0 ≢ codes "verify") × IsNoTool command.0 × IsSource (first_of (codes "NET") command.1) network
 IsRequested (Some command) (Plan files memory crew) =
-    (command.0 ≡ codes "plan") × (files.net.now ≡ path_at (codes "NET") command.1) ×
-    (files.order.now ≡ path_at (codes "ORDER") command.1) ×
+    (command.0 ≡ codes "plan") × AreOrderFiles command.1 files ×
     IsNumberOf 1048576 1024 (first_of (codes "memory") command.1) memory.mebibytes × IsCrew command.1 crew
-IsRequested (Some command) (Prove files) =
-    (command.0 ≡ codes "prove") × (files.net.now ≡ path_at (codes "NET") command.1) ×
-    (files.order.now ≡ path_at (codes "ORDER") command.1)
-IsRequested (Some command) (Check files) =
-    (command.0 ≡ codes "check") × (files.net.now ≡ path_at (codes "NET") command.1) ×
-    (files.order.now ≡ path_at (codes "ORDER") command.1) × (files.plan.now ≡ path_at (codes "PLAN") command.1)
-IsRequested (Some command) (Verify files) =
-    (command.0 ≡ codes "verify") × (files.net.now ≡ path_at (codes "NET") command.1) ×
-    (files.order.now ≡ path_at (codes "ORDER") command.1) × (files.plan.now ≡ path_at (codes "PLAN") command.1) ×
-    (files.proof.now ≡ path_at (codes "PROOF") command.1)
+IsRequested (Some command) (Prove files) = (command.0 ≡ codes "prove") × AreOrderFiles command.1 files
+IsRequested (Some command) (Check files) = (command.0 ≡ codes "check") × ArePlanFiles command.1 files
+IsRequested (Some command) (Verify files) = (command.0 ≡ codes "verify") × AreProofFiles command.1 files
+IsRequested (Some command) (Tool tool) = IsToolOf command tool
 
 -- the words ask for this
 abbrev pub AskFor : List Text → Request → Type 0
@@ -159,6 +117,7 @@ AsksForCpm word (Plan files memory crew) = ⊥
 AsksForCpm word (Prove files) = ⊥
 AsksForCpm word (Check files) = ⊥
 AsksForCpm word (Verify files) = ⊥
+AsksForCpm word (Tool tool) = ⊥
 
 -- a word that is not empty, and no option
 abbrev pub IsPath : Text → Type 0
@@ -178,6 +137,7 @@ AsksForPlan net order (Plan files memory crew) =
 AsksForPlan net order (Prove files) = ⊥
 AsksForPlan net order (Check files) = ⊥
 AsksForPlan net order (Verify files) = ⊥
+AsksForPlan net order (Tool tool) = ⊥
 
 -- After the program's name come `plan`, these two paths, `--workers` and this number from 1 to 64.
 abbrev pub IsWorkersLine : List Text → Text → Text → Text → Type 0
@@ -199,6 +159,7 @@ AsksForWorkers net order workers (Plan files memory crew) =
 AsksForWorkers net order workers (Prove files) = ⊥
 AsksForWorkers net order workers (Check files) = ⊥
 AsksForWorkers net order workers (Verify files) = ⊥
+AsksForWorkers net order workers (Tool tool) = ⊥
 
 -- After the program's name come `prove` and these two paths.
 abbrev pub IsProveLine : List Text → Text → Text → Type 0
@@ -212,6 +173,7 @@ AsksForProve net order (Plan files memory crew) = ⊥
 AsksForProve net order (Prove files) = (files.net.now ≡ net) × (files.order.now ≡ order)
 AsksForProve net order (Check files) = ⊥
 AsksForProve net order (Verify files) = ⊥
+AsksForProve net order (Tool tool) = ⊥
 
 -- After the program's name come `check` and these three paths.
 abbrev pub IsCheckLine : List Text → Text → Text → Text → Type 0
@@ -227,6 +189,7 @@ AsksForCheck net order plan_path (Prove files) = ⊥
 AsksForCheck net order plan_path (Check files) = (files.net.now ≡ net) × (files.order.now ≡ order) ×
     (files.plan.now ≡ plan_path)
 AsksForCheck net order plan_path (Verify files) = ⊥
+AsksForCheck net order plan_path (Tool tool) = ⊥
 
 -- After the program's name come `verify` and these four paths.
 abbrev pub IsVerifyLine : List Text → Text → Text → Text → Text → Type 0
@@ -242,3 +205,4 @@ AsksForVerify net order plan_path proof (Prove files) = ⊥
 AsksForVerify net order plan_path proof (Check files) = ⊥
 AsksForVerify net order plan_path proof (Verify files) = (files.net.now ≡ net) × (files.order.now ≡ order) ×
     (files.plan.now ≡ plan_path) × (files.proof.now ≡ proof)
+AsksForVerify net order plan_path proof (Tool tool) = ⊥

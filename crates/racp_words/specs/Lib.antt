@@ -1,2 +1,4 @@
+pub mod Rules
+pub mod Tools
 pub mod CommandLine
 pub mod Commands

@@ -1,12 +1,16 @@
 //! The words of the command line, and what they ask for.
 
-ghost use Rattle.std.specs.Prelude.{◌≡◌, ◌≤◌, ℕ, List, Option, Some, IfOk, MatchResult, map, option_map, string_bytes, codes, false};
+ghost use Rattle.std.specs.Prelude.{◌≡◌, ◌≤◌, ℕ, List, Option, Some, IfNone, IfOk, IfSome, MatchResult, map, option_map, string_bytes, codes, false};
 ghost use Rattle.clap.specs.Words.{FailsBy, app_of, fault_of, first_of, first_value, found_of, kind_of, rows_of, rule_of, subcommand_rows_of};
 ghost use Rattle.clap.specs.declared.error.kind.ErrorKind.TheVariants.{OutOfMemory};
-ghost use Rattle.racp_words.specs.CommandLine.{AskFor, IsCheckLine, AsksForCheck, IsProveLine, AsksForProve, IsVerifyLine, AsksForVerify, IsCpmLine, AsksForCpm, IsPlanLine, AsksForPlan, IsWorkersLine, AsksForWorkers, IsCrew, IsLimitOf, IsNumberOf, IsRequested, IsSource, check, cpm, file_rule, flag_rule, is_set, number_in, number_rule, path_at, plan, plan_of_files, plan_of_workers, prove, racp, verify};
+ghost use Rattle.racp_words.specs.CommandLine.{AskFor, IsCheckLine, AsksForCheck, IsProveLine, AsksForProve, IsVerifyLine, AsksForVerify, IsCpmLine, AsksForCpm, IsPlanLine, AsksForPlan, IsWorkersLine, AsksForWorkers, IsCrew, IsLimitOf, IsRequested, IsSource, cpm, plan, plan_of_workers, plan_within, racp, racp_checking, racp_planning, verify};
+ghost use Rattle.racp_words.specs.Rules.{AreOrderFiles, ArePlanFiles, AreProofFiles, IsNumberOf, file_rule, flag_rule, is_set, number_in, number_rule, of_order, of_plan, path_at, text_rule};
+ghost use Rattle.racp_words.specs.Tools.{AreTerms, IsForm, IsLook, IsNoTool, IsToolOf, order, order_priced, order_scaled, show, show_in_letters, show_named};
 ghost use Rattle.racp_words.specs.Commands.{IsCommandOf};
 
-use crate::request::{Crew, Memory, OrderFiles, PlanFiles, ProofFiles, Request, Source};
+use crate::request::{
+    Crew, Form, Look, Memory, OrderFiles, PlanFiles, ProofFiles, Request, Source, Terms, Tool,
+};
 use clap::builder::ValueParser;
 use clap::{Arg, ArgAction, ArgMatches, Command, Error};
 use std::alloc::{AllocError, Global};
@@ -22,6 +26,34 @@ const MOST_MEBIBYTES: u64 = 1_048_576;
 
 /// How many mebibytes records are given where no option says so.
 const DEFAULT_MEBIBYTES: u64 = 1024;
+
+/// The most columns that a line can be asked to have.
+const MOST_WIDTH: u64 = 1000;
+
+/// How many columns a line has where no option says so.
+const DEFAULT_WIDTH: u64 = 80;
+
+/// What stands behind the list of commands.
+const BEHIND_HELP: &str =
+    "A network is a text as those of PSPLIB (.sm). An order is a text in TOML: \
+deadline = 49, prices = [3, 5, 2, 7].
+
+Examples:
+  racp cpm net.sm                          the critical length and the early starts
+  racp order net.sm --factor 1.2 --prices 3,5 > order.toml
+  racp plan net.sm order.toml > net.plan   the cheapest capacities, with the least starts
+  racp show net.sm order.toml net.plan     a chart of the plan
+  racp check net.sm order.toml net.plan    whether a plan is right
+  racp prove net.sm order.toml > net.proof
+  racp verify net.sm order.toml net.plan net.proof
+
+Exit status:
+  0  done                       5  a text is refused
+  2  the words are refused      6  no memory
+  3  there is no plan           7  a file or a stream failed
+  4  planning was stopped       8  the plan or the certificate is not right
+
+Proved with rattle-kit-13f.";
 
 /// The most seconds after which planning can be asked to stop.
 const MOST_SECONDS: u64 = 1_000_000_000;
@@ -73,31 +105,107 @@ fn request_named<'a>(name: &str, words: &ArgMatches<'a>) -> Request<'a>
     ensures { IsRequested (Some (name.now, rows_of (found_of words.now))) result }
 {
     if name == "plan" {
-        let files = OrderFiles {
-            net: path_of(words, "NET"),
-            order: path_of(words, "ORDER"),
-        };
-        Request::Plan(files, memory_of(words), crew_of(words))
+        Request::Plan(order_files(words), memory_of(words), crew_of(words))
     } else if name == "prove" {
-        Request::Prove(OrderFiles {
-            net: path_of(words, "NET"),
-            order: path_of(words, "ORDER"),
-        })
+        Request::Prove(order_files(words))
     } else if name == "check" {
-        Request::Check(PlanFiles {
-            net: path_of(words, "NET"),
-            order: path_of(words, "ORDER"),
-            plan: path_of(words, "PLAN"),
-        })
+        Request::Check(plan_files(words))
     } else if name == "verify" {
-        Request::Verify(ProofFiles {
-            net: path_of(words, "NET"),
-            order: path_of(words, "ORDER"),
-            plan: path_of(words, "PLAN"),
-            proof: path_of(words, "PROOF"),
-        })
+        Request::Verify(proof_files(words))
     } else {
-        Request::Cpm(network_of(words))
+        match tool_named(name, words) {
+            Some(tool) => Request::Tool(tool),
+            None => Request::Cpm(network_of(words)),
+        }
+    }
+}
+
+/// The tool with this name that these words ask for, where there is one of the name.
+fn tool_named<'a>(name: &str, words: &ArgMatches<'a>) -> Option<Tool<'a>>
+    ensures some { IfSome result (IsToolOf (name.now, rows_of (found_of words.now))) }
+    ensures none { IfNone result (IsNoTool name.now) }
+{
+    if name == "show" {
+        Some(Tool::Show(plan_files(words), look_of(words)))
+    } else if name == "order" {
+        Some(Tool::Order(path_of(words, "NET"), terms_of(words)))
+    } else {
+        None
+    }
+}
+
+/// The files of a network and an order.
+fn order_files<'a>(words: &ArgMatches<'a>) -> OrderFiles<'a>
+    ensures { AreOrderFiles (rows_of (found_of words.now)) result }
+{
+    OrderFiles {
+        net: path_of(words, "NET"),
+        order: path_of(words, "ORDER"),
+    }
+}
+
+/// The files of a network, an order and a plan.
+fn plan_files<'a>(words: &ArgMatches<'a>) -> PlanFiles<'a>
+    ensures { ArePlanFiles (rows_of (found_of words.now)) result }
+{
+    PlanFiles {
+        net: path_of(words, "NET"),
+        order: path_of(words, "ORDER"),
+        plan: path_of(words, "PLAN"),
+    }
+}
+
+/// The files of a network, an order, a plan and a certificate.
+fn proof_files<'a>(words: &ArgMatches<'a>) -> ProofFiles<'a>
+    ensures { AreProofFiles (rows_of (found_of words.now)) result }
+{
+    ProofFiles {
+        net: path_of(words, "NET"),
+        order: path_of(words, "ORDER"),
+        plan: path_of(words, "PLAN"),
+        proof: path_of(words, "PROOF"),
+    }
+}
+
+/// How a plan is to be shown.
+fn look_of<'a>(words: &ArgMatches<'a>) -> Look<'a>
+    ensures { IsLook (rows_of (found_of words.now)) result }
+{
+    let width = number_of(text_of(words, "width"), MOST_WIDTH, DEFAULT_WIDTH);
+    Look {
+        names: text_of(words, "names"),
+        width,
+        form: form_of(words),
+    }
+}
+
+/// What is to be written of a plan that is shown.
+fn form_of(words: &ArgMatches<'_>) -> Form
+    ensures { IsForm (rows_of (found_of words.now)) result }
+{
+    if is_set(words, "svg") {
+        Form::Svg
+    } else if is_set(words, "json") {
+        Form::Json
+    } else if is_set(words, "csv") {
+        Form::Csv
+    } else if is_set(words, "ascii") {
+        Form::Ascii
+    } else {
+        Form::Text
+    }
+}
+
+/// The words for the terms of an order.
+fn terms_of<'a>(words: &ArgMatches<'a>) -> Terms<'a>
+    ensures { AreTerms (rows_of (found_of words.now)) result }
+{
+    Terms {
+        factor: text_of(words, "factor"),
+        deadline: text_of(words, "deadline"),
+        prices: path_of(words, "prices"),
+        owned: text_of(words, "owned"),
+        ceiling: text_of(words, "ceiling"),
     }
 }
 
@@ -113,14 +221,31 @@ fn entered<'a, 'm>(matches: &'m ArgMatches<'a>) -> Option<(&'a str, &'m ArgMatch
 fn command<'a>(alloc: Global) -> Result<Command<'a>, AllocError>
     ensures { IfOk result (λ command. app_of command ≡ racp) }
 {
-    Command::new(alloc, "racp")
-        .about("Plans the capacities of a project. Without words: cpm, from standard input")
-        .version("0.1.0")
-        .subcommand(cpm_command(alloc)?)?
-        .subcommand(plan_command(alloc)?)?
+    checking(alloc)?
+        .subcommand(show_command(alloc)?)?
+        .subcommand(order_writer(alloc)?)
+}
+
+/// The commands for plans and for what they are checked by.
+fn checking<'a>(alloc: Global) -> Result<Command<'a>, AllocError>
+    ensures { IfOk result (λ command. app_of command ≡ racp_checking) }
+{
+    planning(alloc)?
         .subcommand(prove_command(alloc)?)?
         .subcommand(check_command(alloc)?)?
         .subcommand(verify_command(alloc)?)
+}
+
+/// The commands for networks and plans.
+fn planning<'a>(alloc: Global) -> Result<Command<'a>, AllocError>
+    ensures { IfOk result (λ command. app_of command ≡ racp_planning) }
+{
+    Command::new(alloc, "racp")
+        .about("Plans the capacities of a project. Without words: cpm, from standard input")
+        .version("0.1.0")
+        .after_long_help(BEHIND_HELP)
+        .subcommand(cpm_command(alloc)?)?
+        .subcommand(plan_command(alloc)?)
 }
 
 /// `cpm`, with its word.
@@ -139,69 +264,144 @@ fn cpm_command<'a>(alloc: Global) -> Result<Command<'a>, AllocError>
 fn plan_command<'a>(alloc: Global) -> Result<Command<'a>, AllocError>
     ensures { IfOk result (IsCommandOf plan) }
 {
-    let memory = "How many mebibytes records take at most, about, 1 to 1,048,576; else 1,024";
     let seconds = "After how many seconds planning stops, 1 to 1,000,000,000";
     let progress = "Tells on standard error, every two seconds, how far planning has come";
-    plan_of_workers(alloc)?
-        .arg(number_option(alloc, "memory", "MIB", MOST_MEBIBYTES, memory))?
+    plan_within(alloc)?
         .arg(number_option(alloc, "time-limit", "S", MOST_SECONDS, seconds))?
         .arg(flag(alloc, "progress", progress))
 }
 
-/// `plan`, with its words and the options for workers and what they did.
+/// `plan`, with its words and the options for workers, what they did and memory.
+fn plan_within<'a>(alloc: Global) -> Result<Command<'a>, AllocError>
+    ensures { IfOk result (IsCommandOf plan_within) }
+{
+    let stats = "Tells on standard error how many pieces and nodes were searched";
+    plan_of_workers(alloc)?
+        .arg(flag(alloc, "stats", stats))?
+        .arg(memory_option(alloc))
+}
+
+/// `plan`, with its words and the options for workers.
 fn plan_of_workers<'a>(alloc: Global) -> Result<Command<'a>, AllocError>
     ensures { IfOk result (IsCommandOf plan_of_workers) }
 {
+    let about = "Prints the cheapest capacities that meet an order, with the least starts";
     let workers = "How many workers make the plan, 1 to 64";
     let turns = "How many pieces they take at most, 1 to 1,000,000,000,000";
-    let stats = "Tells on standard error how many pieces and nodes were searched";
-    plan_of_files(alloc)?
+    of_order(alloc, "plan", about)?
         .arg(number_option(alloc, "workers", "N", MOST_WORKERS, workers))?
-        .arg(number_option(alloc, "turns", "N", MOST_TURNS, turns))?
-        .arg(flag(alloc, "stats", stats))
-}
-
-/// `plan`, with its words alone.
-fn plan_of_files<'a>(alloc: Global) -> Result<Command<'a>, AllocError>
-    ensures { IfOk result (IsCommandOf plan_of_files) }
-{
-    Command::new(alloc, "plan")
-        .about("Prints the cheapest capacities that meet an order, with the least starts")
-        .arg(file_word(alloc, "NET", "The network"))?
-        .arg(file_word(alloc, "ORDER", "The order"))
+        .arg(number_option(alloc, "turns", "N", MOST_TURNS, turns))
 }
 
 /// `prove`, with its words.
 fn prove_command<'a>(alloc: Global) -> Result<Command<'a>, AllocError>
-    ensures { IfOk result (IsCommandOf prove) }
+    ensures { IfOk result (IsCommandOf (of_order (codes "prove"))) }
 {
-    Command::new(alloc, "prove")
-        .about("Prints a certificate that no capacities before those of the plan are enough")
-        .arg(file_word(alloc, "NET", "The network"))?
-        .arg(file_word(alloc, "ORDER", "The order"))
+    let about = "Prints a certificate that no capacities before those of the plan are enough";
+    of_order(alloc, "prove", about)
 }
 
 /// `check`, with its words.
 fn check_command<'a>(alloc: Global) -> Result<Command<'a>, AllocError>
-    ensures { IfOk result (IsCommandOf check) }
+    ensures { IfOk result (IsCommandOf (of_plan (codes "check"))) }
 {
-    Command::new(alloc, "check")
-        .about("Checks a plan against a network and an order")
-        .arg(file_word(alloc, "NET", "The network"))?
-        .arg(file_word(alloc, "ORDER", "The order"))?
-        .arg(file_word(alloc, "PLAN", "The plan"))
+    of_plan(
+        alloc,
+        "check",
+        "Checks a plan against a network and an order",
+    )
 }
 
 /// `verify`, with its words.
 fn verify_command<'a>(alloc: Global) -> Result<Command<'a>, AllocError>
     ensures { IfOk result (IsCommandOf verify) }
 {
-    Command::new(alloc, "verify")
-        .about("Checks a plan, and a certificate that no cheaper capacities would do")
+    let about = "Checks a plan, and a certificate that no cheaper capacities would do";
+    of_plan(alloc, "verify", about)?.arg(file_word(alloc, "PROOF", "The certificate"))
+}
+
+/// `show`, with its words and options.
+fn show_command<'a>(alloc: Global) -> Result<Command<'a>, AllocError>
+    ensures { IfOk result (IsCommandOf show) }
+{
+    show_in_letters(alloc)?
+        .arg(flag(alloc, "json", "Writes the plan as JSON"))?
+        .arg(flag(alloc, "csv", "Writes a row for each job as CSV"))
+}
+
+/// `show`, with its words and the options for charts.
+fn show_in_letters<'a>(alloc: Global) -> Result<Command<'a>, AllocError>
+    ensures { IfOk result (IsCommandOf show_in_letters) }
+{
+    show_named(alloc)?
+        .arg(flag(
+            alloc,
+            "ascii",
+            "Draws with the characters that every terminal has",
+        ))?
+        .arg(flag(alloc, "svg", "Writes a picture for a browser, SVG"))
+}
+
+/// `show`, with its words and the options for names and width.
+fn show_named<'a>(alloc: Global) -> Result<Command<'a>, AllocError>
+    ensures { IfOk result (IsCommandOf show_named) }
+{
+    let about = "Draws a plan that is right: a chart of the jobs, and the use of each resource";
+    let names = "Names of the jobs and then of the resources, one a line";
+    let width = "How many columns a line has at most, 1 to 1,000; else 80";
+    of_plan(alloc, "show", about)?
+        .arg(text_option(alloc, "names", "FILE", names))?
+        .arg(number_option(alloc, "width", "N", MOST_WIDTH, width))
+}
+
+/// `order`, with its word and options.
+fn order_writer<'a>(alloc: Global) -> Result<Command<'a>, AllocError>
+    ensures { IfOk result (IsCommandOf order) }
+{
+    let owned = "How many units of each resource are owned, and cost nothing: 0,4";
+    let ceiling = "How many units of each resource there may be: 5,9";
+    order_priced(alloc)?
+        .arg(text_option(alloc, "owned", "N,..", owned))?
+        .arg(text_option(alloc, "ceiling", "N,..", ceiling))
+}
+
+/// `order`, with its word and the options for the deadline and the prices.
+fn order_priced<'a>(alloc: Global) -> Result<Command<'a>, AllocError>
+    ensures { IfOk result (IsCommandOf order_priced) }
+{
+    let deadline = "The deadline, 0 to 10,000,000";
+    let prices = "What a unit of each resource costs: 3,5";
+    order_scaled(alloc)?
+        .arg(text_option(alloc, "deadline", "T", deadline))?
+        .arg(text_option(alloc, "prices", "N,..", prices).required(true))
+}
+
+/// `order`, with its word and the option for the deadline by the critical length.
+fn order_scaled<'a>(alloc: Global) -> Result<Command<'a>, AllocError>
+    ensures { IfOk result (IsCommandOf order_scaled) }
+{
+    let factor = "The deadline as so many times the critical length, rounded down: 1.2";
+    Command::new(alloc, "order")
+        .about("Writes an order for a network: a deadline and prices")
         .arg(file_word(alloc, "NET", "The network"))?
-        .arg(file_word(alloc, "ORDER", "The order"))?
-        .arg(file_word(alloc, "PLAN", "The plan"))?
-        .arg(file_word(alloc, "PROOF", "The certificate"))
+        .arg(text_option(alloc, "factor", "F", factor))
+}
+
+/// A command with the words for a network and an order.
+fn of_order<'a>(alloc: Global, name: &'a str, about: &'a str) -> Result<Command<'a>, AllocError>
+    ensures { IfOk result (IsCommandOf (of_order name.entry.now)) }
+{
+    Command::new(alloc, name)
+        .about(about)
+        .arg(file_word(alloc, "NET", "The network"))?
+        .arg(file_word(alloc, "ORDER", "The order: a deadline and prices, TOML"))
+}
+
+/// A command with the words for a network, an order and a plan.
+fn of_plan<'a>(alloc: Global, name: &'a str, about: &'a str) -> Result<Command<'a>, AllocError>
+    ensures { IfOk result (IsCommandOf (of_plan name.entry.now)) }
+{
+    of_order(alloc, name, about)?.arg(file_word(alloc, "PLAN", "The plan"))
 }
 
 /// A word that has to be there, and names a file.
@@ -222,6 +422,23 @@ fn number_option<'a>(alloc: Global, id: &'a str, name: &'a str, most: u64, help:
         .value_name(name)
         .value_parser(ValueParser::unsigned(1, most))
         .help(help)
+}
+
+/// How much memory records take.
+fn memory_option<'a>(alloc: Global) -> Arg<'a>
+    ensures rule { rule_of result ≡ number_rule (codes "memory") 1048576 }
+    ensures own { result.global ≡ false }
+{
+    let memory = "How many mebibytes records take at most, about, 1 to 1,048,576; else 1,024";
+    number_option(alloc, "memory", "MIB", MOST_MEBIBYTES, memory)
+}
+
+/// An option whose word is any text; help shows it by this name.
+fn text_option<'a>(alloc: Global, id: &'a str, name: &'a str, help: &'a str) -> Arg<'a>
+    ensures rule { rule_of result ≡ text_rule id.entry.now }
+    ensures own { result.global ≡ false }
+{
+    Arg::new(alloc, id).long(id).value_name(name).help(help)
 }
 
 /// An option without a word.

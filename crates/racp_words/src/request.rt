@@ -15,6 +15,58 @@ pub enum Request<'a> {
     Check(PlanFiles<'a>),
     /// Whether a certificate shows that no capacities before a plan's are enough.
     Verify(ProofFiles<'a>),
+    /// What goes with plans.
+    Tool(Tool<'a>),
+}
+
+/// What goes with plans.
+pub enum Tool<'a> {
+    /// A picture of a plan of a network on the terms of an order.
+    Show(PlanFiles<'a>, Look<'a>),
+    /// The text of an order for a network with this path.
+    Order(&'a str, Terms<'a>),
+}
+
+/// How a plan is shown.
+#[derive(Drop)]
+pub struct Look<'a> {
+    /// The path of the names of jobs and resources, where there is one.
+    pub names: Option<&'a str>,
+    /// How many columns a line has at most, 1 to 1,000; 80 where no option says so.
+    pub width: u64,
+    /// What is written.
+    pub form: Form,
+    pub ghost width_few: { width ≤ 1000 },
+}
+
+/// What is written of a plan that is shown.
+#[derive(Clone, Copy)]
+pub enum Form {
+    /// A chart of blocks.
+    Text,
+    /// A chart of characters that every terminal has.
+    Ascii,
+    /// A picture for a browser.
+    Svg,
+    /// A value for programs.
+    Json,
+    /// A table for programs.
+    Csv,
+}
+
+/// The words for the terms of an order.
+#[derive(Drop)]
+pub struct Terms<'a> {
+    /// By what the critical length is multiplied, where the deadline is told in this way.
+    pub factor: Option<&'a str>,
+    /// The deadline, where it is told itself.
+    pub deadline: Option<&'a str>,
+    /// The prices.
+    pub prices: &'a str,
+    /// How many units are owned, where that is told.
+    pub owned: Option<&'a str>,
+    /// How many units there may be, where that is told.
+    pub ceiling: Option<&'a str>,
 }
 
 /// The paths of the files of a network and an order.

@@ -1,0 +1,72 @@
+-- The rules of words, and what is found of them.
+use Rattle.std.specs.Prelude.{◌≡◌, Bool, ℕ, List, [], Option, Some, None, codes, false, true}
+use Rattle.std.specs.Prelude.{unwrap_or}
+use Rattle.std.specs.Option.{option_map_or}
+use Rattle.std.specs.Str.{bytes_eq}
+use Rattle.std.specs.Str.Parse.{digits_value, without_leading_plus}
+use Rattle.clap.specs.Words.{App, IsUnsignedIn, Row, Rule, Text, first_of, new_app, new_rule, with_rule}
+use Rattle.clap.specs.declared.builder.action.ArgAction.TheVariants.{SetTrue}
+use Rattle.clap.specs.declared.builder.value_parser.ValueParser.TheVariants.{Unsigned}
+use Rattle.racp_words.specs.declared.request.OrderFiles.{OrderFiles}
+use Rattle.racp_words.specs.declared.request.PlanFiles.{PlanFiles}
+use Rattle.racp_words.specs.declared.request.ProofFiles.{ProofFiles}
+
+-- a word that has to be there
+abbrev pub file_rule : Text → Rule
+file_rule id = record (new_rule id) { required = true }
+
+-- `--ID N`, where N is a number from 1 to `most`
+abbrev pub number_rule : Text → ℕ → Rule
+number_rule id most = record (new_rule id) { long = Some id; parser = Some (Unsigned 1 most); value_names = 1 }
+
+-- `--ID`
+abbrev pub flag_rule : Text → Rule
+flag_rule id = record (new_rule id) { long = Some id; action = Some SetTrue }
+
+-- `--ID TEXT`
+abbrev pub text_rule : Text → Rule
+text_rule id = record (new_rule id) { long = Some id; value_names = 1 }
+
+-- a command with this name, `NET ORDER`
+abbrev pub of_order : Text → App
+of_order name = with_rule (with_rule (new_app name) (file_rule (codes "NET"))) (file_rule (codes "ORDER"))
+
+-- a command with this name, `NET ORDER PLAN`
+abbrev pub of_plan : Text → App
+of_plan name = with_rule (of_order name) (file_rule (codes "PLAN"))
+
+-- the path that the word with this name gives
+abbrev pub path_at : Text → List Row → Text
+path_at name words = unwrap_or (first_of name words) []
+
+-- the flag with this name is given
+abbrev pub is_set : Text → List Row → Bool
+is_set name words = option_map_or (λ text. bytes_eq text (codes "true")) (first_of name words) false
+
+-- the number that a word of digits writes
+abbrev pub number_in : Text → ℕ
+number_in word = digits_value 10 (without_leading_plus word)
+
+-- The number of an option is the one that its word writes, from 1 to `most` by the option's rule; without a word it is
+-- `otherwise`.
+abbrev pub IsNumberOf : ℕ → ℕ → Option Text → ℕ → Type 0
+IsNumberOf most otherwise None number = number ≡ otherwise
+IsNumberOf most otherwise (Some word) number = IsUnsignedIn 1 most word → number ≡ number_in word
+
+-- the files with the paths of the words for a network and an order
+pub record AreOrderFiles (words : List Row) (files : OrderFiles) : Type 0 where
+  pub net : files.net.now ≡ path_at (codes "NET") words
+  pub order : files.order.now ≡ path_at (codes "ORDER") words
+
+-- the files with the paths of the words for a network, an order and a plan
+pub record ArePlanFiles (words : List Row) (files : PlanFiles) : Type 0 where
+  pub net : files.net.now ≡ path_at (codes "NET") words
+  pub order : files.order.now ≡ path_at (codes "ORDER") words
+  pub plan : files.plan.now ≡ path_at (codes "PLAN") words
+
+-- the files with the paths of the words for a network, an order, a plan and a certificate
+pub record AreProofFiles (words : List Row) (files : ProofFiles) : Type 0 where
+  pub net : files.net.now ≡ path_at (codes "NET") words
+  pub order : files.order.now ≡ path_at (codes "ORDER") words
+  pub plan : files.plan.now ≡ path_at (codes "PLAN") words
+  pub proof : files.proof.now ≡ path_at (codes "PROOF") words

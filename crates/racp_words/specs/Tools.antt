@@ -1,0 +1,75 @@
+-- What the commands `show` and `order` ask for.
+use Rattle.std.specs.Prelude.{◌≡◌, ◌≢◌, List, codes, false, true}
+use Rattle.std.specs.Prelude.{option_map}
+use Rattle.clap.specs.Words.{App, Row, Text, first_of, new_app, with_rule}
+use Rattle.racp_words.specs.Rules.{ArePlanFiles, IsNumberOf, file_rule, flag_rule, is_set, number_rule, of_order, of_plan, path_at, text_rule}
+use Rattle.racp_words.specs.declared.request.Form.{Form}
+use Rattle.racp_words.specs.declared.request.Form.TheVariants.{Text as Blocks, Ascii, Svg, Json, Csv}
+use Rattle.racp_words.specs.declared.request.Look.{Look}
+use Rattle.racp_words.specs.declared.request.Terms.{Terms}
+use Rattle.racp_words.specs.declared.request.Tool.{Tool}
+use Rattle.racp_words.specs.declared.request.Tool.TheVariants.{Show, Order}
+
+-- `show NET ORDER PLAN [--names FILE] [--width N]`
+abbrev pub show_named : App
+show_named = with_rule (with_rule (of_plan (codes "show")) (text_rule (codes "names"))) (number_rule (codes "width") 1000)
+
+-- `show NET ORDER PLAN [--names FILE] [--width N] [--ascii] [--svg]`
+abbrev pub show_in_letters : App
+show_in_letters = with_rule (with_rule show_named (flag_rule (codes "ascii"))) (flag_rule (codes "svg"))
+
+-- `show NET ORDER PLAN [--names FILE] [--width N] [--ascii] [--svg] [--json] [--csv]`
+abbrev pub show : App
+show = with_rule (with_rule show_in_letters (flag_rule (codes "json"))) (flag_rule (codes "csv"))
+
+-- `order NET [--factor F]`
+abbrev pub order_scaled : App
+order_scaled = with_rule (with_rule (new_app (codes "order")) (file_rule (codes "NET"))) (text_rule (codes "factor"))
+
+-- `order NET [--factor F] [--deadline T] --prices N,..`
+abbrev pub order_priced : App
+order_priced = with_rule (with_rule order_scaled (text_rule (codes "deadline")))
+    (record (text_rule (codes "prices")) { required = true })
+
+-- `order NET [--factor F] [--deadline T] --prices N,.. [--owned N,..] [--ceiling N,..]`
+abbrev pub order : App
+order = with_rule (with_rule order_priced (text_rule (codes "owned"))) (text_rule (codes "ceiling"))
+
+-- the first of the flags `--svg`, `--json`, `--csv` and `--ascii` that is given says what is written
+abbrev pub IsForm : List Row → Form → Type 0
+IsForm words Svg = is_set (codes "svg") words ≡ true
+IsForm words Json = (is_set (codes "svg") words ≡ false) × (is_set (codes "json") words ≡ true)
+IsForm words Csv =
+    (is_set (codes "svg") words ≡ false) × (is_set (codes "json") words ≡ false) × (is_set (codes "csv") words ≡ true)
+IsForm words Ascii =
+    (is_set (codes "svg") words ≡ false) × (is_set (codes "json") words ≡ false) × (is_set (codes "csv") words ≡ false) ×
+    (is_set (codes "ascii") words ≡ true)
+IsForm words Blocks =
+    (is_set (codes "svg") words ≡ false) × (is_set (codes "json") words ≡ false) × (is_set (codes "csv") words ≡ false) ×
+    (is_set (codes "ascii") words ≡ false)
+
+-- the words say that a plan is shown in this way
+pub record IsLook (words : List Row) (look : Look) : Type 0 where
+  pub names : option_map (λ word. word.now) look.names ≡ first_of (codes "names") words
+  pub width : IsNumberOf 1000 80 (first_of (codes "width") words) look.width
+  pub form : IsForm words look.form
+
+-- the words for the terms of an order
+pub record AreTerms (words : List Row) (terms : Terms) : Type 0 where
+  pub factor : option_map (λ word. word.now) terms.factor ≡ first_of (codes "factor") words
+  pub deadline : option_map (λ word. word.now) terms.deadline ≡ first_of (codes "deadline") words
+  pub prices : terms.prices.now ≡ path_at (codes "prices") words
+  pub owned : option_map (λ word. word.now) terms.owned ≡ first_of (codes "owned") words
+  pub ceiling : option_map (λ word. word.now) terms.ceiling ≡ first_of (codes "ceiling") words
+
+-- the command with these words asks for this
+abbrev pub IsToolOf : Text × List Row → Tool → Type 0
+IsToolOf command (Show files look) =
+    (command.0 ≡ codes "show") × ArePlanFiles command.1 files × IsLook command.1 look
+IsToolOf command (Order net terms) =
+    (command.0 ≡ codes "order") × (net.now ≡ path_at (codes "NET") command.1) × AreTerms command.1 terms
+
+-- a command of another name
+pub record IsNoTool (name : Text) : Type 0 where
+  pub no_show : name ≢ codes "show"
+  pub no_order : name ≢ codes "order"
