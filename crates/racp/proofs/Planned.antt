@@ -5,9 +5,13 @@ use Rattle.racp_cli.specs.Crowds.{IsCrowdAnswer}
 use Rattle.racp_cli.specs.Plans.{IsPlanAnswer}
 use Rattle.racp_cli.specs.Proofs.{IsProofAnswer, IsProofRun}
 use Rattle.racp_cli.specs.Verifies.{IsVerifyAnswer}
-use Rattle.racp_cli.specs.Streams.{Reader, ToTwo, ToFour, IsPlanRun, IsVerifyRun}
+use Rattle.racp_cli.specs.Streams.{Reader, ToOne, ToTwo, ToFour, IsPlanRun, IsVerifyRun}
 use Rattle.racp_cli.specs.declared.fault.StreamFault.{StreamFault}
-use Rattle.racp.specs.Statuses.{IsStatusOfAnswer}
+use Rattle.racp_cli.specs.OrderAnswers.{IsOrderAnswer, IsOrderRun}
+use Rattle.racp_cli.specs.ShowAnswers.{IsShowAnswer, IsShowRun}
+use Rattle.racp_cli.specs.declared.order.Asked.{Asked}
+use Rattle.racp_cli.specs.declared.show.Look.{Look}
+use Rattle.racp.specs.Statuses.{IsStatusOfAnswer, IsStatusOfTool}
 
 -- what workers answer to two texts
 pub by_workers : (inputs : List (List ℕ)) (status : ℕ) (text : List ℕ) → ToTwo IsCrowdAnswer inputs status text → IsStatusOfAnswer status
@@ -44,9 +48,32 @@ of_certificate [] status text answer = absurd answer
 of_certificate (net ∷ []) status text answer = absurd answer
 of_certificate (net ∷ (order ∷ [])) status text answer = absurd answer
 of_certificate (net ∷ (order ∷ (plan ∷ []))) status text answer = absurd answer
-of_certificate (net ∷ (order ∷ (plan ∷ (proof ∷ [])))) status text answer = inr (inr (inr (inr (net, order, plan, proof, text, answer))))
+of_certificate (net ∷ (order ∷ (plan ∷ (proof ∷ [])))) status text answer = inr (inr (inr (inr (inl (net, order, plan, proof, text, answer)))))
 of_certificate (net ∷ (order ∷ (plan ∷ (proof ∷ (other ∷ inputs))))) status text answer = absurd answer
 
 pub verified : (net order plan proof : Reader) (old new : Option (List ℕ)) (result : Result ℕ StreamFault) → IsVerifyRun net order plan proof old new result → IfOk result IsStatusOfAnswer
 verified net order plan proof old new (Ok status) run = of_certificate run.0 status run.2.0 run.2.1
 verified net order plan proof old new (Err fault) run = tt
+
+-- what is shown of a plan
+of_picture : (look : Look) (inputs : List (List ℕ)) (status : ℕ) (text : List ℕ) → ToFour (IsShowAnswer look) inputs status text → IsStatusOfTool status
+of_picture look [] status text answer = absurd answer
+of_picture look (net ∷ []) status text answer = absurd answer
+of_picture look (net ∷ (order ∷ [])) status text answer = absurd answer
+of_picture look (net ∷ (order ∷ (plan ∷ []))) status text answer = absurd answer
+of_picture look (net ∷ (order ∷ (plan ∷ (names ∷ [])))) status text answer = inl (net, order, plan, names, look, text, answer)
+of_picture look (net ∷ (order ∷ (plan ∷ (names ∷ (other ∷ inputs))))) status text answer = absurd answer
+
+pub shown : (look : Look) (net order plan names : Reader) (old new : Option (List ℕ)) (result : Result ℕ StreamFault) → IsShowRun look net order plan names old new result → IfOk result IsStatusOfTool
+shown look net order plan names old new (Ok status) run = of_picture look run.0 status run.2.0 run.2.1
+shown look net order plan names old new (Err fault) run = tt
+
+-- what is written as an order
+of_order : (asked : Asked) (inputs : List (List ℕ)) (status : ℕ) (text : List ℕ) → ToOne (IsOrderAnswer asked) inputs status text → IsStatusOfTool status
+of_order asked [] status text answer = absurd answer
+of_order asked (net ∷ []) status text answer = inr (asked, net, text, answer)
+of_order asked (net ∷ (other ∷ inputs)) status text answer = absurd answer
+
+pub ordered : (asked : Asked) (net : Reader) (old new : Option (List ℕ)) (result : Result ℕ StreamFault) → IsOrderRun asked net old new result → IfOk result IsStatusOfTool
+ordered asked net old new (Ok status) run = of_order asked run.0 status run.2.0 run.2.1
+ordered asked net old new (Err fault) run = tt

@@ -6,12 +6,16 @@ use Rattle.clap.specs.declared.error.kind.ErrorKind.TheVariants.{DisplayHelp, Di
 use Rattle.racp_cli.specs.Answers.{IsCpmAnswer}
 use Rattle.racp_cli.specs.Crowds.{IsCrowdAnswer}
 use Rattle.racp_cli.specs.Checks.{IsCheckAnswer}
+use Rattle.racp_cli.specs.OrderAnswers.{IsOrderAnswer}
+use Rattle.racp_cli.specs.ShowAnswers.{IsShowAnswer}
+use Rattle.racp_cli.specs.declared.order.Asked.{Asked}
+use Rattle.racp_cli.specs.declared.show.Look.{Look}
 use Rattle.racp_cli.specs.Proofs.{IsProofAnswer}
 use Rattle.racp_cli.specs.Verifies.{IsVerifyAnswer}
 use Rattle.racp_cli.specs.Streams.{fault_status}
 use Rattle.racp_cli.specs.declared.fault.StreamFault.TheVariants as stream
 use Rattle.racp.specs.declared.failure.Failure.{Failure}
-use Rattle.racp.specs.declared.failure.Failure.TheVariants.{Words, NotText, Stream}
+use Rattle.racp.specs.declared.failure.Failure.TheVariants.{Words, NotText, Option as OptionIs, Stream}
 
 -- the status where the library of the command line stops: help and the version are written, or writing them fails; memory
 -- runs out; or the words are refused
@@ -25,7 +29,14 @@ IsStatusOfKind _ status = status ≡ 2
 abbrev pub IsStatusOf : Failure → ℕ → Type 0
 IsStatusOf (Words error) status = IsStatusOfKind (kind_of error) status
 IsStatusOf NotText status = status ≡ 2
+IsStatusOf (OptionIs fault) status = status ≡ 2
 IsStatusOf (Stream fault) status = status ≡ fault_status fault
+
+-- some answer of a command that goes with plans has this status
+abbrev pub IsStatusOfTool : ℕ → Type 0
+IsStatusOfTool status =
+    ((net order plan names : List ℕ) × (look : Look) × (text : List ℕ) × IsShowAnswer look net order plan names status text) ⊎
+    ((asked : Asked) × (net : List ℕ) × (text : List ℕ) × IsOrderAnswer asked net status text)
 
 -- some answer to some texts has this status; nothing is said of which
 abbrev pub IsStatusOfAnswer : ℕ → Type 0
@@ -34,7 +45,8 @@ IsStatusOfAnswer status =
     ((net order : List ℕ) × (text : List ℕ) × IsCrowdAnswer net order status text) ⊎
     ((net order plan : List ℕ) × (text : List ℕ) × IsCheckAnswer net order plan status text) ⊎
     ((net order : List ℕ) × (text : List ℕ) × IsProofAnswer net order status text) ⊎
-    ((net order plan proof : List ℕ) × (text : List ℕ) × IsVerifyAnswer net order plan proof status text)
+    ((net order plan proof : List ℕ) × (text : List ℕ) × IsVerifyAnswer net order plan proof status text) ⊎
+    IsStatusOfTool status
 
 -- some answer, or some reason why there is none, has this status
 abbrev pub IsStatus : ℕ → Type 0

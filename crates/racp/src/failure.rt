@@ -11,9 +11,27 @@ use clap::Error;
 use clap::error::ErrorKind;
 use racp_cli::{DONE, StreamFault};
 use std::alloc::AllocError;
+use thiserror::Error as ErrorText;
 
 /// The status after a fault of the command line.
 const WORDS_REFUSED: u8 = 2;
+
+/// What is wrong with the options for an order.
+#[derive(Debug, Clone, Copy, Drop, ErrorText)]
+pub(crate) enum OptionFault {
+    /// The deadline is told in no way, or in two.
+    #[error("one of --factor and --deadline has to be given, and not both")]
+    Time,
+    /// The factor is no decimal.
+    #[error("--factor has to be a decimal such as 1.2")]
+    Factor,
+    /// The deadline is no whole number.
+    #[error("--deadline has to be a whole number such as 49")]
+    Deadline,
+    /// Prices, owned units or ceilings are no whole numbers.
+    #[error("--prices, --owned and --ceiling have to be whole numbers such as 3,5")]
+    Numbers,
+}
 
 /// Why no answer is written.
 pub(crate) enum Failure {
@@ -21,8 +39,18 @@ pub(crate) enum Failure {
     Words(Error),
     /// A word is not UTF-8.
     NotText,
+    /// The options for an order are refused.
+    Option(OptionFault),
     /// A file or a stream failed, or memory ran out.
     Stream(StreamFault),
+}
+
+impl From<OptionFault> for Failure {
+    ghost from_gives = { λ fault failure. failure ≡ failures.Option fault };
+
+    fn from(fault: OptionFault) -> Failure {
+        Failure::Option(fault)
+    }
 }
 
 impl From<Error> for Failure {
@@ -58,6 +86,10 @@ pub(crate) fn report<R: Print + Eprint>(rt: &R, failure: Failure) -> u8
         Failure::Words(error) => report_words(rt, &error),
         Failure::NotText => {
             let _ = rt.eprintln("error: a word of the command line is not UTF-8");
+            WORDS_REFUSED
+        }
+        Failure::Option(fault) => {
+            let _ = rt.eprintln(format_args!("error: {fault}"));
             WORDS_REFUSED
         }
         Failure::Stream(fault) => report_fault(rt, fault),

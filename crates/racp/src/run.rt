@@ -8,6 +8,7 @@ ghost use Rattle.racp_cli.specs.declared.fault.StreamFault.TheVariants as stream
 use crate::failure::{Failure, report};
 use crate::limit::Limit;
 use crate::progress::{Listener, Progress};
+use crate::tools::tool;
 use racp_cli::{
     StreamFault, check_over, cpm_over, crowd_over_by, prove_over, run_over_within, verify_over,
 };
@@ -55,6 +56,7 @@ fn answer<R: Clock + Env + Files + Input + Print + Eprint + AllocGlobal + Thread
         Request::Prove(files) => Ok(prove(rt, files)?),
         Request::Check(files) => Ok(check(rt, files)?),
         Request::Verify(files) => Ok(verify(rt, files)?),
+        Request::Tool(asked) => tool(rt, asked),
     }
 }
 
@@ -203,7 +205,7 @@ fn verify<R: Files + Print + AllocGlobal>(rt: &R, files: ProofFiles<'_>) -> Resu
 }
 
 /// The file with this path, for reading.
-fn open<R: Files>(rt: &R, path: &str) -> Result<R::File, StreamFault>
+pub(crate) fn open<R: Files>(rt: &R, path: &str) -> Result<R::File, StreamFault>
     ensures { IfErr result (λ fault. fault ≡ streams.Read) }
 {
     match File::open(rt, path) {

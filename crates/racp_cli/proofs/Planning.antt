@@ -7,21 +7,28 @@ use Rattle.racp_prices.specs.Orders.{IsOrderOrMemory}
 use Rattle.racp_prices.specs.declared.fault.OrderFault.{OrderFault}
 use Rattle.racp_cli.specs.Texts.{memory_line}
 use Rattle.racp_cli.specs.Responses.{IsNetworkRefused, IsOrderRefused}
-use Rattle.racp_cli.specs.Plans.{IsPlanAnswer}
+use Rattle.racp_cli.specs.Plans.{IsNetworkLine, IsOrderLine, IsPlanAnswer}
 use Rattle.racp_cli.proofs.Answering.{right_refusal}
+
+-- the line of a network text that is refused
+pub network_line : (net : List ℕ) (fault : SmFault) (status : ℕ) (text : List ℕ) → IsReadingOrMemory net (Err fault) → IsNetworkRefused fault status text → IsNetworkLine net status text
+network_line net fault status text reading (other, with_status, with_text) = (fault, right_refusal net fault reading other, sym with_status, sym with_text)
+
+-- the line of an order text that is refused
+pub order_line : (net order : List ℕ) (network : Project) (fault : OrderFault) (status : ℕ) (text : List ℕ) → IsReading net (Ok network) →
+    IsOrderOrMemory network.resources (length network.jobs) order (Err fault) → IsOrderRefused fault status text → IsOrderLine net order status text
+order_line net order network fault status text reading (inl right) (other, with_status, with_text) = (network, fault, reading, right, sym with_status, sym with_text)
+order_line net order network fault status text reading (inr (utf8, memory)) (other, with_status, with_text) = absurd (other memory)
 
 -- the answer to a network text that is refused
 pub plan_network_refused : (net order : List ℕ) (fault : SmFault) (status : ℕ) (text : List ℕ) → IsReadingOrMemory net (Err fault) → IsNetworkRefused fault status text →
     IsPlanAnswer net order status text
-plan_network_refused net order fault status text reading (other, with_status, with_text) =
-    inr (inl (fault, right_refusal net fault reading other, sym with_status, sym with_text))
+plan_network_refused net order fault status text reading refused = inr (inl (network_line net fault status text reading refused))
 
 -- the answer to an order text that is refused
 pub plan_order_refused : (net order : List ℕ) (network : Project) (fault : OrderFault) (status : ℕ) (text : List ℕ) → IsReading net (Ok network) →
     IsOrderOrMemory network.resources (length network.jobs) order (Err fault) → IsOrderRefused fault status text → IsPlanAnswer net order status text
-plan_order_refused net order network fault status text reading (inl right) (other, with_status, with_text) =
-    inr (inr (inl (network, fault, reading, right, sym with_status, sym with_text)))
-plan_order_refused net order network fault status text reading (inr (utf8, memory)) (other, with_status, with_text) = absurd (other memory)
+plan_order_refused net order network fault status text reading right refused = inr (inr (inl (order_line net order network fault status text reading right refused)))
 
 -- the answer where memory ran out
 pub plan_memory : (net order : List ℕ) → IsPlanAnswer net order 6 memory_line

@@ -9,3 +9,5 @@ pub mod Streams
 pub mod Pieces
 pub mod Responses
 pub mod Laws
+pub mod OrderAnswers
+pub mod ShowAnswers

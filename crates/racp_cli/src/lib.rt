@@ -7,7 +7,8 @@
 //! `cpm_over` answers a network with its critical length and early starts, `run_over` a network and an order with the
 //! plan or why there is none, `crowd_over` the same by workers, `prove_over` a network and an order with a certificate for
 //! the plan, `check_over` a network, an order and a plan with `ok` or what is wrong, and `verify_over` these and a
-//! certificate with whether that shows that no cheaper capacities would do. Each returns the status with which the
+//! certificate with whether that shows that no cheaper capacities would do. `show_over` answers a network, an order and a plan
+//! with a picture of the plan, and `order_over` a network with the text of an order. Each returns the status with which the
 //! program ends. `run_over_within` and `crowd_over_by` also take
 //! how much memory the records of refuted nodes may have. docs/FORMATS.md has every line and every status.
 //!
@@ -33,7 +34,7 @@
 //! flushed once. A call that takes no byte, or fails, is `Write`; a call that is interrupted counts as failed.
 //!
 //! In `specs/`, an answer is a value, with the text and the status that stand for it. `IsCpmAnswer`, `IsPlanAnswer`,
-//! `IsCrowdAnswer`, `IsProofAnswer`, `IsCheckAnswer` and `IsVerifyAnswer` say when text and status are right for the bytes
+//! `IsCrowdAnswer`, `IsProofAnswer`, `IsCheckAnswer`, `IsVerifyAnswer`, `IsShowAnswer` and `IsOrderAnswer` say when text and status are right for the bytes
 //! of one to four inputs, and `IsRun` ties
 //! answers to what the readers had and what the writer holds, for all commands.
 //!
@@ -53,10 +54,12 @@ mod crowd;
 mod fault;
 pub mod laws;
 mod lines;
+mod order;
 mod plan;
 mod prove;
 mod refusal;
 mod respond;
+mod show;
 mod status;
 mod streams;
 mod verify;
@@ -65,7 +68,9 @@ pub use check::check_over;
 pub use cpm::cpm_over;
 pub use crowd::{crowd_over, crowd_over_by};
 pub use fault::StreamFault;
+pub use order::{Asked, Time, order_over};
 pub use plan::{run_over, run_over_within};
 pub use prove::prove_over;
+pub use show::{Form, Look, show_over};
 pub use status::{CHECK_FAILED, DONE, OUT_OF_MEMORY, REFUSED, STOPPED, STREAM_FAILED};
 pub use verify::verify_over;

@@ -1,0 +1,134 @@
+//! Runs the commands that go with plans.
+
+ghost use Rattle.std.specs.Prelude.{◌≤◌, IfOk};
+ghost use Rattle.racp.specs.Statuses.{IsStatusOfTool};
+
+use crate::failure::{Failure, OptionFault};
+use crate::run::open;
+use racp_cli::{Asked, Form, Look, StreamFault, Time, order_over, show_over};
+use racp_order::{Factor, numbers_of};
+use racp_words::{PlanFiles, Terms, Tool};
+use std::alloc::{AllocError, Global};
+use std::io;
+use std::rt::Files;
+
+/// Writes the answer to what a command that goes with plans asks for.
+pub(crate) fn tool<R: Files + Print + AllocGlobal>(rt: &R, tool: Tool<'_>) -> Result<u8, Failure>
+    ensures { IfOk result IsStatusOfTool }
+{
+    match tool {
+        Tool::Show(files, look) => Ok(show(rt, files, look)?),
+        Tool::Order(net, terms) => {
+            let asked = asked_order(rt.alloc(), &terms)?;
+            Ok(order(rt, net, asked)?)
+        }
+    }
+}
+
+/// Writes a picture of the plan in these files.
+fn show<R: Files + Print + AllocGlobal>(
+    rt: &R,
+    files: PlanFiles<'_>,
+    look: racp_words::Look<'_>,
+) -> Result<u8, StreamFault>
+    ensures { IfOk result IsStatusOfTool }
+{
+    let mut net = open(rt, files.net)?;
+    let mut order = open(rt, files.order)?;
+    let mut plan = open(rt, files.plan)?;
+    let how = Look {
+        width: look.width as usize,
+        form: form_of(look.form),
+    };
+    let mut out = io::writer(rt);
+    match look.names {
+        Some(path) => {
+            let mut names = open(rt, path)?;
+            show_over(
+                rt.alloc(),
+                &mut net,
+                &mut order,
+                &mut plan,
+                &mut names,
+                how,
+                &mut out,
+            )
+        }
+        None => {
+            let mut names: &[u8] = &[];
+            show_over(
+                rt.alloc(),
+                &mut net,
+                &mut order,
+                &mut plan,
+                &mut names,
+                how,
+                &mut out,
+            )
+        }
+    }
+}
+
+/// What is to be written of a plan.
+fn form_of(form: racp_words::Form) -> Form {
+    match form {
+        racp_words::Form::Text => Form::Text,
+        racp_words::Form::Ascii => Form::Ascii,
+        racp_words::Form::Svg => Form::Svg,
+        racp_words::Form::Json => Form::Json,
+        racp_words::Form::Csv => Form::Csv,
+    }
+}
+
+/// Writes the order that is asked for, for the network in this file.
+fn order<R: Files + Print + AllocGlobal>(rt: &R, net: &str, asked: Asked) -> Result<u8, StreamFault>
+    ensures { IfOk result IsStatusOfTool }
+{
+    let mut net = open(rt, net)?;
+    order_over(rt.alloc(), &mut net, asked, &mut io::writer(rt))
+}
+
+/// What an order is to say, by the words for its terms.
+fn asked_order(alloc: Global, terms: &Terms<'_>) -> Result<Asked, Failure> {
+    let time = time_of(terms.factor, terms.deadline)?;
+    let prices = listed(alloc, terms.prices)?;
+    let owned = optional_list(alloc, terms.owned)?;
+    let ceilings = optional_list(alloc, terms.ceiling)?;
+    Ok(Asked {
+        time,
+        prices,
+        owned,
+        ceilings,
+    })
+}
+
+/// The deadline that one of these two words tells.
+fn time_of(factor: Option<&str>, deadline: Option<&str>) -> Result<Time, OptionFault> {
+    match (factor, deadline) {
+        (Some(factor), None) => match Factor::read(factor) {
+            Some(factor) => Ok(Time::Factor(factor)),
+            None => Err(OptionFault::Factor),
+        },
+        (None, Some(deadline)) => match deadline.parse() {
+            Ok(deadline) => Ok(Time::Deadline(deadline)),
+            Err(_) => Err(OptionFault::Deadline),
+        },
+        _ => Err(OptionFault::Time),
+    }
+}
+
+/// The numbers that a word lists.
+fn listed(alloc: Global, word: &str) -> Result<Vec<u32>, Failure> {
+    match numbers_of(alloc, word)? {
+        Some(numbers) => Ok(numbers),
+        None => Err(Failure::Option(OptionFault::Numbers)),
+    }
+}
+
+/// The numbers that a word lists, where there is one.
+fn optional_list(alloc: Global, word: Option<&str>) -> Result<Option<Vec<u32>>, Failure> {
+    match word {
+        Some(word) => Ok(Some(listed(alloc, word)?)),
+        None => Ok(None),
+    }
+}

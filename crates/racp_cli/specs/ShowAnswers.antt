@@ -1,0 +1,62 @@
+-- What `show` answers to the texts of a network, an order, a plan and names.
+use Rattle.std.specs.Prelude.{◌≡◌, ◌⊎◌, ℕ, List, [], ◌∷◌, ⊤, IsUtf8, Option, Result, Ok, Err, codes}
+use Rattle.racp_model.specs.Project.{Project}
+use Rattle.racp_model.specs.Terms.{Terms}
+use Rattle.racp_plan.specs.declared.plan.Plan.{Plan}
+use Rattle.racp_plan.specs.Texts.{line}
+use Rattle.racp_check.specs.PlanFaults.{IsChecked}
+use Rattle.racp_show.specs.Tables.{table_text}
+use Rattle.racp_cli.specs.Checks.{AreRead, HasRightHead, IsCheck, check_status, check_text}
+use Rattle.racp_cli.specs.Streams.{Reader, IsRun, ToFour}
+use Rattle.racp_cli.specs.declared.check_fault.CheckFault.{CheckFault}
+use Rattle.racp_cli.specs.declared.fault.StreamFault.{StreamFault}
+use Rattle.racp_cli.specs.declared.show.Form.{Form}
+use Rattle.racp_cli.specs.declared.show.Form.TheVariants.{Text, Ascii, Svg, Json, Csv}
+use Rattle.racp_cli.specs.declared.show.Look.{Look}
+
+-- what is written of a plan: as CSV its table; nothing is said here of the other forms, whose values racp_show speaks of
+abbrev pub IsPicture : Form → Project → Plan → List (List ℕ) → List ℕ → Type 0
+IsPicture Text network plan names text = ⊤
+IsPicture Ascii network plan names text = ⊤
+IsPicture Svg network plan names text = ⊤
+IsPicture Json network plan names text = ⊤
+IsPicture Csv network plan names text = text ≡ table_text network plan.starts names
+
+-- the line where names are not UTF-8
+abbrev pub names_line : List ℕ
+names_line = line (codes "refused names 1 NotUtf8")
+
+-- the plan with these names, or that they are none
+abbrev pub IsNamed : Look → Project → Plan → List ℕ → ℕ → List ℕ → Type 0
+IsNamed look network plan names status text =
+    (IsUtf8 names × (status ≡ 0) × ((all : List (List ℕ)) × IsPicture look.form network plan all text)) ⊎
+    ((IsUtf8 names → ⊥) × (status ≡ 5) × (text ≡ names_line))
+
+-- the plan, with which nothing is wrong
+pub record IsShown (look : Look) (net order plan names : List ℕ) (status : ℕ) (text : List ℕ) : Type 0 where
+  pub network : Project
+  pub terms : Terms
+  pub found : Plan
+  pub are_read : AreRead net order plan network terms found
+  pub head : HasRightHead network terms found
+  pub checked : IsChecked network terms found (Ok tt)
+  pub named : IsNamed look network found names status text
+
+-- what `check` says of it
+pub record IsFaulty (net order plan : List ℕ) (status : ℕ) (text : List ℕ) : Type 0 where
+  pub fault : CheckFault
+  pub right : IsCheck net order plan (Err fault)
+  pub with_status : status ≡ check_status (Err fault)
+  pub with_text : text ≡ check_text (Err fault)
+
+-- what is right for the texts of a network, an order, a plan and names: the plan, where nothing is wrong with it; else what `check`
+-- says; memory may run out at any texts
+abbrev pub IsShowAnswer : Look → List ℕ → List ℕ → List ℕ → List ℕ → ℕ → List ℕ → Type 0
+IsShowAnswer look net order plan names status text =
+    IsShown look net order plan names status text ⊎ IsFaulty net order plan status text
+
+-- a run of `show`
+abbrev pub IsShowRun : Look → Reader → Reader → Reader → Reader → Option (List ℕ) → Option (List ℕ) →
+    Result ℕ StreamFault → Type 0
+IsShowRun look net order plan names =
+    IsRun (ToFour (IsShowAnswer look)) (net ∷ (order ∷ (plan ∷ (names ∷ []))))

@@ -1,0 +1,139 @@
+//! `show`: a plan to look at.
+
+ghost use Rattle.std.specs.Prelude.{◌≡◌, IfOk, length};
+ghost use Rattle.racp_model.specs.Terms.{AreTermsOf};
+ghost use Rattle.racp_check.specs.PlanFaults.{IsFitting};
+ghost use Rattle.racp_cli.specs.ShowAnswers.{IsNamed, IsPicture, IsShowAnswer, IsShowRun};
+
+use crate::check::{Checked, read_checked};
+use crate::fault::StreamFault;
+use crate::respond::respond;
+use crate::status::{DONE, REFUSED};
+use crate::streams::read_whole;
+use racp_model::Network;
+use racp_plan::Plan;
+use racp_prices::Order;
+use racp_show::{Names, chart_text, csv_text, json_text, svg_text};
+use std::alloc::{AllocError, Global};
+use std::io::{Read, Write};
+
+/// What is written of a plan.
+#[derive(Clone, Copy)]
+pub enum Form {
+    /// A chart of blocks.
+    Text,
+    /// A chart of characters that every terminal has.
+    Ascii,
+    /// A picture for a browser.
+    Svg,
+    /// A value for programs.
+    Json,
+    /// A table for programs.
+    Csv,
+}
+
+/// How a plan is shown.
+#[derive(Clone, Copy)]
+pub struct Look {
+    /// How many columns a line of a chart has at most; 40 where it is less, 1,000 where it is more.
+    pub width: usize,
+    /// What is written.
+    pub form: Form,
+}
+
+/// Reads a network text, an order text, a plan text and names, all of each before the next, and writes to `out` the plan in
+/// the form that is asked for; or, where something is wrong with the plan, what `check_over` writes. The names are those of
+/// the jobs and then of the resources, one a line; there may be none. Returns the status that belongs to what was written:
+/// 0 for a plan, 5 where the names are not UTF-8, else that of `check_over`.
+///
+/// # Errors
+///
+/// After these nothing was written: `Read`, a read failed; `TooLong`, a reader has more than 16,777,216 bytes;
+/// `Memory`, memory for an input was refused. After `Write`, a write failed or took no byte, and what is out is a
+/// beginning of the text.
+pub fn show_over<N: Read, O: Read, P: Read, M: Read, W: Write>(
+    alloc: Global,
+    net: &mut N,
+    order: &mut O,
+    plan: &mut P,
+    names: &mut M,
+    look: Look,
+    out: &mut W,
+) -> Result<u8, StreamFault>
+    ensures { IsShowRun look (record { unread = N.remaining net.old; left = N.remaining net.new })
+        (record { unread = O.remaining order.old; left = O.remaining order.new })
+        (record { unread = P.remaining plan.old; left = P.remaining plan.new })
+        (record { unread = M.remaining names.old; left = M.remaining names.new }) (W.contents out.old)
+        (W.contents out.new) result }
+{
+    let net = read_whole(alloc, net)?;
+    let order = read_whole(alloc, order)?;
+    let plan = read_whole(alloc, plan)?;
+    let names = read_whole(alloc, names)?;
+    respond(answer(alloc, &net, &order, &plan, &names, look), out)
+}
+
+/// The status and the text of the answer to the texts of a network, an order, a plan and names.
+fn answer(
+    alloc: Global,
+    net: &[u8],
+    order: &[u8],
+    plan: &[u8],
+    names: &[u8],
+    look: Look,
+) -> Result<(u8, Vec<u8>), AllocError>
+    ensures { IfOk result (λ answer. IsShowAnswer look net.now order.now plan.now names.now answer.0 answer.1.items) }
+{
+    match read_checked(alloc, net, order, plan) {
+        Ok(found) => named(alloc, &found, names, look),
+        Err(fault) => {
+            let line = fault.line(alloc)?;
+            Ok((fault.status(), line))
+        }
+    }
+}
+
+/// The status and the text where nothing is wrong with a plan.
+fn named(
+    alloc: Global,
+    found: &Checked,
+    names: &[u8],
+    look: Look,
+) -> Result<(u8, Vec<u8>), AllocError>
+    requires terms { AreTermsOf found.now.net found.now.order }
+    requires capacities { length found.now.plan.capacities ≡ found.now.net.resources }
+    requires fitting { IsFitting found.now.net found.now.order found.now.plan }
+    ensures { IfOk result (λ answer. IsNamed look found.now.net found.now.plan names.now answer.0 answer.1.items) }
+{
+    match Names::read(alloc, names)? {
+        Some(names) => {
+            let text = picture(alloc, &found.net, &found.order, &found.plan, &names, look)?;
+            Ok((DONE, text))
+        }
+        None => Ok((REFUSED, b"refused names 1 NotUtf8\n".to_vec(alloc)?)),
+    }
+}
+
+/// The plan in the form that is asked for.
+fn picture(
+    alloc: Global,
+    net: &Network,
+    order: &Order,
+    plan: &Plan,
+    names: &Names,
+    look: Look,
+) -> Result<Vec<u8>, AllocError>
+    requires terms { AreTermsOf net.now order.now }
+    requires capacities { length plan.now.capacities ≡ net.now.resources }
+    requires fitting { IsFitting net.now order.now plan.now }
+    ensures { IfOk result (λ text. IsPicture look.form net.now plan.now names.now text.items) }
+{
+    let text = match look.form {
+        Form::Text => chart_text(alloc, net, order, plan, names, look.width, false)?,
+        Form::Ascii => chart_text(alloc, net, order, plan, names, look.width, true)?,
+        Form::Svg => svg_text(alloc, net, order, plan, names)?,
+        Form::Json => json_text(alloc, net, order, plan, names)?,
+        Form::Csv => return csv_text(alloc, net, order, plan, names),
+    };
+    Ok(text.into_bytes())
+}
