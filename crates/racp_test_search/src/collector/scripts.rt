@@ -213,7 +213,11 @@ fn are_whole(pieces: &[Held], units: &[[u32; 2]]) -> bool {
 fn holds<N: OfNetwork>(alloc: Global, net: &Network, script: &Script) -> Result<bool, SampleFault>
     requires { net.now ≡ N.network }
 {
-    let mut trial: Trial<N> = start(alloc, net, script.units.0, script.units.1)?;
+    let (floor, roof) = script.units;
+    let mut trial: Trial<N> = match start(alloc, net, floor, roof) {
+        Ok(trial) => trial,
+        Err(_) => start(alloc, net, floor, roof)?,
+    };
     let followed = follows(alloc, net, &mut trial, script);
     let ended = ends(trial, script.end, script.reached);
     Ok(followed? && ended)
@@ -233,7 +237,10 @@ fn broken<N: OfNetwork>(alloc: Global, net: &Network) -> Result<Option<usize>, S
 
 #[test]
 fn scripts_are_answered(rt: HostRuntime) -> Result<(), SampleFault> {
-    let net = crossed(rt.alloc())?;
+    let net = match crossed(rt.alloc()) {
+        Ok(net) => net,
+        Err(_) => crossed(rt.alloc())?,
+    };
     assert_eq!(rt; broken::<Brand>(rt.alloc(), &net)?, None);
     Ok(())
 }

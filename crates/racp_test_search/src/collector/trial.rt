@@ -101,7 +101,7 @@ pub(crate) fn start<N: OfNetwork>(
     })
 }
 
-/// Makes a call. A piece that was never taken is stale.
+/// Makes a call, and makes it once more where memory is refused. A piece that was never taken is stale.
 pub(crate) fn make<N: OfNetwork>(
     alloc: Global,
     net: &Network,
@@ -123,7 +123,11 @@ pub(crate) fn make<N: OfNetwork>(
 }
 
 fn ask<N: OfNetwork>(core: &mut Core<N, Vectors>) -> Result<Heard, AllocError> {
-    Ok(match core.ask()? {
+    let asked = match core.ask() {
+        Ok(asked) => asked,
+        Err(_) => core.ask()?,
+    };
+    Ok(match asked {
         Asked::Question(index) => Heard::Question(index),
         Asked::End => Heard::End,
         Asked::Enough => Heard::Enough,
@@ -135,11 +139,23 @@ fn take<N: OfNetwork>(trial: &mut Trial<N>, seat: usize) -> Result<Heard, AllocE
     if trial.core.taken() == u64::MAX {
         return Ok(Heard::Nothing);
     }
-    match trial.core.take(seat)? {
+    if trial.pieces.reserve(1).is_err() {
+        trial.pieces.reserve(1)?;
+    }
+    let reply = match trial.core.take(seat) {
+        Ok(reply) => reply,
+        Err(_) => trial.core.take(seat)?,
+    };
+    told_of(reply, &mut trial.pieces)
+}
+
+/// What a reply tells. Its piece is kept, for which there is room.
+fn told_of<N: OfNetwork>(reply: Reply<Piece<N>>, pieces: &mut Vec<Held>) -> Result<Heard, AllocError> {
+    match reply {
         Reply::Piece(piece) => {
             let (number, seat, index) = (piece.number(), piece.seat(), piece.index());
             let question = piece.into_question::<Held>();
-            trial.pieces.push(Held {
+            pieces.push(Held {
                 number,
                 seat,
                 index,
@@ -196,17 +212,47 @@ fn hand<N: OfNetwork>(
     };
     let finding: Finding<N> = explored(alloc, net, held, change, quantum)?;
     trial.found = found_in(&finding);
-    match trial.core.hand(finding) {
+    Ok(hand_in(&mut trial.core, finding)?)
+}
+
+/// Hands a finding in, and hands it in once more where memory is refused.
+fn hand_in<N: OfNetwork>(
+    core: &mut Core<N, Vectors>,
+    finding: Finding<N>,
+) -> Result<Heard, AllocError> {
+    let finding = match core.hand(finding) {
+        Ok(merged) => return Ok(of_merged(merged)),
+        Err((finding, _)) => finding,
+    };
+    match core.hand(finding) {
         Ok(merged) => Ok(of_merged(merged)),
         Err((finding, error)) => {
             let _ = finding.into_found();
-            Err(SampleFault::from(error))
+            Err(error)
         }
     }
 }
 
-/// What a search of the piece finds, with a change.
+/// What a search of the piece finds, with a change. It is searched once more where memory is refused.
 fn explored<N: OfNetwork>(
+    alloc: Global,
+    net: &Network,
+    held: &Held,
+    change: Change,
+    quantum: Option<u64>,
+) -> Result<Finding<N>, SampleFault>
+    requires { net.now ≡ N.network }
+{
+    if let Ok(finding) = explored_once(alloc, net, held, change, quantum) {
+        if !finding.short() {
+            return Ok(finding);
+        }
+        let _ = finding.into_found();
+    }
+    explored_once(alloc, net, held, change, quantum)
+}
+
+fn explored_once<N: OfNetwork>(
     alloc: Global,
     net: &Network,
     held: &Held,
@@ -242,12 +288,15 @@ fn give_back<N: OfNetwork>(
     let Some(held) = trial.pieces.get(at) else {
         return Ok(Heard::Stale);
     };
-    let piece = piece(alloc, net, held, change)?;
+    let given = match piece(alloc, net, held, change) {
+        Ok(given) => given,
+        Err(_) => piece(alloc, net, held, change)?,
+    };
     trial.found = Found {
         yes: false,
         left: 1,
     };
-    Ok(of_merged(trial.core.give_back(piece)))
+    Ok(of_merged(trial.core.give_back(given)))
 }
 
 fn of_merged(merged: Merged) -> Heard {
