@@ -1,0 +1,31 @@
+# Completions of racp for bash: source this file, or put it into a folder of bash-completion as `racp`.
+
+_racp() {
+    local word=${COMP_WORDS[COMP_CWORD]} before=${COMP_WORDS[COMP_CWORD - 1]} command=${COMP_WORDS[1]}
+    local commands="cpm plan prove check verify show order help"
+    local options=""
+    if [ "$COMP_CWORD" -eq 1 ]; then
+        mapfile -t COMPREPLY < <(compgen -W "$commands --help --version" -- "$word")
+        return
+    fi
+    case $command in
+        plan) options="--workers --turns --stats --memory --time-limit --progress" ;;
+        show) options="--names --width --ascii --svg --json --csv" ;;
+        order) options="--factor --deadline --prices --owned --ceiling" ;;
+        help)
+            mapfile -t COMPREPLY < <(compgen -W "$commands" -- "$word")
+            return
+            ;;
+    esac
+    case $before in
+        --workers | --turns | --memory | --time-limit | --width) return ;;
+        --factor | --deadline | --prices | --owned | --ceiling) return ;;
+    esac
+    if [[ $word == -* ]]; then
+        mapfile -t COMPREPLY < <(compgen -W "$options --help" -- "$word")
+    else
+        mapfile -t COMPREPLY < <(compgen -f -- "$word")
+    fi
+}
+
+complete -o filenames -F _racp racp

@@ -1,0 +1,31 @@
+# Completions of racp for fish: put this file into ~/.config/fish/completions.
+
+set -l commands cpm plan prove check verify show order help
+set -l none "not __fish_seen_subcommand_from $commands"
+complete -c racp -n "$none" -a cpm -d "the critical length and the early starts of a network"
+complete -c racp -n "$none" -a plan -d "the cheapest capacities that meet an order, with the least starts"
+complete -c racp -n "$none" -a prove -d "a certificate that no cheaper capacities would do"
+complete -c racp -n "$none" -a check -d "whether a plan is right"
+complete -c racp -n "$none" -a verify -d "whether a certificate shows that no cheaper capacities would do"
+complete -c racp -n "$none" -a show -d "a chart of a plan"
+complete -c racp -n "$none" -a order -d "the text of an order"
+complete -c racp -n "$none" -a help -d help
+complete -c racp -n "$none" -l version -d "print the version"
+complete -c racp -l help -d "print help"
+complete -c racp -n "__fish_seen_subcommand_from plan" -l workers -x -d "how many workers"
+complete -c racp -n "__fish_seen_subcommand_from plan" -l turns -x -d "how many pieces"
+complete -c racp -n "__fish_seen_subcommand_from plan" -l stats -d "tell the work"
+complete -c racp -n "__fish_seen_subcommand_from plan" -l memory -x -d "mebibytes for records"
+complete -c racp -n "__fish_seen_subcommand_from plan" -l time-limit -x -d seconds
+complete -c racp -n "__fish_seen_subcommand_from plan" -l progress -d "tell how far it is"
+complete -c racp -n "__fish_seen_subcommand_from show" -l names -r -d "names of jobs and resources"
+complete -c racp -n "__fish_seen_subcommand_from show" -l width -x -d "columns of a line"
+complete -c racp -n "__fish_seen_subcommand_from show" -l ascii -d "plain characters"
+complete -c racp -n "__fish_seen_subcommand_from show" -l svg -d "a picture"
+complete -c racp -n "__fish_seen_subcommand_from show" -l json -d JSON
+complete -c racp -n "__fish_seen_subcommand_from show" -l csv -d CSV
+complete -c racp -n "__fish_seen_subcommand_from order" -l factor -x -d "deadline by the critical length"
+complete -c racp -n "__fish_seen_subcommand_from order" -l deadline -x -d deadline
+complete -c racp -n "__fish_seen_subcommand_from order" -l prices -x -d prices
+complete -c racp -n "__fish_seen_subcommand_from order" -l owned -x -d "owned units"
+complete -c racp -n "__fish_seen_subcommand_from order" -l ceiling -x -d "most units"
