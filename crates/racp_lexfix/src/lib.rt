@@ -69,6 +69,7 @@ mod starts;
 pub use alone::Alone;
 pub use answer::{Answer, PlanStop};
 pub use crowd::{Crowd, Effort};
+pub use lines::answer_lines;
 pub use observer::{Observer, Unheard};
 pub use planning::plan;
 pub use printed::{

@@ -7,8 +7,13 @@ use crate::answer::Answer;
 use racp_plan::write_plan;
 use std::alloc::{AllocError, Global};
 
-/// The text of an answer on the terms of an order with this deadline.
-pub(crate) fn answer_lines(
+/// The text of an answer on the terms of an order with this deadline, in ASCII: that of the plan, or the line that says why
+/// there is none.
+///
+/// # Errors
+///
+/// Memory was refused.
+pub fn answer_lines(
     alloc: Global,
     deadline: u32,
     answer: &Answer,

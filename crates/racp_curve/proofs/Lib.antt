@@ -1,0 +1,6 @@
+mod Deadlines
+mod Reasons
+mod Asking
+mod Growing
+mod Telling
+mod TextLines

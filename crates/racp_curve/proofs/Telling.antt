@@ -1,0 +1,56 @@
+-- Why a curve is known in part alone, and what a curve tells.
+use Rattle.std.proofs.Common.{◌≡◌, ℕ, ◌+◌, ◌≤◌, List, [], ◌∷◌, Option, refl, sym, subst, arith, inl, inr, ◌⊎◌}
+use Rattle.std.specs.List.{Contains}
+use Rattle.std.proofs.lemmas.Bool.{cases_lt}
+use Rattle.racp_model.specs.Project.{Project}
+use Rattle.racp_model.specs.Terms.{Terms}
+use Rattle.racp_model.proofs.lemmas.Relations.{member_first, member_later}
+use Rattle.racp_lexfix.specs.Answers.{IsStoppedAt, IsPlanStop}
+use Rattle.racp_lexfix.specs.declared.answer.PlanStop.{PlanStop}
+use Rattle.racp_lexfix.specs.declared.answer.PlanStop.TheVariants.{Stopped, Memory, NoThread}
+use Rattle.racp_curve.specs.declared.step.Step.{Step}
+use Rattle.racp_curve.specs.Curves.{order_by, ArePlanned, NoneIsEnough, first_deadline, AreSteps, AreNotAfterEnough, IsCurve, IsCurveStop}
+use Rattle.racp_curve.proofs.Deadlines.{enough_later}
+
+-- what is told of a stop follows from something else that is
+pub told_too : (IsTold IsToldToo : List ℕ → Type 0) (may_stop may_want_thread : Type 0) (stop : PlanStop) → ((capacities : List ℕ) → IsTold capacities → IsToldToo capacities) → IsPlanStop IsTold may_stop may_want_thread stop →
+    IsPlanStop IsToldToo may_stop may_want_thread stop
+told_too IsTold IsToldToo may_stop may_want_thread (Stopped not_before) so h = (h.0, so not_before h.1)
+told_too IsTold IsToldToo may_stop may_want_thread Memory so h = tt
+told_too IsTold IsToldToo may_stop may_want_thread NoThread so h = h
+
+-- where planning for a deadline stops, none that are enough for it or an earlier one stand before what is told
+pub stopped_by : (p : Project) (terms : Terms) (deadline answered : ℕ) (told : Option (List ℕ)) (capacities : List ℕ) → IsStoppedAt p (order_by deadline terms) answered told capacities → AreNotAfterEnough p terms (deadline + 1) capacities
+stopped_by p terms deadline answered told capacities h by l other is before = h.none other (enough_later p terms by deadline other (omega (arith, l)) is) before
+
+-- where planning for the order's own deadline stops, there are no steps
+pub stopped_first : (p : Project) (terms : Terms) (may_stop may_want_thread : Type 0) (answered : ℕ) (told : Option (List ℕ)) (steps : List Step) (stop : PlanStop) → steps ≡ [] → IsPlanStop (IsStoppedAt p terms answered told) may_stop may_want_thread stop →
+    IsCurveStop p terms may_stop may_want_thread steps stop
+stopped_first p terms may_stop may_want_thread answered told steps stop none h = subst (λ (s : List Step). IsCurveStop p terms may_stop may_want_thread s stop) (sym none) (record {
+  are_steps = tt;
+  reason = told_too (IsStoppedAt p terms answered told) (AreNotAfterEnough p terms (terms.deadline + 1)) may_stop may_want_thread stop (λ capacities is. stopped_by p terms terms.deadline answered told capacities is) h;
+})
+
+-- an asker that neither stops nor wants a thread
+pub memory_alone : (IsTold : List ℕ → Type 0) (stop : PlanStop) → IsPlanStop IsTold ⊥ ⊥ stop → stop ≡ Memory
+memory_alone IsTold (Stopped not_before) h = absurd h.0
+memory_alone IsTold Memory h = refl
+memory_alone IsTold NoThread h = absurd h
+
+-- of each deadline from the first step on, up to the order's, a step tells the plan's capacities
+step_tells : (p : Project) (terms : Terms) (steps : List Step) (deadline : ℕ) → AreSteps p terms steps → first_deadline (terms.deadline + 1) steps ≤ deadline → deadline ≤ terms.deadline →
+    (step : Step) × Contains steps step × (step.deadline ≤ deadline) × ArePlanned p (order_by deadline terms) step.capacities
+step_tells p terms [] deadline are from to = absurd (omega (arith, from, to))
+step_tells p terms (step ∷ rest) deadline are from to = elim (cases_lt deadline (first_deadline (terms.deadline + 1) rest)) [
+  | inl before ↦ (step, member_first step rest step refl, from, are.0.planned deadline from before)
+  | inr behind ↦
+      let found = step_tells p terms rest deadline are.2 behind to in
+      (found.0, member_later step rest found.0 found.1, found.2, found.3)
+]
+
+pub curve_tells : (p : Project) (terms : Terms) (steps : List Step) (deadline : ℕ) → IsCurve p terms steps → deadline ≤ terms.deadline →
+    NoneIsEnough p (order_by deadline terms) ⊎ ((step : Step) × Contains steps step × (step.deadline ≤ deadline) × ArePlanned p (order_by deadline terms) step.capacities)
+curve_tells p terms steps deadline curve to = elim (cases_lt deadline (first_deadline (terms.deadline + 1) steps)) [
+  | inl before ↦ inl (curve.none deadline before)
+  | inr behind ↦ inr (step_tells p terms steps deadline curve.are_steps behind to)
+]

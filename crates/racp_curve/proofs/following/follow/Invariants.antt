@@ -1,0 +1,11 @@
+use Rattle.racp_curve.specs.Following.{IsNext}
+use Rattle.racp_curve.proofs.following.follow.Given as goal
+
+abbrev pub invariant-plans : goal.invariant-plans
+invariant-plans g l = record {
+  network : g.A.Asker.about l.asker l.net;
+  next : IsNext l.net l.order l.plan l.steps.items;
+}
+
+abbrev pub decreases-plans : goal.decreases-plans
+decreases-plans g l = l.plan.deadline

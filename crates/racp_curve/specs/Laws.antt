@@ -1,0 +1,28 @@
+-- Laws of deadlines and curves. Each is the contract of a public function.
+use Rattle.std.specs.Prelude.{◌⊎◌, ℕ, ◌≤◌, List, Contains}
+use Rattle.racp_model.specs.Project.{Project}
+use Rattle.racp_model.specs.Terms.{Terms}
+use Rattle.racp_model.specs.Plan.{IsEnough}
+use Rattle.racp_curve.specs.Curves.{order_by, ArePlanned, NoneIsEnough, IsCurve}
+use Rattle.racp_curve.specs.declared.step.Step.{Step}
+
+-- what is enough for a deadline is enough for each later one
+abbrev pub EnoughLater : Type 0
+EnoughLater =
+    (p : Project) (terms : Terms) (sooner later : ℕ) (capacities : List ℕ) → sooner ≤ later →
+    IsEnough p (order_by sooner terms) capacities → IsEnough p (order_by later terms) capacities
+
+-- the capacities of a plan that are enough for an earlier deadline are those of the plan for each deadline between the two
+abbrev pub PlannedBetween : Type 0
+PlannedBetween =
+    (p : Project) (terms : Terms) (sooner between later : ℕ) (capacities : List ℕ) → sooner ≤ between → between ≤ later →
+    ArePlanned p (order_by later terms) capacities → IsEnough p (order_by sooner terms) capacities →
+    ArePlanned p (order_by between terms) capacities
+
+-- a curve tells of each deadline up to the order's: there is no plan, or a step has the capacities of the plan
+abbrev pub CurveTells : Type 0
+CurveTells =
+    (p : Project) (terms : Terms) (steps : List Step) (deadline : ℕ) → IsCurve p terms steps → deadline ≤ terms.deadline →
+    NoneIsEnough p (order_by deadline terms) ⊎
+    ((step : Step) × Contains steps step × (step.deadline ≤ deadline) ×
+    ArePlanned p (order_by deadline terms) step.capacities)

@@ -1,0 +1,4 @@
+pub mod Curves
+pub mod Following
+pub mod Texts
+pub mod Laws

@@ -1,0 +1,105 @@
+//! An order with another deadline.
+
+ghost use Rattle.std.specs.Prelude.{◌≡◌, ◌+◌, ◌≤◌, option_map, IfOk, IfErr};
+ghost use Rattle.racp_model.specs.Terms.{AreTermsOf};
+ghost use Rattle.racp_lexfix.specs.Answers.{IsPlanStop};
+ghost use Rattle.racp_curve.specs.Curves.{order_by, AreNotAfterEnough, MayHearCost, MayHearFloors};
+ghost use Rattle.racp_curve.specs.Following.{plan_in, IsPlanOrNone, IsRootOrNone};
+
+use racp_candidates::AnySeries;
+use racp_check::{Opening, opening_of};
+use racp_lexfix::{Answer, PlanStop, plan};
+use racp_model::{Network, Window};
+use racp_plan::Plan;
+use racp_prices::Order;
+use racp_questions::Asker;
+use std::alloc::{AllocError, Global};
+
+/// The same order with another deadline, in time units.
+fn with_deadline(alloc: Global, order: &Order, deadline: u32) -> Result<Order, AllocError>
+    ensures { IfOk result (λ other. other ≡ order_by deadline order.now) }
+{
+    let prices = order.prices.to_vec(alloc)?;
+    let owned = order.owned.to_vec(alloc)?;
+    let ceilings = copied(alloc, &order.ceilings)?;
+    let release = order.release.to_vec(alloc)?;
+    let due = order.due.to_vec(alloc)?;
+    Ok(Order {
+        deadline,
+        prices,
+        owned,
+        ceilings,
+        release,
+        due,
+    })
+}
+
+/// The same numbers, where there are any.
+fn copied(alloc: Global, numbers: &Option<Vec<u32>>) -> Result<Option<Vec<u32>>, AllocError>
+    ensures { IfOk result (λ copy. option_map (λ c. c.items) copy ≡ option_map (λ c. c.items) numbers.now) }
+{
+    match numbers {
+        Some(numbers) => Ok(Some(numbers.to_vec(alloc)?)),
+        None => Ok(None),
+    }
+}
+
+/// The plan for another deadline, which is at most the order's; or none where there is no plan for it. Questions go to the asker,
+/// which is about this network.
+pub(crate) fn plan_by<A: Asker<AnySeries>>(
+    alloc: Global,
+    net: &Network,
+    order: &Order,
+    deadline: u32,
+    asker: &mut A,
+) -> Result<Option<Plan>, PlanStop>
+    requires named { A.about asker.old net.now }
+    requires terms { AreTermsOf net.now order.now }
+    requires deadline { deadline ≤ order.now.deadline }
+    requires floors { MayHearFloors net.now order.now A.may_hear_floors }
+    requires least { MayHearCost net.now order.now A.may_hear_cost }
+    ensures network { A.about asker.new net.now }
+    ensures plan { IfOk result (IsPlanOrNone net.now (order_by deadline order.now)) }
+    ensures stop { IfErr result (IsPlanStop (AreNotAfterEnough net.now order.now (deadline + 1))
+        (A.may_stop asker.new) (A.may_want_thread asker.new)) }
+{
+    prove!(1 <= net.job_count());
+    let other = with_deadline(alloc, order, deadline)?;
+    let answer = plan(alloc, net, &other, asker)?;
+    Ok(plan_in(answer))
+}
+
+/// The plan that an answer has.
+fn plan_in(answer: Answer) -> Option<Plan>
+    ensures { result ≡ plan_in answer }
+{
+    match answer {
+        Answer::Plan(plan) => Some(plan),
+        Answer::Impossible { longest: _ } => None,
+        Answer::Due { job: _ } => None,
+        Answer::Ceiling => None,
+    }
+}
+
+/// The root window for another deadline, which is at most the order's; or none where no starts are in time.
+pub(crate) fn root_by(
+    alloc: Global,
+    net: &Network,
+    order: &Order,
+    deadline: u32,
+) -> Result<Option<Window>, AllocError>
+    requires terms { AreTermsOf net.now order.now }
+    requires deadline { deadline ≤ order.now.deadline }
+    ensures { IfOk result (IsRootOrNone net.now (order_by deadline order.now)) }
+{
+    prove!(1 <= net.job_count());
+    let other = with_deadline(alloc, order, deadline)?;
+    match opening_of(alloc, net, &other)? {
+        Opening::Root {
+            critical: _,
+            window,
+        } => Ok(Some(window)),
+        Opening::TooLong { critical: _ } => Ok(None),
+        Opening::TooLate { job: _ } => Ok(None),
+    }
+}

@@ -1,0 +1,129 @@
+//! For which deadlines capacities are enough.
+
+ghost use Rattle.std.specs.Prelude.{◌≡◌, ◌≤◌, None, length, OnOk, IfOk, IfErr};
+ghost use Rattle.racp_model.specs.Schedule.{EndsBy};
+ghost use Rattle.racp_model.specs.Terms.{AreTermsOf, IsWithinCeilings};
+ghost use Rattle.racp_model.specs.Plan.{IsEnough};
+ghost use Rattle.racp_model.specs.Formed.{HasBounds};
+ghost use Rattle.racp_questions.specs.FirstYes.{IsProbed};
+ghost use Rattle.racp_candidates.specs.Questions.{question_of};
+ghost use Rattle.racp_lexfix.specs.Answers.{IsPlanStop};
+ghost use Rattle.racp_lexfix.specs.Stages.{given_up};
+ghost use Rattle.racp_curve.specs.Curves.{order_by};
+ghost use Rattle.racp_curve.specs.Following.{IsShortest, IsSooner};
+
+use crate::deadline::root_by;
+use racp_candidates::AnySeries;
+use racp_cpm::last_end;
+use racp_lexfix::PlanStop;
+use racp_model::{Capacities, Network, Question, Starts, Window};
+use racp_prices::Order;
+use racp_questions::{AskStop, Asker, Probe};
+use std::alloc::Global;
+
+/// Lowers a time by which some starts that fit these capacities end, on the terms of the order, to the least such time: they are
+/// enough for that deadline, and for none before it. Where it ends early, they are enough for the deadline that it came to.
+pub(crate) fn shorten<A: Asker<AnySeries>>(
+    alloc: Global,
+    net: &Network,
+    order: &Order,
+    capacities: &Capacities,
+    end: &mut u32,
+    asker: &mut A,
+) -> Result<(), PlanStop>
+    requires named { A.about asker.old net.now }
+    requires terms { AreTermsOf net.now order.now }
+    requires end { end.old ≤ order.now.deadline }
+    requires enough { IsEnough net.now (order_by end.old order.now) capacities.now }
+    ensures network { A.about asker.new net.now }
+    ensures sooner { end.new ≤ end.old }
+    ensures enough { IsEnough net.now (order_by end.new order.now) capacities.now }
+    ensures shortest { OnOk result (IsShortest net.now order.now capacities.now end.new) }
+    ensures stop { IfErr result (IsPlanStop (λ told. told ≡ capacities.now)
+        (A.may_stop asker.new) (A.may_want_thread asker.new)) }
+{
+    'ends: while let Some(deadline) = end.checked_sub(1) {
+        match sooner(alloc, net, order, capacities, deadline, asker)? {
+            Some(earlier) => *end = earlier,
+            None => return Ok(()),
+        }
+    }
+    Ok(())
+}
+
+/// A deadline, at most this one, for which the capacities are enough; or none where they are not enough for this one.
+fn sooner<A: Asker<AnySeries>>(
+    alloc: Global,
+    net: &Network,
+    order: &Order,
+    capacities: &Capacities,
+    deadline: u32,
+    asker: &mut A,
+) -> Result<Option<u32>, PlanStop>
+    requires named { A.about asker.old net.now }
+    requires terms { AreTermsOf net.now order.now }
+    requires deadline { deadline ≤ order.now.deadline }
+    requires places { length capacities.now ≡ net.now.resources }
+    requires ceilings { IsWithinCeilings order.now capacities.now }
+    ensures network { A.about asker.new net.now }
+    ensures sooner { IfOk result (IsSooner net.now order.now capacities.now deadline) }
+    ensures stop { IfErr result (IsPlanStop (λ told. told ≡ capacities.now)
+        (A.may_stop asker.new) (A.may_want_thread asker.new)) }
+{
+    let Some(window) = root_by(alloc, net, order, deadline)? else {
+        return Ok(None);
+    };
+    match ask(net, window, capacities, asker)? {
+        Probe::Yes(starts) => Ok(Some(end_of(net, &starts, deadline))),
+        Probe::No => Ok(None),
+        Probe::Open => unreachable!(),
+    }
+}
+
+/// What the asker tells of capacities and a window. Where it stops, these capacities are told.
+fn ask<A: Asker<AnySeries>>(
+    net: &Network,
+    window: Window,
+    capacities: &Capacities,
+    asker: &mut A,
+) -> Result<Probe, PlanStop>
+    requires named { A.about asker.old net.now }
+    requires window { HasBounds net.now window }
+    requires places { length capacities.now ≡ net.now.resources }
+    ensures network { A.about asker.new net.now }
+    ensures probed { IfOk result (IsProbed net.now (question_of capacities.now window) None) }
+    ensures stop { IfErr result (IsPlanStop (λ told. told ≡ capacities.now)
+        (A.may_stop asker.new) (A.may_want_thread asker.new)) }
+{
+    let not_before = capacities.copy()?;
+    let asked = capacities.copy()?;
+    let question = Question {
+        capacities: asked,
+        window,
+    };
+    match asker.probe(net, question, None) {
+        Ok(probe) => Ok(probe),
+        Err(stop) => Err(stopped(stop, not_before)),
+    }
+}
+
+/// Why no more is known where an asker gives up, with capacities to tell.
+fn stopped(stop: AskStop, not_before: Capacities) -> PlanStop
+    ensures { result ≡ given_up stop not_before }
+{
+    match stop {
+        AskStop::Stopped { .. } => PlanStop::Stopped { not_before },
+        AskStop::Memory => PlanStop::Memory,
+        AskStop::NoThread => PlanStop::NoThread,
+    }
+}
+
+/// When the last job ends, of starts that end by a deadline.
+pub(crate) fn end_of(net: &Network, starts: &Starts, deadline: u32) -> u32
+    requires places { length starts.now ≡ length net.now.jobs }
+    requires ends { EndsBy net.now (λ _. deadline) starts.now }
+    ensures within { result ≤ deadline }
+    ensures ends { EndsBy net.now (λ _. result) starts.now }
+{
+    last_end(net, starts) as u32
+}

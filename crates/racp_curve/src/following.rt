@@ -1,0 +1,247 @@
+//! The curve, followed from the order's deadline back.
+
+ghost use Rattle.std.specs.Prelude.{◌≡◌, ◌≤◌, ◌∷◌, OnOk, OnErr, IfOk, IfErr, MatchResult};
+ghost use Rattle.racp_model.specs.Terms.{AreTermsOf};
+ghost use Rattle.racp_plan.specs.Plans.{IsPlanOf};
+ghost use Rattle.racp_lexfix.specs.Laws.{IsNoPlan};
+ghost use Rattle.racp_lexfix.specs.declared.answer.Answer.TheVariants.{Plan as ThePlan};
+ghost use Rattle.racp_lexfix.specs.declared.answer.PlanStop.TheVariants.{Memory};
+ghost use Rattle.racp_curve.specs.Curves.{AreSteps, IsCurve, IsCurveAnswer, IsCurveStop, MayHearCost, MayHearFloors};
+ghost use Rattle.racp_curve.specs.Following.{step_of, IsBegun, IsFollowed, IsNext};
+
+use crate::deadline::plan_by;
+use crate::ending::{end_of, shorten};
+use crate::step::{CurveAnswer, CurveStop, Step};
+use racp_candidates::AnySeries;
+use racp_lexfix::{Alone, Answer, PlanStop, plan};
+use racp_model::{Network, OfNetwork};
+use racp_plan::Plan;
+use racp_prices::Order;
+use racp_questions::Asker;
+use std::alloc::{AllocError, Global};
+use std::marker::Brand;
+
+/// The curve of an order: the plan's capacities, and what they cost, for each deadline up to the order's; or why there is no plan
+/// for that. Questions go to the asker, which is about this network. The order has an entry for each resource and each job of the
+/// network. The asker is told floors, and what capacities that are enough cost at least, for one deadline after another.
+///
+/// # Errors
+///
+/// The asker gave up, or memory was refused. The steps so far come back.
+pub fn curve<A: Asker<AnySeries>>(
+    alloc: Global,
+    net: &Network,
+    order: &Order,
+    asker: &mut A,
+) -> Result<CurveAnswer, CurveStop>
+    requires named { A.about asker.old net.now }
+    requires terms { AreTermsOf net.now order.now }
+    requires floors { MayHearFloors net.now order.now A.may_hear_floors }
+    requires least { MayHearCost net.now order.now A.may_hear_cost }
+    ensures network { A.about asker.new net.now }
+    ensures curve { IfOk result (IsCurveAnswer net.now order.now) }
+    ensures stop { IfErr result (λ end. IsCurveStop net.now order.now (A.may_stop asker.new)
+        (A.may_want_thread asker.new) end.steps.items end.stop) }
+{
+    let answer = match plan(alloc, net, order, asker) {
+        Ok(answer) => answer,
+        Err(stop) => {
+            let steps = Vec::new(alloc);
+            return Err(CurveStop { steps, stop });
+        }
+    };
+    match plan_or_reason(answer) {
+        Ok(plan) => curve_from(alloc, net, order, plan, asker),
+        Err(reason) => Ok(CurveAnswer::NoPlan(reason)),
+    }
+}
+
+/// The plan that an answer has, or the reason for which there is none.
+fn plan_or_reason(answer: Answer) -> Result<Plan, Answer>
+    ensures { MatchResult result (λ plan. answer ≡ ThePlan plan) (λ reason. (answer ≡ reason) × IsNoPlan reason) }
+{
+    match answer {
+        Answer::Plan(plan) => Ok(plan),
+        Answer::Impossible { longest } => Err(Answer::Impossible { longest }),
+        Answer::Due { job } => Err(Answer::Due { job }),
+        Answer::Ceiling => Err(Answer::Ceiling),
+    }
+}
+
+/// The curve of an order that has this plan.
+fn curve_from<A: Asker<AnySeries>>(
+    alloc: Global,
+    net: &Network,
+    order: &Order,
+    plan: Plan,
+    asker: &mut A,
+) -> Result<CurveAnswer, CurveStop>
+    requires named { A.about asker.old net.now }
+    requires terms { AreTermsOf net.now order.now }
+    requires floors { MayHearFloors net.now order.now A.may_hear_floors }
+    requires least { MayHearCost net.now order.now A.may_hear_cost }
+    requires plan { IsPlanOf net.now order.now plan }
+    ensures network { A.about asker.new net.now }
+    ensures curve { IfOk result (IsCurveAnswer net.now order.now) }
+    ensures stop { IfErr result (λ end. IsCurveStop net.now order.now (A.may_stop asker.new)
+        (A.may_want_thread asker.new) end.steps.items end.stop) }
+{
+    let mut steps = Vec::new(alloc);
+    match follow(alloc, net, order, plan, &mut steps, asker) {
+        Ok(()) => Ok(CurveAnswer::Steps(steps)),
+        Err(stop) => Err(CurveStop { steps, stop }),
+    }
+}
+
+/// Puts all steps of the curve that are still to come before those so far, which the plan's deadline stands just before.
+fn follow<A: Asker<AnySeries>>(
+    alloc: Global,
+    net: &Network,
+    order: &Order,
+    plan: Plan,
+    steps: &mut Vec<Step>,
+    asker: &mut A,
+) -> Result<(), PlanStop>
+    requires named { A.about asker.old net.now }
+    requires terms { AreTermsOf net.now order.now }
+    requires floors { MayHearFloors net.now order.now A.may_hear_floors }
+    requires least { MayHearCost net.now order.now A.may_hear_cost }
+    requires next { IsNext net.now order.now plan steps.old.items }
+    ensures network { A.about asker.new net.now }
+    ensures curve { OnOk result (IsCurve net.now order.now steps.new.items) }
+    ensures stop { IfErr result (IsCurveStop net.now order.now (A.may_stop asker.new)
+        (A.may_want_thread asker.new) steps.new.items) }
+{
+    let mut plan = plan;
+    'plans: loop {
+        match step_back(alloc, net, order, plan, steps, asker)? {
+            Some(earlier) => plan = earlier,
+            None => return Ok(()),
+        }
+    }
+}
+
+/// Puts the step of a plan before those so far, and gives the plan for the deadline before it; or none where there is none, so
+/// that the curve is whole.
+fn step_back<A: Asker<AnySeries>>(
+    alloc: Global,
+    net: &Network,
+    order: &Order,
+    plan: Plan,
+    steps: &mut Vec<Step>,
+    asker: &mut A,
+) -> Result<Option<Plan>, PlanStop>
+    requires named { A.about asker.old net.now }
+    requires terms { AreTermsOf net.now order.now }
+    requires floors { MayHearFloors net.now order.now A.may_hear_floors }
+    requires least { MayHearCost net.now order.now A.may_hear_cost }
+    requires next { IsNext net.now order.now plan steps.old.items }
+    ensures network { A.about asker.new net.now }
+    ensures followed { IfOk result (IsFollowed net.now order.now plan.deadline steps.new.items) }
+    ensures stop { IfErr result (IsCurveStop net.now order.now (A.may_stop asker.new)
+        (A.may_want_thread asker.new) steps.new.items) }
+{
+    let begin = put_step(alloc, net, order, plan, steps, asker)?;
+    match begin.checked_sub(1) {
+        Some(deadline) => plan_by(alloc, net, order, deadline, asker),
+        None => Ok(None),
+    }
+}
+
+/// Puts the step of a plan before those so far, and tells its first deadline. Where the asker gives up, the step begins at the
+/// deadline that it came to.
+fn put_step<A: Asker<AnySeries>>(
+    alloc: Global,
+    net: &Network,
+    order: &Order,
+    plan: Plan,
+    steps: &mut Vec<Step>,
+    asker: &mut A,
+) -> Result<u32, PlanStop>
+    requires named { A.about asker.old net.now }
+    requires terms { AreTermsOf net.now order.now }
+    requires next { IsNext net.now order.now plan steps.old.items }
+    ensures network { A.about asker.new net.now }
+    ensures within { IfOk result (λ begin. begin ≤ plan.deadline) }
+    ensures begun { IfOk result (λ begin. IsBegun net.now order.now begin steps.new.items) }
+    ensures stop { IfErr result (IsCurveStop net.now order.now (A.may_stop asker.new)
+        (A.may_want_thread asker.new) steps.new.items) }
+{
+    let mut begin = end_of(net, &plan.starts, plan.deadline);
+    match shorten(alloc, net, order, &plan.capacities, &mut begin, asker) {
+        Ok(()) => {
+            put_first(steps, step_of(plan, begin))?;
+            Ok(begin)
+        }
+        Err(stop) => {
+            put_first(steps, step_of(plan, begin))?;
+            Err(stop)
+        }
+    }
+}
+
+/// The step of a plan from a deadline on.
+fn step_of(plan: Plan, deadline: u32) -> Step
+    ensures { result ≡ step_of plan deadline }
+{
+    Step {
+        deadline,
+        cost: plan.cost,
+        capacities: plan.capacities,
+    }
+}
+
+/// Puts a step before the others. Where memory is refused, they stay as they are.
+fn put_first(steps: &mut Vec<Step>, step: Step) -> Result<(), AllocError>
+    ensures put { OnOk result (steps.new.items ≡ step ∷ steps.old.items) }
+    ensures same { OnErr result (steps.new.items ≡ steps.old.items) }
+{
+    steps.insert(0, step)?;
+    Ok(())
+}
+
+/// The curve of an order, made on the calling thread, with records of refuted nodes that take at most about so many mebibytes, up to
+/// 1,048,576.
+///
+/// # Errors
+///
+/// Memory was refused. The steps so far come back.
+pub fn curve_alone(
+    alloc: Global,
+    net: &Network,
+    order: &Order,
+    mebibytes: usize,
+) -> Result<CurveAnswer, CurveStop>
+    requires memory { mebibytes ≤ 1048576 }
+    requires terms { AreTermsOf net.now order.now }
+    ensures curve { IfOk result (IsCurveAnswer net.now order.now) }
+    ensures steps { IfErr result (λ end. AreSteps net.now order.now end.steps.items) }
+    ensures stop { IfErr result (λ end. end.stop ≡ Memory) }
+{
+    curve_named::<Brand>(alloc, net, order, mebibytes)
+}
+
+/// The same. The network is the one that `N` names.
+fn curve_named<N: OfNetwork>(
+    alloc: Global,
+    net: &Network,
+    order: &Order,
+    mebibytes: usize,
+) -> Result<CurveAnswer, CurveStop>
+    requires named { net.now ≡ N.network }
+    requires memory { mebibytes ≤ 1048576 }
+    requires terms { AreTermsOf net.now order.now }
+    ensures curve { IfOk result (IsCurveAnswer net.now order.now) }
+    ensures steps { IfErr result (λ end. AreSteps net.now order.now end.steps.items) }
+    ensures stop { IfErr result (λ end. end.stop ≡ Memory) }
+{
+    let mut alone: Alone<N> = match Alone::within(alloc, net, mebibytes) {
+        Ok(alone) => alone,
+        Err(_) => {
+            let steps = Vec::new(alloc);
+            let stop = PlanStop::Memory;
+            return Err(CurveStop { steps, stop });
+        }
+    };
+    curve(alloc, net, order, &mut alone)
+}
