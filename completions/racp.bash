@@ -2,7 +2,7 @@
 
 _racp() {
     local word=${COMP_WORDS[COMP_CWORD]} before=${COMP_WORDS[COMP_CWORD - 1]} command=${COMP_WORDS[1]}
-    local commands="cpm plan prove check verify show order help"
+    local commands="cpm plan prove check verify show curve order help"
     local options=""
     if [ "$COMP_CWORD" -eq 1 ]; then
         mapfile -t COMPREPLY < <(compgen -W "$commands --help --version" -- "$word")
@@ -11,6 +11,7 @@ _racp() {
     case $command in
         plan) options="--workers --turns --stats --memory --time-limit --progress" ;;
         show) options="--names --width --ascii --svg --json --csv" ;;
+        curve) options="--memory --svg" ;;
         order) options="--factor --deadline --prices --owned --ceiling" ;;
         help)
             mapfile -t COMPREPLY < <(compgen -W "$commands" -- "$word")

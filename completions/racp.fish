@@ -1,6 +1,6 @@
 # Completions of racp for fish: put this file into ~/.config/fish/completions.
 
-set -l commands cpm plan prove check verify show order help
+set -l commands cpm plan prove check verify show curve order help
 set -l none "not __fish_seen_subcommand_from $commands"
 complete -c racp -n "$none" -a cpm -d "the critical length and the early starts of a network"
 complete -c racp -n "$none" -a plan -d "the cheapest capacities that meet an order, with the least starts"
@@ -8,6 +8,7 @@ complete -c racp -n "$none" -a prove -d "a certificate that no cheaper capacitie
 complete -c racp -n "$none" -a check -d "whether a plan is right"
 complete -c racp -n "$none" -a verify -d "whether a certificate shows that no cheaper capacities would do"
 complete -c racp -n "$none" -a show -d "a chart of a plan"
+complete -c racp -n "$none" -a curve -d "what each deadline costs"
 complete -c racp -n "$none" -a order -d "the text of an order"
 complete -c racp -n "$none" -a help -d help
 complete -c racp -n "$none" -l version -d "print the version"
@@ -24,6 +25,8 @@ complete -c racp -n "__fish_seen_subcommand_from show" -l ascii -d "plain charac
 complete -c racp -n "__fish_seen_subcommand_from show" -l svg -d "a picture"
 complete -c racp -n "__fish_seen_subcommand_from show" -l json -d JSON
 complete -c racp -n "__fish_seen_subcommand_from show" -l csv -d CSV
+complete -c racp -n "__fish_seen_subcommand_from curve" -l memory -x -d "mebibytes for records"
+complete -c racp -n "__fish_seen_subcommand_from curve" -l svg -d "a picture"
 complete -c racp -n "__fish_seen_subcommand_from order" -l factor -x -d "deadline by the critical length"
 complete -c racp -n "__fish_seen_subcommand_from order" -l deadline -x -d deadline
 complete -c racp -n "__fish_seen_subcommand_from order" -l prices -x -d prices

@@ -1,11 +1,12 @@
 -- The status that tells why no answer is written.
-use Rattle.std.specs.Prelude.{◌≡◌, ◌⊎◌, ℕ, List}
+use Rattle.std.specs.Prelude.{◌≡◌, ◌⊎◌, ℕ, Bool, List}
 use Rattle.clap.specs.Words.{kind_of}
 use Rattle.clap.specs.declared.error.kind.ErrorKind.{ErrorKind}
 use Rattle.clap.specs.declared.error.kind.ErrorKind.TheVariants.{DisplayHelp, DisplayVersion, OutOfMemory}
 use Rattle.racp_cli.specs.Answers.{IsCpmAnswer}
 use Rattle.racp_cli.specs.Crowds.{IsCrowdAnswer}
 use Rattle.racp_cli.specs.Checks.{IsCheckAnswer}
+use Rattle.racp_cli.specs.CurveAnswers.{IsCurveAnswer}
 use Rattle.racp_cli.specs.OrderAnswers.{IsOrderAnswer}
 use Rattle.racp_cli.specs.ShowAnswers.{IsShowAnswer}
 use Rattle.racp_cli.specs.declared.order.Asked.{Asked}
@@ -36,6 +37,7 @@ IsStatusOf (Stream fault) status = status ≡ fault_status fault
 abbrev pub IsStatusOfTool : ℕ → Type 0
 IsStatusOfTool status =
     ((net order plan names : List ℕ) × (look : Look) × (text : List ℕ) × IsShowAnswer look net order plan names status text) ⊎
+    ((is_drawn : Bool) × (net order : List ℕ) × (text : List ℕ) × IsCurveAnswer is_drawn net order status text) ⊎
     ((asked : Asked) × (net : List ℕ) × (text : List ℕ) × IsOrderAnswer asked net status text)
 
 -- some answer to some texts has this status; nothing is said of which

@@ -3,8 +3,8 @@
 //! It plans the capacities of a project. `racp plan NET ORDER` prints the cheapest capacities under which the project
 //! ends in time, with the least starts; `racp check NET ORDER PLAN` whether a plan, whoever made it, is right;
 //! `racp prove NET ORDER` a certificate that no capacities before those of the plan are enough, `racp verify NET ORDER
-//! PLAN PROOF` whether a text, whoever made it, is one; `racp show NET ORDER PLAN` a picture of a plan; `racp order NET` the
-//! text of an order; `racp cpm NET` the critical length and the early starts. What the commands do is proved in racp_cli, over any
+//! PLAN PROOF` whether a text, whoever made it, is one; `racp show NET ORDER PLAN` a picture of a plan; `racp curve NET ORDER`
+//! what each deadline costs; `racp order NET` the text of an order; `racp cpm NET` the critical length and the early starts. What the commands do is proved in racp_cli, over any
 //! readers and any writer; this crate opens files and standard streams, hands them over, and ends with the status.
 //!
 //! ```text

@@ -5,11 +5,12 @@ ghost use Rattle.racp.specs.Statuses.{IsStatusOfTool};
 
 use crate::failure::{Failure, OptionFault};
 use crate::run::open;
-use racp_cli::{Asked, Form, Look, StreamFault, Time, order_over, show_over};
+use racp_cli::{Asked, Form, Look, StreamFault, Time, curve_over, order_over, show_over};
 use racp_order::{Factor, numbers_of};
-use racp_words::{PlanFiles, Terms, Tool};
+use racp_words::{Memory, OrderFiles, PlanFiles, Terms, Tool};
 use std::alloc::{AllocError, Global};
 use std::io;
+use std::io::Read;
 use std::rt::Files;
 
 /// Writes the answer to what a command that goes with plans asks for.
@@ -18,6 +19,7 @@ pub(crate) fn tool<R: Files + Print + AllocGlobal>(rt: &R, tool: Tool<'_>) -> Re
 {
     match tool {
         Tool::Show(files, look) => Ok(show(rt, files, look)?),
+        Tool::Curve(files, memory, is_drawn) => Ok(curve(rt, files, memory, is_drawn)?),
         Tool::Order(net, terms) => {
             let asked = asked_order(rt.alloc(), &terms)?;
             Ok(order(rt, net, asked)?)
@@ -33,40 +35,43 @@ fn show<R: Files + Print + AllocGlobal>(
 ) -> Result<u8, StreamFault>
     ensures { IfOk result IsStatusOfTool }
 {
-    let mut net = open(rt, files.net)?;
-    let mut order = open(rt, files.order)?;
-    let mut plan = open(rt, files.plan)?;
     let how = Look {
         width: look.width as usize,
         form: form_of(look.form),
     };
-    let mut out = io::writer(rt);
     match look.names {
         Some(path) => {
             let mut names = open(rt, path)?;
-            show_over(
-                rt.alloc(),
-                &mut net,
-                &mut order,
-                &mut plan,
-                &mut names,
-                how,
-                &mut out,
-            )
+            show_named(rt, files, &mut names, how)
         }
         None => {
             let mut names: &[u8] = &[];
-            show_over(
-                rt.alloc(),
-                &mut net,
-                &mut order,
-                &mut plan,
-                &mut names,
-                how,
-                &mut out,
-            )
+            show_named(rt, files, &mut names, how)
         }
     }
+}
+
+/// Writes a picture of the plan in these files, with the names that are read there.
+fn show_named<R: Files + Print + AllocGlobal, M: Read>(
+    rt: &R,
+    files: PlanFiles<'_>,
+    names: &mut M,
+    how: Look,
+) -> Result<u8, StreamFault>
+    ensures { IfOk result IsStatusOfTool }
+{
+    let mut net = open(rt, files.net)?;
+    let mut order = open(rt, files.order)?;
+    let mut plan = open(rt, files.plan)?;
+    show_over(
+        rt.alloc(),
+        &mut net,
+        &mut order,
+        &mut plan,
+        names,
+        how,
+        &mut io::writer(rt),
+    )
 }
 
 /// What is to be written of a plan.
@@ -78,6 +83,27 @@ fn form_of(form: racp_words::Form) -> Form {
         racp_words::Form::Json => Form::Json,
         racp_words::Form::Csv => Form::Csv,
     }
+}
+
+/// Writes what each deadline up to that of the order in these files costs.
+fn curve<R: Files + Print + AllocGlobal>(
+    rt: &R,
+    files: OrderFiles<'_>,
+    memory: Memory,
+    is_drawn: bool,
+) -> Result<u8, StreamFault>
+    ensures { IfOk result IsStatusOfTool }
+{
+    let mut net = open(rt, files.net)?;
+    let mut order = open(rt, files.order)?;
+    curve_over(
+        rt.alloc(),
+        &mut net,
+        &mut order,
+        memory.mebibytes,
+        is_drawn,
+        &mut io::writer(rt),
+    )
 }
 
 /// Writes the order that is asked for, for the network in this file.

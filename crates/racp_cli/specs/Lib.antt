@@ -10,4 +10,5 @@ pub mod Pieces
 pub mod Responses
 pub mod Laws
 pub mod OrderAnswers
+pub mod CurveAnswers
 pub mod ShowAnswers

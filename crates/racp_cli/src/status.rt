@@ -3,6 +3,9 @@
 /// An answer was written.
 pub const DONE: u8 = 0;
 
+/// There is no plan.
+pub const IMPOSSIBLE: u8 = 3;
+
 /// Planning was stopped.
 pub const STOPPED: u8 = 4;
 

@@ -29,7 +29,7 @@
 //!
 //! `chart_of` makes the values that are drawn, and `chart_text` only writes them down. In the same way `sheet_of` makes
 //! the numbers of `json_text` and `svg_text`. `Names` holds what the jobs and resources are called; whatever has no
-//! name goes by its number, as `job 3`.
+//! name goes by its number, as `job 3`. `costs_svg` draws what deadlines cost, as a stair.
 //!
 //! Proved: a scale has the least span; the bar of each row is its start and end in that scale, and these are the
 //! plan's; the usage in a column is the greatest at its times; how busy a resource is, is exact and rounded down; the
@@ -42,6 +42,7 @@
 
 mod cells;
 mod chart;
+mod costs;
 mod json;
 mod label;
 pub mod laws;
@@ -55,6 +56,7 @@ mod text;
 mod usage;
 
 pub use chart::{Chart, JobRow, ResourceRow, chart_of};
+pub use costs::{Corner, costs_svg};
 pub use json::json_text;
 pub use names::Names;
 pub use scale::{Bar, Scale};

@@ -79,7 +79,7 @@ fn picture(alloc: Global, sheet: &Sheet<'_>, labels: &[String]) -> Result<String
 }
 
 /// Adds the beginning of a picture of this height.
-fn push_head(text: &mut String, height: u64) -> Result<(), AllocError> {
+pub(crate) fn push_head(text: &mut String, height: u64) -> Result<(), AllocError> {
     text.push_str("<svg xmlns=\"http://www.w3.org/2000/svg\" ")?;
     writeln!(
         text,
@@ -97,7 +97,7 @@ fn across(time: u64, deadline: u64) -> u64 {
 
 /// How many time units there are from one number of the axis to the next: 1, 2 or 5 times a power of ten, the least
 /// that has no more than `MOST_MARKS`.
-fn mark_of(deadline: u64) -> u64 {
+pub(crate) fn mark_of(deadline: u64) -> u64 {
     let mut power = 1u64;
     for _ in 0..18 {
         for factor in [1u64, 2, 5] {

@@ -4,7 +4,7 @@ use Rattle.std.specs.Prelude.{is_some}
 use Rattle.clap.specs.Words.{App, IsUnsignedIn, Row, Text, first_of, new_app, new_rule, subcommand_of, with_rule}
 use Rattle.clap.specs.Words.{with_subcommand}
 use Rattle.racp_words.specs.Rules.{AreOrderFiles, ArePlanFiles, AreProofFiles, IsNumberOf, file_rule, flag_rule, is_set, number_in, number_rule, of_order, of_plan}
-use Rattle.racp_words.specs.Tools.{IsNoTool, IsToolOf, show, order as order_app}
+use Rattle.racp_words.specs.Tools.{IsNoTool, IsToolOf, curve, show, order as order_app}
 use Rattle.racp_words.specs.declared.request.Crew.{Crew}
 use Rattle.racp_words.specs.declared.request.Request.{Request}
 use Rattle.racp_words.specs.declared.request.Request.TheVariants.{Cpm, Plan, Prove, Check, Verify, Tool}
@@ -45,9 +45,9 @@ abbrev pub racp_checking : App
 racp_checking = with_subcommand (with_subcommand (with_subcommand racp_planning (of_order (codes "prove")).top)
     (of_plan (codes "check")).top) verify.top
 
--- `racp [.. | show NET ORDER PLAN [OPTIONS] | order NET OPTIONS]`
+-- `racp [.. | show NET ORDER PLAN [OPTIONS] | curve NET ORDER [OPTIONS] | order NET OPTIONS]`
 unfoldable pub racp : App
-racp = with_subcommand (with_subcommand racp_checking show.top) order_app.top
+racp = with_subcommand (with_subcommand (with_subcommand racp_checking show.top) curve.top) order_app.top
 
 -- standard input where no word names a file, or `-` does; else the file of this path
 abbrev pub IsSource : Option Text → Source → Type 0

@@ -1,14 +1,14 @@
--- What the commands `show` and `order` ask for.
+-- What the commands `show`, `curve` and `order` ask for.
 use Rattle.std.specs.Prelude.{◌≡◌, ◌≢◌, List, codes, false, true}
 use Rattle.std.specs.Prelude.{option_map}
 use Rattle.clap.specs.Words.{App, Row, Text, first_of, new_app, with_rule}
-use Rattle.racp_words.specs.Rules.{ArePlanFiles, IsNumberOf, file_rule, flag_rule, is_set, number_rule, of_order, of_plan, path_at, text_rule}
+use Rattle.racp_words.specs.Rules.{AreOrderFiles, ArePlanFiles, IsNumberOf, file_rule, flag_rule, is_set, number_rule, of_order, of_plan, path_at, text_rule}
 use Rattle.racp_words.specs.declared.request.Form.{Form}
 use Rattle.racp_words.specs.declared.request.Form.TheVariants.{Text as Blocks, Ascii, Svg, Json, Csv}
 use Rattle.racp_words.specs.declared.request.Look.{Look}
 use Rattle.racp_words.specs.declared.request.Terms.{Terms}
 use Rattle.racp_words.specs.declared.request.Tool.{Tool}
-use Rattle.racp_words.specs.declared.request.Tool.TheVariants.{Show, Order}
+use Rattle.racp_words.specs.declared.request.Tool.TheVariants.{Show, Curve, Order}
 
 -- `show NET ORDER PLAN [--names FILE] [--width N]`
 abbrev pub show_named : App
@@ -21,6 +21,10 @@ show_in_letters = with_rule (with_rule show_named (flag_rule (codes "ascii"))) (
 -- `show NET ORDER PLAN [--names FILE] [--width N] [--ascii] [--svg] [--json] [--csv]`
 abbrev pub show : App
 show = with_rule (with_rule show_in_letters (flag_rule (codes "json"))) (flag_rule (codes "csv"))
+
+-- `curve NET ORDER [--memory MIB] [--svg]`
+abbrev pub curve : App
+curve = with_rule (with_rule (of_order (codes "curve")) (number_rule (codes "memory") 1048576)) (flag_rule (codes "svg"))
 
 -- `order NET [--factor F]`
 abbrev pub order_scaled : App
@@ -66,10 +70,15 @@ pub record AreTerms (words : List Row) (terms : Terms) : Type 0 where
 abbrev pub IsToolOf : Text × List Row → Tool → Type 0
 IsToolOf command (Show files look) =
     (command.0 ≡ codes "show") × ArePlanFiles command.1 files × IsLook command.1 look
+IsToolOf command (Curve files memory is_drawn) =
+    (command.0 ≡ codes "curve") × AreOrderFiles command.1 files ×
+    IsNumberOf 1048576 1024 (first_of (codes "memory") command.1) memory.mebibytes ×
+    (is_drawn ≡ is_set (codes "svg") command.1)
 IsToolOf command (Order net terms) =
     (command.0 ≡ codes "order") × (net.now ≡ path_at (codes "NET") command.1) × AreTerms command.1 terms
 
 -- a command of another name
 pub record IsNoTool (name : Text) : Type 0 where
   pub no_show : name ≢ codes "show"
+  pub no_curve : name ≢ codes "curve"
   pub no_order : name ≢ codes "order"

@@ -5,7 +5,7 @@ ghost use Rattle.clap.specs.Words.{FailsBy, app_of, fault_of, first_of, first_va
 ghost use Rattle.clap.specs.declared.error.kind.ErrorKind.TheVariants.{OutOfMemory};
 ghost use Rattle.racp_words.specs.CommandLine.{AskFor, IsCheckLine, AsksForCheck, IsProveLine, AsksForProve, IsVerifyLine, AsksForVerify, IsCpmLine, AsksForCpm, IsPlanLine, AsksForPlan, IsWorkersLine, AsksForWorkers, IsCrew, IsLimitOf, IsRequested, IsSource, cpm, plan, plan_of_workers, plan_within, racp, racp_checking, racp_planning, verify};
 ghost use Rattle.racp_words.specs.Rules.{AreOrderFiles, ArePlanFiles, AreProofFiles, IsNumberOf, file_rule, flag_rule, is_set, number_in, number_rule, of_order, of_plan, path_at, text_rule};
-ghost use Rattle.racp_words.specs.Tools.{AreTerms, IsForm, IsLook, IsNoTool, IsToolOf, order, order_priced, order_scaled, show, show_in_letters, show_named};
+ghost use Rattle.racp_words.specs.Tools.{AreTerms, IsForm, IsLook, IsNoTool, IsToolOf, curve, order, order_priced, order_scaled, show, show_in_letters, show_named};
 ghost use Rattle.racp_words.specs.Commands.{IsCommandOf};
 
 use crate::request::{
@@ -43,6 +43,7 @@ Examples:
   racp order net.sm --factor 1.2 --prices 3,5 > order.toml
   racp plan net.sm order.toml > net.plan   the cheapest capacities, with the least starts
   racp show net.sm order.toml net.plan     a chart of the plan
+  racp curve net.sm order.toml             what each deadline costs
   racp check net.sm order.toml net.plan    whether a plan is right
   racp prove net.sm order.toml > net.proof
   racp verify net.sm order.toml net.plan net.proof
@@ -127,6 +128,9 @@ fn tool_named<'a>(name: &str, words: &ArgMatches<'a>) -> Option<Tool<'a>>
 {
     if name == "show" {
         Some(Tool::Show(plan_files(words), look_of(words)))
+    } else if name == "curve" {
+        let files = order_files(words);
+        Some(Tool::Curve(files, memory_of(words), is_set(words, "svg")))
     } else if name == "order" {
         Some(Tool::Order(path_of(words, "NET"), terms_of(words)))
     } else {
@@ -223,6 +227,7 @@ fn command<'a>(alloc: Global) -> Result<Command<'a>, AllocError>
 {
     checking(alloc)?
         .subcommand(show_command(alloc)?)?
+        .subcommand(curve_command(alloc)?)?
         .subcommand(order_writer(alloc)?)
 }
 
@@ -352,6 +357,16 @@ fn show_named<'a>(alloc: Global) -> Result<Command<'a>, AllocError>
     of_plan(alloc, "show", about)?
         .arg(text_option(alloc, "names", "FILE", names))?
         .arg(number_option(alloc, "width", "N", MOST_WIDTH, width))
+}
+
+/// `curve`, with its words and options.
+fn curve_command<'a>(alloc: Global) -> Result<Command<'a>, AllocError>
+    ensures { IfOk result (IsCommandOf curve) }
+{
+    let about = "Prints what each deadline costs, from the critical length to the order's";
+    of_order(alloc, "curve", about)?
+        .arg(memory_option(alloc))?
+        .arg(flag(alloc, "svg", "Writes a picture for a browser, SVG"))
 }
 
 /// `order`, with its word and options.

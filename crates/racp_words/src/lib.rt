@@ -16,6 +16,7 @@
 //! racp check a.sm a4.toml p                Check with the paths a.sm, a4.toml and p
 //! racp verify a.sm a4.toml p q             Verify with the paths a.sm, a4.toml, p and q
 //! racp show a.sm a4.toml p --svg           Tool, Show with these paths, no names, 80 columns and the form Svg
+//! racp curve b.sm b3.toml                  Tool, Curve with these paths, 1,024 MiB, and no picture
 //! racp order a.sm --factor 1.2 --prices 3  Tool, Order with the path a.sm, the factor 1.2 and the prices 3, as words
 //! racp plan b.sm b3.toml --workers 65      an error: this is no number from 1 to 64
 //! racp plan b.sm                           an error: a word is missing
@@ -27,7 +28,7 @@
 //! how much memory the records of a search take at most, with a crew or without.
 //!
 //! The commands stand in `specs/` a second time, as values of the library's definitions: `racp`, `cpm`, `plan`, `of_order`,
-//! `of_plan`, `verify`, `show` and `order`. What `clap` is proved to do with them says what any words ask for.
+//! `of_plan`, `verify`, `show`, `curve` and `order`. What `clap` is proved to do with them says what any words ask for.
 //!
 //! Proved: without words, with `cpm`, and with `cpm` and a word that does not begin with a hyphen or is a hyphen alone,
 //! `cpm` is asked for, of standard input or of the file with that path; with `plan` or `prove` and two paths, `check` and
@@ -35,7 +36,7 @@
 //! 1 to 64 behind the two paths, `plan` by a crew of so many. In these cases only memory can fail. A path here is a word that is not empty
 //! and does not begin with a hyphen. For any other words `asked` answers what `clap` is proved to find, or refuses with
 //! the kind of error that it is proved to give: `plan` asks for a crew exactly where `clap` finds one of the five
-//! options, and where it finds a number that is in range the crew has it, or the memory; `show` and `order` ask for
+//! options, and where it finds a number that is in range the crew has it, or the memory; `show`, `curve` and `order` ask for
 //! what their words and flags say (`IsToolOf`). No crew has more than 64 workers
 //! or 1,000,000,000,000 pieces, and no more than 1,048,576 MiB are asked for. Tested alone, over the built program: the
 //! texts of help, of the version and of errors.

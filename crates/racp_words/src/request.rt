@@ -23,6 +23,8 @@ pub enum Request<'a> {
 pub enum Tool<'a> {
     /// A picture of a plan of a network on the terms of an order.
     Show(PlanFiles<'a>, Look<'a>),
+    /// What each deadline up to that of an order costs, with so much memory for records; as a picture where that is said.
+    Curve(OrderFiles<'a>, Memory, bool),
     /// The text of an order for a network with this path.
     Order(&'a str, Terms<'a>),
 }

@@ -1,0 +1,50 @@
+-- What `curve` answers to the texts of a network and an order.
+use Rattle.std.specs.Prelude.{◌≡◌, ◌⊎◌, ℕ, Bool, true, false, List, [], ◌∷◌, ⊤, Option, Result}
+use Rattle.racp_model.specs.Project.{Project}
+use Rattle.racp_model.specs.Terms.{Terms}
+use Rattle.racp_lexfix.specs.Answers.{IsAnswer}
+use Rattle.racp_lexfix.specs.Laws.{IsNoPlan}
+use Rattle.racp_lexfix.specs.Printing.{AreTextsOf}
+use Rattle.racp_lexfix.specs.Texts.{answer_text}
+use Rattle.racp_lexfix.specs.declared.answer.Answer.{Answer}
+use Rattle.racp_curve.specs.Curves.{IsCurve}
+use Rattle.racp_curve.specs.Texts.{curve_text}
+use Rattle.racp_curve.specs.declared.step.Step.{Step}
+use Rattle.racp_cli.specs.Plans.{IsNetworkLine, IsOrderLine, IsMemoryLine}
+use Rattle.racp_cli.specs.Streams.{Reader, IsRun, ToTwo}
+use Rattle.racp_cli.specs.declared.fault.StreamFault.{StreamFault}
+
+-- the lines of a curve; nothing is said of its picture
+abbrev pub IsCurveText : Bool → List Step → List ℕ → Type 0
+IsCurveText false steps text = text ≡ curve_text steps
+IsCurveText true steps text = ⊤
+
+-- the curve of an order, as lines or as a picture
+pub record IsTextOfCurve (is_drawn : Bool) (network : Project) (terms : Terms) (status : ℕ) (text : List ℕ) : Type 0 where
+  pub steps : List Step
+  pub right : IsCurve network terms steps
+  pub with_text : IsCurveText is_drawn steps text
+  pub with_status : status ≡ 0
+
+-- why there is no plan for an order, as a line
+pub record IsTextOfReason (network : Project) (terms : Terms) (status : ℕ) (text : List ℕ) : Type 0 where
+  pub reason : Answer
+  pub none : IsNoPlan reason
+  pub right : IsAnswer network terms reason
+  pub with_text : text ≡ answer_text terms.deadline reason
+  pub with_status : status ≡ 3
+
+abbrev pub IsToldCurve : Bool → Project → Terms → ℕ → List ℕ → Type 0
+IsToldCurve is_drawn network terms status text =
+    IsTextOfCurve is_drawn network terms status text ⊎ IsTextOfReason network terms status text
+
+-- what is right for two texts: the curve of the order, or why there is no plan; or why the first of them that is refused is; memory
+-- may run out at any texts
+abbrev pub IsCurveAnswer : Bool → List ℕ → List ℕ → ℕ → List ℕ → Type 0
+IsCurveAnswer is_drawn net order status text =
+    ((network : Project) × (terms : Terms) × AreTextsOf net order network terms × IsToldCurve is_drawn network terms status text) ⊎
+    (IsNetworkLine net status text ⊎ (IsOrderLine net order status text ⊎ IsMemoryLine status text))
+
+-- a run of `curve`
+abbrev pub IsCurveRun : Bool → Reader → Reader → Option (List ℕ) → Option (List ℕ) → Result ℕ StreamFault → Type 0
+IsCurveRun is_drawn net order = IsRun (ToTwo (IsCurveAnswer is_drawn)) (net ∷ (order ∷ []))

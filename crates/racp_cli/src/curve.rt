@@ -1,0 +1,116 @@
+//! `curve`: what each deadline up to that of an order costs.
+
+ghost use Rattle.std.specs.Prelude.{◌≤◌, IfOk};
+ghost use Rattle.racp_model.specs.Terms.{AreTermsOf};
+ghost use Rattle.racp_cli.specs.CurveAnswers.{IsCurveAnswer, IsCurveRun, IsCurveText, IsToldCurve};
+
+use crate::fault::StreamFault;
+use crate::refusal::{network_refused, order_refused};
+use crate::respond::respond;
+use crate::status::{DONE, IMPOSSIBLE};
+use crate::streams::read_whole;
+use racp_curve::{CurveAnswer, Step, curve_alone, curve_text};
+use racp_lexfix::answer_lines;
+use racp_model::Network;
+use racp_prices::{Order, read_order};
+use racp_show::{Corner, costs_svg};
+use racp_sm::read_sm;
+use std::alloc::{AllocError, Global};
+use std::io::{Read, Write};
+
+/// Reads a network text and an order text, all of each before the next, and writes to `out` what each deadline up to the
+/// order's costs, or a line that says why there is no plan. The plans are made on the calling thread, with records of
+/// refuted nodes that take at most about so many mebibytes, up to 1,048,576. Returns the status that belongs to what was
+/// written: 0 for the curve, as lines or as a picture in SVG, 3 where there is no plan, 5 where a text is refused, 6 where memory ran out.
+///
+/// # Errors
+///
+/// After these nothing was written: `Read`, a read failed; `TooLong`, a reader has more than 16,777,216 bytes;
+/// `Memory`, memory for an input was refused. After `Write`, a write failed or took no byte, and what is out is a
+/// beginning of the text.
+pub fn curve_over<N: Read, O: Read, W: Write>(
+    alloc: Global,
+    net: &mut N,
+    order: &mut O,
+    mebibytes: usize,
+    is_drawn: bool,
+    out: &mut W,
+) -> Result<u8, StreamFault>
+    requires { mebibytes ≤ 1048576 }
+    ensures { IsCurveRun is_drawn (record { unread = N.remaining net.old; left = N.remaining net.new })
+        (record { unread = O.remaining order.old; left = O.remaining order.new })
+        (W.contents out.old) (W.contents out.new) result }
+{
+    let net = read_whole(alloc, net)?;
+    let order = read_whole(alloc, order)?;
+    respond(answer(alloc, &net, &order, mebibytes, is_drawn), out)
+}
+
+/// The status and the text of the answer to the texts of a network and an order.
+fn answer(
+    alloc: Global,
+    net: &[u8],
+    order: &[u8],
+    mebibytes: usize,
+    is_drawn: bool,
+) -> Result<(u8, Vec<u8>), AllocError>
+    requires { mebibytes ≤ 1048576 }
+    ensures { IfOk result (λ answer. IsCurveAnswer is_drawn net.now order.now answer.0 answer.1.items) }
+{
+    let net = match read_sm(alloc, net) {
+        Ok(net) => net,
+        Err(fault) => return network_refused(alloc, fault),
+    };
+    match read_order(alloc, order, net.resource_count(), net.job_count()) {
+        Ok(order) => told(alloc, &net, &order, mebibytes, is_drawn),
+        Err(fault) => order_refused(alloc, fault),
+    }
+}
+
+/// The status and the text of the curve, or of the reason why there is no plan.
+fn told(
+    alloc: Global,
+    net: &Network,
+    order: &Order,
+    mebibytes: usize,
+    is_drawn: bool,
+) -> Result<(u8, Vec<u8>), AllocError>
+    requires memory { mebibytes ≤ 1048576 }
+    requires terms { AreTermsOf net.now order.now }
+    ensures { IfOk result (λ answer. IsToldCurve is_drawn net.now order.now answer.0 answer.1.items) }
+{
+    match curve_alone(alloc, net, order, mebibytes) {
+        Ok(CurveAnswer::Steps(steps)) => {
+            let text = text_of(alloc, &steps, order.deadline, is_drawn)?;
+            Ok((DONE, text))
+        }
+        Ok(CurveAnswer::NoPlan(reason)) => {
+            Ok((IMPOSSIBLE, answer_lines(alloc, order.deadline, &reason)?))
+        }
+        // On one thread this ends early only where memory runs out.
+        Err(_) => Err(AllocError),
+    }
+}
+
+/// The steps of a curve up to a last deadline as lines, or as a picture.
+fn text_of(alloc: Global, steps: &[Step], last: u32, is_drawn: bool) -> Result<Vec<u8>, AllocError>
+    ensures { IfOk result (λ text. IsCurveText is_drawn steps.now text.items) }
+{
+    if is_drawn {
+        let corners = corners_of(alloc, steps)?;
+        return Ok(costs_svg(alloc, &corners, last)?.into_bytes());
+    }
+    curve_text(alloc, steps)
+}
+
+/// The corners of a curve.
+fn corners_of(alloc: Global, steps: &[Step]) -> Result<Vec<Corner>, AllocError> {
+    let mut corners = Vec::new(alloc);
+    for step in steps {
+        corners.push(Corner {
+            deadline: step.deadline,
+            cost: step.cost,
+        })?;
+    }
+    Ok(corners)
+}

@@ -1,0 +1,162 @@
+//! What deadlines cost, as a picture.
+
+use crate::svg::{mark_of, push_head};
+use std::alloc::{AllocError, Global};
+
+/// A deadline from which on a plan costs so much.
+#[derive(Clone, Copy)]
+pub struct Corner {
+    /// The deadline, in time units.
+    pub deadline: u32,
+    /// What the plan costs.
+    pub cost: u64,
+}
+
+/// Where the deadlines begin, from the left.
+const LEFT: u64 = 120;
+
+/// How wide all deadlines are drawn.
+const SPAN: u64 = 760;
+
+/// Where the greatest cost is drawn, from above.
+const TOP: u64 = 40;
+
+/// How high the greatest cost is drawn.
+const HEIGHT: u64 = 300;
+
+/// How high the picture is.
+const BOTTOM: u64 = 400;
+
+/// The most numbers of an axis behind the first.
+const MOST_MARKS: u64 = 12;
+
+/// What the deadlines of a picture are, and its greatest cost.
+#[derive(Clone, Copy)]
+struct Range {
+    first: u64,
+    last: u64,
+    most: u64,
+}
+
+impl Range {
+    /// The range of some corners, up to a last deadline.
+    fn of(corners: &[Corner], last: u32) -> Range {
+        let last = last as u64;
+        let mut range = Range {
+            first: last,
+            last,
+            most: 1,
+        };
+        for corner in corners {
+            range.first = range.first.min(corner.deadline as u64);
+            range.most = range.most.max(corner.cost);
+        }
+        range
+    }
+
+    /// Where a deadline is drawn, from the left.
+    fn across(&self, deadline: u64) -> u64 {
+        let all = self.last.saturating_sub(self.first).max(1);
+        let part = deadline.saturating_sub(self.first).min(all);
+        LEFT.saturating_add(part.saturating_mul(SPAN) / all)
+    }
+
+    /// Where a cost is drawn, from above.
+    fn down(&self, cost: u64) -> u64 {
+        let most = self.most.max(1);
+        let part = (cost.min(most) as u128 * HEIGHT as u128 / most as u128) as u64;
+        TOP.saturating_add(HEIGHT).saturating_sub(part)
+    }
+}
+
+/// What deadlines cost, as a picture in SVG: a stair over the deadlines from that of the first corner up to `last`, with
+/// round numbers on both axes, and with the deadline and the cost of each corner as a tooltip. The corners rise by
+/// deadline. The text grows with the corners, and not with the deadlines.
+///
+/// # Errors
+///
+/// Memory was refused.
+pub fn costs_svg(alloc: Global, corners: &[Corner], last: u32) -> Result<String, AllocError> {
+    let range = Range::of(corners, last);
+    let mut text = String::new(alloc);
+    push_head(&mut text, BOTTOM)?;
+    push_deadlines(&mut text, &range)?;
+    push_costs(&mut text, &range)?;
+    push_stair(&mut text, corners, &range)?;
+    for corner in corners {
+        push_corner(&mut text, corner, &range)?;
+    }
+    text.push_str("</svg>\n")?;
+    Ok(text)
+}
+
+/// Adds the axis of deadlines.
+fn push_deadlines(text: &mut String, range: &Range) -> Result<(), AllocError> {
+    let mark = mark_of(range.last.saturating_sub(range.first)).max(1);
+    let begin = range.first.div_ceil(mark);
+    let base = TOP.saturating_add(HEIGHT);
+    for number in 0..MOST_MARKS + 1 {
+        let deadline = begin.saturating_add(number).saturating_mul(mark);
+        if deadline <= range.last {
+            let x = range.across(deadline);
+            write!(text, "<path d=\"M{x} {TOP}V{base}\" stroke=\"#ddd\"/>")?;
+            writeln!(
+                text,
+                "<text x=\"{x}\" y=\"358\" text-anchor=\"middle\">{deadline}</text>"
+            )?;
+        }
+    }
+    text.push_str("<text x=\"500\" y=\"382\" text-anchor=\"middle\">deadline</text>\n")
+}
+
+/// Adds the axis of costs.
+fn push_costs(text: &mut String, range: &Range) -> Result<(), AllocError> {
+    let mark = mark_of(range.most).max(1);
+    let right = LEFT.saturating_add(SPAN);
+    for number in 0..MOST_MARKS + 1 {
+        let cost = mark.saturating_mul(number);
+        if cost <= range.most {
+            let y = range.down(cost);
+            let base = y.saturating_add(4);
+            write!(text, "<path d=\"M{LEFT} {y}H{right}\" stroke=\"#ddd\"/>")?;
+            writeln!(
+                text,
+                "<text x=\"112\" y=\"{base}\" text-anchor=\"end\">{cost}</text>"
+            )?;
+        }
+    }
+    text.push_str("<text x=\"112\" y=\"24\" text-anchor=\"end\">cost</text>\n")
+}
+
+/// Adds the stair.
+fn push_stair(text: &mut String, corners: &[Corner], range: &Range) -> Result<(), AllocError> {
+    let mut begin = "M";
+    text.push_str("<path d=\"")?;
+    for corner in corners {
+        let x = range.across(corner.deadline as u64);
+        let y = range.down(corner.cost);
+        if begin == "M" {
+            write!(text, "M{x} {y}")?;
+        } else {
+            write!(text, "H{x}V{y}")?;
+        }
+        begin = "H";
+    }
+    let right = LEFT.saturating_add(SPAN);
+    writeln!(
+        text,
+        "H{right}\" fill=\"none\" stroke=\"#4a7ebb\" stroke-width=\"2\"/>"
+    )
+}
+
+/// Adds a corner.
+fn push_corner(text: &mut String, corner: &Corner, range: &Range) -> Result<(), AllocError> {
+    let (deadline, cost) = (corner.deadline, corner.cost);
+    let x = range.across(deadline as u64);
+    let y = range.down(cost);
+    write!(
+        text,
+        "<circle cx=\"{x}\" cy=\"{y}\" r=\"4\" fill=\"#4a7ebb\">"
+    )?;
+    writeln!(text, "<title>deadline {deadline}: {cost}</title></circle>")
+}
