@@ -13,11 +13,7 @@ use std::alloc::{AllocError, Global};
 /// # Errors
 ///
 /// Memory was refused.
-pub fn answer_lines(
-    alloc: Global,
-    deadline: u32,
-    answer: &Answer,
-) -> Result<Vec<u8>, AllocError>
+pub fn answer_lines(alloc: Global, deadline: u32, answer: &Answer) -> Result<Vec<u8>, AllocError>
     ensures { IfOk result (λ text. text.items ≡ answer_text deadline answer.now) }
 {
     match answer {

@@ -150,7 +150,10 @@ fn take<N: OfNetwork>(trial: &mut Trial<N>, seat: usize) -> Result<Heard, AllocE
 }
 
 /// What a reply tells. Its piece is kept, for which there is room.
-fn told_of<N: OfNetwork>(reply: Reply<Piece<N>>, pieces: &mut Vec<Held>) -> Result<Heard, AllocError> {
+fn told_of<N: OfNetwork>(
+    reply: Reply<Piece<N>>,
+    pieces: &mut Vec<Held>,
+) -> Result<Heard, AllocError> {
     match reply {
         Reply::Piece(piece) => {
             let (number, seat, index) = (piece.number(), piece.seat(), piece.index());
