@@ -1,9 +1,8 @@
 -- A certificate is made block by block: whatever ends it as a certificate's rest does, ends it as a certificate.
-use Rattle.std.proofs.Common.{◌≡◌, ◌∙◌, ◌⊎◌, inl, inr, ℕ, ◌+◌, ◌<◌, ◌≤◌, List, [], ◌∷◌, ◌++◌, length, slice_index, slice_index_or, Contains, All, AllPairs, Vec, arith, refl, sym, subst, ap, append_assoc, codes}
+use Rattle.std.proofs.Common.{◌≡◌, ◌∙◌, inl, inr, ℕ, ◌<◌, ◌≤◌, List, [], ◌∷◌, ◌++◌, length, slice_index_or, Contains, AllPairs, Vec, arith, refl, sym, subst, ap, append_assoc, codes}
 use Rattle.std.specs.Prelude.{Some, None, flat_map}
 use Rattle.std.specs.Global.{Global}
 use Rattle.std.proofs.lemmas.Option.{none-some}
-use Rattle.std.proofs.lemmas.List.{length-append}
 use Rattle.std.proofs.lemmas.List.Elements.{All-contains_itself, Contains-append_cases}
 use Rattle.racp_model.specs.Project.{Project}
 use Rattle.racp_model.specs.Terms.{Terms, release_of, due_of}
@@ -12,12 +11,12 @@ use Rattle.racp_model.proofs.lemmas.Relations.{no_member, member_cases, member_f
 use Rattle.racp_prices.specs.Units.{AreMostUnits}
 use Rattle.racp_cutset.specs.Covering.{SearchNode}
 use Rattle.racp_trees.specs.Certificates.{AreEnough, IsCertificate}
-use Rattle.racp_trees.specs.Enough.{AreEnoughBlocks, IsBelowSome, IsAtMost}
+use Rattle.racp_trees.specs.Enough.{AreEnoughBlocks}
 use Rattle.racp_trees.specs.Following.{IsNext, IsRest}
 use Rattle.racp_trees.specs.Making.{HasMadeTree, HasMadeBlock}
-use Rattle.racp_trees.specs.Readers.{HasRead, AsksNext, open_nodes, rest_of}
+use Rattle.racp_trees.specs.Readers.{HasRead, open_nodes, rest_of}
 use Rattle.racp_trees.specs.Records.{record_at}
-use Rattle.racp_trees.specs.Texts.{Block, HasSmallNumbers, vector_line, block_text, first_line, last_line, proof_text}
+use Rattle.racp_trees.specs.Texts.{Block, vector_line, block_text, first_line, last_line, proof_text}
 use Rattle.racp_trees.specs.declared.branch.Branch.{Branch}
 use Rattle.racp_trees.specs.declared.reader.Reader.{Reader}
 use Rattle.racp_trees.proofs.Blocking.{block_next, last_is}

@@ -11,6 +11,7 @@ mod Gathering
 mod Opening
 mod Passing
 mod Starting
+mod Waiting
 mod Advancing
 mod Alternating
 mod Blocking

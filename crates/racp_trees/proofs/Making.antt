@@ -1,22 +1,20 @@
 -- A certificate is made line by line: whatever text follows, a reader of it stands where the maker stands.
-use Rattle.std.proofs.Common.{◌≡◌, ◌↔◌, ◌∙◌, ℕ, ◌+◌, ◌-◌, ◌<◌, ◌≤◌, List, [], ◌∷◌, ◌++◌, length, slice_index, Contains, All, AllPairs, Bool, Vec, arith, refl, sym, subst, ap, append_assoc, true}
+use Rattle.std.proofs.Common.{◌≡◌, ◌↔◌, ◌∙◌, ℕ, ◌+◌, ◌-◌, ◌<◌, ◌≤◌, List, [], ◌∷◌, ◌++◌, length, Contains, All, AllPairs, Bool, Vec, arith, refl, sym, subst, ap, append_assoc, true}
 use Rattle.std.specs.Prelude.{Option, Some, None}
 use Rattle.std.specs.Global.{Global}
 use Rattle.std.proofs.lemmas.Option.{none-some}
 use Rattle.std.proofs.lemmas.List.{length-append}
 use Rattle.racp_model.specs.Project.{Project}
 use Rattle.racp_model.specs.Limits.{most_bound}
-use Rattle.racp_model.specs.Terms.{Terms}
 use Rattle.racp_model.specs.Window.{Bounds}
 use Rattle.racp_model.proofs.lemmas.Relations.{no_member}
 use Rattle.racp_delay.specs.Laws.{SomeJobGoes, ConflictIsOne}
 use Rattle.racp_cutset.specs.Covering.{SearchNode}
-use Rattle.racp_trees.specs.Branches.{IsBranch}
-use Rattle.racp_trees.specs.Following.{IsNext, IsRest}
-use Rattle.racp_trees.specs.Nodes.{AreRecords, HaveRows, HasPlace}
+use Rattle.racp_trees.specs.Following.{IsNext}
+use Rattle.racp_trees.specs.Nodes.{AreRecords, HasPlace}
 use Rattle.racp_trees.specs.Records.{record_at}
 use Rattle.racp_trees.specs.Readers.{IsReady, HasRead, IsLineAnswer, IsNextAnswer, StaysReady, AsksNext, HasReadTree, open_nodes, rest_of}
-use Rattle.racp_trees.specs.Making.{IsThinned, IsThinnedReader, IsChoice, HasMadeTree, HasMadeBlock}
+use Rattle.racp_trees.specs.Making.{IsThinned, IsThinnedReader, HasMadeTree}
 use Rattle.racp_trees.specs.Texts.{step_line, step_number, most_number}
 use Rattle.racp_trees.specs.declared.branch.Branch.{Branch}
 use Rattle.racp_trees.specs.declared.closed.Closed.{Closed}
@@ -57,7 +55,7 @@ thinned_ready p a old new thin ready = record {
 pub thinned_same : (r : Reader) → IsThinnedReader r r
 thinned_same r = record { branches = refl; number = refl; closed = record { told = λ m kept e. e; empty = λ m less e. e } }
 
-pub thinned_then : (old mid : Reader) (closed : Closed) → IsThinnedReader old mid → IsThinned mid.closed closed mid.number → IsThinnedReader old (record { closed = closed; branches = mid.branches; number = mid.number })
+pub thinned_then : (old mid : Reader) (closed : Closed) → IsThinnedReader old mid → IsThinned mid.closed closed mid.number → IsThinnedReader old (record { closed = closed; branches = mid.branches; number = mid.number; usual = mid.usual })
 thinned_then old mid closed first second = record {
   branches = first.branches;
   number = first.number;

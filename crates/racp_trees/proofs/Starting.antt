@@ -101,8 +101,8 @@ module _ (p : Project) (v w : SearchNode) (r s : Record) (hv : IsNode p v) (hw :
           upper = λ i l. omega (arith, at v.window.upper w.window.upper upper i);
         };
         cutset = record { started = started; time = omega (arith, h.time, is_r.time, is_s.time) };
-        ends = λ i l is. omega (arith, h.bounds i (omega (arith, l, is_r.places)), is_r.ends i l is, is_s.ends i l ((started i l).0 is), is_s.time);
-        lower = λ i l later. omega (arith, h.bounds i (omega (arith, l, is_r.places)), is_r.lower i l later, is_s.lower i l (not_started i l later), is_s.time);
+        ends = λ i l is. omega (arith, h.bounds i (omega (arith, l, is_r.places)), is_r.ends i l is, is_s.ends i l ((started i l).0 is));
+        lower = λ i l later. omega (arith, h.bounds i (omega (arith, l, is_r.places)), is_r.lower i l later, is_s.lower i l (not_started i l later));
         fits = fits;
       }
     where
@@ -120,10 +120,10 @@ module _ (p : Project) (v w : SearchNode) (r s : Record) (hv : IsNode p v) (hw :
     bounds = λ i l.
         let j : i < length p.jobs = omega (arith, l, is_r.places) in
         elim (cases_lt (slice_index v.early i) v.time) [
-          | inl is ↦ omega (arith, h.ends i j is, is_r.ends i j is, is_s.ends i j ((h.cutset.started i j).0 is), is_s.time)
+          | inl is ↦ omega (arith, h.ends i j is, h.cutset.time, is_r.ends i j is, is_s.ends i j ((h.cutset.started i j).0 is))
           | inr later ↦ elim (cases_lt (slice_index w.early i) w.time) [
             | inl also ↦ absurd (let is = (h.cutset.started i j).1 also in omega (arith, is, later))
-            | inr other ↦ omega (arith, h.lower i j later, is_r.lower i j later, is_s.lower i j other, is_s.time)
+            | inr other ↦ omega (arith, h.lower i j later, h.cutset.time, is_r.lower i j later, is_s.lower i j other)
           ]
         ];
   }

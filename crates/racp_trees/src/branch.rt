@@ -11,6 +11,7 @@ use racp_delay::{Alternative, JobSet, first_end, laws};
 use racp_model::{Capacities, Network, Starts};
 use std::alloc::{AllocError, Global};
 use std::cmp::max;
+use std::rc::Rc;
 
 /// A node of a `D` line that is not closed yet: its number, the lower bounds of its window, its early starts, the jobs
 /// that are active at their first conflict, its time, and the alternative whose child was read last.
@@ -49,12 +50,13 @@ impl Branch {
         Ok(Some(lower))
     }
 
-    /// What is kept of the node once it is closed.
+    /// What is kept of the node once it is closed. It shares the row of usual bounds where it can.
     pub(crate) fn record(
         &self,
         alloc: Global,
         net: &Network,
         capacities: &Capacities,
+        usual: &Rc<Vec<u32>>,
     ) -> Result<Record, AllocError>
         requires branch { IsBranch net.now capacities.now self.now }
         ensures { IfOk result (λ kept. (upper : List ℕ) → IsRecordOf net.now (open_node capacities.now upper self.now).node kept) }
@@ -67,6 +69,7 @@ impl Branch {
             &self.lower,
             early,
             self.time,
+            usual,
         )?;
         Ok(kept)
     }

@@ -10,6 +10,7 @@ ghost use Rattle.racp_trees.specs.Making.{HasMadeBlock};
 ghost use Rattle.racp_trees.specs.declared.maker.Made.TheVariants.{Tree};
 
 use crate::before::is_before;
+use crate::branch::copied;
 use crate::enough::gap;
 use crate::maker::{MOST_BYTES, Made, Maker};
 use crate::reader::Ground;
@@ -17,6 +18,7 @@ use crate::writer::push_vector;
 use racp_model::{Capacities, Network, Window};
 use racp_prices::Order;
 use std::alloc::{AllocError, Global};
+use std::rc::Rc;
 
 /// How many blocks a certificate has at most. One has 13 bytes or more.
 const MOST_BLOCKS: usize = 1_290_555;
@@ -47,7 +49,8 @@ pub fn certificate(
     ensures { IfOk result (λ text. IfSome text (λ text. IsCertificate net.now order.now capacities.now text.items)) }
 {
     prove!(net.job_count() == net.job_count());
-    let mut maker = Maker::new(alloc, net);
+    let usual = Rc::new(alloc, copied(alloc, root.lower())?)?;
+    let mut maker = Maker::new(alloc, net, usual);
     let mut text = b"proof\n".to_vec(alloc)?;
     let mut blocks = Vec::new(alloc);
     for _ in 0..MOST_BLOCKS {

@@ -28,8 +28,10 @@
 //! The text is read line by line. `Follow` in specs/ says what has to come of it while nodes are open, and each line
 //! changes that in one of three ways. Of an open node the reader knows the alternative whose child was read last, and
 //! looks for the one behind it once that child is closed; so no line makes it list alternatives for which the text has
-//! no lines. Of a closed node it keeps a record, one number for each job, and only where some line of the text names
-//! the node: which numbers lines name is told by a pass over the text before.
+//! no lines. Of a closed node it keeps a record, two bytes for each job, and only where some line of the text names the
+//! node: which numbers lines name is told by a pass over the text before. The two bytes tell how long the job's bound is
+//! behind the node's time; where they are not enough, as for a job that has to wait long anyhow, the bound stands in a row
+//! that records share.
 //!
 //! A certificate is made by a reader of the lines that are chosen (`Maker`): of the next window a late job, if there is
 //! one, else the newest closed node of the block that covers it, else its first conflict. Each line is written and then

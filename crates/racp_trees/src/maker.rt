@@ -20,6 +20,7 @@ use racp_cpm::early;
 use racp_delay::{conflict, laws};
 use racp_model::{Network, Starts};
 use std::alloc::{AllocError, Global};
+use std::rc::Rc;
 
 /// How many bytes a certificate has at most.
 pub(crate) const MOST_BYTES: usize = 16_777_216;
@@ -43,8 +44,8 @@ pub(crate) struct Maker {
 }
 
 impl Maker {
-    /// A maker that has made nothing. Its next node has the number 1.
-    pub(crate) fn new(alloc: Global, net: &Network) -> Self
+    /// A maker that has made nothing. Its next node has the number 1, and these bounds are usual.
+    pub(crate) fn new(alloc: Global, net: &Network, usual: Rc<Vec<u32>>) -> Self
         ensures number { result.reader.number ≡ 1 }
         ensures closed { (number : ℕ) → record_at result.reader.closed number ≡ None }
         ensures branches { result.reader.branches.items ≡ [] }
@@ -53,6 +54,7 @@ impl Maker {
             closed: Closed::none(alloc),
             branches: Vec::new(alloc),
             number: 1,
+            usual,
         };
         Maker {
             reader,
@@ -127,7 +129,7 @@ impl Maker {
         let Some(clash) = conflict(ground.net, ground.capacities, &early) else {
             return Ok(None);
         };
-        let row = row_of(alloc, ground, lower, &early, clash.time)?;
+        let row = row_of(alloc, ground, lower, &early, clash.time, &self.reader.usual)?;
         if let Some(node) = self.offers.covering(ground.net, &self.reader.closed, &row) {
             return Ok(Some(Step::C(node)));
         }
@@ -170,13 +172,15 @@ impl Maker {
     }
 }
 
-/// The record of the node of a window with these lower bounds and early starts, at this time.
+/// The record of the node of a window with these lower bounds and early starts, at this time. It shares the row of usual
+/// bounds where it can.
 fn row_of(
     alloc: Global,
     ground: &Ground,
     lower: &[u32],
     early: &Starts,
     time: u32,
+    usual: &Rc<Vec<u32>>,
 ) -> Result<Record, AllocError>
     requires capacities { length ground.now.capacities.now ≡ ground.now.net.now.resources }
     requires lower { length lower.now ≡ length ground.now.net.now.jobs }
@@ -192,6 +196,7 @@ fn row_of(
         lower,
         early.as_slice(),
         time,
+        usual,
     )?;
     Ok(row)
 }

@@ -13,6 +13,7 @@ use crate::record::Record;
 use racp_delay::{JobSet, conflict};
 use racp_model::{Capacities, Network, Starts};
 use std::alloc::{AllocError, Global};
+use std::rc::Rc;
 
 /// Whether the early start of the job with this number exceeds its upper bound.
 pub(crate) fn is_too_late(upper: &[u32], early: &[u32], job: u32) -> bool
@@ -60,7 +61,7 @@ pub(crate) fn active_at(
 }
 
 /// Whether the closed node with this number covers the node of a window with these lower bounds and early starts, at
-/// its first conflict.
+/// its first conflict. Records share the row of usual bounds.
 pub(crate) fn is_covered(
     alloc: Global,
     net: &Network,
@@ -69,6 +70,7 @@ pub(crate) fn is_covered(
     early: &Starts,
     closed: &Closed,
     number: u32,
+    usual: &Rc<Vec<u32>>,
 ) -> Result<bool, AllocError>
     requires capacities { length capacities.now ≡ net.now.resources }
     requires lower { length lower.now ≡ length net.now.jobs }
@@ -92,6 +94,7 @@ pub(crate) fn is_covered(
         lower,
         early.as_slice(),
         clash.time,
+        usual,
     )?;
     Ok(by.covers(&row))
 }

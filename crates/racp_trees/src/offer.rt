@@ -17,7 +17,7 @@ const MOST_PLACES: usize = 64;
 /// How many bytes the records of all nodes take at most, about.
 const MOST_BYTES: usize = 1 << 30;
 
-/// How many bytes a record takes, besides 4 for each job and each resource.
+/// How many bytes a record takes, besides 2 for each job and 4 for each resource.
 const RECORD_BYTES: usize = 256;
 
 /// The numbers of nodes that may cover others, by a hash of their started jobs, the oldest first. Not all of them are
@@ -31,7 +31,7 @@ pub(crate) struct Offers {
 impl Offers {
     /// None, with room for the records of a network.
     pub(crate) fn new(alloc: Global, net: &Network) -> Self {
-        let bytes = 4 * net.job_count() + 4 * net.resource_count() + RECORD_BYTES;
+        let bytes = 2 * net.job_count() + 4 * net.resource_count() + RECORD_BYTES;
         Offers {
             numbers: HashMap::new(alloc),
             room: MOST_BYTES / bytes,

@@ -19,6 +19,7 @@ use racp_cpm::early;
 use racp_delay::laws;
 use racp_model::{Capacities, Network, Starts, Window};
 use std::alloc::{AllocError, Global};
+use std::rc::Rc;
 
 /// What a tree is about: a network, the root window, and the capacities of its block.
 #[derive(Clone, Copy)]
@@ -28,13 +29,14 @@ pub(crate) struct Ground<'a> {
     pub(crate) capacities: &'a Capacities,
 }
 
-/// Where a reader stands: the closed nodes that lines name, the nodes that are open, the innermost last, and the number
-/// of the next node.
+/// Where a reader stands: the closed nodes that lines name, the nodes that are open, the innermost last, the number of the
+/// next node, and the bounds that are usual.
 #[derive(Drop)]
 pub(crate) struct Reader {
     pub(crate) closed: Closed,
     pub(crate) branches: Vec<Branch>,
     pub(crate) number: u64,
+    pub(crate) usual: Rc<Vec<u32>>,
 }
 
 impl Reader {
@@ -104,6 +106,7 @@ impl Reader {
                     &early,
                     &self.closed,
                     node,
+                    &self.usual,
                 )?;
                 Ok(covered)
             }
@@ -183,7 +186,7 @@ impl Reader {
             self.branches.push(branch)?;
             return Ok(Some(lower));
         }
-        let kept = branch.record(alloc, ground.net, ground.capacities)?;
+        let kept = branch.record(alloc, ground.net, ground.capacities, &self.usual)?;
         self.closed.keep(branch.number, kept)?;
         Ok(None)
     }

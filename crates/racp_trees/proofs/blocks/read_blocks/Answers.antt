@@ -1,4 +1,4 @@
-use Rattle.std.proofs.Common.{ℕ, List, Vec, Option, Some, None, true, false, sym, subst}
+use Rattle.std.proofs.Common.{ℕ, List, Vec, Option, Some, None, sym, subst}
 use Rattle.std.specs.Global.{Global}
 use denote.Ref.{Bor}
 use Rattle.std.proofs.lemmas.Bool.{iff_false}

@@ -1,4 +1,4 @@
-use Rattle.std.proofs.Common.{◌≡◌, ◌++◌, List, ℕ, Vec, Option, codes, subst, sym, rules}
+use Rattle.std.proofs.Common.{◌≡◌, ◌++◌, List, ℕ, Vec, Option, codes, subst, rules}
 use Rattle.std.specs.Global.{Global}
 use Rattle.racp_trees.specs.Enough.{AreEnoughBlocks, IsGapAnswer}
 use Rattle.racp_trees.proofs.Gathering.{certifying_first, certifying_more, certifying_ends, first_written, last_written}

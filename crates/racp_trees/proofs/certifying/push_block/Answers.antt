@@ -1,6 +1,5 @@
-use Rattle.std.proofs.Common.{◌∙◌, ◌++◌, ◌≤◌, List, ℕ, length, subst, sym, ap, arith, rules}
+use Rattle.std.proofs.Common.{◌∙◌, ◌++◌, List, ℕ, ap, arith, rules}
 use Rattle.std.proofs.lemmas.List.{get_or_default}
-use Rattle.racp_trees.specs.Making.{HasMadeTree}
 use Rattle.racp_trees.specs.Texts.{vector_line}
 use Rattle.racp_trees.proofs.Gathering.{block_made}
 use Rattle.racp_trees.proofs.Spelling.{AreSmall}

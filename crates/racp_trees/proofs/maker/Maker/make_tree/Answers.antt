@@ -19,7 +19,7 @@ next_window-requires-clause-ready c =
     let root : Bounds = c.args.ground.now.root.now in
     let now : Reader = c.choose.new.self.reader in
     let choice = subst (λ (o : Option Step). IsChoice c.loop-alloc.self.reader now o) c.in-Some.is c.in_ok-step.ensures in
-    let mid : Reader = record { closed = c.read_line.new.self.closed; branches = c.read_line.new.self.branches; number = c.read_line.new.self.number + 1 } in
+    let mid : Reader = record { closed = c.read_line.new.self.closed; branches = c.read_line.new.self.branches; number = c.read_line.new.self.number + 1; usual = c.read_line.new.self.usual } in
     let window : Bounds = record { lower = c.loop-alloc.lower.items; upper = c.args.ground.now.root.now.upper } in
     let ready = line_ready p a window now c.read_line.new.self mid c.in-Some.step c.in_ok-read_line.field-0 (thinned_ready p a c.loop-alloc.self.reader now choice.0 (c.loop-alloc.invariant.reading []).ready) c.in_ok-read_line.ensures.line c.if-not-branch.false refl refl in
     ready.0
@@ -34,7 +34,7 @@ loop-alloc-preserved c =
     let root : Bounds = c.args.ground.now.root.now in
     let now : Reader = c.choose.new.self.reader in
     let choice = subst (λ (o : Option Step). IsChoice c.loop-alloc.self.reader now o) c.in-Some.is c.in_ok-step.ensures in
-    let mid : Reader = record { closed = c.read_line.new.self.closed; branches = c.read_line.new.self.branches; number = c.read_line.new.self.number + 1 } in
+    let mid : Reader = record { closed = c.read_line.new.self.closed; branches = c.read_line.new.self.branches; number = c.read_line.new.self.number + 1; usual = c.read_line.new.self.usual } in
     let window : Bounds = record { lower = c.loop-alloc.lower.items; upper = c.args.ground.now.root.now.upper } in
     let ready = line_ready p a window now c.read_line.new.self mid c.in-Some.step c.in_ok-read_line.field-0 (thinned_ready p a c.loop-alloc.self.reader now choice.0 (c.loop-alloc.invariant.reading []).ready) c.in_ok-read_line.ensures.line c.if-not-branch.false refl refl in
     let is = making_thinned p a root c.forget.new.self.reader c.args.text.now.items c.loop-alloc.self.reader c.loop-alloc.lower.items c.loop-alloc.text.items c.loop-alloc.invariant now choice.0 in
@@ -49,7 +49,7 @@ returns-in-None c made =
     let root : Bounds = c.args.ground.now.root.now in
     let now : Reader = c.choose.new.self.reader in
     let choice = subst (λ (o : Option Step). IsChoice c.loop-alloc.self.reader now o) c.in-Some.is c.in_ok-step.ensures in
-    let mid : Reader = record { closed = c.read_line.new.self.closed; branches = c.read_line.new.self.branches; number = c.read_line.new.self.number + 1 } in
+    let mid : Reader = record { closed = c.read_line.new.self.closed; branches = c.read_line.new.self.branches; number = c.read_line.new.self.number + 1; usual = c.read_line.new.self.usual } in
     let window : Bounds = record { lower = c.loop-alloc.lower.items; upper = c.args.ground.now.root.now.upper } in
     let ready = line_ready p a window now c.read_line.new.self mid c.in-Some.step c.in_ok-read_line.field-0 (thinned_ready p a c.loop-alloc.self.reader now choice.0 (c.loop-alloc.invariant.reading []).ready) c.in_ok-read_line.ensures.line c.if-not-branch.false refl refl in
     let is = making_thinned p a root c.forget.new.self.reader c.args.text.now.items c.loop-alloc.self.reader c.loop-alloc.lower.items c.loop-alloc.text.items c.loop-alloc.invariant now choice.0 in

@@ -9,7 +9,7 @@ pub returns-in-Some-2-clause-window : goal.returns-in-Some-2-clause-window
 returns-in-Some-2-clause-window c =
     let p = c.args.ground.now.net.now in
     let a : List ℕ = c.args.ground.now.capacities.now in
-    let popped : Reader = record { closed = c.loop-branch.self.closed; branches = c.pop.new.self; number = c.loop-branch.self.number } in
+    let popped : Reader = record { closed = c.loop-branch.self.closed; branches = c.pop.new.self; number = c.loop-branch.self.number; usual = c.loop-branch.self.usual } in
     let g = subst (λ (o : Option (Vec ℕ Global)). IsGoneOn p a popped c.in-Some.branch c.go_on.new.self o) c.in-Some-2.is c.in_ok-lower.ensures in (
       child_places p a c.args.ground.now.root.now c.args.self.now c.loop-branch.self c.go_on.new.self c.pop.new.self.items c.in-Some.branch c.requires.capacities c.requires.root.upper c.loop-branch.invariant c.in-Some.ensures.items g.0 c.in-Some-2.lower.items g.1 g.2 g.3 g.4 g.5 g.6 g.7,
       g.7.window.small,
@@ -20,7 +20,7 @@ pub returns-in-Some-2-clause-ready : goal.returns-in-Some-2-clause-ready
 returns-in-Some-2-clause-ready c =
     let p = c.args.ground.now.net.now in
     let a : List ℕ = c.args.ground.now.capacities.now in
-    let popped : Reader = record { closed = c.loop-branch.self.closed; branches = c.pop.new.self; number = c.loop-branch.self.number } in
+    let popped : Reader = record { closed = c.loop-branch.self.closed; branches = c.pop.new.self; number = c.loop-branch.self.number; usual = c.loop-branch.self.usual } in
     let g = subst (λ (o : Option (Vec ℕ Global)). IsGoneOn p a popped c.in-Some.branch c.go_on.new.self o) c.in-Some-2.is c.in_ok-lower.ensures in
     child_stays p a c.args.ground.now.root.now c.args.self.now c.loop-branch.self c.go_on.new.self c.pop.new.self.items c.in-Some.branch c.requires.capacities c.requires.root.upper c.loop-branch.invariant c.in-Some.ensures.items g.0 c.in-Some-2.lower.items g.1 g.2 g.3 g.4 g.5 g.6 g.7
 
@@ -28,11 +28,11 @@ pub loop-branch-preserved : goal.loop-branch-preserved
 loop-branch-preserved c =
     let p = c.args.ground.now.net.now in
     let a : List ℕ = c.args.ground.now.capacities.now in
-    let popped : Reader = record { closed = c.loop-branch.self.closed; branches = c.pop.new.self; number = c.loop-branch.self.number } in
+    let popped : Reader = record { closed = c.loop-branch.self.closed; branches = c.pop.new.self; number = c.loop-branch.self.number; usual = c.loop-branch.self.usual } in
     let g = subst (λ (o : Option (Vec ℕ Global)). IsGoneOn p a popped c.in-Some.branch c.go_on.new.self o) c.in_default-2.is c.in_ok-lower.ensures in
     passing_closed p a c.args.ground.now.root.now c.args.self.now c.loop-branch.self c.go_on.new.self c.pop.new.self.items c.in-Some.branch c.requires.capacities c.requires.root.upper c.loop-branch.invariant c.in-Some.ensures.items g.0 g.1 g.2 g.3 g.4 g.5
 
 pub returns-clause-window : goal.returns-clause-window
 returns-clause-window c =
-    passing_ends c.args.ground.now.net.now c.args.ground.now.capacities.now c.args.ground.now.root.now c.args.self.now c.loop-branch.self (record { closed = c.loop-branch.self.closed; branches = c.pop.new.self; number = c.loop-branch.self.number })
+    passing_ends c.args.ground.now.net.now c.args.ground.now.capacities.now c.args.ground.now.root.now c.args.self.now c.loop-branch.self (record { closed = c.loop-branch.self.closed; branches = c.pop.new.self; number = c.loop-branch.self.number; usual = c.loop-branch.self.usual })
     c.loop-branch.invariant c.in_default.ensures.items (omega (arith, c.loop-branch.self.branches.ok.0, c.in_default.ensures.cases.0)) refl refl

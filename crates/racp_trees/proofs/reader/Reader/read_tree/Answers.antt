@@ -18,7 +18,7 @@ overflow_add-self c =
 pub next_window-requires-clause-ready : goal.next_window-requires-clause-ready
 next_window-requires-clause-ready c =
     let window : Bounds = record { lower = c.loop-step.lower.items; upper = c.args.ground.now.root.now.upper } in
-    let mid : Reader = record { closed = c.read_line.new.self.closed; branches = c.read_line.new.self.branches; number = c.read_line.new.self.number + 1 } in
+    let mid : Reader = record { closed = c.read_line.new.self.closed; branches = c.read_line.new.self.branches; number = c.read_line.new.self.number + 1; usual = c.read_line.new.self.usual } in
     (line_ready c.args.ground.now.net.now c.args.ground.now.capacities.now window c.loop-step.self c.read_line.new.self mid c.in-Some.step c.in_ok-read_line.field-0 c.loop-step.invariant.ready c.in_ok-read_line.ensures.line c.if-not-branch.false refl refl).0
 
 pub loop-step-smaller : goal.loop-step-smaller
@@ -30,7 +30,7 @@ loop-step-preserved c =
     let a : List ℕ = c.args.ground.now.capacities.now in
     let root : Bounds = c.args.ground.now.root.now in
     let window : Bounds = record { lower = c.loop-step.lower.items; upper = c.args.ground.now.root.now.upper } in
-    let mid : Reader = record { closed = c.read_line.new.self.closed; branches = c.read_line.new.self.branches; number = c.read_line.new.self.number + 1 } in
+    let mid : Reader = record { closed = c.read_line.new.self.closed; branches = c.read_line.new.self.branches; number = c.read_line.new.self.number + 1; usual = c.read_line.new.self.usual } in
     let ready = line_ready p a window c.loop-step.self c.read_line.new.self mid c.in-Some.step c.in_ok-read_line.field-0 c.loop-step.invariant.ready c.in_ok-read_line.ensures.line c.if-not-branch.false refl refl in
     tree_more p a root c.args.self.now c.args.text.now c.loop-step.self c.loop-step.lower.items c.loop-step.rest.now c.loop-step.invariant c.in-Some.step c.in-Some.more.now c.in-Some.ensures.0 c.in-Some.ensures.1
     c.some_job_goes.ensures c.conflict_is_one.ensures c.read_line.new.self c.in_ok-read_line.field-0 c.in_ok-read_line.ensures.line mid c.if-not-branch.false refl refl (omega (arith, c.read_line.ensures.number)) c.next_window.new.self c.in-Some-2.next
@@ -42,7 +42,7 @@ returns-in-None c =
     let a : List ℕ = c.args.ground.now.capacities.now in
     let root : Bounds = c.args.ground.now.root.now in
     let window : Bounds = record { lower = c.loop-step.lower.items; upper = c.args.ground.now.root.now.upper } in
-    let mid : Reader = record { closed = c.read_line.new.self.closed; branches = c.read_line.new.self.branches; number = c.read_line.new.self.number + 1 } in
+    let mid : Reader = record { closed = c.read_line.new.self.closed; branches = c.read_line.new.self.branches; number = c.read_line.new.self.number + 1; usual = c.read_line.new.self.usual } in
     let ready = line_ready p a window c.loop-step.self c.read_line.new.self mid c.in-Some.step c.in_ok-read_line.field-0 c.loop-step.invariant.ready c.in_ok-read_line.ensures.line c.if-not-branch.false refl refl in
     tree_ends p a root c.args.self.now c.args.text.now c.loop-step.self c.loop-step.lower.items c.loop-step.rest.now c.loop-step.invariant c.in-Some.step c.in-Some.more.now c.in-Some.ensures.0 c.in-Some.ensures.1
     c.some_job_goes.ensures c.conflict_is_one.ensures c.read_line.new.self c.in_ok-read_line.field-0 c.in_ok-read_line.ensures.line mid c.if-not-branch.false refl refl (omega (arith, c.read_line.ensures.number)) c.next_window.new.self
