@@ -1,0 +1,50 @@
+//! The head of a network text, as far as faults are told by it.
+
+use crate::line_of::{first_word, is_blank};
+use racp_text::{cut_at, number};
+
+/// The number that the first line with a key that begins with these words gives; 0 where there is none.
+pub(crate) fn head_number(body: &[u8], key: &[&[u8]]) -> u64 {
+    for line in body.split(|byte| *byte == b'\n') {
+        if let Some((before, behind)) = cut_at(line, b':') {
+            if begins_with(before, key) {
+                return number(first_word(behind)).unwrap_or(0);
+            }
+        }
+    }
+    0
+}
+
+/// Whether the words of a line begin with these.
+fn begins_with(line: &[u8], key: &[&[u8]]) -> bool {
+    let mut words = key.iter();
+    for word in line.split(|byte| is_blank(*byte)) {
+        if word.is_empty() {
+            continue;
+        }
+        match words.next() {
+            Some(wanted) if word == *wanted => {}
+            Some(_) => return false,
+            None => return true,
+        }
+    }
+    words.next().is_none()
+}
+
+/// The first line that has this word, whatever its letters' case, and its number, from 1.
+pub(crate) fn line_like<'a>(body: &'a [u8], word: &str) -> Option<(usize, &'a [u8])> {
+    let mut number = 1usize;
+    for line in body.split(|byte| *byte == b'\n') {
+        if has_word(line, word.as_bytes()) {
+            return Some((number, line));
+        }
+        number = number.saturating_add(1);
+    }
+    None
+}
+
+/// Whether a word stands in a line, whatever its letters' case.
+fn has_word(line: &[u8], word: &[u8]) -> bool {
+    line.windows(word.len().max(1))
+        .any(|part| part.eq_ignore_ascii_case(word))
+}

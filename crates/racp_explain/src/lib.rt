@@ -1,0 +1,63 @@
+//! What faults mean, and what is wrong with these very texts, in words.
+//!
+//! Lines of texts, jobs and resources are numbered from 1; times are whole time units from 0 on.
+//!
+//! The program tells of a fault by one fixed line, as `refused sm 12 TooFew line 25`. Here is what is said beside it. A
+//! `Subject` is a fault, or a line without a number that the program writes in place of an answer. Words name it by its
+//! format, its name or its number: `named(alloc, "sm", Some("12"))` and `named(alloc, "TooFew", None)` both answer the
+//! fault 12 of network texts, and `named(alloc, "Range", None)` that of orders and that of plans. `explanation` makes the
+//! text of those that words name: what it means, an example, and what helps. `subject_list` has a line for each.
+//!
+//! A cause is told of texts with names: which file it is, what was wanted there, and what is there. Of examples/a.sm
+//! without its line 32, `network_cause` makes
+//!
+//! ```text
+//! racp: a.sm:25: sm 12 TooFew: a part ends too early
+//! racp: wanted: so many numbers behind this title: 20 (jobs: 5, resources: 1)
+//! racp: there:  so many numbers up to the end of the part: 16
+//! racp: 'racp explain sm 12' says more
+//! ```
+//!
+//! `order_cause` reads the texts of a network and an order, `plan_cause` and `proof_cause` also those of a plan and of a
+//! certificate, as the commands of the program do; the first that is refused is told of. Where each is read,
+//! `order_cause` says why there is no plan, as far as that is known without a search, and `plan_cause` what is wrong with
+//! the plan.
+//!
+//! The texts are read a second time by the same readers, so the fault is theirs. What was wanted and what is there is
+//! found by a plain look at the text: at the line of the fault, at the words before the title, at the keys of the table.
+//! Jobs that wait for each other are found by leaving out, round by round, the jobs that wait for none.
+//!
+//! Proved: `named` answers exactly the subjects of the table that the words name, in its order; `explanation` answers
+//! `None` exactly where there is none. A subject's number and name are those of the fault. In `laws`: each fault, and
+//! each line without a number, stands in the table. A cause of a text that is refused begins with the name of the text
+//! and the line, number and name of the fault that its reader answers, and of a network text that is not refused nothing
+//! is told. All of them return. Tested alone: what is said of a subject, that each example has its fault, what else is told
+//! of a cause, and that nothing is told of a plan that is right.
+#![tactic(auto)]
+
+mod cause;
+mod explain;
+mod finding;
+mod head;
+mod input;
+pub mod laws;
+mod line_of;
+mod line_topics;
+mod network_text;
+mod order_text;
+mod order_topics;
+mod plan_faults;
+mod plan_text;
+mod plan_topics;
+mod ring;
+mod sm_topics;
+mod subject;
+mod subjects;
+mod topic;
+
+pub use cause::{network_cause, order_cause, plan_cause, proof_cause};
+pub use explain::{explanation, subject_list};
+pub use input::Input;
+pub use subject::{Line, Subject};
+pub use subjects::{SUBJECTS, named};
+pub use topic::{Topic, topic_of};

@@ -1,0 +1,79 @@
+//! The lines of a text, as they are shown.
+
+use racp_text::cut_at;
+use std::alloc::{AllocError, Global};
+
+/// How many letters of a line are shown at most.
+const MOST_SHOWN: usize = 60;
+
+/// The byte that ends a network text.
+const END: u8 = 0x1A;
+
+/// The line with this number, from 1; `None` where there is none.
+pub(crate) fn line_at(bytes: &[u8], number: usize) -> Option<&[u8]> {
+    let place = number.checked_sub(1)?;
+    bytes.split(|byte| *byte == b'\n').nth(place)
+}
+
+/// A network text up to its first byte 0x1A.
+pub(crate) fn body_of(bytes: &[u8]) -> &[u8] {
+    match cut_at(bytes, END) {
+        Some((body, _)) => body,
+        None => bytes,
+    }
+}
+
+/// A line in quotes, cut to 60 letters, without control characters and what is not UTF-8; or what is said of a line
+/// that is empty or not there.
+pub(crate) fn shown(alloc: Global, line: Option<&[u8]>) -> Result<String, AllocError> {
+    let Some(line) = line else {
+        return String::from_str(alloc, "no line");
+    };
+    let printed = printed(alloc, line)?;
+    if printed.is_empty() {
+        String::from_str(alloc, "an empty line")
+    } else {
+        format!(in alloc; "'{printed}'")
+    }
+}
+
+/// The first 60 letters of a line, without control characters and what is not UTF-8. A tab becomes a blank.
+fn printed(alloc: Global, line: &[u8]) -> Result<String, AllocError> {
+    let mut text = String::new(alloc);
+    let mut count = 0usize;
+    for chunk in line.utf8_chunks() {
+        for letter in chunk.valid().chars() {
+            if count == MOST_SHOWN {
+                text.push_str("..")?;
+                return Ok(text);
+            }
+            if !letter.is_control() || letter == '\t' {
+                text.push(if letter == '\t' { ' ' } else { letter })?;
+                count = count.saturating_add(1);
+            }
+        }
+    }
+    Ok(text)
+}
+
+/// How many words a line has, between blanks and tabs.
+pub(crate) fn count_words(line: &[u8]) -> usize {
+    line.split(|byte| is_blank(*byte))
+        .filter(|word| !word.is_empty())
+        .count()
+}
+
+/// The first word of a line, or nothing.
+pub(crate) fn first_word(line: &[u8]) -> &[u8] {
+    for word in line.split(|byte| is_blank(*byte)) {
+        if !word.is_empty() {
+            return word;
+        }
+    }
+    &[]
+}
+
+/// Whether a byte stands between words.
+pub(crate) fn is_blank(byte: u8) -> bool {
+    byte == b' ' || byte == b'\t' || byte == b'\r'
+}

@@ -1,0 +1,42 @@
+//! What is said of a subject.
+
+use crate::line_topics::line_topic;
+use crate::order_topics::order_topic;
+use crate::plan_topics::plan_topic;
+use crate::sm_topics::sm_topic;
+use crate::subject::Subject;
+
+/// What is said of a subject.
+#[derive(Clone, Copy)]
+pub struct Topic {
+    /// What it means, in a few words.
+    pub short: &'static str,
+    /// What it means.
+    pub meaning: &'static str,
+    /// A command that gives it, in a folder with the folder examples; empty where none does each time.
+    pub command: &'static str,
+    /// The text of the file that the command calls FILE; empty where it calls none.
+    pub file: &'static str,
+    /// What helps.
+    pub cure: &'static str,
+}
+
+/// What is said of names that are not UTF-8.
+const NAMES: Topic = Topic {
+    short: "the names are not UTF-8",
+    meaning: "The file of --names is not UTF-8.",
+    command: "printf '\\377' | racp show examples/a.sm examples/a4.toml examples/a4.plan --names /dev/stdin",
+    file: "",
+    cure: "Save the names as UTF-8, one a line: first the jobs, then the resources.",
+};
+
+/// What is said of a subject.
+pub fn topic_of(subject: Subject) -> Topic {
+    match subject {
+        Subject::Sm(kind) => sm_topic(kind),
+        Subject::Order(fault) => order_topic(fault),
+        Subject::Plan(kind) => plan_topic(kind),
+        Subject::Names => NAMES,
+        Subject::Line(line) => line_topic(line),
+    }
+}
