@@ -29,10 +29,10 @@
 //!
 //! Proved: `named` answers exactly the subjects of the table that the words name, in its order; `explanation` answers
 //! `None` exactly where there is none. A subject's number and name are those of the fault. In `laws`: each fault, and
-//! each line without a number, stands in the table. A cause of a text that is refused begins with the name of the text
-//! and the line, number and name of the fault that its reader answers, and of a network text that is not refused nothing
-//! is told. All of them return. Tested alone: what is said of a subject, that each example has its fault, what else is told
-//! of a cause, and that nothing is told of a plan that is right.
+//! each line without a number, stands in the table. What `network_cause` makes of a text that is refused begins with its
+//! name and the line, number and name of the fault that its reader answers, and of a text that is read it is empty. All of
+//! them return. Tested alone: what is said of a subject, that each example has its fault, what else is told of causes, and
+//! that nothing is told of a plan that is right.
 #![tactic(auto)]
 
 mod cause;
