@@ -2,7 +2,7 @@
 use Rattle.std.proofs.Common.{◌≡◌, ℕ, ◌≤◌, List, length, arith}
 use Rattle.racp_model.specs.Project.{Project}
 use Rattle.racp_model.specs.Schedule.{EndsBy}
-use Rattle.racp_model.specs.Terms.{Terms, AreTermsOf, IsWithinCeilings}
+use Rattle.racp_model.specs.Terms.{Terms, AreTermsOf, IsBefore, IsWithinCeilings}
 use Rattle.racp_model.specs.Plan.{IsEnough, FitsTerms}
 use Rattle.racp_curve.specs.Curves.{order_by, ArePlanned, NoneIsEnough}
 
@@ -35,6 +35,10 @@ planned_between p terms sooner between later capacities from to planned e = reco
   is = enough_later p terms sooner between capacities from e;
   least = λ other enough before. planned.least other (enough_later p terms between later other to enough) before;
 }
+
+-- what stands before the capacities of a plan is enough for no earlier deadline
+pub not_enough_sooner : (p : Project) (terms : Terms) (sooner later : ℕ) (planned capacities : List ℕ) → sooner ≤ later → ArePlanned p (order_by later terms) planned → IsBefore terms capacities planned → IsEnough p (order_by sooner terms) capacities → ⊥
+not_enough_sooner p terms sooner later planned capacities l is before e = is.least capacities (enough_later p terms sooner later capacities l e) before
 
 -- starts that fit for one deadline fit for each by which they end
 pub enough_by : (p : Project) (terms : Terms) (deadline end : ℕ) (capacities starts : List ℕ) → length capacities ≡ p.resources → IsWithinCeilings terms capacities → FitsTerms p (order_by deadline terms) capacities starts → EndsBy p (λ _. end) starts →

@@ -11,7 +11,7 @@ use Rattle.racp_lexfix.specs.declared.answer.PlanStop.{PlanStop}
 use Rattle.racp_curve.specs.declared.step.Step.{Step}
 use Rattle.racp_curve.specs.Curves.{order_by, first_deadline, AreSteps, AreNotAfterEnough, IsCurve, IsCurveStop}
 use Rattle.racp_curve.specs.Following.{step_of, IsPlanOrNone, IsShortest, IsNext, IsBegun, IsFollowed}
-use Rattle.racp_curve.proofs.Deadlines.{enough_later, enough_by, fits_end, none_sooner, planned_between}
+use Rattle.racp_curve.proofs.Deadlines.{enough_by, fits_end, none_sooner, not_enough_sooner, planned_between}
 use Rattle.racp_curve.proofs.Telling.{told_too}
 
 -- the plan for the order's own deadline, before there are steps
@@ -58,7 +58,7 @@ module _ (p : Project) (terms : Terms) (plan : Plan) (old : List Step) (next : I
 
   -- none that are enough for an earlier deadline stand before its capacities
   pub not_after : AreNotAfterEnough p terms begin plan.capacities
-  not_after deadline l other is before = next.plan_is.is_plan.vector.least other (enough_later p terms deadline plan.deadline other (omega (arith, l, within)) is) before
+  not_after deadline l other is before = not_enough_sooner p terms deadline plan.deadline plan.capacities other (omega (arith, l, within)) next.plan_is.is_plan.vector before is
 
   -- where they are enough for none, it begins there
   pub begun : (new : List Step) → new ≡ step_of plan begin ∷ old → IsShortest p terms plan.capacities begin → IsBegun p terms begin new

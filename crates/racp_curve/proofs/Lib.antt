@@ -3,4 +3,5 @@ mod Reasons
 mod Asking
 mod Growing
 mod Telling
+mod OneCurve
 mod TextLines

@@ -1,5 +1,6 @@
 -- Why a curve is known in part alone, and what a curve tells.
 use Rattle.std.proofs.Common.{◌≡◌, ℕ, ◌+◌, ◌≤◌, List, [], ◌∷◌, Option, refl, sym, subst, arith, inl, inr, ◌⊎◌}
+use Rattle.std.specs.Prelude.{⊤}
 use Rattle.std.specs.List.{Contains}
 use Rattle.std.proofs.lemmas.Bool.{cases_lt}
 use Rattle.racp_model.specs.Project.{Project}
@@ -36,6 +37,18 @@ pub memory_alone : (IsTold : List ℕ → Type 0) (stop : PlanStop) → IsPlanSt
 memory_alone IsTold (Stopped not_before) h = absurd h.0
 memory_alone IsTold Memory h = refl
 memory_alone IsTold NoThread h = absurd h
+
+-- an asker that may stop, and want a thread
+any_reason : (IsTold : List ℕ → Type 0) (may_stop may_want_thread : Type 0) (stop : PlanStop) → IsPlanStop IsTold may_stop may_want_thread stop → IsPlanStop IsTold ⊤ ⊤ stop
+any_reason IsTold may_stop may_want_thread (Stopped not_before) h = (tt, h.1)
+any_reason IsTold may_stop may_want_thread Memory h = tt
+any_reason IsTold may_stop may_want_thread NoThread h = tt
+
+pub for_any_reason : (p : Project) (terms : Terms) (may_stop may_want_thread : Type 0) (steps : List Step) (stop : PlanStop) → IsCurveStop p terms may_stop may_want_thread steps stop → IsCurveStop p terms ⊤ ⊤ steps stop
+for_any_reason p terms may_stop may_want_thread steps stop h = record {
+  are_steps = h.are_steps;
+  reason = any_reason (AreNotAfterEnough p terms (first_deadline (terms.deadline + 1) steps)) may_stop may_want_thread stop h.reason;
+}
 
 -- of each deadline from the first step on, up to the order's, a step tells the plan's capacities
 step_tells : (p : Project) (terms : Terms) (steps : List Step) (deadline : ℕ) → AreSteps p terms steps → first_deadline (terms.deadline + 1) steps ≤ deadline → deadline ≤ terms.deadline →

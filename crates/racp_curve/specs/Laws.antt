@@ -1,7 +1,7 @@
 -- Laws of deadlines and curves. Each is the contract of a public function.
-use Rattle.std.specs.Prelude.{◌⊎◌, ℕ, ◌≤◌, List, Contains}
+use Rattle.std.specs.Prelude.{◌≡◌, ◌⊎◌, ℕ, ◌≤◌, List, Contains}
 use Rattle.racp_model.specs.Project.{Project}
-use Rattle.racp_model.specs.Terms.{Terms}
+use Rattle.racp_model.specs.Terms.{Terms, IsBefore}
 use Rattle.racp_model.specs.Plan.{IsEnough}
 use Rattle.racp_curve.specs.Curves.{order_by, ArePlanned, NoneIsEnough, IsCurve}
 use Rattle.racp_curve.specs.declared.step.Step.{Step}
@@ -18,6 +18,18 @@ PlannedBetween =
     (p : Project) (terms : Terms) (sooner between later : ℕ) (capacities : List ℕ) → sooner ≤ between → between ≤ later →
     ArePlanned p (order_by later terms) capacities → IsEnough p (order_by sooner terms) capacities →
     ArePlanned p (order_by between terms) capacities
+
+-- what stands before the capacities of the plan for a longer deadline is not enough for a shorter one
+abbrev pub NotEnoughSooner : Type 0
+NotEnoughSooner =
+    (p : Project) (terms : Terms) (sooner later : ℕ) (planned capacities : List ℕ) → sooner ≤ later →
+    ArePlanned p (order_by later terms) planned → IsBefore terms capacities planned →
+    IsEnough p (order_by sooner terms) capacities → ⊥
+
+-- an order has one curve at most
+abbrev pub CurveIsOne : Type 0
+CurveIsOne =
+    (p : Project) (terms : Terms) (steps others : List Step) → IsCurve p terms steps → IsCurve p terms others → steps ≡ others
 
 -- a curve tells of each deadline up to the order's: there is no plan, or a step has the capacities of the plan
 abbrev pub CurveTells : Type 0

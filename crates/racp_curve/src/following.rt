@@ -1,6 +1,6 @@
 //! The curve, followed from the order's deadline back.
 
-ghost use Rattle.std.specs.Prelude.{◌≡◌, ◌≤◌, ◌∷◌, OnOk, OnErr, IfOk, IfErr, MatchResult};
+ghost use Rattle.std.specs.Prelude.{◌≡◌, ◌≤◌, [], ◌∷◌, OnOk, OnErr, IfOk, IfErr, MatchResult};
 ghost use Rattle.racp_model.specs.Terms.{AreTermsOf};
 ghost use Rattle.racp_plan.specs.Plans.{IsPlanOf};
 ghost use Rattle.racp_lexfix.specs.Laws.{IsNoPlan};
@@ -237,11 +237,17 @@ fn curve_named<N: OfNetwork>(
 {
     let mut alone: Alone<N> = match Alone::within(alloc, net, mebibytes) {
         Ok(alone) => alone,
-        Err(_) => {
-            let steps = Vec::new(alloc);
-            let stop = PlanStop::Memory;
-            return Err(CurveStop { steps, stop });
-        }
+        Err(_) => return Err(out_of_memory(alloc)),
     };
     curve(alloc, net, order, &mut alone)
+}
+
+/// That memory was refused before there were steps.
+pub(crate) fn out_of_memory(alloc: Global) -> CurveStop
+    ensures steps { result.steps.items ≡ [] }
+    ensures stop { result.stop ≡ Memory }
+{
+    let steps = Vec::new(alloc);
+    let stop = PlanStop::Memory;
+    CurveStop { steps, stop }
 }

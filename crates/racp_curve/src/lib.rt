@@ -22,17 +22,22 @@
 //! deadline before it is made, and so on, up to a deadline for which there is none. So the number of plans is that of the steps, and
 //! the work does not grow with the deadline. All is asked of one `Asker`, whose records serve on.
 //!
-//! `curve_alone(alloc, &net, &order, 1024)` does it on the calling thread, and `curve_text(alloc, &steps)` gives the lines above.
+//! `curve_alone(alloc, &net, &order, 1024)` does it on the calling thread, `curve_crowd(rt, alloc, &net, &order, crew)` has workers
+//! make the plans over one board of records, and counts their turns over all of them. `curve_text(alloc, &steps)` gives the lines
+//! above, and `step_lines(alloc, &steps)` those of some steps.
 //!
 //! Proved: what `curve` answers is the curve (`IsCurve`): for each deadline from that of a step to before that of the next one,
 //! and up to the order's for the last, the capacities of the step are those of the plan, and its cost is theirs; for each deadline
 //! before the first step there is no plan; and two steps in a row have different capacities. Where there is no plan for the
 //! order's own deadline, it answers the reason. Where the asker gives up, the steps so far come back with the reason, and are right
 //! for all deadlines from the first of them on; where it stops, capacities are told before which none stand that are enough for a
-//! deadline before that. The text of a curve is the one that is defined. In `laws`: what is enough for a deadline is enough for
-//! each later one, and a curve tells of each deadline. Not proved: that memory is not refused without need, and how long it takes.
+//! deadline before that. Workers may be stopped at any time, and what they answer else is the curve too. The text of a curve is the
+//! one that is defined. In `laws`: what is enough for a deadline is enough for each later one, and what stands before the capacities
+//! of the plan for a longer deadline is not enough for a shorter one; an order has one curve at most, so workers make that of one
+//! thread; and a curve tells of each deadline. Not proved: that memory is not refused without need, and how long it takes.
 #![tactic(auto)]
 
+mod crowd;
 mod deadline;
 mod ending;
 mod following;
@@ -40,6 +45,7 @@ pub mod laws;
 mod lines;
 mod step;
 
+pub use crowd::curve_crowd;
 pub use following::{curve, curve_alone};
-pub use lines::curve_text;
+pub use lines::{curve_text, step_lines};
 pub use step::{CurveAnswer, CurveStop, Step};

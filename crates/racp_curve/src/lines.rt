@@ -2,13 +2,12 @@
 
 ghost use Rattle.std.specs.Prelude.{◌≡◌, ◌++◌, OnOk, IfOk, codes};
 ghost use Rattle.std.specs.Fmt.{decimal};
-ghost use Rattle.racp_curve.specs.Texts.{curve_text, spaced, step_line};
+ghost use Rattle.racp_curve.specs.Texts.{curve_text, spaced, step_line, step_lines};
 
 use crate::step::Step;
 use std::alloc::{AllocError, Global};
 
-/// The text of a curve, in ASCII: the line `deadline T cost X capacity a1 .. aR` for each of its steps, with the capacities of all
-/// resources, and the line `end`.
+/// The text of a curve, in ASCII: the lines of its steps, and the line `end`.
 ///
 /// # Errors
 ///
@@ -16,11 +15,23 @@ use std::alloc::{AllocError, Global};
 pub fn curve_text(alloc: Global, steps: &[Step]) -> Result<Vec<u8>, AllocError>
     ensures { IfOk result (λ text. text.items ≡ curve_text steps.now) }
 {
+    let mut text = step_lines(alloc, steps)?;
+    text.extend_from_slice(b"end\n")?;
+    Ok(text)
+}
+
+/// The line `deadline T cost X capacity a1 .. aR` for each of these steps, in ASCII, with the capacities of all resources.
+///
+/// # Errors
+///
+/// Memory was refused.
+pub fn step_lines(alloc: Global, steps: &[Step]) -> Result<Vec<u8>, AllocError>
+    ensures { IfOk result (λ text. text.items ≡ step_lines steps.now) }
+{
     let mut text = Vec::new(alloc);
     for step in steps {
         push_step(alloc, &mut text, step)?;
     }
-    text.extend_from_slice(b"end\n")?;
     Ok(text)
 }
 

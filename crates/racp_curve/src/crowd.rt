@@ -1,0 +1,89 @@
+//! The curve, followed by workers.
+
+ghost use Rattle.std.specs.Prelude.{◌≡◌, ◌≤◌, IfOk, IfErr, ⊤};
+ghost use Rattle.racp_model.specs.Formed.{AreFormed};
+ghost use Rattle.racp_model.specs.Terms.{AreTermsOf};
+ghost use Rattle.racp_candidates.specs.AnySeries.{any_questions};
+ghost use Rattle.racp_desk.specs.Closing.{IsRunClosed};
+ghost use Rattle.racp_curve.specs.Curves.{IsCurveAnswer, IsCurveStop};
+
+use crate::following::{curve, out_of_memory};
+use crate::step::{CurveAnswer, CurveStop};
+use racp_candidates::AnySeries;
+use racp_cutset::Board;
+use racp_desk::{Closed, DeskFault, Gate, run};
+use racp_lexfix::{Crew, Crowd, Unheard};
+use racp_model::{Network, OfNetwork};
+use racp_prices::Order;
+use racp_search::Stop;
+use std::alloc::Global;
+use std::marker::Brand;
+use std::sync::Wait;
+use std::thread::Threads;
+
+/// The curve of an order, made by such workers, which take so many turns over all its plans: the same as that of `curve_alone`.
+///
+/// # Errors
+///
+/// No turn is left, or the stop was asked for; memory was refused; or a worker could not be started. The steps so far come back.
+pub fn curve_crowd<G: Gate + Sync, P: Stop + Sync, R: Threads + Wait + Sync>(
+    rt: &R,
+    alloc: Global,
+    net: &Network,
+    order: &Order,
+    crew: Crew<'_, G, P, Unheard>,
+) -> Result<CurveAnswer, CurveStop>
+    requires workers { crew.workers ≤ 64 }
+    requires turns { crew.turns ≤ 1000000000000 }
+    requires memory { crew.memory ≤ 1048576 }
+    requires terms { AreTermsOf net.now order.now }
+    ensures curve { IfOk result (IsCurveAnswer net.now order.now) }
+    ensures stop { IfErr result (λ end. IsCurveStop net.now order.now ⊤ ⊤ end.steps.items end.stop) }
+{
+    curve_by::<Brand, G, P, R>(rt, alloc, net, order, crew)
+}
+
+/// The same. The network is the one that `N` names.
+fn curve_by<N: OfNetwork + Send + Sync, G: Gate + Sync, P: Stop + Sync, R: Threads + Wait + Sync>(
+    rt: &R,
+    alloc: Global,
+    net: &Network,
+    order: &Order,
+    crew: Crew<'_, G, P, Unheard>,
+) -> Result<CurveAnswer, CurveStop>
+    requires named { net.now ≡ N.network }
+    requires workers { crew.workers ≤ 64 }
+    requires turns { crew.turns ≤ 1000000000000 }
+    requires memory { crew.memory ≤ 1048576 }
+    requires terms { AreTermsOf net.now order.now }
+    ensures curve { IfOk result (IsCurveAnswer net.now order.now) }
+    ensures stop { IfErr result (λ end. IsCurveStop net.now order.now ⊤ ⊤ end.steps.items end.stop) }
+{
+    let Crew {
+        workers,
+        turns,
+        memory,
+        gate,
+        stop,
+        observer: _,
+    } = crew;
+    let board: Board<N> = match Board::within(alloc, net, memory, workers) {
+        Ok(board) => board,
+        Err(_) => return Err(out_of_memory(alloc)),
+    };
+    let mut crowd: Crowd<N, P, Unheard, _> = Crowd::new(
+        workers,
+        turns,
+        Unheard,
+        |series: AnySeries, quantum: u64, turns: u64| -> Result<Closed, DeskFault>
+            requires { (net.now ≡ N.network) × AreFormed net.now (any_questions series) ×
+                (workers ≤ 64) × (quantum ≤ 1000000) × (turns ≤ 1000000000000) }
+            ensures { IfOk result (IsRunClosed net.entry.now (any_questions series) turns P.QUIET) }
+        {
+            run(
+                rt, alloc, net, series, workers, quantum, turns, &board, gate, stop,
+            )
+        },
+    );
+    curve(alloc, net, order, &mut crowd)
+}
