@@ -8,3 +8,4 @@ mod Planning
 mod Certifying
 mod Statuses
 mod Telling
+mod Ending

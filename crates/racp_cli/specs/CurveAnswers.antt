@@ -1,5 +1,5 @@
 -- What `curve` answers to the texts of a network and an order.
-use Rattle.std.specs.Prelude.{◌≡◌, ◌⊎◌, ℕ, Bool, true, false, List, [], ◌∷◌, ⊤, Option, Result}
+use Rattle.std.specs.Prelude.{◌≡◌, ◌⊎◌, ℕ, ◌+◌, Bool, true, false, List, [], ◌∷◌, ◌++◌, ⊤, Option, Result}
 use Rattle.racp_model.specs.Project.{Project}
 use Rattle.racp_model.specs.Terms.{Terms}
 use Rattle.racp_lexfix.specs.Answers.{IsAnswer}
@@ -7,9 +7,11 @@ use Rattle.racp_lexfix.specs.Laws.{IsNoPlan}
 use Rattle.racp_lexfix.specs.Printing.{AreTextsOf}
 use Rattle.racp_lexfix.specs.Texts.{answer_text}
 use Rattle.racp_lexfix.specs.declared.answer.Answer.{Answer}
-use Rattle.racp_curve.specs.Curves.{IsCurve}
-use Rattle.racp_curve.specs.Texts.{curve_text}
+use Rattle.racp_curve.specs.Curves.{first_deadline, AreSteps, AreNotAfterEnough, IsCurve}
+use Rattle.racp_curve.specs.Texts.{curve_text, step_lines}
 use Rattle.racp_curve.specs.declared.step.Step.{Step}
+use Rattle.racp_cli.specs.Texts.{stopped_line}
+use Rattle.racp_cli.specs.Crowds.{IsNoThreadLine}
 use Rattle.racp_cli.specs.Plans.{IsNetworkLine, IsOrderLine, IsMemoryLine}
 use Rattle.racp_cli.specs.Streams.{Reader, IsRun, ToTwo}
 use Rattle.racp_cli.specs.declared.fault.StreamFault.{StreamFault}
@@ -38,13 +40,46 @@ abbrev pub IsToldCurve : Bool → Project → Terms → ℕ → List ℕ → Typ
 IsToldCurve is_drawn network terms status text =
     IsTextOfCurve is_drawn network terms status text ⊎ IsTextOfReason network terms status text
 
--- what is right for two texts: the curve of the order, or why there is no plan; or why the first of them that is refused is; memory
--- may run out at any texts
-abbrev pub IsCurveAnswer : Bool → List ℕ → List ℕ → ℕ → List ℕ → Type 0
-IsCurveAnswer is_drawn net order status text =
-    ((network : Project) × (terms : Terms) × AreTextsOf net order network terms × IsToldCurve is_drawn network terms status text) ⊎
+-- what is right for two texts: what is told of the network and the order that they are read as; or why the first of them that is
+-- refused is; memory may run out at any texts
+abbrev pub IsAnswerAbout : (Project → Terms → ℕ → List ℕ → Type 0) → List ℕ → List ℕ → ℕ → List ℕ → Type 0
+IsAnswerAbout IsTold net order status text =
+    ((network : Project) × (terms : Terms) × AreTextsOf net order network terms × IsTold network terms status text) ⊎
     (IsNetworkLine net status text ⊎ (IsOrderLine net order status text ⊎ IsMemoryLine status text))
+
+-- the curve of the order, or why there is no plan
+abbrev pub IsCurveAnswer : Bool → List ℕ → List ℕ → ℕ → List ℕ → Type 0
+IsCurveAnswer is_drawn = IsAnswerAbout (IsToldCurve is_drawn)
+
+-- the lines of the steps so far, and a line of capacities; the line alone in place of a picture
+abbrev pub stopped_text : Bool → List Step → List ℕ → List ℕ
+stopped_text false steps capacities = step_lines steps ++ stopped_line capacities
+stopped_text true steps capacities = stopped_line capacities
+
+-- workers were stopped: the steps so far, and capacities before which none stand that are enough for a deadline before the first of
+-- these steps
+pub record IsTextOfStop (is_drawn : Bool) (network : Project) (terms : Terms) (status : ℕ) (text : List ℕ) : Type 0 where
+  pub steps : List Step
+  pub not_before : List ℕ
+  pub are_steps : AreSteps network terms steps
+  pub none : AreNotAfterEnough network terms (first_deadline (terms.deadline + 1) steps) not_before
+  pub with_text : text ≡ stopped_text is_drawn steps not_before
+  pub with_status : status ≡ 4
+
+-- what workers tell: what is told on one thread; or that they were stopped; or that one could not be started
+abbrev pub IsToldByCrowd : Bool → Project → Terms → ℕ → List ℕ → Type 0
+IsToldByCrowd is_drawn network terms status text =
+    IsToldCurve is_drawn network terms status text ⊎
+    (IsTextOfStop is_drawn network terms status text ⊎ IsNoThreadLine status text)
+
+-- the curve of the order by workers, or why there is no plan, or why they ended early
+abbrev pub IsCurveCrowdAnswer : Bool → List ℕ → List ℕ → ℕ → List ℕ → Type 0
+IsCurveCrowdAnswer is_drawn = IsAnswerAbout (IsToldByCrowd is_drawn)
 
 -- a run of `curve`
 abbrev pub IsCurveRun : Bool → Reader → Reader → Option (List ℕ) → Option (List ℕ) → Result ℕ StreamFault → Type 0
 IsCurveRun is_drawn net order = IsRun (ToTwo (IsCurveAnswer is_drawn)) (net ∷ (order ∷ []))
+
+-- a run of `curve` by workers
+abbrev pub IsCurveCrowdRun : Bool → Reader → Reader → Option (List ℕ) → Option (List ℕ) → Result ℕ StreamFault → Type 0
+IsCurveCrowdRun is_drawn net order = IsRun (ToTwo (IsCurveCrowdAnswer is_drawn)) (net ∷ (order ∷ []))

@@ -1,6 +1,6 @@
 -- Contracts of private functions: faults of texts as those of `check` or as answers, and answers that were made or for which
 -- memory was refused.
-use Rattle.std.specs.Prelude.{◌≡◌, ◌≢◌, ◌⊎◌, ℕ, List, Result, Ok, Err, Vec}
+use Rattle.std.specs.Prelude.{◌≡◌, ◌≢◌, ◌⊎◌, ℕ, Bool, List, Result, Ok, Err, Vec}
 use Rattle.std.specs.declared.alloc.AllocError.{AllocError}
 use Rattle.std.specs.declared.alloc.Global.{Global}
 use Rattle.racp_sm.specs.Faults.{SmFault}
@@ -9,9 +9,13 @@ use Rattle.racp_prices.specs.declared.fault.OrderFault.{OrderFault}
 use Rattle.racp_prices.specs.declared.fault.OrderFault.TheVariants as order
 use Rattle.racp_plan.specs.TextFaults.{TextFault}
 use Rattle.racp_plan.specs.declared.text_fault.TextFaultKind.TheVariants as plan
+use Rattle.racp_lexfix.specs.declared.answer.PlanStop.{PlanStop}
 use Rattle.racp_lexfix.specs.declared.answer.PlanStop.TheVariants.{Stopped, Memory as MemoryIs, NoThread}
 use Rattle.racp_lexfix.specs.declared.printed.Refusal.{Refusal}
 use Rattle.racp_lexfix.specs.declared.printed.Refusal.TheVariants.{Sm, Order as OrderIs, Stop}
+use Rattle.racp_curve.specs.declared.step.Step.{Step}
+use Rattle.racp_cli.specs.CurveAnswers.{stopped_text}
+use Rattle.racp_cli.specs.Plans.{IsNetworkLine, IsOrderLine}
 use Rattle.racp_cli.specs.Texts.{refusal_line, order_refusal_line, memory_line, stopped_line, no_thread_line}
 use Rattle.racp_cli.specs.declared.check_fault.CheckFault.{CheckFault}
 use Rattle.racp_cli.specs.declared.check_fault.CheckFault.TheVariants.{Network, Order, PlanText, OutOfMemory}
@@ -43,6 +47,16 @@ IsRefusedLine (OrderIs fault) status text = IsOrderRefused fault status text
 IsRefusedLine (Stop (Stopped not_before)) status text = (4 ≡ status) × (stopped_line not_before ≡ text)
 IsRefusedLine (Stop MemoryIs) status text = ⊥
 IsRefusedLine (Stop NoThread) status text = (7 ≡ status) × (no_thread_line ≡ text)
+
+-- the status and the line of the first of two texts that is refused
+abbrev pub IsRefusedText : List ℕ → List ℕ → ℕ → List ℕ → Type 0
+IsRefusedText net order status text = IsNetworkLine net status text ⊎ IsOrderLine net order status text
+
+-- the status and the text where following a curve ended early with these steps, but not where memory ran out
+abbrev pub IsEndedText : Bool → List Step → PlanStop → ℕ → List ℕ → Type 0
+IsEndedText is_drawn steps (Stopped not_before) status text = (4 ≡ status) × (stopped_text is_drawn steps not_before ≡ text)
+IsEndedText is_drawn steps MemoryIs status text = ⊥
+IsEndedText is_drawn steps NoThread status text = (7 ≡ status) × (no_thread_line ≡ text)
 
 -- the status and the text of an answer, or those of lack of memory where it could not be made
 abbrev pub IsMade : Result (ℕ × Vec ℕ Global) AllocError → ℕ → List ℕ → Type 0

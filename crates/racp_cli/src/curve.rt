@@ -1,20 +1,21 @@
 //! `curve`: what each deadline up to that of an order costs.
 
 ghost use Rattle.std.specs.Prelude.{◌≤◌, IfOk};
+ghost use Rattle.racp_model.specs.Project.{Project};
 ghost use Rattle.racp_model.specs.Terms.{AreTermsOf};
+ghost use Rattle.racp_curve.specs.Curves.{IsCurveAnswer as IsAnswerOfCurve};
 ghost use Rattle.racp_cli.specs.CurveAnswers.{IsCurveAnswer, IsCurveRun, IsCurveText, IsToldCurve};
 
 use crate::fault::StreamFault;
-use crate::refusal::{network_refused, order_refused};
 use crate::respond::respond;
 use crate::status::{DONE, IMPOSSIBLE};
 use crate::streams::read_whole;
+use crate::texts::read_texts;
 use racp_curve::{CurveAnswer, Step, curve_alone, curve_text};
 use racp_lexfix::answer_lines;
 use racp_model::Network;
-use racp_prices::{Order, read_order};
+use racp_prices::Order;
 use racp_show::{Corner, costs_svg};
-use racp_sm::read_sm;
 use std::alloc::{AllocError, Global};
 use std::io::{Read, Write};
 
@@ -57,13 +58,9 @@ fn answer(
     requires { mebibytes ≤ 1048576 }
     ensures { IfOk result (λ answer. IsCurveAnswer is_drawn net.now order.now answer.0 answer.1.items) }
 {
-    let net = match read_sm(alloc, net) {
-        Ok(net) => net,
-        Err(fault) => return network_refused(alloc, fault),
-    };
-    match read_order(alloc, order, net.resource_count(), net.job_count()) {
-        Ok(order) => told(alloc, &net, &order, mebibytes, is_drawn),
-        Err(fault) => order_refused(alloc, fault),
+    match read_texts(alloc, net, order) {
+        Ok((net, order)) => told(alloc, &net, &order, mebibytes, is_drawn),
+        Err(refused) => refused,
     }
 }
 
@@ -80,15 +77,30 @@ fn told(
     ensures { IfOk result (λ answer. IsToldCurve is_drawn net.now order.now answer.0 answer.1.items) }
 {
     match curve_alone(alloc, net, order, mebibytes) {
-        Ok(CurveAnswer::Steps(steps)) => {
+        Ok(answer) => curve_answer(alloc, order, answer, is_drawn),
+        // On one thread this ends early only where memory runs out.
+        Err(_) => Err(AllocError),
+    }
+}
+
+/// The status and the text of a curve for these terms, or of the reason why there is no plan.
+pub(crate) fn curve_answer(
+    alloc: Global,
+    order: &Order,
+    answer: CurveAnswer,
+    is_drawn: bool,
+) -> Result<(u8, Vec<u8>), AllocError>
+    ensures { (network : Project) → IsAnswerOfCurve network order.now answer →
+        IfOk result (λ answer. IsToldCurve is_drawn network order.now answer.0 answer.1.items) }
+{
+    match answer {
+        CurveAnswer::Steps(steps) => {
             let text = text_of(alloc, &steps, order.deadline, is_drawn)?;
             Ok((DONE, text))
         }
-        Ok(CurveAnswer::NoPlan(reason)) => {
+        CurveAnswer::NoPlan(reason) => {
             Ok((IMPOSSIBLE, answer_lines(alloc, order.deadline, &reason)?))
         }
-        // On one thread this ends early only where memory runs out.
-        Err(_) => Err(AllocError),
     }
 }
 

@@ -8,8 +8,8 @@
 //! plan or why there is none, `crowd_over` the same by workers, `prove_over` a network and an order with a certificate for
 //! the plan, `check_over` a network, an order and a plan with `ok` or what is wrong, and `verify_over` these and a
 //! certificate with whether that shows that no cheaper capacities would do. `show_over` answers a network, an order and a plan
-//! with a picture of the plan, `curve_over` a network and an order with what each deadline costs, and `order_over` a network with
-//! the text of an order. Each returns the status with which the
+//! with a picture of the plan, `curve_over` a network and an order with what each deadline costs, `curve_crowd_over` the same by
+//! workers, and `order_over` a network with the text of an order. Each returns the status with which the
 //! program ends. `run_over_within` and `crowd_over_by` also take
 //! how much memory the records of refuted nodes may have. docs/FORMATS.md has every line and every status.
 //!
@@ -35,7 +35,7 @@
 //! flushed once. A call that takes no byte, or fails, is `Write`; a call that is interrupted counts as failed.
 //!
 //! In `specs/`, an answer is a value, with the text and the status that stand for it. `IsCpmAnswer`, `IsPlanAnswer`,
-//! `IsCrowdAnswer`, `IsProofAnswer`, `IsCheckAnswer`, `IsVerifyAnswer`, `IsShowAnswer`, `IsCurveAnswer` and `IsOrderAnswer` say when text and status are right for the bytes
+//! `IsCrowdAnswer`, `IsProofAnswer`, `IsCheckAnswer`, `IsVerifyAnswer`, `IsShowAnswer`, `IsCurveAnswer`, `IsCurveCrowdAnswer` and `IsOrderAnswer` say when text and status are right for the bytes
 //! of one to four inputs, and `IsRun` ties
 //! answers to what the readers had and what the writer holds, for all commands.
 //!
@@ -53,6 +53,7 @@ mod check_fault;
 mod cpm;
 mod crowd;
 mod curve;
+mod curve_crowd;
 mod fault;
 pub mod laws;
 mod lines;
@@ -64,12 +65,14 @@ mod respond;
 mod show;
 mod status;
 mod streams;
+mod texts;
 mod verify;
 
 pub use check::check_over;
 pub use cpm::cpm_over;
 pub use crowd::{crowd_over, crowd_over_by};
 pub use curve::curve_over;
+pub use curve_crowd::curve_crowd_over;
 pub use fault::StreamFault;
 pub use order::{Asked, Time, order_over};
 pub use plan::{run_over, run_over_within};

@@ -1,0 +1,10 @@
+use Rattle.std.proofs.Common.{◌≡◌, refl, rules}
+use Rattle.racp_plan.specs.Texts.{line}
+use Rattle.racp_cli.specs.Texts.{no_thread_line}
+use Rattle.racp_cli.proofs.curve_crowd.ended_answer.Goals as goal
+
+pub returns-in_ok-to_vec-in-NoThread : goal.returns-in_ok-to_vec-in-NoThread
+unfolding no_thread_line line
+returns-in_ok-to_vec-in-NoThread c =
+    let text : no_thread_line ≡ c.in_ok-to_vec-in-NoThread.field-0.items = search rules in
+    rw c.in-NoThread.is (refl, text)

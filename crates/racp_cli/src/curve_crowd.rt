@@ -1,0 +1,139 @@
+//! `curve` by workers: what each deadline up to that of an order costs, by plans that are made on threads of their own.
+
+ghost use Rattle.std.specs.Prelude.{◌≡◌, ◌≤◌, IfOk};
+ghost use Rattle.racp_model.specs.Terms.{AreTermsOf};
+ghost use Rattle.racp_cli.specs.CurveAnswers.{IsCurveCrowdAnswer, IsCurveCrowdRun, IsToldByCrowd, stopped_text};
+ghost use Rattle.racp_cli.specs.Responses.{IsEndedText};
+
+use crate::curve::curve_answer;
+use crate::fault::StreamFault;
+use crate::lines::stopped_line;
+use crate::respond::respond;
+use crate::status::{STOPPED, STREAM_FAILED};
+use crate::streams::read_whole;
+use crate::texts::read_texts;
+use racp_curve::{CurveStop, Step, curve_crowd, step_lines};
+use racp_desk::Gate;
+use racp_lexfix::{Crew, PlanStop, Unheard};
+use racp_model::Network;
+use racp_prices::Order;
+use racp_search::Stop;
+use std::alloc::{AllocError, Global};
+use std::io::{Read, Write};
+use std::sync::Wait;
+use std::thread::Threads;
+
+/// Reads a network text and an order text, all of each before the next, has such workers make the plans, and writes to `out`
+/// what `curve_over` writes. Where they are stopped, it writes the lines of the steps so far, or nothing in place of a picture,
+/// and a line that tells capacities before which none are enough for a deadline before these steps; where no thread could be
+/// started, a line alone. Returns the status that belongs to what was written: that of `curve_over`, 4 where they were stopped, 7
+/// where a worker could not be started.
+///
+/// # Errors
+///
+/// As with `curve_over`.
+pub fn curve_crowd_over<
+    N: Read,
+    O: Read,
+    W: Write,
+    G: Gate + Sync,
+    P: Stop + Sync,
+    R: Threads + Wait + Sync,
+>(
+    rt: &R,
+    alloc: Global,
+    net: &mut N,
+    order: &mut O,
+    is_drawn: bool,
+    out: &mut W,
+    crew: Crew<'_, G, P, Unheard>,
+) -> Result<u8, StreamFault>
+    requires workers { crew.workers ≤ 64 }
+    requires turns { crew.turns ≤ 1000000000000 }
+    requires memory { crew.memory ≤ 1048576 }
+    ensures { IsCurveCrowdRun is_drawn (record { unread = N.remaining net.old; left = N.remaining net.new })
+        (record { unread = O.remaining order.old; left = O.remaining order.new })
+        (W.contents out.old) (W.contents out.new) result }
+{
+    let net = read_whole(alloc, net)?;
+    let order = read_whole(alloc, order)?;
+    respond(answer(rt, alloc, &net, &order, is_drawn, crew), out)
+}
+
+/// The status and the text of the answer to the texts of a network and an order.
+fn answer<G: Gate + Sync, P: Stop + Sync, R: Threads + Wait + Sync>(
+    rt: &R,
+    alloc: Global,
+    net: &[u8],
+    order: &[u8],
+    is_drawn: bool,
+    crew: Crew<'_, G, P, Unheard>,
+) -> Result<(u8, Vec<u8>), AllocError>
+    requires workers { crew.workers ≤ 64 }
+    requires turns { crew.turns ≤ 1000000000000 }
+    requires memory { crew.memory ≤ 1048576 }
+    ensures { IfOk result (λ answer. IsCurveCrowdAnswer is_drawn net.now order.now answer.0 answer.1.items) }
+{
+    match read_texts(alloc, net, order) {
+        Ok((net, order)) => told(rt, alloc, &net, &order, is_drawn, crew),
+        Err(refused) => refused,
+    }
+}
+
+/// The status and the text of the curve, or of the reason why there is no plan, or why the workers ended early.
+fn told<G: Gate + Sync, P: Stop + Sync, R: Threads + Wait + Sync>(
+    rt: &R,
+    alloc: Global,
+    net: &Network,
+    order: &Order,
+    is_drawn: bool,
+    crew: Crew<'_, G, P, Unheard>,
+) -> Result<(u8, Vec<u8>), AllocError>
+    requires workers { crew.workers ≤ 64 }
+    requires turns { crew.turns ≤ 1000000000000 }
+    requires memory { crew.memory ≤ 1048576 }
+    requires terms { AreTermsOf net.now order.now }
+    ensures { IfOk result (λ answer. IsToldByCrowd is_drawn net.now order.now answer.0 answer.1.items) }
+{
+    match curve_crowd(rt, alloc, net, order, crew) {
+        Ok(answer) => curve_answer(alloc, order, answer, is_drawn),
+        Err(CurveStop { steps, stop }) => ended_answer(alloc, &steps, stop, is_drawn),
+    }
+}
+
+/// The status and the text where following a curve ended early with these steps.
+fn ended_answer(
+    alloc: Global,
+    steps: &[Step],
+    stop: PlanStop,
+    is_drawn: bool,
+) -> Result<(u8, Vec<u8>), AllocError>
+    ensures { IfOk result (λ answer. IsEndedText is_drawn steps.now stop answer.0 answer.1.items) }
+{
+    match stop {
+        PlanStop::Stopped { not_before } => {
+            let text = stopped_text(alloc, steps, not_before.as_slice(), is_drawn)?;
+            Ok((STOPPED, text))
+        }
+        PlanStop::Memory => Err(AllocError),
+        PlanStop::NoThread => Ok((STREAM_FAILED, b"no thread\n".to_vec(alloc)?)),
+    }
+}
+
+/// The lines of the steps so far, or nothing in place of a picture, and the line that tells these capacities.
+fn stopped_text(
+    alloc: Global,
+    steps: &[Step],
+    not_before: &[u32],
+    is_drawn: bool,
+) -> Result<Vec<u8>, AllocError>
+    ensures { IfOk result (λ text. text.items ≡ stopped_text is_drawn steps.now not_before.now) }
+{
+    let line = stopped_line(alloc, not_before)?;
+    if is_drawn {
+        return Ok(line);
+    }
+    let mut text = step_lines(alloc, steps)?;
+    text.extend_from_slice(&line)?;
+    Ok(text)
+}
