@@ -16,7 +16,7 @@ use std::thread::Threads;
 
 /// Turns, and the question that one worker leaves open which has used up so many, beside one unit of the second
 /// resource. By the third turn the first yes is found, of the question at place 2.
-const TURNS: [(u64, Option<usize>); 4] = [(0, Some(0)), (1, Some(1)), (2, Some(2)), (3, None)];
+const TURNS: &[(u64, Option<usize>)] = &[(0, Some(0)), (1, Some(1)), (2, Some(2)), (3, None)];
 
 /// The first number of turns with which a run ends otherwise.
 fn first_other_turns<N: OfNetwork + Send + Sync, R: Threads + Wait + Sync>(
@@ -26,7 +26,7 @@ fn first_other_turns<N: OfNetwork + Send + Sync, R: Threads + Wait + Sync>(
 ) -> Result<Option<u64>, Fail>
     requires { net.now ≡ N.network }
 {
-    for (turns, open) in TURNS {
+    for &(turns, open) in TURNS {
         let turns = turns.min(ALL_TURNS);
         let numbers = Numbers {
             second: 1,

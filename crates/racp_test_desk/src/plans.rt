@@ -23,7 +23,7 @@ use std::test::Fail;
 use std::thread::Threads;
 
 /// Turns, and the capacities that one worker tells which has so many; a plan where it is true.
-const TURNS: [(u64, [u32; 2], bool); 8] = [
+const TURNS: &[(u64, [u32; 2], bool)] = &[
     (0, [1, 1], false),
     (1, [1, 1], false),
     (2, [1, 1], false),
@@ -189,7 +189,7 @@ fn first_other<N: OfNetwork + Send + Sync, R: Threads + Wait + Sync>(
 ) -> Result<Option<u64>, Fail>
     requires { net.now ≡ N.network }
 {
-    for (turns, capacities, is_plan) in TURNS {
+    for &(turns, capacities, is_plan) in TURNS {
         let turns = turns.min(ALL_TURNS);
         if told::<N, Never, R>(rt, alloc, net, 1, turns, &Never)? != (capacities, is_plan) {
             return Ok(Some(turns));

@@ -77,7 +77,7 @@ fn probed<N: OfNetwork + Send + Sync, P: Stop + Sync, R: Threads + Wait + Sync>(
 type Row = ([u32; 2], Option<u64>, u64, Told);
 
 /// What is told where nobody stops.
-const UNSTOPPED: [Row; 5] = [
+const UNSTOPPED: &[Row] = &[
     ([1, 1], None, 1_000, Told::No),
     ([1, 2], None, 1_000, Told::Yes),
     ([1, 2], Some(64_000), 1_000, Told::Yes),
@@ -86,7 +86,7 @@ const UNSTOPPED: [Row; 5] = [
 ];
 
 /// What is told where a stop is asked for at once.
-const STOPPED: [Row; 2] = [
+const STOPPED: &[Row] = &[
     ([1, 2], None, 1_000, Told::Stopped),
     ([1, 2], Some(64_000), 1_000, Told::Stopped),
 ];
@@ -137,7 +137,7 @@ fn first_other<N: OfNetwork + Send + Sync, P: Stop + Sync, R: Threads + Wait + S
 fn probes_tell(rt: HostRuntime) -> Result<(), Fail> {
     let net = crossed(rt.alloc())?;
     assert_eq!(rt;
-        first_other::<Brand, Never, HostRuntime>(&rt, rt.alloc(), &net, &UNSTOPPED, &Never)?,
+        first_other::<Brand, Never, HostRuntime>(&rt, rt.alloc(), &net, UNSTOPPED, &Never)?,
         None
     );
     Ok(())
@@ -147,7 +147,7 @@ fn probes_tell(rt: HostRuntime) -> Result<(), Fail> {
 fn probes_stop(rt: HostRuntime) -> Result<(), Fail> {
     let net = crossed(rt.alloc())?;
     assert_eq!(rt;
-        first_other::<Brand, AtOnce, HostRuntime>(&rt, rt.alloc(), &net, &STOPPED, &AtOnce)?,
+        first_other::<Brand, AtOnce, HostRuntime>(&rt, rt.alloc(), &net, STOPPED, &AtOnce)?,
         None
     );
     Ok(())

@@ -29,7 +29,7 @@ struct Script {
     reached: &'static [u32],
 }
 
-const SCRIPTS: [Script; 2] = [
+const SCRIPTS: &[Script] = &[
     // findings of another seat, of a search that was stopped, and of pieces that came in before
     Script {
         second: 1,

@@ -11,7 +11,7 @@ use std::alloc::{AllocError, Global};
 use std::test::Fail;
 
 /// In words, a network with a deadline, its floors and its roofs.
-const BOUNDS: [(&str, Sample, u32, &[u32], &[u32]); 9] = [
+const BOUNDS: &[(&str, Sample, u32, &[u32], &[u32])] = &[
     ("core usage", Sample::Parallel, 4, &[3], &[4]),
     (
         "two resources, no slack",
@@ -117,7 +117,7 @@ fn difference(
 
 #[test]
 fn finds_floors_and_roofs(rt: HostRuntime) -> Result<(), Fail> {
-    for (name, sample, deadline, least, most) in BOUNDS {
+    for &(name, sample, deadline, least, most) in BOUNDS {
         let net = sampled(rt.alloc(), sample)?;
         let difference = difference(rt.alloc(), &net, deadline, least, most)?;
         assert_eq!(rt; difference, None, "{name}");

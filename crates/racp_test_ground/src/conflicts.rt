@@ -25,7 +25,7 @@ struct Expected<'a> {
 }
 
 /// In words, a network with capacities and starts, and their first conflict.
-const CONFLICTS: [(&str, Sample, &[u32], &[u32], Option<Expected>); 11] = [
+const CONFLICTS: &[(&str, Sample, &[u32], &[u32], Option<Expected>)] = &[
     (
         "three jobs beside each other",
         Sample::Parallel,
@@ -286,7 +286,7 @@ fn first_difference(
 
 #[test]
 fn finds_conflicts_and_alternatives(rt: HostRuntime) -> Result<(), Fail> {
-    for (name, sample, capacities, starts, expected) in CONFLICTS {
+    for &(name, sample, capacities, starts, expected) in CONFLICTS {
         let net = sampled(rt.alloc(), sample)?;
         let difference = difference(rt.alloc(), &net, capacities, starts, expected)?;
         assert_eq!(rt; difference, None, "{name}");
@@ -298,7 +298,7 @@ fn finds_conflicts_and_alternatives(rt: HostRuntime) -> Result<(), Fail> {
 const ACTIVE: &[u32] = &[1, 2, 3, 4];
 
 /// The free jobs, a list, and the alternative that is found behind it, of this conflict.
-const BEHIND: [(&[u32], &[u32], Option<&[u32]>); 14] = [
+const BEHIND: &[(&[u32], &[u32], Option<&[u32]>)] = &[
     (ACTIVE, &[], Some(&[1, 2])),
     (ACTIVE, &[1], Some(&[1, 2])),
     (ACTIVE, &[1, 1, 9], Some(&[1, 2])),
@@ -326,7 +326,7 @@ fn finds_each_behind(
     requires active { All (IsNumber (length net.now.jobs)) conflict.now.active }
 {
     let mut found = Alternative::new(alloc);
-    for (free, last, expected) in BEHIND {
+    for &(free, last, expected) in BEHIND {
         let free = set_of(free);
         let more = found.find_behind(net, capacities, &conflict.active, &free, last)?;
         if more != expected.is_some() || (more && Some(found.jobs()) != expected) {

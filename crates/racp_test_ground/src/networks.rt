@@ -18,7 +18,7 @@ type Attempt = (
 /// Six equal jobs.
 const SIX: [(u32, &[u32]); 6] = [(1, &[1]); 6];
 
-const ATTEMPTS: [Attempt; 19] = [
+const ATTEMPTS: &[Attempt] = &[
     ("no job", 1, &[], &[], Some(NetFault::Limit)),
     ("no resource", 0, &[(1, &[])], &[], Some(NetFault::Limit)),
     ("16 resources", 16, &[(1, &[1; 16])], &[], None),
@@ -120,7 +120,7 @@ const ATTEMPTS: [Attempt; 19] = [
 
 #[test]
 fn tells_why_no_network_is_made(rt: HostRuntime) {
-    for (name, resources, jobs, arcs, fault) in ATTEMPTS {
+    for &(name, resources, jobs, arcs, fault) in ATTEMPTS {
         let made = network(rt.alloc(), resources, jobs, arcs);
         assert_eq!(rt; made.err(), fault, "{name}");
     }
@@ -213,7 +213,7 @@ fn reads_back_what_was_given(rt: HostRuntime) -> Result<(), Fail> {
 const SECOND: Sample = Sample::Free(2, &[(1, &[0, 1]), (1, &[0, 1])]);
 
 /// In words, a network with capacities, starts and a deadline, and whether these starts fit.
-const FITS: [(&str, Sample, &[u32], &[u32], u64, bool); 7] = [
+const FITS: &[(&str, Sample, &[u32], &[u32], u64, bool)] = &[
     (
         "the plan",
         Sample::Parallel,
@@ -284,7 +284,7 @@ fn is_fitting(
 
 #[test]
 fn tells_which_starts_fit(rt: HostRuntime) -> Result<(), Fail> {
-    for (name, sample, capacities, starts, deadline, expected) in FITS {
+    for &(name, sample, capacities, starts, deadline, expected) in FITS {
         let net = sampled(rt.alloc(), sample)?;
         let found = is_fitting(rt.alloc(), &net, capacities, starts, deadline)?;
         assert_eq!(rt; found, Some(expected), "{name}");

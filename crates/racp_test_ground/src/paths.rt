@@ -24,7 +24,7 @@ struct Times {
     late_job: Option<u32>,
 }
 
-const TIMES: [Times; 10] = [
+const TIMES: &[Times] = &[
     Times {
         sample: Sample::Parallel,
         release: &[0; 5],

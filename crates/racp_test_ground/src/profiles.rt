@@ -14,7 +14,7 @@ type Move<'a> = (u32, u32, Option<(u32, &'a [u32])>);
 
 /// Moves of two jobs, of 2 and 1 time units, that use one unit each, of one. At first the second starts when the first
 /// ends.
-const MOVES: [Move; 7] = [
+const MOVES: &[Move] = &[
     (2, 2, None),
     (2, 1, Some((1, &[1, 2]))),
     (1, 2, None),

@@ -12,7 +12,7 @@ type Bounds<'a> = (&'a [u32], &'a [u32]);
 
 /// In words, a network with capacities, a window and a time from which core usages are looked at; and the tightened
 /// window, or that nothing in it answers.
-const WINDOWS: [(&str, Sample, &[u32], Bounds, u32, Option<Bounds>); 14] = [
+const WINDOWS: &[(&str, Sample, &[u32], Bounds, u32, Option<Bounds>)] = &[
     (
         "a job waits until a core usage is over",
         Sample::Chained,
@@ -155,7 +155,7 @@ fn is_tightened(
 
 #[test]
 fn tightens_windows(rt: HostRuntime) -> Result<(), Fail> {
-    for (name, sample, capacities, bounds, from, expected) in WINDOWS {
+    for &(name, sample, capacities, bounds, from, expected) in WINDOWS {
         let net = sampled(rt.alloc(), sample)?;
         let tightened = is_tightened(rt.alloc(), &net, capacities, bounds, from, expected)?;
         assert!(rt; tightened, "{name}");

@@ -125,7 +125,7 @@ const FIVE: Terms<'static> = Terms {
     ..FOUR
 };
 
-const ONE_RESOURCE: [(Terms<'static>, Wanted<'static>); 11] = [
+const ONE_RESOURCE: &[(Terms<'static>, Wanted<'static>)] = &[
     (
         Terms {
             deadline: 3,
@@ -198,7 +198,7 @@ const ONE_RESOURCE: [(Terms<'static>, Wanted<'static>); 11] = [
 #[test]
 fn plans_with_one_resource(rt: HostRuntime) -> Result<(), Fail> {
     let net = parallel(rt.alloc())?;
-    try_rows(&rt, rt.alloc(), &net, &ONE_RESOURCE)
+    try_rows(&rt, rt.alloc(), &net, ONE_RESOURCE)
 }
 
 /// Terms with two resources.
@@ -211,7 +211,7 @@ const THREE: Terms<'static> = Terms {
     due: &[3; 6],
 };
 
-const TWO_RESOURCES: [(Terms<'static>, Wanted<'static>); 8] = [
+const TWO_RESOURCES: &[(Terms<'static>, Wanted<'static>)] = &[
     (THREE, Wanted::Plan(2, 3, &[1, 2], &[0, 0, 1, 2, 2, 3])),
     (
         Terms {
@@ -268,7 +268,7 @@ const TWO_RESOURCES: [(Terms<'static>, Wanted<'static>); 8] = [
 #[test]
 fn plans_with_two_resources(rt: HostRuntime) -> Result<(), Fail> {
     let net = crossed(rt.alloc())?;
-    try_rows(&rt, rt.alloc(), &net, &TWO_RESOURCES)
+    try_rows(&rt, rt.alloc(), &net, TWO_RESOURCES)
 }
 
 /// Two jobs of duration 0 that request nothing of one resource, 1 before 2.

@@ -25,7 +25,7 @@ enum Small {
 /// capacities, and whether they do.
 type Vector = (Small, u32, &'static [u32], bool);
 
-const VECTORS: [Vector; 20] = [
+const VECTORS: &[Vector] = &[
     (Small::Parallel, 3, &[3], false),
     (Small::Parallel, 3, &[4], true),
     (Small::Parallel, 4, &[2], false),

@@ -33,7 +33,7 @@ const EARLY: &[u8] = b"critical 3\nstart 1 0\nstart 2 2\nend\n";
 /// A command, what its readers give, the status that it returns, and what it writes.
 type Answer = (Command, [&'static [u8]; 4], u8, &'static [u8]);
 
-const ANSWERS: [Answer; 9] = [
+const ANSWERS: &[Answer] = &[
     (Command::Cpm, [NETWORK, b"", b"", b""], DONE, EARLY),
     (Command::Plan, [NETWORK, ORDER, b"", b""], DONE, PLAN),
     (Command::Check, [NETWORK, ORDER, PLAN, b""], DONE, b"ok\n"),
@@ -126,18 +126,18 @@ fn write_an_answer_or_its_beginning(rt: HostRuntime) {
     let alloc = rt.alloc();
     for answer in ANSWERS {
         let length = answer.3.len();
-        assert!(rt; is_written(alloc, &answer));
-        assert!(rt; written(alloc, &answer, length, Ending::FlushFails) == Some(length));
+        assert!(rt; is_written(alloc, answer));
+        assert!(rt; written(alloc, answer, length, Ending::FlushFails) == Some(length));
         for writes in 0..length.div_ceil(3) {
             let want = writes.checked_mul(3);
-            assert!(rt; written(alloc, &answer, writes, Ending::Fails) == want);
-            assert!(rt; written(alloc, &answer, writes, Ending::TakesNothing) == want);
+            assert!(rt; written(alloc, answer, writes, Ending::Fails) == want);
+            assert!(rt; written(alloc, answer, writes, Ending::TakesNothing) == want);
         }
     }
 }
 
 /// The commands, the place of each reader that they take, and how many bytes it gives.
-const READERS: [(Command, usize, usize); 10] = [
+const READERS: &[(Command, usize, usize)] = &[
     (Command::Cpm, 0, NETWORK.len()),
     (Command::Plan, 0, NETWORK.len()),
     (Command::Plan, 1, ORDER.len()),
@@ -182,7 +182,7 @@ fn stops(alloc: Global, command: Command, place: usize, fails_at: usize) -> bool
 
 #[test]
 fn write_nothing_where_a_reader_fails(rt: HostRuntime) {
-    for (command, place, length) in READERS {
+    for &(command, place, length) in READERS {
         for read in 0..=length {
             assert!(rt; stops(rt.alloc(), command, place, read), "{place} {read}");
         }

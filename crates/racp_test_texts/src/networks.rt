@@ -9,7 +9,7 @@ use std::test::Fail;
 /// A text, the duration and the requests of each job, and the pairs of jobs.
 type Sample = (&'static [u8], &'static [u32], &'static [(u32, u32)]);
 
-const SAMPLES: [Sample; 3] = [
+const SAMPLES: &[Sample] = &[
     (
         PARALLEL,
         &[0, 0, 3, 2, 2, 1, 2, 1, 0, 0],
@@ -50,7 +50,7 @@ fn numbers(alloc: Global, net: &Network) -> Result<Vec<u32>, AllocError> {
 
 #[test]
 fn are_read_number_by_number(rt: HostRuntime) -> Result<(), Fail> {
-    for (text, jobs, arcs) in SAMPLES {
+    for &(text, jobs, arcs) in SAMPLES {
         let net = read_sm(rt.alloc(), text)?;
         assert_eq!(rt; numbers(rt.alloc(), &net)?.as_slice(), jobs);
         assert_eq!(rt; net.arcs(), arcs);

@@ -11,7 +11,7 @@ const WHOLE: &str =
 
 /// Texts, and the numbers of the orders that they are, for one resource and five jobs: the deadline, the price, how many units
 /// are owned, the release times, the due times, and the ceiling, where there is one.
-const ORDERS: [(&str, &[u32]); 8] = [
+const ORDERS: &[(&str, &[u32])] = &[
     (
         "deadline = 4\nprices = [10]\n",
         &[4, 10, 0, 0, 0, 0, 0, 0, 4, 4, 4, 4, 4],
@@ -57,7 +57,7 @@ fn numbers(alloc: Global, order: &Order) -> Result<Vec<u32>, AllocError> {
 
 #[test]
 fn are_read_number_by_number(rt: HostRuntime) -> Result<(), Fail> {
-    for (text, want) in ORDERS {
+    for &(text, want) in ORDERS {
         let order = read_order(rt.alloc(), text.as_bytes(), 1, 5)?;
         assert_eq!(rt; numbers(rt.alloc(), &order)?.as_slice(), want, "{text}");
     }

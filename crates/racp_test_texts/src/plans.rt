@@ -15,7 +15,7 @@ const GREATEST: &str =
     "deadline 10000000\ncritical 10000000\ncost 1000000000000000\ncapacity 1 10000000\nstart 1 0\nstart 2 1\nstart 3 10\nstart 4 9999999\nstart 5 10000000\nend\n";
 
 /// Texts of plans of the five jobs, and their numbers: the deadline, the critical length, the cost, the capacity, and the starts.
-const PLANS: [(&str, &[u64]); 3] = [
+const PLANS: &[(&str, &[u64])] = &[
     (PLAN, &[4, 3, 30, 3, 0, 0, 0, 2, 4]),
     (LATER, &[5, 3, 20, 2, 0, 0, 3, 3, 5]),
     (
@@ -62,7 +62,7 @@ fn assert_is(
 #[test]
 fn are_read_number_by_number_and_written_again(rt: HostRuntime) -> Result<(), Fail> {
     let net = parallel(rt.alloc())?;
-    for (text, want) in PLANS {
+    for &(text, want) in PLANS {
         assert_is(&rt, rt.alloc(), &net, text, want)?;
     }
     let net = crossed(rt.alloc())?;
@@ -99,7 +99,7 @@ fn are_refused_where_they_are_cut(rt: HostRuntime) -> Result<(), Fail> {
 
 /// An order for the five jobs, the cost, the capacity and the starts of a plan, and what is wrong with the plan: first nothing,
 /// and then each fault in the order of the numbers of faults, from 1.
-const ANSWERS: [(&str, u64, u32, [u32; 5], Option<PlanFault>); 7] = [
+const ANSWERS: &[(&str, u64, u32, [u32; 5], Option<PlanFault>)] = &[
     (ORDER, 30, 3, [0, 0, 0, 2, 4], None),
     (ORDER, 31, 3, [0, 0, 0, 2, 4], Some(PlanFault::Cost)),
     (ORDER, 30, 3, [u32::MAX; 5], Some(PlanFault::Late(1))),

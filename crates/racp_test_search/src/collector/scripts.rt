@@ -15,7 +15,7 @@ use std::marker::Brand;
 type Row = (Call, Heard, Known, usize);
 
 /// The yes of the second question comes first, and counts once the first question is a no.
-const LATER_YES: [Row; 8] = [
+const LATER_YES: &[Row] = &[
     (Ask, Heard::Question(0), Pending(0), 1),
     (Ask, Heard::Question(1), Pending(0), 2),
     (Take(1), Heard::Piece(0, 0), Pending(0), 2),
@@ -27,7 +27,7 @@ const LATER_YES: [Row; 8] = [
 ];
 
 /// A piece is given back and taken again, and its finding counts once. A halt leaves what is out to be handed in.
-const GIVEN_BACK: [Row; 12] = [
+const GIVEN_BACK: &[Row] = &[
     (Ask, Heard::Question(0), Pending(0), 1),
     (Take(1), Heard::Piece(0, 0), Pending(0), 1),
     (GiveBack(0, Nothing), Heard::Taken, Pending(0), 1),
@@ -44,7 +44,7 @@ const GIVEN_BACK: [Row; 12] = [
 
 /// Four questions, a piece of each, and the yes of the fourth. Some of the third is searched, and a piece of what is left goes
 /// out. Then the yes of the second question discards the other, and what is open of the third.
-const EARLIER_YES: [Row; 13] = [
+const EARLIER_YES: &[Row] = &[
     (Ask, Heard::Question(0), Pending(0), 1),
     (Ask, Heard::Question(1), Pending(0), 2),
     (Ask, Heard::Question(2), Pending(0), 3),
@@ -61,21 +61,21 @@ const EARLIER_YES: [Row; 13] = [
 ];
 
 /// After that the piece of the third question comes in, searched in part: nothing is open in its place.
-const SEARCHED: [Row; 3] = [
+const SEARCHED: &[Row] = &[
     (Hand(4, Nothing, Some(1)), Heard::Taken, Pending(0), 1),
     (Take(1), Heard::Nothing, Pending(0), 1),
     (Hand(0, Nothing, None), Heard::Taken, First(1), 0),
 ];
 
 /// Or it is given back.
-const UNSEARCHED: [Row; 3] = [
+const UNSEARCHED: &[Row] = &[
     (GiveBack(4, Nothing), Heard::Taken, Pending(0), 1),
     (Take(1), Heard::Nothing, Pending(0), 1),
     (Hand(0, Nothing, None), Heard::Taken, First(1), 0),
 ];
 
 /// All questions are a no.
-const NO_YES: [Row; 17] = [
+const NO_YES: &[Row] = &[
     (Take(1), Heard::Nothing, Pending(0), 0),
     (Ask, Heard::Question(0), Pending(0), 1),
     (Take(1), Heard::Piece(0, 0), Pending(0), 1),
@@ -96,7 +96,7 @@ const NO_YES: [Row; 17] = [
 ];
 
 /// Pieces of two questions are out, of the numbers 0 and 1 and the seats 1 and 2. None that differs in one thing counts.
-const STALE: [Row; 18] = [
+const STALE: &[Row] = &[
     (Ask, Heard::Question(0), Pending(0), 1),
     (Ask, Heard::Question(1), Pending(0), 2),
     (Take(1), Heard::Piece(0, 0), Pending(0), 2),
@@ -132,45 +132,45 @@ struct Script {
     pieces: &'static [[u32; 2]],
 }
 
-const SCRIPTS: [Script; 6] = [
+const SCRIPTS: &[Script] = &[
     Script {
         units: (1, 2),
-        parts: &[&LATER_YES],
+        parts: &[LATER_YES],
         end: First(1),
         reached: &[],
         pieces: &[[1, 1], [1, 2]],
     },
     Script {
         units: (1, 2),
-        parts: &[&GIVEN_BACK],
+        parts: &[GIVEN_BACK],
         end: Pending(0),
         reached: &[1, 1],
         pieces: &[[1, 1], [1, 1]],
     },
     Script {
         units: (1, 2),
-        parts: &[&EARLIER_YES, &SEARCHED],
+        parts: &[EARLIER_YES, SEARCHED],
         end: First(1),
         reached: &[],
         pieces: &[[1, 1], [1, 2], [2, 1], [2, 2]],
     },
     Script {
         units: (1, 2),
-        parts: &[&EARLIER_YES, &UNSEARCHED],
+        parts: &[EARLIER_YES, UNSEARCHED],
         end: First(1),
         reached: &[],
         pieces: &[[1, 1], [1, 2], [2, 1], [2, 2]],
     },
     Script {
         units: (0, 1),
-        parts: &[&NO_YES],
+        parts: &[NO_YES],
         end: NoYes,
         reached: &[],
         pieces: &[[0, 0], [0, 1], [1, 0], [1, 1]],
     },
     Script {
         units: (1, 2),
-        parts: &[&STALE],
+        parts: &[STALE],
         end: First(1),
         reached: &[],
         pieces: &[[1, 1], [1, 2]],
