@@ -2,17 +2,24 @@
 
 _racp() {
     local word=${COMP_WORDS[COMP_CWORD]} before=${COMP_WORDS[COMP_CWORD - 1]} command=${COMP_WORDS[1]}
-    local commands="cpm plan prove check verify show curve order help"
+    local commands="cpm plan prove check verify show curve order explain help"
     local options=""
     if [ "$COMP_CWORD" -eq 1 ]; then
         mapfile -t COMPREPLY < <(compgen -W "$commands --help --version" -- "$word")
         return
     fi
     case $command in
-        plan) options="--workers --turns --stats --memory --time-limit --progress" ;;
+        cpm) options="--explain" ;;
+        plan) options="--workers --turns --stats --memory --time-limit --progress --explain" ;;
+        check) options="--explain" ;;
+        verify) options="--explain" ;;
         show) options="--names --width --ascii --svg --json --csv" ;;
-        curve) options="--memory --svg" ;;
+        curve) options="--workers --turns --memory --svg" ;;
         order) options="--factor --deadline --prices --owned --ceiling" ;;
+        explain)
+            mapfile -t COMPREPLY < <(compgen -W "sm order plan names impossible fault --help" -- "$word")
+            return
+            ;;
         help)
             mapfile -t COMPREPLY < <(compgen -W "$commands" -- "$word")
             return

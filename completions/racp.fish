@@ -1,6 +1,6 @@
 # Completions of racp for fish: put this file into ~/.config/fish/completions.
 
-set -l commands cpm plan prove check verify show curve order help
+set -l commands cpm plan prove check verify show curve order explain help
 set -l none "not __fish_seen_subcommand_from $commands"
 complete -c racp -n "$none" -a cpm -d "the critical length and the early starts of a network"
 complete -c racp -n "$none" -a plan -d "the cheapest capacities that meet an order, with the least starts"
@@ -10,9 +10,14 @@ complete -c racp -n "$none" -a verify -d "whether a certificate shows that no ch
 complete -c racp -n "$none" -a show -d "a chart of a plan"
 complete -c racp -n "$none" -a curve -d "what each deadline costs"
 complete -c racp -n "$none" -a order -d "the text of an order"
+complete -c racp -n "$none" -a explain -d "what a fault means"
 complete -c racp -n "$none" -a help -d help
 complete -c racp -n "$none" -l version -d "print the version"
 complete -c racp -l help -d "print help"
+complete -c racp -n "__fish_seen_subcommand_from cpm" -l explain -d "say what is wrong"
+complete -c racp -n "__fish_seen_subcommand_from check" -l explain -d "say what is wrong"
+complete -c racp -n "__fish_seen_subcommand_from verify" -l explain -d "say what is wrong"
+complete -c racp -n "__fish_seen_subcommand_from plan" -l explain -d "say what is wrong"
 complete -c racp -n "__fish_seen_subcommand_from plan" -l workers -x -d "how many workers"
 complete -c racp -n "__fish_seen_subcommand_from plan" -l turns -x -d "how many pieces"
 complete -c racp -n "__fish_seen_subcommand_from plan" -l stats -d "tell the work"
@@ -25,6 +30,8 @@ complete -c racp -n "__fish_seen_subcommand_from show" -l ascii -d "plain charac
 complete -c racp -n "__fish_seen_subcommand_from show" -l svg -d "a picture"
 complete -c racp -n "__fish_seen_subcommand_from show" -l json -d JSON
 complete -c racp -n "__fish_seen_subcommand_from show" -l csv -d CSV
+complete -c racp -n "__fish_seen_subcommand_from curve" -l workers -x -d "how many workers"
+complete -c racp -n "__fish_seen_subcommand_from curve" -l turns -x -d "how many pieces"
 complete -c racp -n "__fish_seen_subcommand_from curve" -l memory -x -d "mebibytes for records"
 complete -c racp -n "__fish_seen_subcommand_from curve" -l svg -d "a picture"
 complete -c racp -n "__fish_seen_subcommand_from order" -l factor -x -d "deadline by the critical length"

@@ -7,7 +7,7 @@ use Rattle.racp_cli.specs.Proofs.{IsProofAnswer, IsProofRun}
 use Rattle.racp_cli.specs.Verifies.{IsVerifyAnswer}
 use Rattle.racp_cli.specs.Streams.{Reader, ToOne, ToTwo, ToFour, IsPlanRun, IsVerifyRun}
 use Rattle.racp_cli.specs.declared.fault.StreamFault.{StreamFault}
-use Rattle.racp_cli.specs.CurveAnswers.{IsCurveAnswer, IsCurveRun}
+use Rattle.racp_cli.specs.CurveAnswers.{IsCurveAnswer, IsCurveCrowdAnswer, IsCurveCrowdRun, IsCurveRun}
 use Rattle.racp_cli.specs.OrderAnswers.{IsOrderAnswer, IsOrderRun}
 use Rattle.racp_cli.specs.ShowAnswers.{IsShowAnswer, IsShowRun}
 use Rattle.racp_cli.specs.declared.order.Asked.{Asked}
@@ -69,21 +69,36 @@ pub shown : (look : Look) (net order plan names : Reader) (old new : Option (Lis
 shown look net order plan names old new (Ok status) run = of_picture look run.0 status run.2.0 run.2.1
 shown look net order plan names old new (Err fault) run = tt
 
+-- what one thread tells of deadlines is what workers may tell
+told_alone : (is_drawn : Bool) (net order : List ℕ) (status : ℕ) (text : List ℕ) → IsCurveAnswer is_drawn net order status text → IsCurveCrowdAnswer is_drawn net order status text
+told_alone is_drawn net order status text (inl (network, terms, are, told)) = inl (network, terms, are, inl told)
+told_alone is_drawn net order status text (inr other) = inr other
+
 -- what is told of deadlines
-of_curve : (is_drawn : Bool) (inputs : List (List ℕ)) (status : ℕ) (text : List ℕ) → ToTwo (IsCurveAnswer is_drawn) inputs status text → IsStatusOfTool status
+of_curve : (is_drawn : Bool) (inputs : List (List ℕ)) (status : ℕ) (text : List ℕ) → ToTwo (IsCurveCrowdAnswer is_drawn) inputs status text → IsStatusOfTool status
 of_curve is_drawn [] status text answer = absurd answer
 of_curve is_drawn (net ∷ []) status text answer = absurd answer
 of_curve is_drawn (net ∷ (order ∷ [])) status text answer = inr (inl (is_drawn, net, order, text, answer))
 of_curve is_drawn (net ∷ (order ∷ (other ∷ inputs))) status text answer = absurd answer
 
+alone : (is_drawn : Bool) (inputs : List (List ℕ)) (status : ℕ) (text : List ℕ) → ToTwo (IsCurveAnswer is_drawn) inputs status text → ToTwo (IsCurveCrowdAnswer is_drawn) inputs status text
+alone is_drawn [] status text answer = absurd answer
+alone is_drawn (net ∷ []) status text answer = absurd answer
+alone is_drawn (net ∷ (order ∷ [])) status text answer = told_alone is_drawn net order status text answer
+alone is_drawn (net ∷ (order ∷ (other ∷ inputs))) status text answer = absurd answer
+
 pub curved : (is_drawn : Bool) (net order : Reader) (old new : Option (List ℕ)) (result : Result ℕ StreamFault) → IsCurveRun is_drawn net order old new result → IfOk result IsStatusOfTool
-curved is_drawn net order old new (Ok status) run = of_curve is_drawn run.0 status run.2.0 run.2.1
+curved is_drawn net order old new (Ok status) run = of_curve is_drawn run.0 status run.2.0 (alone is_drawn run.0 status run.2.0 run.2.1)
 curved is_drawn net order old new (Err fault) run = tt
+
+pub curved_by : (is_drawn : Bool) (net order : Reader) (old new : Option (List ℕ)) (result : Result ℕ StreamFault) → IsCurveCrowdRun is_drawn net order old new result → IfOk result IsStatusOfTool
+curved_by is_drawn net order old new (Ok status) run = of_curve is_drawn run.0 status run.2.0 run.2.1
+curved_by is_drawn net order old new (Err fault) run = tt
 
 -- what is written as an order
 of_order : (asked : Asked) (inputs : List (List ℕ)) (status : ℕ) (text : List ℕ) → ToOne (IsOrderAnswer asked) inputs status text → IsStatusOfTool status
 of_order asked [] status text answer = absurd answer
-of_order asked (net ∷ []) status text answer = inr (inr (asked, net, text, answer))
+of_order asked (net ∷ []) status text answer = inr (inr (inl (asked, net, text, answer)))
 of_order asked (net ∷ (other ∷ inputs)) status text answer = absurd answer
 
 pub ordered : (asked : Asked) (net : Reader) (old new : Option (List ℕ)) (result : Result ℕ StreamFault) → IsOrderRun asked net old new result → IfOk result IsStatusOfTool

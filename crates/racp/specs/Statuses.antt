@@ -6,7 +6,7 @@ use Rattle.clap.specs.declared.error.kind.ErrorKind.TheVariants.{DisplayHelp, Di
 use Rattle.racp_cli.specs.Answers.{IsCpmAnswer}
 use Rattle.racp_cli.specs.Crowds.{IsCrowdAnswer}
 use Rattle.racp_cli.specs.Checks.{IsCheckAnswer}
-use Rattle.racp_cli.specs.CurveAnswers.{IsCurveAnswer}
+use Rattle.racp_cli.specs.CurveAnswers.{IsCurveCrowdAnswer}
 use Rattle.racp_cli.specs.OrderAnswers.{IsOrderAnswer}
 use Rattle.racp_cli.specs.ShowAnswers.{IsShowAnswer}
 use Rattle.racp_cli.specs.declared.order.Asked.{Asked}
@@ -16,7 +16,7 @@ use Rattle.racp_cli.specs.Verifies.{IsVerifyAnswer}
 use Rattle.racp_cli.specs.Streams.{fault_status}
 use Rattle.racp_cli.specs.declared.fault.StreamFault.TheVariants as stream
 use Rattle.racp.specs.declared.failure.Failure.{Failure}
-use Rattle.racp.specs.declared.failure.Failure.TheVariants.{Words, NotText, Option as OptionIs, Stream}
+use Rattle.racp.specs.declared.failure.Failure.TheVariants.{Words, NotText, Option as OptionIs, Stream, Told}
 
 -- the status where the library of the command line stops: help and the version are written, or writing them fails; memory
 -- runs out; or the words are refused
@@ -32,13 +32,15 @@ IsStatusOf (Words error) status = IsStatusOfKind (kind_of error) status
 IsStatusOf NotText status = status ≡ 2
 IsStatusOf (OptionIs fault) status = status ≡ 2
 IsStatusOf (Stream fault) status = status ≡ fault_status fault
+IsStatusOf (Told fault words) status = status ≡ fault_status fault
 
 -- some answer of a command that goes with plans has this status
 abbrev pub IsStatusOfTool : ℕ → Type 0
 IsStatusOfTool status =
     ((net order plan names : List ℕ) × (look : Look) × (text : List ℕ) × IsShowAnswer look net order plan names status text) ⊎
-    ((is_drawn : Bool) × (net order : List ℕ) × (text : List ℕ) × IsCurveAnswer is_drawn net order status text) ⊎
-    ((asked : Asked) × (net : List ℕ) × (text : List ℕ) × IsOrderAnswer asked net status text)
+    ((is_drawn : Bool) × (net order : List ℕ) × (text : List ℕ) × IsCurveCrowdAnswer is_drawn net order status text) ⊎
+    ((asked : Asked) × (net : List ℕ) × (text : List ℕ) × IsOrderAnswer asked net status text) ⊎
+    (status ≡ 0)
 
 -- some answer to some texts has this status; nothing is said of which
 abbrev pub IsStatusOfAnswer : ℕ → Type 0

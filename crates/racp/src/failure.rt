@@ -16,7 +16,7 @@ use thiserror::Error as ErrorText;
 /// The status after a fault of the command line.
 const WORDS_REFUSED: u8 = 2;
 
-/// What is wrong with the options for an order.
+/// What is wrong with the options for an order, or the words for a fault.
 #[derive(Debug, Clone, Copy, Drop, ErrorText)]
 pub(crate) enum OptionFault {
     /// The deadline is told in no way, or in two.
@@ -31,6 +31,9 @@ pub(crate) enum OptionFault {
     /// Prices, owned units or ceilings are no whole numbers.
     #[error("--prices, --owned and --ceiling have to be whole numbers such as 3,5")]
     Numbers,
+    /// No fault has these words.
+    #[error("no fault is named by these words; racp explain lists them all")]
+    Topic,
 }
 
 /// Why no answer is written.
@@ -39,10 +42,12 @@ pub(crate) enum Failure {
     Words(Error),
     /// A word is not UTF-8.
     NotText,
-    /// The options for an order are refused.
+    /// The options for an order are refused, or the words for a fault.
     Option(OptionFault),
     /// A file or a stream failed, or memory ran out.
     Stream(StreamFault),
+    /// A file or a stream failed, and these words say which, and why.
+    Told(StreamFault, String),
 }
 
 impl From<OptionFault> for Failure {
@@ -93,6 +98,11 @@ pub(crate) fn report<R: Print + Eprint>(rt: &R, failure: Failure) -> u8
             WORDS_REFUSED
         }
         Failure::Stream(fault) => report_fault(rt, fault),
+        Failure::Told(fault, words) => {
+            let status = report_fault(rt, fault);
+            let _ = rt.eprintln(&words);
+            status
+        }
     }
 }
 

@@ -5,6 +5,7 @@ ghost use Rattle.racp.specs.Statuses.{IsStatus, IsStatusOfAnswer};
 ghost use Rattle.racp.specs.declared.failure.Failure.TheVariants as failures;
 ghost use Rattle.racp_cli.specs.declared.fault.StreamFault.TheVariants as streams;
 
+use crate::explained::explained;
 use crate::failure::{Failure, report};
 use crate::limit::Limit;
 use crate::progress::{Listener, Progress};
@@ -13,23 +14,35 @@ use racp_cli::{
     StreamFault, check_over, cpm_over, crowd_over_by, prove_over, run_over_within, verify_over,
 };
 use racp_desk::Open;
-use racp_words::{Crew, Memory, OrderFiles, PlanFiles, ProofFiles, Request, Source, asked};
+use racp_words::{Crew, Memory, OrderFiles, PlanFiles, ProofFiles, Request, Source, Task, asked};
 use std::alloc::{AllocError, Global};
 use std::fs::File;
-use std::io::ErrorKind;
+use std::io::{ErrorKind, Read};
 use std::rt::{Env, Files};
 use std::sync::Wait;
 use std::thread::Threads;
 use std::time::Clock;
 use std::{env, io};
 
-/// Runs the program, and answers its status. `on_terminal` says whether standard error is a terminal.
+/// What a network is read from where standard input is a terminal.
+const HINT: &str = "racp: reading a network from the terminal; racp --help lists the commands";
+
+/// Which standard streams are terminals.
+#[derive(Clone, Copy)]
+pub(crate) struct Terminals {
+    /// Whether standard input is one.
+    pub(crate) input: bool,
+    /// Whether standard error is one.
+    pub(crate) errors: bool,
+}
+
+/// Runs the program, and answers its status.
 pub(crate) fn status<
     R: Clock + Env + Files + Input + Print + Eprint + AllocGlobal + Threads + Wait + Sync,
->(rt: &R, on_terminal: bool) -> u8
+>(rt: &R, terminals: Terminals) -> u8
     ensures { IsStatus result }
 {
-    match answer(rt, on_terminal) {
+    match answer(rt, terminals) {
         Ok(status) => status,
         Err(failure) => report(rt, failure),
     }
@@ -38,21 +51,31 @@ pub(crate) fn status<
 /// Writes the answer to what the command line asks for.
 fn answer<R: Clock + Env + Files + Input + Print + Eprint + AllocGlobal + Threads + Wait + Sync>(
     rt: &R,
-    on_terminal: bool,
+    terminals: Terminals,
 ) -> Result<u8, Failure>
     ensures { IfOk result IsStatusOfAnswer }
 {
     let words = words(rt)?;
-    match asked(rt.alloc(), words.as_slice())? {
+    let Task { request, explains } = asked(rt.alloc(), words.as_slice())?;
+    if terminals.input && matches!(&request, Request::Cpm(Source::StandardInput)) {
+        let _ = rt.eprintln(HINT);
+    }
+    if explains {
+        explained(rt, request, terminals.errors)
+    } else {
+        plain(rt, request, terminals.errors)
+    }
+}
+
+/// Writes the answer to a request. `on_terminal` says whether standard error is a terminal.
+pub(crate) fn plain<
+    R: Clock + Files + Input + Print + Eprint + AllocGlobal + Threads + Wait + Sync,
+>(rt: &R, request: Request<'_>, on_terminal: bool) -> Result<u8, Failure>
+    ensures { IfOk result IsStatusOfAnswer }
+{
+    match request {
         Request::Cpm(network) => Ok(cpm(rt, network)?),
-        Request::Plan(files, memory, None) => Ok(plan(rt, files, memory)?),
-        Request::Plan(files, memory, Some(crew)) => Ok(plan_by(
-            rt,
-            files,
-            memory,
-            crew,
-            on_terminal,
-        )?),
+        Request::Plan(files, memory, crew) => Ok(plan(rt, files, memory, crew, on_terminal)?),
         Request::Prove(files) => Ok(prove(rt, files)?),
         Request::Check(files) => Ok(check(rt, files)?),
         Request::Verify(files) => Ok(verify(rt, files)?),
@@ -80,26 +103,75 @@ fn cpm<R: Files + Input + Print + AllocGlobal>(
 ) -> Result<u8, StreamFault>
     ensures { IfOk result IsStatusOfAnswer }
 {
-    let mut out = io::writer(rt);
     match network {
-        Source::StandardInput => cpm_over(rt.alloc(), &mut rt.reader(), &mut out),
-        Source::File(path) => { cpm_over(rt.alloc(), &mut open(rt, path)?, &mut out) }
+        Source::StandardInput => cpm_of(rt, &mut rt.reader()),
+        Source::File(path) => cpm_of(rt, &mut open(rt, path)?),
     }
 }
 
-/// Writes the plan for these files, made by workers, or why there is none. With an answer, the work that was done goes
-/// to standard error where that is asked for, and until then how far planning has come.
-fn plan_by<R: Clock + Files + Print + Eprint + AllocGlobal + Threads + Wait + Sync>(
+/// Writes the critical length and the early starts of the network that is read there.
+pub(crate) fn cpm_of<R: Print + AllocGlobal, N: Read>(
+    rt: &R,
+    net: &mut N,
+) -> Result<u8, StreamFault>
+    ensures { IfOk result IsStatusOfAnswer }
+{
+    cpm_over(rt.alloc(), net, &mut io::writer(rt))
+}
+
+/// Writes the plan for these files, or why there is none.
+fn plan<R: Clock + Files + Print + Eprint + AllocGlobal + Threads + Wait + Sync>(
     rt: &R,
     files: OrderFiles<'_>,
     memory: Memory,
-    crew: Crew,
+    crew: Option<Crew>,
     on_terminal: bool,
 ) -> Result<u8, StreamFault>
     ensures { IfOk result IsStatusOfAnswer }
 {
     let mut net = open(rt, files.net)?;
     let mut order = open(rt, files.order)?;
+    plan_of(rt, &mut net, &mut order, memory, crew, on_terminal)
+}
+
+/// Writes the plan for a network and an order that are read there, or why there is none: made by workers where there is a
+/// crew, and else on one thread.
+pub(crate) fn plan_of<
+    R: Clock + Files + Print + Eprint + AllocGlobal + Threads + Wait + Sync,
+    N: Read,
+    O: Read,
+>(
+    rt: &R,
+    net: &mut N,
+    order: &mut O,
+    memory: Memory,
+    crew: Option<Crew>,
+    on_terminal: bool,
+) -> Result<u8, StreamFault>
+    ensures { IfOk result IsStatusOfAnswer }
+{
+    match crew {
+        Some(crew) => plan_by(rt, net, order, memory, crew, on_terminal),
+        None => plan_alone(rt, net, order, memory),
+    }
+}
+
+/// Writes the plan for a network and an order that are read there, made by workers, or why there is none. With an answer,
+/// the work that was done goes to standard error where that is asked for, and until then how far planning has come.
+fn plan_by<
+    R: Clock + Files + Print + Eprint + AllocGlobal + Threads + Wait + Sync,
+    N: Read,
+    O: Read,
+>(
+    rt: &R,
+    net: &mut N,
+    order: &mut O,
+    memory: Memory,
+    crew: Crew,
+    on_terminal: bool,
+) -> Result<u8, StreamFault>
+    ensures { IfOk result IsStatusOfAnswer }
+{
     let progress = match progress_of(rt.alloc(), crew.progress, on_terminal) {
         Ok(progress) => progress,
         Err(_) => return Err(StreamFault::Memory),
@@ -114,14 +186,7 @@ fn plan_by<R: Clock + Files + Print + Eprint + AllocGlobal + Threads + Wait + Sy
         stop: &limit,
         observer: &listener,
     };
-    let (status, effort) = crowd_over_by(
-        rt,
-        rt.alloc(),
-        &mut net,
-        &mut order,
-        &mut io::writer(rt),
-        workers,
-    )?;
+    let (status, effort) = crowd_over_by(rt, rt.alloc(), net, order, &mut io::writer(rt), workers)?;
     if let (true, Some(effort)) = (crew.stats, effort) {
         let _ = rt.eprintln(format_args!("stats pieces {} nodes {}", effort.pieces, effort.nodes));
     }
@@ -141,20 +206,19 @@ fn progress_of(
     }
 }
 
-/// Writes the plan for these files, or why there is none.
-fn plan<R: Files + Print + AllocGlobal>(
+/// Writes the plan for a network and an order that are read there, made on one thread, or why there is none.
+fn plan_alone<R: Print + AllocGlobal, N: Read, O: Read>(
     rt: &R,
-    files: OrderFiles<'_>,
+    net: &mut N,
+    order: &mut O,
     memory: Memory,
 ) -> Result<u8, StreamFault>
     ensures { IfOk result IsStatusOfAnswer }
 {
-    let mut net = open(rt, files.net)?;
-    let mut order = open(rt, files.order)?;
     run_over_within(
         rt.alloc(),
-        &mut net,
-        &mut order,
+        net,
+        order,
         &mut io::writer(rt),
         memory.mebibytes,
     )
@@ -176,13 +240,19 @@ fn check<R: Files + Print + AllocGlobal>(rt: &R, files: PlanFiles<'_>) -> Result
     let mut net = open(rt, files.net)?;
     let mut order = open(rt, files.order)?;
     let mut plan = open(rt, files.plan)?;
-    check_over(
-        rt.alloc(),
-        &mut net,
-        &mut order,
-        &mut plan,
-        &mut io::writer(rt),
-    )
+    check_of(rt, &mut net, &mut order, &mut plan)
+}
+
+/// Writes whether the plan that is read there is right.
+pub(crate) fn check_of<R: Print + AllocGlobal, N: Read, O: Read, P: Read>(
+    rt: &R,
+    net: &mut N,
+    order: &mut O,
+    plan: &mut P,
+) -> Result<u8, StreamFault>
+    ensures { IfOk result IsStatusOfAnswer }
+{
+    check_over(rt.alloc(), net, order, plan, &mut io::writer(rt))
 }
 
 /// Writes whether the plan in these files is right, and the certificate shows that no capacities before its own are
@@ -194,14 +264,21 @@ fn verify<R: Files + Print + AllocGlobal>(rt: &R, files: ProofFiles<'_>) -> Resu
     let mut order = open(rt, files.order)?;
     let mut plan = open(rt, files.plan)?;
     let mut proof = open(rt, files.proof)?;
-    verify_over(
-        rt.alloc(),
-        &mut net,
-        &mut order,
-        &mut plan,
-        &mut proof,
-        &mut io::writer(rt),
-    )
+    verify_of(rt, &mut net, &mut order, &mut plan, &mut proof)
+}
+
+/// Writes whether the plan that is read there is right, and the certificate shows that no capacities before its own are
+/// enough.
+pub(crate) fn verify_of<R: Print + AllocGlobal, N: Read, O: Read, P: Read, C: Read>(
+    rt: &R,
+    net: &mut N,
+    order: &mut O,
+    plan: &mut P,
+    proof: &mut C,
+) -> Result<u8, StreamFault>
+    ensures { IfOk result IsStatusOfAnswer }
+{
+    verify_over(rt.alloc(), net, order, plan, proof, &mut io::writer(rt))
 }
 
 /// The file with this path, for reading.

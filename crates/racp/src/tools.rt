@@ -5,25 +5,61 @@ ghost use Rattle.racp.specs.Statuses.{IsStatusOfTool};
 
 use crate::failure::{Failure, OptionFault};
 use crate::run::open;
-use racp_cli::{Asked, Form, Look, StreamFault, Time, curve_over, order_over, show_over};
+use racp_cli::{
+    Asked, DONE, Form, Look, StreamFault, Time, curve_crowd_over, curve_over, order_over, show_over,
+};
+use racp_desk::Open;
+use racp_explain::{explanation, subject_list};
+use racp_lexfix::{Crew, Unheard};
 use racp_order::{Factor, numbers_of};
-use racp_words::{Memory, OrderFiles, PlanFiles, Terms, Tool};
+use racp_search::Never;
+use racp_words::{Memory, OrderFiles, PlanFiles, Terms, Tool, Workers};
 use std::alloc::{AllocError, Global};
 use std::io;
 use std::io::Read;
 use std::rt::Files;
+use std::sync::Wait;
+use std::thread::Threads;
 
 /// Writes the answer to what a command that goes with plans asks for.
-pub(crate) fn tool<R: Files + Print + AllocGlobal>(rt: &R, tool: Tool<'_>) -> Result<u8, Failure>
+pub(crate) fn tool<R: Files + Print + AllocGlobal + Threads + Wait + Sync>(
+    rt: &R,
+    tool: Tool<'_>,
+) -> Result<u8, Failure>
     ensures { IfOk result IsStatusOfTool }
 {
     match tool {
         Tool::Show(files, look) => Ok(show(rt, files, look)?),
-        Tool::Curve(files, memory, is_drawn) => Ok(curve(rt, files, memory, is_drawn)?),
+        Tool::Curve(files, memory, None, is_drawn) => Ok(curve(rt, files, memory, is_drawn)?),
+        Tool::Curve(files, memory, Some(workers), is_drawn) => {
+            Ok(curve_by(rt, files, memory, workers, is_drawn)?)
+        }
         Tool::Order(net, terms) => {
             let asked = asked_order(rt.alloc(), &terms)?;
             Ok(order(rt, net, asked)?)
         }
+        Tool::Explain(format, fault) => explain(rt, format, fault),
+    }
+}
+
+/// Writes what the faults mean that these words name, or a list of all faults.
+fn explain<R: Print + AllocGlobal>(
+    rt: &R,
+    format: Option<&str>,
+    fault: Option<&str>,
+) -> Result<u8, Failure>
+    ensures { IfOk result IsStatusOfTool }
+{
+    let text = match format {
+        None => Some(subject_list(rt.alloc())?),
+        Some(format) => explanation(rt.alloc(), format, fault)?,
+    };
+    let Some(text) = text else {
+        return Err(Failure::Option(OptionFault::Topic));
+    };
+    match rt.print(&text) {
+        Ok(()) => Ok(DONE),
+        Err(_) => Err(Failure::Stream(StreamFault::Write)),
     }
 }
 
@@ -103,6 +139,37 @@ fn curve<R: Files + Print + AllocGlobal>(
         memory.mebibytes,
         is_drawn,
         &mut io::writer(rt),
+    )
+}
+
+/// Writes what each deadline up to that of the order in these files costs, by plans that workers make.
+fn curve_by<R: Files + Print + AllocGlobal + Threads + Wait + Sync>(
+    rt: &R,
+    files: OrderFiles<'_>,
+    memory: Memory,
+    workers: Workers,
+    is_drawn: bool,
+) -> Result<u8, StreamFault>
+    ensures { IfOk result IsStatusOfTool }
+{
+    let mut net = open(rt, files.net)?;
+    let mut order = open(rt, files.order)?;
+    let crew = Crew {
+        workers: workers.count,
+        turns: workers.turns,
+        memory: memory.mebibytes,
+        gate: &Open,
+        stop: &Never,
+        observer: &Unheard,
+    };
+    curve_crowd_over(
+        rt,
+        rt.alloc(),
+        &mut net,
+        &mut order,
+        is_drawn,
+        &mut io::writer(rt),
+        crew,
     )
 }
 

@@ -1,5 +1,5 @@
 -- Each subject stands in the table of all.
-use Rattle.std.proofs.Common.{ℕ, ◌<◌, refl, arith}
+use Rattle.std.proofs.Common.{refl, arith}
 use Rattle.std.specs.Prelude.{Contains}
 use Rattle.racp_sm.specs.declared.fault.SmFaultKind.{SmFaultKind}
 use Rattle.racp_sm.specs.declared.fault.SmFaultKind.TheVariants as sm

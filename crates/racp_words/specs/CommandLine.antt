@@ -3,51 +3,63 @@ use Rattle.std.specs.Prelude.{◌≡◌, ◌≢◌, ◌⊎◌, ◌||◌, Bool, �
 use Rattle.std.specs.Prelude.{is_some}
 use Rattle.clap.specs.Words.{App, IsUnsignedIn, Row, Text, first_of, new_app, new_rule, subcommand_of, with_rule}
 use Rattle.clap.specs.Words.{with_subcommand}
-use Rattle.racp_words.specs.Rules.{AreOrderFiles, ArePlanFiles, AreProofFiles, IsNumberOf, file_rule, flag_rule, is_set, number_in, number_rule, of_order, of_plan}
-use Rattle.racp_words.specs.Tools.{IsNoTool, IsToolOf, curve, show, order as order_app}
+use Rattle.racp_words.specs.Rules.{AreOrderFiles, ArePlanFiles, AreProofFiles, IsNumberOf, file_rule, flag_rule, is_set, number_in, number_rule, of_order, of_plan, of_workers}
+use Rattle.racp_words.specs.Tools.{IsNoTool, IsToolOf, curve, explain, show, order as order_app}
 use Rattle.racp_words.specs.declared.request.Crew.{Crew}
 use Rattle.racp_words.specs.declared.request.Request.{Request}
 use Rattle.racp_words.specs.declared.request.Request.TheVariants.{Cpm, Plan, Prove, Check, Verify, Tool}
 use Rattle.racp_words.specs.declared.request.Source.{Source}
 use Rattle.racp_words.specs.declared.request.Source.TheVariants.{StandardInput, File}
+use Rattle.racp_words.specs.declared.request.Task.{Task}
 
--- `cpm [NET]`
+-- `cpm [NET] [--explain]`
 abbrev pub cpm : App
-cpm = with_rule (new_app (codes "cpm")) (new_rule (codes "NET"))
+cpm = with_rule (with_rule (new_app (codes "cpm")) (new_rule (codes "NET"))) (flag_rule (codes "explain"))
 
 -- `plan NET ORDER [--workers N] [--turns N]`
 abbrev pub plan_of_workers : App
-plan_of_workers = with_rule (with_rule (of_order (codes "plan")) (number_rule (codes "workers") 64))
-    (number_rule (codes "turns") 1000000000000)
+plan_of_workers = of_workers (codes "plan")
 
 -- `plan NET ORDER [--workers N] [--turns N] [--stats] [--memory MIB]`
 abbrev pub plan_within : App
 plan_within = with_rule (with_rule plan_of_workers (flag_rule (codes "stats"))) (number_rule (codes "memory") 1048576)
 
 -- `plan NET ORDER [--workers N] [--turns N] [--stats] [--memory MIB] [--time-limit S] [--progress]`
+abbrev pub plan_timed : App
+plan_timed = with_rule (with_rule plan_within (number_rule (codes "time-limit") 1000000000)) (flag_rule (codes "progress"))
+
+-- `plan NET ORDER [--workers N] [--turns N] [--stats] [--memory MIB] [--time-limit S] [--progress] [--explain]`
 abbrev pub plan : App
-plan = with_rule (with_rule plan_within (number_rule (codes "time-limit") 1000000000)) (flag_rule (codes "progress"))
+plan = with_rule plan_timed (flag_rule (codes "explain"))
 
--- `verify NET ORDER PLAN PROOF`
+-- `check NET ORDER PLAN [--explain]`
+abbrev pub check : App
+check = with_rule (of_plan (codes "check")) (flag_rule (codes "explain"))
+
+-- `verify NET ORDER PLAN PROOF [--explain]`
 abbrev pub verify : App
-verify = with_rule (of_plan (codes "verify")) (file_rule (codes "PROOF"))
+verify = with_rule (with_rule (of_plan (codes "verify")) (file_rule (codes "PROOF"))) (flag_rule (codes "explain"))
 
--- a program that tells its version
+-- a program that tells its version, in short and in long
 abbrev pub with_version : App → App
-with_version a = record a { top = record a.top { has_version = true } }
+with_version a = record a { top = record a.top { has_version = true; has_long_version = true } }
 
--- `racp [cpm [NET] | plan NET ORDER [OPTIONS]]`
+-- `racp [cpm [NET] [OPTIONS] | plan NET ORDER [OPTIONS]]`
 abbrev pub racp_planning : App
 racp_planning = with_subcommand (with_subcommand (with_version (new_app (codes "racp"))) cpm.top) plan.top
 
--- `racp [.. | prove NET ORDER | check NET ORDER PLAN | verify NET ORDER PLAN PROOF]`
+-- `racp [.. | prove NET ORDER | check NET ORDER PLAN [OPTIONS] | verify NET ORDER PLAN PROOF [OPTIONS]]`
 abbrev pub racp_checking : App
 racp_checking = with_subcommand (with_subcommand (with_subcommand racp_planning (of_order (codes "prove")).top)
-    (of_plan (codes "check")).top) verify.top
+    check.top) verify.top
 
 -- `racp [.. | show NET ORDER PLAN [OPTIONS] | curve NET ORDER [OPTIONS] | order NET OPTIONS]`
+abbrev pub racp_charting : App
+racp_charting = with_subcommand (with_subcommand (with_subcommand racp_checking show.top) curve.top) order_app.top
+
+-- `racp [.. | explain [FORMAT] [FAULT]]`
 unfoldable pub racp : App
-racp = with_subcommand (with_subcommand (with_subcommand racp_checking show.top) curve.top) order_app.top
+racp = with_subcommand racp_charting explain.top
 
 -- standard input where no word names a file, or `-` does; else the file of this path
 abbrev pub IsSource : Option Text → Source → Type 0
@@ -96,9 +108,19 @@ IsRequested (Some command) (Check files) = (command.0 ≡ codes "check") × AreP
 IsRequested (Some command) (Verify files) = (command.0 ≡ codes "verify") × AreProofFiles command.1 files
 IsRequested (Some command) (Tool tool) = IsToolOf command tool
 
+-- faults are explained where the command that is named has the flag for it
+abbrev pub is_explained : Option (Text × List Row) → Bool
+is_explained None = false
+is_explained (Some command) = is_set (codes "explain") command.1
+
+-- the command that is named asks for this
+pub record IsTask (command : Option (Text × List Row)) (task : Task) : Type 0 where
+  pub request : IsRequested command task.request
+  pub explains : task.explains ≡ is_explained command
+
 -- the words ask for this
-abbrev pub AskFor : List Text → Request → Type 0
-AskFor words = IsRequested (subcommand_of racp words)
+abbrev pub AskFor : List Text → Task → Type 0
+AskFor words = IsTask (subcommand_of racp words)
 
 -- a word that is no option: one that does not begin with a hyphen, or a hyphen alone
 abbrev pub IsPlain : Text → Type 0

@@ -31,6 +31,11 @@ text_rule id = record (new_rule id) { long = Some id; value_names = 1 }
 abbrev pub of_order : Text → App
 of_order name = with_rule (with_rule (new_app name) (file_rule (codes "NET"))) (file_rule (codes "ORDER"))
 
+-- a command with this name, `NET ORDER [--workers N] [--turns N]`
+abbrev pub of_workers : Text → App
+of_workers name = with_rule (with_rule (of_order name) (number_rule (codes "workers") 64))
+    (number_rule (codes "turns") 1000000000000)
+
 -- a command with this name, `NET ORDER PLAN`
 abbrev pub of_plan : Text → App
 of_plan name = with_rule (of_order name) (file_rule (codes "PLAN"))

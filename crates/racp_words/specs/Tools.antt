@@ -1,14 +1,15 @@
--- What the commands `show`, `curve` and `order` ask for.
-use Rattle.std.specs.Prelude.{◌≡◌, ◌≢◌, List, codes, false, true}
-use Rattle.std.specs.Prelude.{option_map}
-use Rattle.clap.specs.Words.{App, Row, Text, first_of, new_app, with_rule}
-use Rattle.racp_words.specs.Rules.{AreOrderFiles, ArePlanFiles, IsNumberOf, file_rule, flag_rule, is_set, number_rule, of_order, of_plan, path_at, text_rule}
+-- What the commands `show`, `curve`, `order` and `explain` ask for.
+use Rattle.std.specs.Prelude.{◌≡◌, ◌≢◌, ◌||◌, List, Option, Some, None, codes, false, true}
+use Rattle.std.specs.Prelude.{is_some, option_map}
+use Rattle.clap.specs.Words.{App, Row, Text, first_of, new_app, new_rule, with_rule}
+use Rattle.racp_words.specs.Rules.{AreOrderFiles, ArePlanFiles, IsNumberOf, file_rule, flag_rule, is_set, number_rule, of_plan, of_workers, path_at, text_rule}
 use Rattle.racp_words.specs.declared.request.Form.{Form}
 use Rattle.racp_words.specs.declared.request.Form.TheVariants.{Text as Blocks, Ascii, Svg, Json, Csv}
 use Rattle.racp_words.specs.declared.request.Look.{Look}
 use Rattle.racp_words.specs.declared.request.Terms.{Terms}
 use Rattle.racp_words.specs.declared.request.Tool.{Tool}
-use Rattle.racp_words.specs.declared.request.Tool.TheVariants.{Show, Curve, Order}
+use Rattle.racp_words.specs.declared.request.Workers.{Workers}
+use Rattle.racp_words.specs.declared.request.Tool.TheVariants.{Show, Curve, Order, Explain}
 
 -- `show NET ORDER PLAN [--names FILE] [--width N]`
 abbrev pub show_named : App
@@ -22,9 +23,9 @@ show_in_letters = with_rule (with_rule show_named (flag_rule (codes "ascii"))) (
 abbrev pub show : App
 show = with_rule (with_rule show_in_letters (flag_rule (codes "json"))) (flag_rule (codes "csv"))
 
--- `curve NET ORDER [--memory MIB] [--svg]`
+-- `curve NET ORDER [--workers N] [--turns N] [--memory MIB] [--svg]`
 abbrev pub curve : App
-curve = with_rule (with_rule (of_order (codes "curve")) (number_rule (codes "memory") 1048576)) (flag_rule (codes "svg"))
+curve = with_rule (with_rule (of_workers (codes "curve")) (number_rule (codes "memory") 1048576)) (flag_rule (codes "svg"))
 
 -- `order NET [--factor F]`
 abbrev pub order_scaled : App
@@ -38,6 +39,10 @@ order_priced = with_rule (with_rule order_scaled (text_rule (codes "deadline")))
 -- `order NET [--factor F] [--deadline T] --prices N,.. [--owned N,..] [--ceiling N,..]`
 abbrev pub order : App
 order = with_rule (with_rule order_priced (text_rule (codes "owned"))) (text_rule (codes "ceiling"))
+
+-- `explain [FORMAT] [FAULT]`
+abbrev pub explain : App
+explain = with_rule (with_rule (new_app (codes "explain")) (new_rule (codes "FORMAT"))) (new_rule (codes "FAULT"))
 
 -- the first of the flags `--svg`, `--json`, `--csv` and `--ascii` that is given says what is written
 abbrev pub IsForm : List Row → Form → Type 0
@@ -66,19 +71,31 @@ pub record AreTerms (words : List Row) (terms : Terms) : Type 0 where
   pub owned : option_map (λ word. word.now) terms.owned ≡ first_of (codes "owned") words
   pub ceiling : option_map (λ word. word.now) terms.ceiling ≡ first_of (codes "ceiling") words
 
+-- so many workers are asked for; or none, and so one thread
+abbrev pub AreWorkers : List Row → Option Workers → Type 0
+AreWorkers words None = (is_some (first_of (codes "workers") words) || is_some (first_of (codes "turns") words)) ≡ false
+AreWorkers words (Some workers) =
+    ((is_some (first_of (codes "workers") words) || is_some (first_of (codes "turns") words)) ≡ true) ×
+    IsNumberOf 64 1 (first_of (codes "workers") words) workers.count ×
+    IsNumberOf 1000000000000 1000000000000 (first_of (codes "turns") words) workers.turns
+
 -- the command with these words asks for this
 abbrev pub IsToolOf : Text × List Row → Tool → Type 0
 IsToolOf command (Show files look) =
     (command.0 ≡ codes "show") × ArePlanFiles command.1 files × IsLook command.1 look
-IsToolOf command (Curve files memory is_drawn) =
+IsToolOf command (Curve files memory workers is_drawn) =
     (command.0 ≡ codes "curve") × AreOrderFiles command.1 files ×
     IsNumberOf 1048576 1024 (first_of (codes "memory") command.1) memory.mebibytes ×
-    (is_drawn ≡ is_set (codes "svg") command.1)
+    AreWorkers command.1 workers × (is_drawn ≡ is_set (codes "svg") command.1)
 IsToolOf command (Order net terms) =
     (command.0 ≡ codes "order") × (net.now ≡ path_at (codes "NET") command.1) × AreTerms command.1 terms
+IsToolOf command (Explain format fault) =
+    (command.0 ≡ codes "explain") × (option_map (λ word. word.now) format ≡ first_of (codes "FORMAT") command.1) ×
+    (option_map (λ word. word.now) fault ≡ first_of (codes "FAULT") command.1)
 
 -- a command of another name
 pub record IsNoTool (name : Text) : Type 0 where
   pub no_show : name ≢ codes "show"
   pub no_curve : name ≢ codes "curve"
   pub no_order : name ≢ codes "order"
+  pub no_explain : name ≢ codes "explain"

@@ -3,13 +3,14 @@
 ghost use Rattle.std.specs.Prelude.{◌≡◌, ◌≤◌, ℕ, List, Option, Some, IfNone, IfOk, IfSome, MatchResult, map, option_map, string_bytes, codes, false};
 ghost use Rattle.clap.specs.Words.{FailsBy, app_of, fault_of, first_of, first_value, found_of, kind_of, rows_of, rule_of, subcommand_rows_of};
 ghost use Rattle.clap.specs.declared.error.kind.ErrorKind.TheVariants.{OutOfMemory};
-ghost use Rattle.racp_words.specs.CommandLine.{AskFor, IsCheckLine, AsksForCheck, IsProveLine, AsksForProve, IsVerifyLine, AsksForVerify, IsCpmLine, AsksForCpm, IsPlanLine, AsksForPlan, IsWorkersLine, AsksForWorkers, IsCrew, IsLimitOf, IsRequested, IsSource, cpm, plan, plan_of_workers, plan_within, racp, racp_checking, racp_planning, verify};
-ghost use Rattle.racp_words.specs.Rules.{AreOrderFiles, ArePlanFiles, AreProofFiles, IsNumberOf, file_rule, flag_rule, is_set, number_in, number_rule, of_order, of_plan, path_at, text_rule};
-ghost use Rattle.racp_words.specs.Tools.{AreTerms, IsForm, IsLook, IsNoTool, IsToolOf, curve, order, order_priced, order_scaled, show, show_in_letters, show_named};
+ghost use Rattle.racp_words.specs.CommandLine.{AskFor, IsTask, IsCheckLine, AsksForCheck, IsProveLine, AsksForProve, IsVerifyLine, AsksForVerify, IsCpmLine, AsksForCpm, IsPlanLine, AsksForPlan, IsWorkersLine, AsksForWorkers, IsCrew, IsLimitOf, IsRequested, IsSource, check, cpm, is_explained, plan, plan_of_workers, plan_timed, plan_within, racp, racp_charting, racp_checking, racp_planning, verify};
+ghost use Rattle.racp_words.specs.Rules.{AreOrderFiles, ArePlanFiles, AreProofFiles, IsNumberOf, file_rule, flag_rule, is_set, number_in, number_rule, of_order, of_plan, of_workers, path_at, text_rule};
+ghost use Rattle.racp_words.specs.Tools.{AreTerms, AreWorkers, IsForm, IsLook, IsNoTool, IsToolOf, curve, explain, order, order_priced, order_scaled, show, show_in_letters, show_named};
 ghost use Rattle.racp_words.specs.Commands.{IsCommandOf};
 
 use crate::request::{
-    Crew, Form, Look, Memory, OrderFiles, PlanFiles, ProofFiles, Request, Source, Terms, Tool,
+    Crew, Form, Look, Memory, OrderFiles, PlanFiles, ProofFiles, Request, Source, Task, Terms,
+    Tool, Workers,
 };
 use clap::builder::ValueParser;
 use clap::{Arg, ArgAction, ArgMatches, Command, Error};
@@ -33,6 +34,9 @@ const MOST_WIDTH: u64 = 1000;
 /// How many columns a line has where no option says so.
 const DEFAULT_WIDTH: u64 = 80;
 
+/// The version, and what the program was proved with.
+const VERSION: &str = "0.1.0\nproved with rattle-kit-13f, logic dac8208d";
+
 /// What stands behind the list of commands.
 const BEHIND_HELP: &str =
     "A network is a text as those of PSPLIB (.sm). An order is a text in TOML: \
@@ -47,6 +51,7 @@ Examples:
   racp check net.sm order.toml net.plan    whether a plan is right
   racp prove net.sm order.toml > net.proof
   racp verify net.sm order.toml net.plan net.proof
+  racp explain sm 12                       what a refusal means, and what helps
 
 Exit status:
   0  done                       5  a text is refused
@@ -64,31 +69,51 @@ const MOST_SECONDS: u64 = 1_000_000_000;
 /// # Errors
 ///
 /// The words name no command, or ask for help or for the version; or memory ran out.
-pub fn asked<'a>(alloc: Global, words: &'a [String]) -> Result<Request<'a>, Error>
+pub fn asked<'a>(alloc: Global, words: &'a [String]) -> Result<Task<'a>, Error>
     // Without words, with `cpm`, and with `cpm` and a word that is no option, only memory can fail.
     ensures cpm { (network : Option (List ℕ)) → IsCpmLine (map string_bytes words.entry.now) network
-        → MatchResult result (AsksForCpm network) (λ error. kind_of error ≡ OutOfMemory) }
+        → MatchResult result (λ task. AsksForCpm network task.request) (λ error. kind_of error ≡ OutOfMemory) }
     // With `plan` and two paths, too.
     ensures plan { (net order : List ℕ) → IsPlanLine (map string_bytes words.entry.now) net order
-        → MatchResult result (AsksForPlan net order) (λ error. kind_of error ≡ OutOfMemory) }
+        → MatchResult result (λ task. AsksForPlan net order task.request) (λ error. kind_of error ≡ OutOfMemory) }
     // With `--workers` and a number from 1 to 64 behind these, too.
     ensures workers { (net order number : List ℕ) → IsWorkersLine (map string_bytes words.entry.now) net order number
-        → MatchResult result (AsksForWorkers net order (number_in number)) (λ error. kind_of error ≡ OutOfMemory) }
+        → MatchResult result (λ task. AsksForWorkers net order (number_in number) task.request) (λ error. kind_of error ≡ OutOfMemory) }
     // With `prove` and two paths, too.
     ensures prove { (net order : List ℕ) → IsProveLine (map string_bytes words.entry.now) net order
-        → MatchResult result (AsksForProve net order) (λ error. kind_of error ≡ OutOfMemory) }
+        → MatchResult result (λ task. AsksForProve net order task.request) (λ error. kind_of error ≡ OutOfMemory) }
     // With `check` and three paths, too.
     ensures check { (net order plan_path : List ℕ) → IsCheckLine (map string_bytes words.entry.now) net order plan_path
-        → MatchResult result (AsksForCheck net order plan_path) (λ error. kind_of error ≡ OutOfMemory) }
+        → MatchResult result (λ task. AsksForCheck net order plan_path task.request) (λ error. kind_of error ≡ OutOfMemory) }
     // With `verify` and four paths, too.
     ensures verify { (net order plan_path proof : List ℕ) → IsVerifyLine (map string_bytes words.entry.now) net order plan_path proof
-        → MatchResult result (AsksForVerify net order plan_path proof) (λ error. kind_of error ≡ OutOfMemory) }
+        → MatchResult result (λ task. AsksForVerify net order plan_path proof task.request) (λ error. kind_of error ≡ OutOfMemory) }
     // Whatever the words are, the parser's account of them says what they ask for, or why they are refused.
     ensures asked { IfOk result (AskFor (map string_bytes words.entry.now)) }
     ensures faults { FailsBy (fault_of racp (map string_bytes words.entry.now)) result }
 {
     let matches = command(alloc)?.try_get_matches_from(words)?;
-    Ok(request_of(&matches))
+    Ok(task_of(&matches))
+}
+
+/// What the matches of the words ask for, and whether faults are explained.
+fn task_of<'a>(matches: &ArgMatches<'a>) -> Task<'a>
+    ensures { IsTask (subcommand_rows_of matches.now) result }
+{
+    Task {
+        request: request_of(matches),
+        explains: is_explained(matches),
+    }
+}
+
+/// Whether faults are explained.
+fn is_explained(matches: &ArgMatches<'_>) -> bool
+    ensures { result ≡ is_explained (subcommand_rows_of matches.now) }
+{
+    match entered(matches) {
+        Some((_, words)) => is_set(words, "explain"),
+        None => false,
+    }
 }
 
 /// What the matches of the words ask for.
@@ -130,9 +155,12 @@ fn tool_named<'a>(name: &str, words: &ArgMatches<'a>) -> Option<Tool<'a>>
         Some(Tool::Show(plan_files(words), look_of(words)))
     } else if name == "curve" {
         let files = order_files(words);
-        Some(Tool::Curve(files, memory_of(words), is_set(words, "svg")))
+        let workers = workers_of(words);
+        Some(Tool::Curve(files, memory_of(words), workers, is_set(words, "svg")))
     } else if name == "order" {
         Some(Tool::Order(path_of(words, "NET"), terms_of(words)))
+    } else if name == "explain" {
+        Some(Tool::Explain(text_of(words, "FORMAT"), text_of(words, "FAULT")))
     } else {
         None
     }
@@ -225,6 +253,13 @@ fn entered<'a, 'm>(matches: &'m ArgMatches<'a>) -> Option<(&'a str, &'m ArgMatch
 fn command<'a>(alloc: Global) -> Result<Command<'a>, AllocError>
     ensures { IfOk result (λ command. app_of command ≡ racp) }
 {
+    charting(alloc)?.subcommand(explain_command(alloc)?)
+}
+
+/// The commands of the program that read files, with their words.
+fn charting<'a>(alloc: Global) -> Result<Command<'a>, AllocError>
+    ensures { IfOk result (λ command. app_of command ≡ racp_charting) }
+{
     checking(alloc)?
         .subcommand(show_command(alloc)?)?
         .subcommand(curve_command(alloc)?)?
@@ -248,6 +283,7 @@ fn planning<'a>(alloc: Global) -> Result<Command<'a>, AllocError>
     Command::new(alloc, "racp")
         .about("Plans the capacities of a project. Without words: cpm, from standard input")
         .version("0.1.0")
+        .long_version(VERSION)
         .after_long_help(BEHIND_HELP)
         .subcommand(cpm_command(alloc)?)?
         .subcommand(plan_command(alloc)?)
@@ -262,12 +298,20 @@ fn cpm_command<'a>(alloc: Global) -> Result<Command<'a>, AllocError>
     );
     Command::new(alloc, "cpm")
         .about("Prints the critical length and the early starts of a network")
-        .arg(network)
+        .arg(network)?
+        .arg(explain_flag(alloc))
 }
 
 /// `plan`, with its words and options.
 fn plan_command<'a>(alloc: Global) -> Result<Command<'a>, AllocError>
     ensures { IfOk result (IsCommandOf plan) }
+{
+    plan_timed(alloc)?.arg(explain_flag(alloc))
+}
+
+/// `plan`, with its words and the options for workers, what they did, memory and time.
+fn plan_timed<'a>(alloc: Global) -> Result<Command<'a>, AllocError>
+    ensures { IfOk result (IsCommandOf plan_timed) }
 {
     let seconds = "After how many seconds planning stops, 1 to 1,000,000,000";
     let progress = "Tells on standard error, every two seconds, how far planning has come";
@@ -292,10 +336,7 @@ fn plan_of_workers<'a>(alloc: Global) -> Result<Command<'a>, AllocError>
 {
     let about = "Prints the cheapest capacities that meet an order, with the least starts";
     let workers = "How many workers make the plan, 1 to 64";
-    let turns = "How many pieces they take at most, 1 to 1,000,000,000,000";
-    of_order(alloc, "plan", about)?
-        .arg(number_option(alloc, "workers", "N", MOST_WORKERS, workers))?
-        .arg(number_option(alloc, "turns", "N", MOST_TURNS, turns))
+    of_workers(alloc, "plan", about, workers)
 }
 
 /// `prove`, with its words.
@@ -308,13 +349,10 @@ fn prove_command<'a>(alloc: Global) -> Result<Command<'a>, AllocError>
 
 /// `check`, with its words.
 fn check_command<'a>(alloc: Global) -> Result<Command<'a>, AllocError>
-    ensures { IfOk result (IsCommandOf (of_plan (codes "check"))) }
+    ensures { IfOk result (IsCommandOf check) }
 {
-    of_plan(
-        alloc,
-        "check",
-        "Checks a plan against a network and an order",
-    )
+    let about = "Checks a plan against a network and an order";
+    of_plan(alloc, "check", about)?.arg(explain_flag(alloc))
 }
 
 /// `verify`, with its words.
@@ -322,7 +360,9 @@ fn verify_command<'a>(alloc: Global) -> Result<Command<'a>, AllocError>
     ensures { IfOk result (IsCommandOf verify) }
 {
     let about = "Checks a plan, and a certificate that no cheaper capacities would do";
-    of_plan(alloc, "verify", about)?.arg(file_word(alloc, "PROOF", "The certificate"))
+    of_plan(alloc, "verify", about)?
+        .arg(file_word(alloc, "PROOF", "The certificate"))?
+        .arg(explain_flag(alloc))
 }
 
 /// `show`, with its words and options.
@@ -364,7 +404,8 @@ fn curve_command<'a>(alloc: Global) -> Result<Command<'a>, AllocError>
     ensures { IfOk result (IsCommandOf curve) }
 {
     let about = "Prints what each deadline costs, from the critical length to the order's";
-    of_order(alloc, "curve", about)?
+    let workers = "How many workers make the plans, 1 to 64";
+    of_workers(alloc, "curve", about, workers)?
         .arg(memory_option(alloc))?
         .arg(flag(alloc, "svg", "Writes a picture for a browser, SVG"))
 }
@@ -402,6 +443,18 @@ fn order_scaled<'a>(alloc: Global) -> Result<Command<'a>, AllocError>
         .arg(text_option(alloc, "factor", "F", factor))
 }
 
+/// `explain`, with its words.
+fn explain_command<'a>(alloc: Global) -> Result<Command<'a>, AllocError>
+    ensures { IfOk result (IsCommandOf explain) }
+{
+    let format = "The kind of text, the first word of a line, or a name: sm, impossible, TooFew";
+    let fault = "The number or the name of a fault of that kind: 12, TooFew, critical";
+    Command::new(alloc, "explain")
+        .about("Says what a fault means, with an example and what helps; without words, lists them")
+        .arg(Arg::new(alloc, "FORMAT").help(format))?
+        .arg(Arg::new(alloc, "FAULT").help(fault))
+}
+
 /// A command with the words for a network and an order.
 fn of_order<'a>(alloc: Global, name: &'a str, about: &'a str) -> Result<Command<'a>, AllocError>
     ensures { IfOk result (IsCommandOf (of_order name.entry.now)) }
@@ -410,6 +463,21 @@ fn of_order<'a>(alloc: Global, name: &'a str, about: &'a str) -> Result<Command<
         .about(about)
         .arg(file_word(alloc, "NET", "The network"))?
         .arg(file_word(alloc, "ORDER", "The order: a deadline and prices, TOML"))
+}
+
+/// A command with the words for a network and an order and the options for workers, of which the help of the first is given.
+fn of_workers<'a>(
+    alloc: Global,
+    name: &'a str,
+    about: &'a str,
+    workers: &'a str,
+) -> Result<Command<'a>, AllocError>
+    ensures { IfOk result (IsCommandOf (of_workers name.entry.now)) }
+{
+    let turns = "How many pieces they take at most, 1 to 1,000,000,000,000";
+    of_order(alloc, name, about)?
+        .arg(number_option(alloc, "workers", "N", MOST_WORKERS, workers))?
+        .arg(number_option(alloc, "turns", "N", MOST_TURNS, turns))
 }
 
 /// A command with the words for a network, an order and a plan.
@@ -467,6 +535,16 @@ fn flag<'a>(alloc: Global, id: &'a str, help: &'a str) -> Arg<'a>
         .help(help)
 }
 
+/// Whether faults are explained.
+fn explain_flag<'a>(alloc: Global) -> Arg<'a>
+    ensures rule { rule_of result ≡ flag_rule (codes "explain") }
+    ensures own { result.global ≡ false }
+{
+    let explain =
+        "Says on standard error which file is at fault, what was wanted and what is there";
+    flag(alloc, "explain", explain)
+}
+
 /// Where the network is read from.
 fn network_of<'a>(cpm: &ArgMatches<'a>) -> Source<'a>
     ensures { IsSource (first_value (found_of cpm.now) (codes "NET")) result }
@@ -515,6 +593,21 @@ fn crew_of(words: &ArgMatches<'_>) -> Option<Crew>
         time_limit: limit_of(limit),
         stats,
         progress,
+    })
+}
+
+/// How many workers are to make the plans of a curve, where an option says so.
+fn workers_of(words: &ArgMatches<'_>) -> Option<Workers>
+    ensures { AreWorkers (rows_of (found_of words.now)) result }
+{
+    let count = text_of(words, "workers");
+    let turns = text_of(words, "turns");
+    if count.is_none() && turns.is_none() {
+        return None;
+    }
+    Some(Workers {
+        count: number_of(count, MOST_WORKERS, 1) as usize,
+        turns: number_of(turns, MOST_TURNS, MOST_TURNS),
     })
 }
 

@@ -16,8 +16,10 @@
 //! racp check a.sm a4.toml p                Check with the paths a.sm, a4.toml and p
 //! racp verify a.sm a4.toml p q             Verify with the paths a.sm, a4.toml, p and q
 //! racp show a.sm a4.toml p --svg           Tool, Show with these paths, no names, 80 columns and the form Svg
-//! racp curve b.sm b3.toml                  Tool, Curve with these paths, 1,024 MiB, and no picture
+//! racp curve b.sm b3.toml                  Tool, Curve with these paths, 1,024 MiB, one thread, and no picture
+//! racp curve b.sm b3.toml --workers 4      the same, and 4 Workers
 //! racp order a.sm --factor 1.2 --prices 3  Tool, Order with the path a.sm, the factor 1.2 and the prices 3, as words
+//! racp explain sm 12                       Tool, Explain with the words sm and 12
 //! racp plan b.sm b3.toml --workers 65      an error: this is no number from 1 to 64
 //! racp plan b.sm                           an error: a word is missing
 //! racp --help                              an error of the kind DisplayHelp
@@ -25,10 +27,13 @@
 //!
 //! Each of the options `--workers N`, `--turns N`, `--stats`, `--time-limit S` and `--progress` asks for a crew: 1 worker,
 //! 1,000,000,000,000 pieces, no limit of time and nothing told, where the others do not say otherwise. `--memory MIB` says
-//! how much memory the records of a search take at most, with a crew or without.
+//! how much memory the records of a search take at most, with a crew or without. `curve` takes the first two and `--memory`.
+//!
+//! What is asked for is a `Task`: a request, and whether faults are explained, which the flag `--explain` of `cpm`, `plan`,
+//! `check` and `verify` says.
 //!
 //! The commands stand in `specs/` a second time, as values of the library's definitions: `racp`, `cpm`, `plan`, `of_order`,
-//! `of_plan`, `verify`, `show`, `curve` and `order`. What `clap` is proved to do with them says what any words ask for.
+//! `of_plan`, `check`, `verify`, `show`, `curve`, `order` and `explain`. What `clap` is proved to do with them says what any words ask for.
 //!
 //! Proved: without words, with `cpm`, and with `cpm` and a word that does not begin with a hyphen or is a hyphen alone,
 //! `cpm` is asked for, of standard input or of the file with that path; with `plan` or `prove` and two paths, `check` and
@@ -36,8 +41,8 @@
 //! 1 to 64 behind the two paths, `plan` by a crew of so many. In these cases only memory can fail. A path here is a word that is not empty
 //! and does not begin with a hyphen. For any other words `asked` answers what `clap` is proved to find, or refuses with
 //! the kind of error that it is proved to give: `plan` asks for a crew exactly where `clap` finds one of the five
-//! options, and where it finds a number that is in range the crew has it, or the memory; `show`, `curve` and `order` ask for
-//! what their words and flags say (`IsToolOf`). No crew has more than 64 workers
+//! options, and where it finds a number that is in range the crew has it, or the memory; `show`, `curve`, `order` and `explain` ask for
+//! what their words and flags say (`IsToolOf`), and faults are explained exactly where it finds the flag. No crew has more than 64 workers
 //! or 1,000,000,000,000 pieces, and no more than 1,048,576 MiB are asked for. Tested alone, over the built program: the
 //! texts of help, of the version and of errors.
 #![tactic(auto)]
@@ -47,5 +52,6 @@ mod request;
 
 pub use command_line::asked;
 pub use request::{
-    Crew, Form, Look, Memory, OrderFiles, PlanFiles, ProofFiles, Request, Source, Terms, Tool,
+    Crew, Form, Look, Memory, OrderFiles, PlanFiles, ProofFiles, Request, Source, Task, Terms,
+    Tool, Workers,
 };

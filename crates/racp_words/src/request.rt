@@ -2,6 +2,14 @@
 
 ghost use Rattle.std.specs.Prelude.{◌≤◌};
 
+/// What the command line asks for, and how.
+pub struct Task<'a> {
+    /// What it asks for.
+    pub request: Request<'a>,
+    /// Whether it is told, beside the answer, what is wrong with the files.
+    pub explains: bool,
+}
+
 /// What the command line asks for.
 pub enum Request<'a> {
     /// The critical length and the early starts of a network.
@@ -23,10 +31,13 @@ pub enum Request<'a> {
 pub enum Tool<'a> {
     /// A picture of a plan of a network on the terms of an order.
     Show(PlanFiles<'a>, Look<'a>),
-    /// What each deadline up to that of an order costs, with so much memory for records; as a picture where that is said.
-    Curve(OrderFiles<'a>, Memory, bool),
+    /// What each deadline up to that of an order costs, with so much memory for records: on one thread, or by workers where an
+    /// option is given; as a picture where that is said.
+    Curve(OrderFiles<'a>, Memory, Option<Workers>, bool),
     /// The text of an order for a network with this path.
     Order(&'a str, Terms<'a>),
+    /// What faults mean: those that these words name, or a list of all.
+    Explain(Option<&'a str>, Option<&'a str>),
 }
 
 /// How a plan is shown.
@@ -102,6 +113,17 @@ pub struct Crew {
     /// Whether it is told from time to time how far planning has come.
     pub progress: bool,
     pub ghost workers_few: { workers ≤ 64 },
+    pub ghost turns_few: { turns ≤ 1000000000000 },
+}
+
+/// How many workers make the plans of a curve.
+#[derive(Clone, Copy)]
+pub struct Workers {
+    /// How many workers there are, 1 to 64; 1 where no option says so.
+    pub count: usize,
+    /// How many pieces they take at most, 1 to 1,000,000,000,000; so many where no option says so.
+    pub turns: u64,
+    pub ghost count_few: { count ≤ 64 },
     pub ghost turns_few: { turns ≤ 1000000000000 },
 }
 

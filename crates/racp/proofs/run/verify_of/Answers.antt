@@ -1,6 +1,6 @@
 use Rattle.std.proofs.Common.{None}
 use Rattle.racp.proofs.Planned.{verified}
-use Rattle.racp.proofs.run.verify.Goals as goal
+use Rattle.racp.proofs.run.verify_of.Goals as goal
 
 pub returns : goal.returns
 returns g c = verified _ _ _ _ None None c.verify_over.result c.verify_over.ensures

@@ -1,0 +1,50 @@
+//! Inputs that are read whole, and why they cannot be.
+
+use crate::failure::Failure;
+use racp_cli::StreamFault;
+use std::alloc::Global;
+use std::fmt::Display;
+use std::fs::File;
+use std::io::{ErrorKind, Read};
+use std::rt::Files;
+
+/// How many bytes are read of one input at most.
+const INPUT_LIMIT: usize = 16_777_216;
+
+/// The file with this path, for reading; or which it is, and what the system says of it.
+pub(crate) fn opened<R: Files + AllocGlobal>(rt: &R, path: &str) -> Result<R::File, Failure> {
+    match File::open(rt, path) {
+        Ok(file) => Ok(file),
+        Err(error) => Err(told(rt.alloc(), StreamFault::Read, path, &error)),
+    }
+}
+
+/// All bytes of an input with this name; or which it is, and why they cannot be read.
+pub(crate) fn whole<I: Read>(alloc: Global, input: &mut I, name: &str) -> Result<Vec<u8>, Failure> {
+    let mut bytes = Vec::new(alloc);
+    match input
+        .by_ref()
+        .take(INPUT_LIMIT as u64 + 1)
+        .read_to_end(&mut bytes)
+    {
+        Ok(_) if bytes.len() <= INPUT_LIMIT => Ok(bytes),
+        Ok(_) => Err(told(
+            alloc,
+            StreamFault::TooLong,
+            name,
+            &"more than 16,777,216 bytes",
+        )),
+        Err(error) if error.kind() == ErrorKind::OutOfMemory => {
+            Err(Failure::Stream(StreamFault::Memory))
+        }
+        Err(error) => Err(told(alloc, StreamFault::Read, name, &error)),
+    }
+}
+
+/// The failure of a file or a stream with this name, and why.
+pub(crate) fn told<D: Display>(alloc: Global, fault: StreamFault, name: &str, why: &D) -> Failure {
+    match format!(in alloc; "racp: {name}: {why}") {
+        Ok(words) => Failure::Told(fault, words),
+        Err(_) => Failure::Stream(fault),
+    }
+}
