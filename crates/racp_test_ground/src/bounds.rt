@@ -11,7 +11,9 @@ use std::alloc::{AllocError, Global};
 use std::test::Fail;
 
 /// In words, a network with a deadline, its floors and its roofs.
-const BOUNDS: &[(&str, Sample, u32, &[u32], &[u32])] = &[
+type Row = (&'static str, Sample, u32, &'static [u32], &'static [u32]);
+
+const BOUNDS: &[Row] = &[
     ("core usage", Sample::Parallel, 4, &[3], &[4]),
     (
         "two resources, no slack",
@@ -115,12 +117,17 @@ fn difference(
     })
 }
 
+/// What is found otherwise than the floors and roofs of a row.
+fn row_difference(alloc: Global, row: &Row) -> Result<Option<&'static str>, SampleFault> {
+    let net = sampled(alloc, row.1)?;
+    difference(alloc, &net, row.2, row.3, row.4)
+}
+
 #[test]
 fn finds_floors_and_roofs(rt: HostRuntime) -> Result<(), Fail> {
-    for &(name, sample, deadline, least, most) in BOUNDS {
-        let net = sampled(rt.alloc(), sample)?;
-        let difference = difference(rt.alloc(), &net, deadline, least, most)?;
-        assert_eq!(rt; difference, None, "{name}");
+    for row in BOUNDS {
+        let difference = row_difference(rt.alloc(), row)?;
+        assert_eq!(rt; difference, None, "{}", row.0);
     }
     Ok(())
 }
@@ -132,12 +139,21 @@ fn greatest(alloc: Global) -> Result<Network, SampleFault> {
     Ok(network(alloc, 16, &jobs, &[])?)
 }
 
+/// What is found otherwise than so many units as floors of these, and the requests of all jobs as roofs.
+fn greatest_difference(
+    alloc: Global,
+    net: &Network,
+    deadline: u32,
+    least: u32,
+) -> Result<Option<&'static str>, SampleFault> {
+    difference(alloc, net, deadline, &[least; 16], &[5_120_000; 16])
+}
+
 #[test]
 fn reaches_the_limits(rt: HostRuntime) -> Result<(), Fail> {
     let net = greatest(rt.alloc())?;
-    for (deadline, least) in [(10_000, 5_120_000), (10_000_000, 10_000)] {
-        let difference = difference(rt.alloc(), &net, deadline, &[least; 16], &[5_120_000; 16])?;
-        assert_eq!(rt; difference, None, "{deadline}");
-    }
+    let tight = greatest_difference(rt.alloc(), &net, 10_000, 5_120_000)?;
+    let wide = greatest_difference(rt.alloc(), &net, 10_000_000, 10_000)?;
+    assert_eq!(rt; (tight, wide), (None, None));
     Ok(())
 }

@@ -25,7 +25,15 @@ struct Expected<'a> {
 }
 
 /// In words, a network with capacities and starts, and their first conflict.
-const CONFLICTS: &[(&str, Sample, &[u32], &[u32], Option<Expected>)] = &[
+type Row = (
+    &'static str,
+    Sample,
+    &'static [u32],
+    &'static [u32],
+    Option<Expected<'static>>,
+);
+
+const CONFLICTS: &[Row] = &[
     (
         "three jobs beside each other",
         Sample::Parallel,
@@ -284,12 +292,17 @@ fn first_difference(
     }
 }
 
+/// What is found otherwise than the conflict of a row.
+fn row_difference(alloc: Global, row: &Row) -> Result<Option<&'static str>, SampleFault> {
+    let net = sampled(alloc, row.1)?;
+    Ok(difference(alloc, &net, row.2, row.3, row.4)?)
+}
+
 #[test]
 fn finds_conflicts_and_alternatives(rt: HostRuntime) -> Result<(), Fail> {
-    for &(name, sample, capacities, starts, expected) in CONFLICTS {
-        let net = sampled(rt.alloc(), sample)?;
-        let difference = difference(rt.alloc(), &net, capacities, starts, expected)?;
-        assert_eq!(rt; difference, None, "{name}");
+    for row in CONFLICTS {
+        let difference = row_difference(rt.alloc(), row)?;
+        assert_eq!(rt; difference, None, "{}", row.0);
     }
     Ok(())
 }
@@ -377,16 +390,25 @@ fn each_alone(alloc: Global, jobs: &[u32]) -> Result<Vec<Resolution>, AllocError
 #[test]
 fn finds_the_conflict_of_many_jobs(rt: HostRuntime) -> Result<(), Fail> {
     let active: Vec<u32> = (1..131).collect(rt.alloc())?;
-    let alternatives = each_alone(rt.alloc(), &active)?;
-    let all = Expected {
-        time: 0,
-        active: &active,
-        alternatives: &alternatives,
-    };
     let net = wide(rt.alloc())?;
-    let difference = wide_difference(rt.alloc(), &net, all)?;
+    let difference = alone_difference(rt.alloc(), &net, &active)?;
     assert_eq!(rt; difference, None);
     Ok(())
+}
+
+/// What is found otherwise of the 130 jobs than a conflict in which each of them may go alone.
+fn alone_difference(
+    alloc: Global,
+    net: &Network,
+    active: &[u32],
+) -> Result<Option<&'static str>, AllocError> {
+    let alternatives = each_alone(alloc, active)?;
+    let all = Expected {
+        time: 0,
+        active,
+        alternatives: &alternatives,
+    };
+    wide_difference(alloc, net, all)
 }
 
 /// What is found otherwise of the 130 jobs: this conflict with 129 units, and none with one more, or where the last job starts
@@ -419,14 +441,24 @@ fn set_of(jobs: &[u32]) -> JobSet {
     set
 }
 
+/// Whether a set has these jobs, rising.
+fn has_jobs(alloc: Global, set: &JobSet, expected: &[u32]) -> Result<bool, AllocError> {
+    let jobs: Vec<u32> = set.iter().collect(alloc)?;
+    Ok(jobs.as_slice() == expected)
+}
+
+/// Whether a set is a proper part of another one.
+fn is_part(part: &JobSet, whole: &JobSet) -> bool {
+    part.is_subset(whole) && !whole.is_subset(part) && part != whole
+}
+
 #[test]
 fn keeps_sets_of_jobs(rt: HostRuntime) -> Result<(), Fail> {
     let set = set_of(&[512, 64, 1, 65, 64]);
-    let jobs: Vec<u32> = set.iter().collect(rt.alloc())?;
-    assert_eq!(rt; jobs.as_slice(), [1, 64, 65, 512].as_slice());
+    assert!(rt; has_jobs(rt.alloc(), &set, &[1, 64, 65, 512])?);
     assert!(rt; set.contains(65) && !set.contains(63) && set == set.copy());
     let part = set_of(&[64, 512]);
-    assert!(rt; part.is_subset(&set) && !set.is_subset(&part) && part != set);
-    assert!(rt; JobSet::new().is_subset(&part) && JobSet::new().is_empty());
+    assert!(rt; is_part(&part, &set) && is_part(&JobSet::new(), &part));
+    assert!(rt; JobSet::new().is_empty());
     Ok(())
 }

@@ -118,11 +118,15 @@ const ATTEMPTS: &[Attempt] = &[
     ),
 ];
 
+/// Why the network of an attempt is not made.
+fn fault_of(alloc: Global, row: &Attempt) -> Option<NetFault> {
+    network(alloc, row.1, row.2, row.3).err()
+}
+
 #[test]
 fn tells_why_no_network_is_made(rt: HostRuntime) {
-    for &(name, resources, jobs, arcs, fault) in ATTEMPTS {
-        let made = network(rt.alloc(), resources, jobs, arcs);
-        assert_eq!(rt; made.err(), fault, "{name}");
+    for row in ATTEMPTS {
+        assert_eq!(rt; fault_of(rt.alloc(), row), row.4, "{}", row.0);
     }
 }
 
@@ -187,6 +191,12 @@ fn are_jobs(net: &Network, jobs: &[(u32, &[u32])]) -> bool {
     true
 }
 
+/// Whether each pair of the five jobs stands there once, in order.
+fn are_pairs(net: &Network) -> bool {
+    let once = [(1, 2), (1, 3), (1, 4), (2, 5), (3, 5), (4, 5)];
+    net.arcs() == once.as_slice() && net.topological_arcs().len() == 6
+}
+
 #[test]
 fn reads_back_what_was_given(rt: HostRuntime) -> Result<(), Fail> {
     let jobs: [(u32, &[u32]); 5] = [(0, &[0]), (3, &[2]), (2, &[1]), (2, &[1]), (0, &[0])];
@@ -201,10 +211,7 @@ fn reads_back_what_was_given(rt: HostRuntime) -> Result<(), Fail> {
         (1, 2),
     ];
     let net = network(rt.alloc(), 1, &jobs, &pairs)?;
-    assert!(rt; are_jobs(&net, &jobs));
-    let once = [(1, 2), (1, 3), (1, 4), (2, 5), (3, 5), (4, 5)];
-    assert_eq!(rt; net.arcs(), once.as_slice());
-    assert_eq!(rt; net.topological_arcs().len(), 6);
+    assert!(rt; are_jobs(&net, &jobs) && are_pairs(&net));
     assert_eq!(rt; usages(&net, &[0, 0, 0, 2, 4]), Some([3, 3, 3, 1, 0]));
     Ok(())
 }
@@ -213,7 +220,16 @@ fn reads_back_what_was_given(rt: HostRuntime) -> Result<(), Fail> {
 const SECOND: Sample = Sample::Free(2, &[(1, &[0, 1]), (1, &[0, 1])]);
 
 /// In words, a network with capacities, starts and a deadline, and whether these starts fit.
-const FITS: &[(&str, Sample, &[u32], &[u32], u64, bool)] = &[
+type Fit = (
+    &'static str,
+    Sample,
+    &'static [u32],
+    &'static [u32],
+    u64,
+    bool,
+);
+
+const FITS: &[Fit] = &[
     (
         "the plan",
         Sample::Parallel,
@@ -282,12 +298,16 @@ fn is_fitting(
     Ok(Some(fits(net, &capacities, &starts, deadline)))
 }
 
+/// Whether the starts of a row fit.
+fn fit(alloc: Global, row: &Fit) -> Result<Option<bool>, SampleFault> {
+    let net = sampled(alloc, row.1)?;
+    Ok(is_fitting(alloc, &net, row.2, row.3, row.4)?)
+}
+
 #[test]
 fn tells_which_starts_fit(rt: HostRuntime) -> Result<(), Fail> {
-    for &(name, sample, capacities, starts, deadline, expected) in FITS {
-        let net = sampled(rt.alloc(), sample)?;
-        let found = is_fitting(rt.alloc(), &net, capacities, starts, deadline)?;
-        assert_eq!(rt; found, Some(expected), "{name}");
+    for row in FITS {
+        assert_eq!(rt; fit(rt.alloc(), row)?, Some(row.5), "{}", row.0);
     }
     Ok(())
 }

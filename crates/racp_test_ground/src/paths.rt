@@ -184,14 +184,19 @@ fn late_difference(
     })
 }
 
+/// What is found otherwise than these times.
+fn difference(alloc: Global, times: &Times) -> Result<Option<&'static str>, SampleFault> {
+    let net = sampled(alloc, times.sample)?;
+    Ok(match early_difference(alloc, &net, times)? {
+        Some(difference) => Some(difference),
+        None => late_difference(alloc, &net, times)?,
+    })
+}
+
 #[test]
 fn finds_starts_and_lengths(rt: HostRuntime) -> Result<(), Fail> {
     for (row, times) in TIMES.iter().enumerate() {
-        let net = sampled(rt.alloc(), times.sample)?;
-        let difference = match early_difference(rt.alloc(), &net, times)? {
-            Some(difference) => Some(difference),
-            None => late_difference(rt.alloc(), &net, times)?,
-        };
+        let difference = difference(rt.alloc(), times)?;
         assert_eq!(rt; difference, None, "row {row}");
     }
     Ok(())

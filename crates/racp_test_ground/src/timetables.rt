@@ -12,7 +12,16 @@ type Bounds<'a> = (&'a [u32], &'a [u32]);
 
 /// In words, a network with capacities, a window and a time from which core usages are looked at; and the tightened
 /// window, or that nothing in it answers.
-const WINDOWS: &[(&str, Sample, &[u32], Bounds, u32, Option<Bounds>)] = &[
+type Row = (
+    &'static str,
+    Sample,
+    &'static [u32],
+    Bounds<'static>,
+    u32,
+    Option<Bounds<'static>>,
+);
+
+const WINDOWS: &[Row] = &[
     (
         "a job waits until a core usage is over",
         Sample::Chained,
@@ -138,27 +147,30 @@ fn is_told(told: &Tightened, expected: Option<Bounds>) -> bool {
     }
 }
 
-/// Whether a window is tightened to this one.
-fn is_tightened(
-    alloc: Global,
-    net: &Network,
-    capacities: &[u32],
-    (lower, upper): Bounds,
-    from: u32,
-    expected: Option<Bounds>,
-) -> Result<bool, SampleFault> {
-    let Question { capacities, window } = question(alloc, net, capacities, lower, upper)?;
+/// What is told of the window of a row.
+fn told(alloc: Global, row: &Row) -> Result<Tightened, SampleFault> {
+    let net = sampled(alloc, row.1)?;
+    tightened(alloc, &net, row)
+}
+
+/// The same, in this network.
+fn tightened(alloc: Global, net: &Network, row: &Row) -> Result<Tightened, SampleFault> {
+    let (lower, upper) = row.3;
+    let Question { capacities, window } = question(alloc, net, row.2, lower, upper)?;
     let mut scratch = Scratch::new(alloc, net);
-    let told = tighten(net, &capacities, window, from, &mut scratch)?;
-    Ok(is_told(&told, expected))
+    Ok(tighten(net, &capacities, window, row.4, &mut scratch)?)
+}
+
+/// Whether the window of a row is tightened to the expected one.
+fn is_tightened(alloc: Global, row: &Row) -> Result<bool, SampleFault> {
+    Ok(is_told(&told(alloc, row)?, row.5))
 }
 
 #[test]
 fn tightens_windows(rt: HostRuntime) -> Result<(), Fail> {
-    for &(name, sample, capacities, bounds, from, expected) in WINDOWS {
-        let net = sampled(rt.alloc(), sample)?;
-        let tightened = is_tightened(rt.alloc(), &net, capacities, bounds, from, expected)?;
-        assert!(rt; tightened, "{name}");
+    for row in WINDOWS {
+        let tightened = is_tightened(rt.alloc(), row)?;
+        assert!(rt; tightened, "{}", row.0);
     }
     Ok(())
 }
