@@ -10,6 +10,7 @@ use racp_cli::{CHECK_FAILED, IMPOSSIBLE, REFUSED, StreamFault};
 use racp_explain::{Input as Text, network_cause, order_cause, plan_cause, proof_cause};
 use racp_words::{Crew, Memory, OrderFiles, PlanFiles, ProofFiles, Request, Source};
 use std::alloc::AllocError;
+use std::io::Read;
 use std::rt::Files;
 use std::sync::Wait;
 use std::thread::Threads;
@@ -47,17 +48,27 @@ fn cpm<R: Files + Input + Print + Eprint + AllocGlobal>(
 ) -> Result<u8, Failure>
     ensures { IfOk result IsStatusOfAnswer }
 {
-    let (name, bytes) = match network {
+    match network {
         Source::StandardInput => {
             let name = "standard input";
-            (name, whole(rt.alloc(), &mut rt.reader(), name)?)
+            let bytes = whole(rt.alloc(), &mut rt.reader(), name)?;
+            cpm_told(rt, &text(name, &bytes))
         }
-        Source::File(path) => (path, whole(rt.alloc(), &mut opened(rt, path)?, path)?),
-    };
-    let status = cpm_of(rt, &mut bytes.as_slice())?;
+        Source::File(path) => {
+            let bytes = whole(rt.alloc(), &mut opened(rt, path)?, path)?;
+            cpm_told(rt, &text(path, &bytes))
+        }
+    }
+}
+
+/// The critical length and the early starts of this text.
+fn cpm_told<R: Print + Eprint + AllocGlobal>(rt: &R, net: &Text<'_>) -> Result<u8, Failure>
+    ensures { IfOk result IsStatusOfAnswer }
+{
+    let mut bytes = net.bytes;
+    let status = cpm_of(rt, &mut bytes)?;
     if is_told(status) {
-        let net = text(name, &bytes);
-        tell(rt, network_cause(rt.alloc(), &net));
+        tell(rt, network_cause(rt.alloc(), net));
     }
     Ok(status)
 }
@@ -76,18 +87,25 @@ fn plan<R: Clock + Files + Print + Eprint + AllocGlobal + Threads + Wait + Sync>
     let mut order = opened(rt, files.order)?;
     let net = whole(rt.alloc(), &mut net, files.net)?;
     let order = whole(rt.alloc(), &mut order, files.order)?;
-    let status = plan_of(
-        rt,
-        &mut net.as_slice(),
-        &mut order.as_slice(),
-        memory,
-        crew,
-        on_terminal,
-    )?;
+    let (net, order) = (text(files.net, &net), text(files.order, &order));
+    plan_told(rt, &net, &order, memory, crew, on_terminal)
+}
+
+/// The plan of these texts.
+fn plan_told<R: Clock + Files + Print + Eprint + AllocGlobal + Threads + Wait + Sync>(
+    rt: &R,
+    net: &Text<'_>,
+    order: &Text<'_>,
+    memory: Memory,
+    crew: Option<Crew>,
+    on_terminal: bool,
+) -> Result<u8, Failure>
+    ensures { IfOk result IsStatusOfAnswer }
+{
+    let (mut network, mut terms) = (net.bytes, order.bytes);
+    let status = plan_of(rt, &mut network, &mut terms, memory, crew, on_terminal)?;
     if is_told(status) {
-        let net = text(files.net, &net);
-        let order = text(files.order, &order);
-        tell(rt, order_cause(rt.alloc(), &net, &order));
+        tell(rt, order_cause(rt.alloc(), net, order));
     }
     Ok(status)
 }
@@ -105,17 +123,23 @@ fn check<R: Files + Print + Eprint + AllocGlobal>(
     let net = whole(rt.alloc(), &mut net, files.net)?;
     let order = whole(rt.alloc(), &mut order, files.order)?;
     let plan = whole(rt.alloc(), &mut plan, files.plan)?;
-    let status = check_of(
-        rt,
-        &mut net.as_slice(),
-        &mut order.as_slice(),
-        &mut plan.as_slice(),
-    )?;
+    let (net, order) = (text(files.net, &net), text(files.order, &order));
+    check_told(rt, &net, &order, &text(files.plan, &plan))
+}
+
+/// Whether the plan in these texts is right.
+fn check_told<R: Print + Eprint + AllocGlobal>(
+    rt: &R,
+    net: &Text<'_>,
+    order: &Text<'_>,
+    plan: &Text<'_>,
+) -> Result<u8, Failure>
+    ensures { IfOk result IsStatusOfAnswer }
+{
+    let (mut network, mut terms, mut planned) = (net.bytes, order.bytes, plan.bytes);
+    let status = check_of(rt, &mut network, &mut terms, &mut planned)?;
     if is_told(status) {
-        let net = text(files.net, &net);
-        let order = text(files.order, &order);
-        let plan = text(files.plan, &plan);
-        tell(rt, plan_cause(rt.alloc(), &net, &order, &plan));
+        tell(rt, plan_cause(rt.alloc(), net, order, plan));
     }
     Ok(status)
 }
@@ -131,25 +155,44 @@ fn verify<R: Files + Print + Eprint + AllocGlobal>(
     let mut order = opened(rt, files.order)?;
     let mut plan = opened(rt, files.plan)?;
     let mut proof = opened(rt, files.proof)?;
-    let net = whole(rt.alloc(), &mut net, files.net)?;
-    let order = whole(rt.alloc(), &mut order, files.order)?;
-    let plan = whole(rt.alloc(), &mut plan, files.plan)?;
-    let proof = whole(rt.alloc(), &mut proof, files.proof)?;
-    let status = verify_of(
-        rt,
-        &mut net.as_slice(),
-        &mut order.as_slice(),
-        &mut plan.as_slice(),
-        &mut proof.as_slice(),
-    )?;
+    verify_read(rt, files, &mut net, &mut order, &mut plan, &mut proof)
+}
+
+/// The same, of the open files.
+fn verify_read<R: Print + Eprint + AllocGlobal, F: Read>(
+    rt: &R,
+    files: ProofFiles<'_>,
+    net: &mut F,
+    order: &mut F,
+    plan: &mut F,
+    proof: &mut F,
+) -> Result<u8, Failure>
+    ensures { IfOk result IsStatusOfAnswer }
+{
+    let net = whole(rt.alloc(), net, files.net)?;
+    let order = whole(rt.alloc(), order, files.order)?;
+    let plan = whole(rt.alloc(), plan, files.plan)?;
+    let proof = whole(rt.alloc(), proof, files.proof)?;
+    let (net, order) = (text(files.net, &net), text(files.order, &order));
+    let (plan, proof) = (text(files.plan, &plan), text(files.proof, &proof));
+    verify_told(rt, &net, &order, &plan, &proof)
+}
+
+/// Whether the plan in these texts is right, and the certificate proves it.
+fn verify_told<R: Print + Eprint + AllocGlobal>(
+    rt: &R,
+    net: &Text<'_>,
+    order: &Text<'_>,
+    plan: &Text<'_>,
+    proof: &Text<'_>,
+) -> Result<u8, Failure>
+    ensures { IfOk result IsStatusOfAnswer }
+{
+    let (mut network, mut terms) = (net.bytes, order.bytes);
+    let (mut planned, mut certificate) = (plan.bytes, proof.bytes);
+    let status = verify_of(rt, &mut network, &mut terms, &mut planned, &mut certificate)?;
     if is_told(status) {
-        let net = text(files.net, &net);
-        let order = text(files.order, &order);
-        let plan = text(files.plan, &plan);
-        tell(
-            rt,
-            proof_cause(rt.alloc(), &net, &order, &plan, files.proof),
-        );
+        tell(rt, proof_cause(rt.alloc(), net, order, plan, proof.name));
     }
     Ok(status)
 }

@@ -49,55 +49,83 @@ impl Plain {
 
     /// The next question, of a collector that runs and knows no yes, where there is one.
     fn ask(&mut self) -> Result<Heard, AllocError> {
+        let heard = self.next();
+        match heard {
+            Heard::Question(_) => self.open.push(1)?,
+            Heard::End => self.ended = true,
+            _ => {}
+        }
+        Ok(heard)
+    }
+
+    /// What is to be answered to who asks for a question.
+    fn next(&self) -> Heard {
         if self.halted {
-            return Ok(Heard::Halted);
+            Heard::Halted
+        } else if self.least.is_some() {
+            Heard::Enough
+        } else if self.open.len() >= self.total {
+            Heard::End
+        } else {
+            Heard::Question(self.open.len())
         }
-        if self.least.is_some() {
-            return Ok(Heard::Enough);
-        }
-        let place = self.open.len();
-        if place >= self.total {
-            self.ended = true;
-            return Ok(Heard::End);
-        }
-        self.open.push(1)?;
-        Ok(Heard::Question(place))
     }
 
     /// An open window of the first question before the least yes that has one, while the answer is pending.
     fn take(&mut self) -> Result<Heard, AllocError> {
-        if !matches!(self.known(), Known::Pending(_)) {
-            return Ok(Heard::Done);
-        }
-        if self.halted {
-            return Ok(Heard::Halted);
-        }
-        for index in 0..self.end().min(self.open.len()) {
-            if self.open[index] > 0 {
-                self.open[index] = self.open[index].saturating_sub(1);
-                let number = self.slips.len() as u64;
-                self.slips.push(Slip { index, out: true })?;
-                return Ok(Heard::Piece(number, index as u64));
+        let heard = self.ready();
+        if let Heard::Piece(_, index) = heard {
+            let index = index as usize;
+            self.slips.push(Slip { index, out: true })?;
+            if let Some(open) = self.open.get_mut(index) {
+                *open = open.saturating_sub(1);
             }
         }
-        Ok(Heard::Nothing)
+        Ok(heard)
+    }
+
+    /// What is to be answered to who asks for a piece.
+    fn ready(&self) -> Heard {
+        if !matches!(self.known(), Known::Pending(_)) {
+            Heard::Done
+        } else if self.halted {
+            Heard::Halted
+        } else {
+            match (0..self.end()).find(|place| self.has_open(*place)) {
+                Some(index) => Heard::Piece(self.slips.len() as u64, index as u64),
+                None => Heard::Nothing,
+            }
+        }
+    }
+
+    /// Whether a window of a question is open.
+    fn has_open(&self, place: usize) -> bool {
+        self.open.get(place).copied().unwrap_or(0) > 0
     }
 
     /// A piece comes in. One that is not out, or differs from the one that is, is stale.
     fn hand(&mut self, at: usize, change: Change, found: Found) -> Heard {
-        let Some(slip) = self.slips.get(at).copied() else {
-            return Heard::Stale;
-        };
-        if !slip.out || !matches!(change, Change::Nothing) {
+        if !matches!(change, Change::Nothing) {
             return Heard::Stale;
         }
-        self.slips[at].out = false;
+        match self.slips.get_mut(at) {
+            Some(slip) if slip.out => {
+                slip.out = false;
+                let index = slip.index;
+                self.put(index, found);
+                Heard::Taken
+            }
+            _ => Heard::Stale,
+        }
+    }
+
+    /// What was found of a piece of a question is put down.
+    fn put(&mut self, index: usize, found: Found) {
         if found.yes {
-            self.least = Some(slip.index.min(self.end()));
-        } else if slip.index < self.open.len() {
-            self.open[slip.index] = self.open[slip.index].saturating_add(found.left);
+            self.least = Some(index.min(self.end()));
+        } else if let Some(open) = self.open.get_mut(index) {
+            *open = open.saturating_add(found.left);
         }
-        Heard::Taken
     }
 
     /// The number of a piece that is out, from a number on, or that number where there is none.
@@ -141,11 +169,15 @@ impl Plain {
         self.least.unwrap_or(self.open.len())
     }
 
+    /// Whether a window of a question is open, or a piece of it out. That of a question that was not asked is open.
     fn is_undecided(&self, place: usize) -> bool {
-        self.open.get(place) != Some(&0)
-            || self
-                .slips
-                .iter()
-                .any(|slip| slip.out && slip.index == place)
+        self.open.get(place) != Some(&0) || self.is_out(place)
+    }
+
+    /// Whether a piece of a question is out.
+    fn is_out(&self, place: usize) -> bool {
+        self.slips
+            .iter()
+            .any(|slip| slip.out && slip.index == place)
     }
 }
