@@ -1,7 +1,7 @@
 //! The words of the command line of the program `racp`, and what they ask for.
 //!
-//! The library `clap` reads the words: `command` in `command_line` tells it the commands of the program and their
-//! words, and `asked` turns what it found into a `Request`. The crate is apart from the others, so that a change of a
+//! The library `clap` reads the words: `command` in `commands` tells it the commands of the program and their words, from
+//! a table, and `asked` turns what it found into a `Request`. The crate is apart from the others, so that a change of a
 //! help text leaves them as they were proved. The first of the words is the program's name; words are UTF-8.
 //!
 //! ```text
@@ -48,6 +48,7 @@
 #![tactic(auto)]
 
 mod command_line;
+mod commands;
 mod request;
 
 pub use command_line::asked;
