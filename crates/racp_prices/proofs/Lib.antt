@@ -4,3 +4,4 @@ mod Cutting
 mod Tables
 mod Answering
 mod Limits
+mod Parts

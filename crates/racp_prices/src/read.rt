@@ -1,17 +1,17 @@
-ghost use Rattle.std.specs.Prelude.{◌≡◌, ◌↔◌, All, Err, IfOk, IsTrue, MatchResult, Ok, bytes_eq, map, min, option_map, replicate, string_bytes, unwrap_or};
+ghost use Rattle.std.specs.Prelude.{◌≡◌, ◌↔◌, All, Err, IfOk, IsTrue, MatchResult, Ok, bytes_eq, map, min, option_map, string_bytes};
 ghost use Rattle.std.specs.BTreeMap.{keys};
 ghost use Rattle.std.specs.List.{list_any};
 ghost use Rattle.toml.specs.Data.{get_member};
 ghost use Rattle.toml.specs.View.{table_view, view};
-ghost use Rattle.racp_prices.specs.Orders.{FitEachProject, IsOrderOrMemory, keys_of, known_keys, order_of, required};
-ghost use Rattle.racp_prices.specs.Steps.{Gives, IsTableRead};
+ghost use Rattle.racp_prices.specs.Orders.{FitEachProject, IsOrderOrMemory, keys_of, known_keys, required};
+ghost use Rattle.racp_prices.specs.Steps.{Gives, IsTableRead, joined, list_or, order_in_parts, times_of, units_of};
 
 use crate::fault::OrderFault;
 use crate::numbers::{number, numbers, optional_numbers};
 use crate::order::Order;
 use crate::version::Version;
 use racp_model::limits::{LATEST_TIME, MOST_PRICE, MOST_UNITS};
-use std::alloc::{AllocError, Global};
+use std::alloc::Global;
 use toml::{Table, Value};
 
 /// Reads the order of a TOML text, for a network of so many resources and jobs.
@@ -52,36 +52,92 @@ fn read_table(alloc: Global, text: &[u8]) -> Result<Table, OrderFault>
     }
 }
 
+/// The terms about units, for each resource.
+#[derive(Drop)]
+struct UnitTerms {
+    prices: Vec<u32>,
+    owned: Vec<u32>,
+    ceilings: Option<Vec<u32>>,
+}
+
+/// The terms about times, for each job.
+#[derive(Drop)]
+struct TimeTerms {
+    release: Vec<u32>,
+    due: Vec<u32>,
+}
+
 /// The order that a table is.
-#[tactic(auto, unfolding(crate::specs::Orders::order_of))]
+#[tactic(auto, unfolding(crate::specs::Steps::order_in_parts))]
 fn read_terms(
     alloc: Global,
     table: &Table,
     resources: usize,
     jobs: usize,
 ) -> Result<Order, OrderFault>
-    ensures { Gives (λ order. order) result (order_of resources jobs (table_view table.now)) }
+    ensures { Gives (λ order. order) result (order_in_parts resources jobs (table_view table.now)) }
 {
     let version = Version::read(value(table, "version"))?;
     let deadline = required(table, "deadline")?;
     let prices = required(table, "prices")?;
     check_keys(version, table)?;
     let deadline = number(deadline, LATEST_TIME)?;
-    let prices = numbers(alloc, prices, resources, MOST_PRICE)?;
-    let owned = optional_numbers(alloc, value(table, "owned"), resources, MOST_UNITS)?;
-    let ceilings = optional_numbers(alloc, value(table, "ceiling"), resources, MOST_UNITS)?;
-    let release = optional_numbers(alloc, value(table, "release"), jobs, LATEST_TIME)?;
-    let due = optional_numbers(alloc, value(table, "due"), jobs, LATEST_TIME)?;
-    let mut due = or_all(alloc, due, jobs, deadline)?;
-    cut(&mut due, deadline);
-    Ok(Order {
+    let units = read_units(alloc, table, prices, resources)?;
+    let times = read_times(alloc, table, deadline, jobs)?;
+    Ok(joined(deadline, units, times))
+}
+
+/// The order of these terms.
+fn joined(deadline: u32, units: UnitTerms, times: TimeTerms) -> Order
+    ensures { result ≡ joined deadline (units.prices.items, (units.owned.items, option_map (λ ceilings. ceilings.items) units.ceilings))
+        (times.release.items, times.due.items) }
+{
+    Order {
         deadline,
+        prices: units.prices,
+        owned: units.owned,
+        ceilings: units.ceilings,
+        release: times.release,
+        due: times.due,
+    }
+}
+
+/// The terms about units that a table has, with these prices.
+#[tactic(auto, unfolding(crate::specs::Steps::units_of))]
+fn read_units(
+    alloc: Global,
+    table: &Table,
+    prices: &Value,
+    resources: usize,
+) -> Result<UnitTerms, OrderFault>
+    ensures { Gives (λ terms. (terms.prices.items, (terms.owned.items, option_map (λ ceilings. ceilings.items) terms.ceilings)))
+        result (units_of resources (view prices.now) (table_view table.now)) }
+{
+    let prices = numbers(alloc, prices, resources, MOST_PRICE)?;
+    let owned = list_or(alloc, value(table, "owned"), resources, MOST_UNITS, 0)?;
+    let ceilings = optional_numbers(alloc, value(table, "ceiling"), resources, MOST_UNITS)?;
+    Ok(UnitTerms {
         prices,
-        owned: or_all(alloc, owned, resources, 0)?,
+        owned,
         ceilings,
-        release: or_all(alloc, release, jobs, 0)?,
-        due,
     })
+}
+
+/// The terms about times that a table has, with this deadline.
+#[tactic(auto, unfolding(crate::specs::Steps::times_of))]
+fn read_times(
+    alloc: Global,
+    table: &Table,
+    deadline: u32,
+    jobs: usize,
+) -> Result<TimeTerms, OrderFault>
+    ensures { Gives (λ terms. (terms.release.items, terms.due.items)) result
+        (times_of jobs deadline (table_view table.now)) }
+{
+    let release = list_or(alloc, value(table, "release"), jobs, LATEST_TIME, 0)?;
+    let mut due = list_or(alloc, value(table, "due"), jobs, LATEST_TIME, deadline)?;
+    cut(&mut due, deadline);
+    Ok(TimeTerms { release, due })
 }
 
 /// What a table has at a key.
@@ -119,19 +175,21 @@ fn has_known_keys(version: Version, table: &Table) -> bool
     table.keys().all(|key| version.has_key(key))
 }
 
-/// The numbers, or the same one so many times where there are none.
-fn or_all(
+/// The whole numbers that stand for an array, or the same one so many times where there is no value.
+#[tactic(auto, unfolding(crate::specs::Steps::list_or))]
+fn list_or(
     alloc: Global,
-    numbers: Option<Vec<u32>>,
+    value: Option<&Value>,
     count: usize,
-    number: u32,
-) -> Result<Vec<u32>, AllocError>
-    ensures { IfOk result (λ all. all.items ≡ unwrap_or (option_map (λ numbers. numbers.items) numbers)
-        (replicate count number)) }
+    most: u32,
+    otherwise: u32,
+) -> Result<Vec<u32>, OrderFault>
+    ensures { Gives (λ numbers. numbers.items) result
+        (list_or count most otherwise (option_map (λ v. view v.now) value.entry)) }
 {
-    match numbers {
-        Some(numbers) => Ok(numbers),
-        None => vec![in alloc; number; count],
+    match value {
+        Some(value) => numbers(alloc, value, count, most),
+        None => Ok(vec![in alloc; otherwise; count]?),
     }
 }
 
