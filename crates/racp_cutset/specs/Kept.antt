@@ -46,6 +46,11 @@ pub record TakesPlace (first : ℕ) (old : Kept) (last : SearchNode) (new : Kept
   pub within : place < length old.records
   pub written : new ≡ record { records = slice_set old.records place last; most = old.most }
 
+-- a record is kept behind the others, or dropped
+abbrev pub IsAppendedOrDropped : Kept → SearchNode → Kept → Type 0
+IsAppendedOrDropped old last new =
+    (new ≡ record { records = old.records ++ last ∷ []; most = old.most }) ⊎ (new ≡ old)
+
 -- a record is kept behind the others, or takes such a place, or is dropped where there is no room
 abbrev pub IsKeptOrDropped : ℕ → Kept → SearchNode → Kept → Type 0
 IsKeptOrDropped first old last new =

@@ -1,7 +1,7 @@
-ghost use Rattle.std.specs.Prelude.{◌≡◌, ◌↔◌, ◌<◌, ◌≤◌, IsTrue, IfSome, [], length};
+ghost use Rattle.std.specs.Prelude.{◌≡◌, ◌↔◌, ◌<◌, ◌≤◌, IsTrue, IfSome, [], length, slice_set};
 ghost use Rattle.racp_model.specs.Window.{IsNo};
 ghost use Rattle.racp_cutset.specs.Covering.{Covers};
-ghost use Rattle.racp_cutset.specs.Kept.{IsKeptOrDropped, IsLastTaken, front, most_records};
+ghost use Rattle.racp_cutset.specs.Kept.{IsAppendedOrDropped, IsKeptOrDropped, IsLastTaken, front, most_records};
 
 use crate::board::Board;
 use crate::index::{Index, Place};
@@ -107,22 +107,46 @@ impl<N: OfNetwork> Local<N> {
         ensures { IsKeptOrDropped first self.old nogood self.new }
     {
         self.index.forget_kept(&self.kept, &nogood);
+        match self.gives_way(first) {
+            Some(place) => self.put(nogood, place),
+            None => self.append(nogood),
+        }
+    }
+
+    /// The place of a record that is not among the first ones and gives way: one that has given way, or else the oldest
+    /// where there is no more room.
+    fn gives_way(&mut self, first: usize) -> Option<usize>
+        ensures kept { self.new ≡ self.old }
+        ensures place { IfSome result (λ place. (first ≤ place) × (place < length self.old.records)) }
+    {
+        match self.index.take_free(first, self.kept.len()) {
+            Some(place) => Some(place),
+            None => self.oldest(first),
+        }
+    }
+
+    /// Keeps a record in place of another.
+    fn put(&mut self, nogood: Nogood<N>, place: usize)
+        requires { place < length self.old.records }
+        ensures { self.new ≡ record { records = slice_set self.old.records place nogood; most = self.old.most } }
+    {
         let key = nogood.key();
-        let count = self.kept.len();
-        if let Some(place) = self.index.take_free(first, count) {
-            self.kept[place] = nogood;
+        self.kept[place] = nogood;
+        self.index.enter(key, Place::Kept(place));
+    }
+
+    /// Keeps a record behind the others, or drops it where there is no room.
+    fn append(&mut self, nogood: Nogood<N>)
+        ensures { IsAppendedOrDropped self.old nogood self.new }
+    {
+        if self.is_full() {
+            return;
+        }
+        let key = nogood.key();
+        let place = self.kept.len();
+        if self.kept.push(nogood).is_ok() {
             self.index.enter(key, Place::Kept(place));
-            return;
         }
-        if let Some(place) = self.oldest(first) {
-            self.kept[place] = nogood;
-            self.index.enter(key, Place::Kept(place));
-            return;
-        }
-        if self.is_full() || self.kept.push(nogood).is_err() {
-            return;
-        }
-        self.index.enter(key, Place::Kept(count));
     }
 
     /// The place of a record that gives way where one more would take the last of the room: the oldest one that is not

@@ -3,6 +3,7 @@ ghost use Rattle.racp_model.specs.Formed.{IsFormed};
 ghost use Rattle.racp_model.specs.Path.{IsEarly};
 ghost use Rattle.racp_model.specs.Project.{IsSound};
 ghost use Rattle.racp_cutset.specs.Covering.{SearchNode, IsNode, AreEnds, AreStartedBefore};
+ghost use Rattle.racp_cutset.specs.Rows.{AreBounds};
 
 use crate::rows::{bounds_of, ends_of, hash_of, started_before};
 use racp_cpm::early;
@@ -92,14 +93,30 @@ impl<N: OfNetwork> Node<N> {
         ensures early { IfOk result (λ node. node.early ≡ early) }
         ensures time { IfOk result (λ node. node.time ≡ time) }
     {
+        let rows = rows_of(net, &question, &early, rows, time)?;
+        Ok(Node::of_rows(net, question, early, rows, time))
+    }
+
+    /// The node of a question, the early starts of its window, the two rows for these and a time.
+    fn of_rows(
+        net: &Network,
+        question: Question,
+        early: Starts,
+        rows: (Vec<u32>, Vec<u32>),
+        time: u32,
+    ) -> Self
+        requires named { net.now ≡ N.network }
+        requires formed { IsFormed net.now question }
+        requires early { IsEarly net.now (slice_index question.window.lower) early }
+        requires ends { AreEnds net.now early rows.0.items }
+        requires bounds { AreBounds early time rows.0.items question.window.lower rows.1.items }
+        ensures { result ≡ record { capacities = question.capacities; window = question.window; early = early; time = time } }
+    {
         prove!(question.window.lower().len() == net.job_count());
-        let (first, second) = rows;
-        let (starts, lower) = (early.as_slice(), question.window.lower());
-        let ends = ends_of(first, net, starts)?;
-        let bounds = bounds_of(second, &ends, starts, time, lower)?;
-        let started = started_before(starts, time);
+        let (ends, bounds) = rows;
+        let started = started_before(early.as_slice(), time);
         let key = hash_of(&started);
-        Ok(Node {
+        Node {
             question,
             early,
             ends,
@@ -108,7 +125,7 @@ impl<N: OfNetwork> Node<N> {
             key,
             time,
             of: PhantomData,
-        })
+        }
     }
 
     /// Gives the rows back: the question, the early starts, and the two rows that `reusing` took. Takes no memory.
@@ -164,4 +181,30 @@ impl<N: OfNetwork> Node<N> {
     pub(crate) fn key(&self) -> u64 {
         self.key
     }
+}
+
+/// When each job ends in the early starts of a question's window, and the bounds that a record keeps, in the memory of
+/// the two rows.
+///
+/// # Errors
+///
+/// Memory was refused.
+fn rows_of(
+    net: &Network,
+    question: &Question,
+    early: &Starts,
+    rows: (Vec<u32>, Vec<u32>),
+    time: u32,
+) -> Result<(Vec<u32>, Vec<u32>), AllocError>
+    requires formed { IsFormed net.now question.now }
+    requires early { IsEarly net.now (slice_index question.now.window.lower) early.now }
+    ensures ends { IfOk result (λ rows. AreEnds net.now early.now rows.0.items) }
+    ensures bounds { IfOk result (λ rows. AreBounds early.now time rows.0.items question.now.window.lower rows.1.items) }
+{
+    prove!(question.window.lower().len() == net.job_count());
+    let (first, second) = rows;
+    let starts = early.as_slice();
+    let ends = ends_of(first, net, starts)?;
+    let bounds = bounds_of(second, &ends, starts, time, question.window.lower())?;
+    Ok((ends, bounds))
 }
