@@ -1,11 +1,24 @@
-use Rattle.std.proofs.Common.{◌≡◌, ℕ, refl, ◌+◌, ◌∷◌, arith, ◌∙◌, slice_index, vec_len}
+use Rattle.std.proofs.Common.{◌≡◌, ℕ, refl, ◌+◌, ◌∷◌, arith, ◌∙◌, length, slice_index, vec_len}
 use Rattle.std.proofs.lemmas.Result.{IfOk-weaker}
-use Rattle.racp_model.specs.Project.{request}
+use Rattle.racp_model.specs.Project.{request, IsNumber}
 use Rattle.racp_delay.specs.Alternatives.{job_lists, place}
 use Rattle.racp_delay.specs.Found.{AreAdded}
 use Rattle.racp_delay.proofs.Chosen.{among-fewer, among-goes, among-same, goes-added, stays-added, stays-over}
-use Rattle.racp_delay.proofs.Adding.{added-over, added-loose, added-here, added-both, lists-push, popped_after, left-is, none-left}
+use Rattle.racp_delay.proofs.Adding.{all-same, added-over, added-loose, added-here, added-both, lists-push, popped_after, left-is, none-left}
 use Rattle.racp_delay.proofs.delaying.+adding.Goals as goal
+
+pub add-some_have_room-requires-clause-capacities : goal.add-some_have_room-requires-clause-capacities
+add-some_have_room-requires-clause-capacities t c = c.requires.choice.units
+
+pub add-some_have_room-requires-clause-jobs : goal.add-some_have_room-requires-clause-jobs
+add-some_have_room-requires-clause-jobs t c =
+    all-same (IsNumber (length c.args.choice.now.net.now.jobs)) c.args.gone.now.items c.deref.result.now c.deref.ensures.value c.requires.gone
+
+pub add-some_have_room-requires-clause-small : goal.add-some_have_room-requires-clause-small
+add-some_have_room-requires-clause-small t c = c.requires.choice.small
+
+pub add-are_within-requires : goal.add-are_within-requires
+add-are_within-requires t c = record { capacities = c.requires.choice.units }
 
 pub add-returns-then-some_have_room-clause-added : goal.add-returns-then-some_have_room-clause-added
 add-returns-then-some_have_room-clause-added t c =
@@ -19,6 +32,18 @@ add-returns-then-are_within-clause-added t c =
     (lists-push c.args.lists.now.items c.push.new.self.items c.in_ok-alternative.alternative c.args.gone.now.items c.in_ok-push.ensures.items (c.in_ok-alternative.ensures.ok ∙ c.deref-then-are_within.ensures.value))
     (c.are_within.ensures.0 c.if-are_within.true) (λ loose. cc (c.some_have_room.ensures.1 loose, c.if-some_have_room.false))
 
+pub add-add_branches-requires : goal.add-add_branches-requires
+add-add_branches-requires t c = (
+  omega (arith, c.decreases),
+  (c.requires.choice, (c.requires.gone, λ runs. cc (c.are_within.ensures.1 runs, c.if-are_within.false))),
+)
+
+pub add-returns-clause-gone : goal.add-returns-clause-gone
+add-returns-clause-gone t c = c.add_branches.ensures.gone
+
+pub add-returns-clause-added : goal.add-returns-clause-added
+add-returns-clause-added t c = c.add_branches.ensures.added
+
 pub add_branches-returns-in_default-clause-added : goal.add_branches-returns-in_default-clause-added
 add_branches-returns-in_default-clause-added t c =
     let kept = slice_index c.args.choice.now.kept in
@@ -26,6 +51,12 @@ add_branches-returns-in_default-clause-added t c =
     let same = none-left c.args.choice.now.net.now kept (slice_index c.args.choice.now.left) c.args.choice.now.undecided.now c.in_default.ensures.cases c.requires.choice.sums in
     added-over c.args.choice.now.net.now c.args.choice.now.capacities.now kept (slice_index c.args.choice.now.left) c.args.gone.now.items c.args.choice.now.undecided.now lists lists c.requires.choice.sums
     (λ runs. c.requires.over (λ k l. omega (arith, same k l, runs k l)))
+
+pub add_branches-where_goes-less-requires-clause-choice : goal.add_branches-where_goes-less-requires-clause-choice
+add_branches-where_goes-less-requires-clause-choice t c = c.requires.choice
+
+pub add_branches-where_goes-less-requires-clause-first : goal.add_branches-where_goes-less-requires-clause-first
+add_branches-where_goes-less-requires-clause-first t c = c.in-Some.ensures.cases.0
 
 pub add_branches-add-requires : goal.add_branches-add-requires
 add_branches-add-requires t c = (
@@ -35,6 +66,16 @@ add_branches-add-requires t c = (
     among-goes c.args.choice.now c.where_goes-less.result c.in-Some.others.now c.where_goes-less.ensures.among c.in-Some.job.now c.args.gone.now.items c.push.new.self.items c.requires.choice c.in-Some.ensures.cases.0 c.in_ok-push.ensures.items c.requires.gone,
   ),
 )
+
+pub add_branches-where_stays-requires-clause-choice : goal.add_branches-where_stays-requires-clause-choice
+add_branches-where_stays-requires-clause-choice t c = c.requires.choice
+
+pub add_branches-where_stays-requires-clause-first : goal.add_branches-where_stays-requires-clause-first
+add_branches-where_stays-requires-clause-first t c = c.in-Some.ensures.cases.0
+
+pub add_branches-returns-in_default-where_stays-clause-gone : goal.add_branches-returns-in_default-where_stays-clause-gone
+add_branches-returns-in_default-where_stays-clause-gone t c =
+    let same : c.pop.new.self.items ≡ c.args.gone.now.items = popped_after c.args.gone.now.items c.push.new.self.items c.add.new.gone.items c.pop.new.self.items c.in-Some.job.now (vec_len c.add.new.gone) c.in_ok-push.ensures.items c.in_ok-add.ensures.gone (omega (arith, c.add.new.gone.ok.0)) c.pop.ensures.rest in same
 
 pub add_branches-returns-in_default-where_stays-clause-added : goal.add_branches-returns-in_default-where_stays-clause-added
 add_branches-returns-in_default-where_stays-clause-added t c =
@@ -60,6 +101,12 @@ add_branches-add_branches-requires t c =
         ),
       ),
     )
+
+pub add_branches-returns-clause-gone : goal.add_branches-returns-clause-gone
+add_branches-returns-clause-gone t c =
+    let same : c.pop.new.self.items ≡ c.args.gone.now.items = popped_after c.args.gone.now.items c.push.new.self.items c.add.new.gone.items c.pop.new.self.items c.in-Some.job.now (vec_len c.add.new.gone) c.in_ok-push.ensures.items c.in_ok-add.ensures.gone (omega (arith, c.add.new.gone.ok.0)) c.pop.ensures.rest in
+    IfOk-weaker c.add_branches.result (λ _. c.add_branches.new.gone.items ≡ c.pop.new.self.items) (λ _. c.add_branches.new.gone.items ≡ c.args.gone.now.items) (λ _ h. h ∙ same)
+    c.add_branches.ensures.gone
 
 pub add_branches-returns-clause-added : goal.add_branches-returns-clause-added
 add_branches-returns-clause-added t c =
