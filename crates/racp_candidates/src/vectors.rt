@@ -1,6 +1,7 @@
 ghost use Rattle.std.specs.Prelude.{◌≡◌, length, IfOk};
 ghost use Rattle.racp_model.specs.Project.{AreNumbers};
 ghost use Rattle.racp_candidates.specs.Box.{ArePrices, AreBounds, AreBoxQuestions};
+ghost use Rattle.racp_candidates.specs.Vectors.{AreVectorsInOrder};
 
 use crate::copies::copy_list;
 use crate::frontier::Frontier;
@@ -58,19 +59,34 @@ impl Vectors {
         requires pairs { AreNumbers (length floors) pairs.items }
         ensures { IfOk result (AreBoxQuestions order.now floors roofs pairs.items root.now) }
     {
-        let prices = copy_list(alloc, &order.prices)?;
-        let owned = copy_list(alloc, &order.owned)?;
+        let frontier = frontier_of(alloc, order, floors.as_slice(), roofs)?;
         let window = root.copy()?;
-        let floors = floors.into_vec();
-        let kept = copy_list(alloc, &floors)?;
-        let frontier = Frontier::new(alloc, prices, owned, floors, roofs.into_vec())?;
         Ok(Vectors {
-            floors: kept,
+            floors: floors.into_vec(),
             pairs,
             window,
             frontier,
         })
     }
+}
+
+/// All vectors between these floors and roofs.
+fn frontier_of(
+    alloc: Global,
+    order: &Order,
+    floors: &[u32],
+    roofs: Capacities,
+) -> Result<Frontier, AllocError>
+    requires prices { ArePrices order.now.prices order.now.owned }
+    requires floors { length order.now.prices ≡ length floors.now }
+    requires roofs { length roofs ≡ length floors.now }
+    requires bounds { AreBounds floors.now roofs }
+    ensures { IfOk result (AreVectorsInOrder order.now floors.now roofs) }
+{
+    let prices = copy_list(alloc, &order.prices)?;
+    let owned = copy_list(alloc, &order.owned)?;
+    let floors = copy_list(alloc, floors)?;
+    Frontier::new(alloc, prices, owned, floors, roofs.into_vec())
 }
 
 impl Series for Vectors {
