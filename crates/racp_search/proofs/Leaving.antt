@@ -10,7 +10,7 @@ use Rattle.racp_model.proofs.lemmas.Relations.{member_cases, member_first, membe
 use Rattle.racp_search.specs.Truth.{IsRestOf}
 use Rattle.racp_search.specs.DepthFirst.{SearchFrame, Part, LiesInPart, PartsCover, parts_of, front_of, last_window, AreOpenFrames, AreBelow, AreInside, IsBelow, IsBeneath, IsPartOf, IsHigher, IsSearchingNext, IsRestOfFrame}
 use Rattle.racp_search.specs.DepthFirst.Part.{all_of}
-use Rattle.racp_search.specs.Steps.{IsFrontWindow, IsLeft}
+use Rattle.racp_search.specs.Steps.{HasFirst, IsFrontWindow, IsLeft}
 use Rattle.racp_search.proofs.Stacks.{part-of_part, part-of_itself, below-whole, beneath-part, inside-sum}
 
 -- a window of the list is a part of the list
@@ -194,3 +194,8 @@ module _ (p : Project) (capacities : List ℕ) (whole next : Bounds) where
       own-beneath : (fs : List SearchFrame) → IsFrontWindow fs next w → IsBeneath p whole fs next → IsBeneath p w fs next
       own-beneath [] same b = subst (λ (x : Bounds). IsPartOf p x next) (sym same) (part-of_itself p next b.bounds)
       own-beneath (f ∷ fs) same b = b
+
+-- where there are frames, and their nodes are of some capacities, so is the first one's
+pub first-there : (p : Project) (capacities : List ℕ) (frames : List SearchFrame) (next : List Part) → 0 < length frames → AreOpenFrames p capacities frames next → HasFirst capacities frames
+first-there p capacities [] next some opened = absurd (omega (arith, some))
+first-there p capacities (f ∷ fs) next some opened = opened.0.same

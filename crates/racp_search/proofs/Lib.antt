@@ -9,5 +9,6 @@ mod Going
 mod Freeing
 mod Tightening
 mod Entering
+mod Ending
 mod Leaving
 mod Resting

@@ -3,8 +3,11 @@ use Rattle.std.specs.Prelude.{◌≡◌, ◌≢◌, ℕ, Contains, ◌<◌, ◌�
 use Rattle.racp_model.specs.Project.{Project}
 use Rattle.racp_model.specs.Window.{Bounds, Answers}
 use Rattle.racp_search.specs.Truth.{IsRestOf}
+use Rattle.racp_model.specs.declared.question.Question.{Question}
 use Rattle.racp_search.specs.declared.depth_first.Next.{Next}
-use Rattle.racp_search.specs.DepthFirst.{SearchFrame, open_parts, IsHigher, IsSearching, IsSearchingNext, IsTaken, IsUsedUp, weights}
+use Rattle.racp_search.specs.declared.depth_first.Step.{Step}
+use Rattle.racp_search.specs.declared.depth_first.Step.TheVariants.{Further, Found, Nothing}
+use Rattle.racp_search.specs.DepthFirst.{SearchFrame, open_parts, IsHigher, IsRestOfFrame, IsSearching, IsSearchingNext, IsTaken, IsUsedUp, weights}
 use Rattle.racp_search.specs.DepthFirst.Part.{all_of}
 
 -- the next window below the node of a frame, or that none is left
@@ -46,3 +49,41 @@ pub record IsLeft (p : Project) (capacities : List ℕ) (whole next : Bounds) (r
   pub left : IsRestOf p capacities whole rest
   pub higher : IsHigher p whole next → (part : Bounds) → Contains rest part → IsHigher p whole part
   pub some : rest ≢ []
+
+-- a window that is searched next after another
+pub record IsFurther (p : Project) (capacities : List ℕ) (whole : Bounds) (old : List SearchFrame) (before : Bounds)
+    (new : List SearchFrame) (next : Next) : Type 0 where
+  pub state : IsSearchingNext p capacities whole new next.window next.from
+  pub higher : IsHigher p whole next.window
+  pub lighter : weights p (open_parts new ++ all_of next.window ∷ []) < weights p (open_parts old ++ all_of before ∷ [])
+
+-- what one step of a search comes to, from a window
+abbrev pub IsStep : Project → List ℕ → Bounds → List SearchFrame → Bounds → List SearchFrame → Step → Type 0
+IsStep p capacities whole old before new (Further next) = IsFurther p capacities whole old before new next
+IsStep p capacities whole old before new (Found starts) = Answers p capacities whole starts
+IsStep p capacities whole old before new Nothing = IsSearching p capacities whole [] []
+
+-- there is a first frame, and it is of these capacities
+abbrev pub HasFirst : List ℕ → List SearchFrame → Type 0
+HasFirst capacities [] = ⊥
+HasFirst capacities (frame ∷ frames) = frame.node.capacities ≡ capacities
+
+-- the first frame was taken out, and windows that are left of it were put behind others
+pub record IsFirstLeft (p : Project) (capacities : List ℕ) (old new : List SearchFrame)
+    (old_rest new_rest : List Bounds) : Type 0 where
+  pub frame : SearchFrame
+  pub more : List Bounds
+  pub taken : old ≡ frame ∷ new
+  pub gathered : new_rest ≡ old_rest ++ more
+  pub left : IsRestOfFrame p capacities frame more
+
+-- a search can be gone on with in the window in front
+abbrev pub IsOpenBehind : Project → List ℕ → List SearchFrame → Bounds → ℕ → Type 0
+IsOpenBehind p capacities frames next from =
+    (window : Bounds) → IsFrontWindow frames next window → IsSearchingNext p capacities window frames next from
+
+-- the question of the window in front
+pub record IsFrontQuestion (capacities : List ℕ) (frames : List SearchFrame) (next : Bounds)
+    (question : Question) : Type 0 where
+  pub same : question.capacities ≡ capacities
+  pub front : IsFrontWindow frames next question.window

@@ -1,8 +1,9 @@
-ghost use Rattle.std.specs.Prelude.{◌≡◌, ◌<◌, ◌≤◌, [], ◌∷◌, ◌++◌, IsTrue, IsFalse, IfOk, OnOk, IfSome, length, take};
+ghost use Rattle.std.specs.Prelude.{◌≡◌, ◌<◌, ◌≤◌, [], ◌∷◌, ◌++◌, IsTrue, IsFalse, IfOk, OnOk, IfSome, Some, length, take};
+ghost use Rattle.racp_search.specs.declared.depth_first.Halt.TheVariants.{Left};
 ghost use Rattle.racp_cutset.specs.Kept.{StayKept, front};
 ghost use Rattle.racp_search.specs.DepthFirst.{IsSearching, IsSearchingNext};
-ghost use Rattle.racp_search.specs.Ends.{IsEnd, IsSpent};
-ghost use Rattle.racp_search.specs.Steps.{IsEntered, IsFrontWindow, IsLeft, IsNextAnswer};
+ghost use Rattle.racp_search.specs.Ends.{IsEnd, IsEndOf, IsFinished, IsHalt, IsHaltOf, IsSpent};
+ghost use Rattle.racp_search.specs.Steps.{HasFirst, IsEntered, IsFirstLeft, IsFrontQuestion, IsFrontWindow, IsLeft, IsNextAnswer, IsOpenBehind, IsStep};
 
 use crate::ended::Ended;
 use crate::frame::{Frame, expand};
@@ -20,52 +21,28 @@ use std::marker::Model;
 /// to have one each, and few, as a search that goes by depth through all of them keeps better records.
 const ENOUGH_WINDOWS: usize = 8;
 
-/// Goes on with a search of the question's window by depth, until starts are found, nothing is left, as many nodes were
-/// entered as the quantum allows, or the search is stopped; it can then be gone on with, in one of the windows that are
-/// left. Counts the nodes.
+/// Searches a question's window by depth, until starts are found, nothing is left, as many nodes were entered as the
+/// quantum allows, or the search is stopped; it can then be gone on with, in one of the windows that are left. Goes on
+/// with the open search where it is that of the question. Counts the nodes.
 pub(crate) fn search<N: OfNetwork, S: Stop>(
     alloc: Global,
     subject: &Subject<N>,
-    start: OpenSearch<N>,
+    opened: &mut Option<OpenSearch<N>>,
     quantum: Option<u64>,
     nodes: &mut u64,
     local: &mut Local<N>,
     stop: &S,
-) -> Result<(Ended, Option<OpenSearch<N>>), AllocError>
-    requires about { start ≡ subject.now }
+) -> Result<Ended, AllocError>
     requires quantum { IfSome quantum (λ most. 1 ≤ most) }
     requires nodes { nodes.old ≡ 0 }
-    ensures end { IfOk result (λ end. IsEnd N.network subject.now.capacities subject.now.window quantum nodes.new end.0) }
-    ensures quiet { IfOk result (λ end. IsTrue S.QUIET → IsFalse end.0.stopped) }
+    ensures end { IfOk result (IsEnd N.network subject.now.capacities subject.now.window quantum nodes.new) }
+    ensures quiet { IfOk result (λ ended. IsTrue S.QUIET → IsFalse ended.stopped) }
     ensures nodes { IfSome quantum (λ most. nodes.new ≤ most) }
     ensures kept { StayKept local.old local.new }
 {
-    let first = local.kept_count();
-    let (mut stack, next) = start.into_stack();
-    let mut window = next.window;
-    let mut from = next.from;
-    'next: loop {
-        if is_spent(quantum, *nodes) {
-            let left = stack.leave(alloc, subject, Next { window, from })?;
-            return Ok((Ended::left(left.rest, false), Some(left.open)));
-        }
-        if stop.asked() {
-            let left = stack.leave(alloc, subject, Next { window, from })?;
-            return Ok((Ended::left(left.rest, true), Some(left.open)));
-        }
-        *nodes = nodes.saturating_add(1);
-        make_room(local, first);
-        if let Some(starts) = stack.enter(subject, window, from, local)? {
-            return Ok((Ended::found(alloc, starts), None));
-        }
-        match stack.next_window(subject, local, first)? {
-            Some(next) => {
-                window = next.window;
-                from = next.from;
-            }
-            None => return Ok((Ended::nothing(alloc), None)),
-        }
-    }
+    let (mut stack, next) = OpenSearch::start(alloc, subject, opened.take())?.into_stack();
+    let halt = stack.go_on(subject, next, quantum, nodes, local, stop);
+    stack.finish(alloc, subject, halt, opened)
 }
 
 /// Whether as many nodes were entered as the quantum allows.
@@ -92,6 +69,28 @@ fn make_room<N: OfNetwork>(local: &mut Local<N>, count: usize)
 struct Next {
     window: Window,
     from: u32,
+}
+
+/// What one step of a search comes to.
+#[derive(Drop)]
+enum Step {
+    /// This window is searched next.
+    Further(Next),
+    /// These starts answer.
+    Found(Starts),
+    /// Nothing is left.
+    Nothing,
+}
+
+/// Where a search comes to a halt.
+#[derive(Drop)]
+enum Halt {
+    /// These starts answer.
+    Found(Starts),
+    /// Nothing is left.
+    Nothing,
+    /// Before this window: since it was stopped, or since the quantum is spent.
+    Left(Next, bool),
 }
 
 /// The frames on the way to the window that is searched next, the first node first, and the memory that is used again
@@ -124,31 +123,47 @@ impl<N: OfNetwork> Model for OpenSearch<N> {
 }
 
 impl<N: OfNetwork> OpenSearch<N> {
-    /// The search of a whole question, of which no node was entered.
-    pub(crate) fn new(alloc: Global, subject: &Subject<N>) -> Result<Self, AllocError>
+    /// The search before where it is that of the question, or else a new one.
+    fn start(alloc: Global, subject: &Subject<N>, before: Option<Self>) -> Result<Self, AllocError>
         ensures { IfOk result (λ start. start ≡ subject.now) }
     {
-        let stack = Stack::new(alloc, subject.network());
+        match before {
+            Some(before) => before.or_new(alloc, subject),
+            None => OpenSearch::new(alloc, subject),
+        }
+    }
+
+    /// The search of a whole question, of which no node was entered.
+    fn new(alloc: Global, subject: &Subject<N>) -> Result<Self, AllocError>
+        ensures { IfOk result (λ start. start ≡ subject.now) }
+    {
         let window = subject.whole().copy()?;
-        let question = Question {
-            capacities: subject.capacities().copy()?,
-            window: subject.whole().copy()?,
-        };
-        Ok(OpenSearch {
-            question,
-            stack,
-            next: Next { window, from: 0 },
-        })
+        let question = subject.question_copy()?;
+        let stack = Stack::new(alloc, subject.network());
+        Ok(OpenSearch::of(question, stack, Next { window, from: 0 }))
     }
 
     /// The search itself where it is that of the question, or else a new one.
-    pub(crate) fn or_new(self, alloc: Global, subject: &Subject<N>) -> Result<Self, AllocError>
+    fn or_new(self, alloc: Global, subject: &Subject<N>) -> Result<Self, AllocError>
         ensures { IfOk result (λ start. start ≡ subject.now) }
     {
         if self.is_of(subject.question()) {
             return Ok(self);
         }
         OpenSearch::new(alloc, subject)
+    }
+
+    /// The search of a question with this stack, and this window to be searched next.
+    fn of(question: Question, stack: Stack<N>, next: Next) -> Self
+        requires { IsSearchingNext N.network question.capacities question.window
+            stack.frames.items next.window next.from }
+        ensures { result ≡ question }
+    {
+        OpenSearch {
+            question,
+            stack,
+            next,
+        }
     }
 
     /// Whether it is the search of this question.
@@ -183,6 +198,86 @@ impl<N: OfNetwork> Stack<N> {
         Stack {
             frames: Vec::new(alloc),
             workspace: Workspace::new(alloc, net),
+        }
+    }
+
+    /// Goes on by depth, until starts are found, nothing is left, as many nodes were entered as the quantum allows, or the
+    /// search is stopped. Counts the nodes.
+    fn go_on<S: Stop>(
+        &mut self,
+        subject: &Subject<N>,
+        mut next: Next,
+        quantum: Option<u64>,
+        nodes: &mut u64,
+        local: &mut Local<N>,
+        stop: &S,
+    ) -> Result<Halt, AllocError>
+        requires state { IsSearchingNext N.network subject.now.capacities subject.now.window
+            self.old.frames.items next.window next.from }
+        requires nodes { nodes.old ≡ 0 }
+        requires quantum { IfSome quantum (λ most. 1 ≤ most) }
+        ensures halt { IfOk result (IsHalt N.network subject.now.capacities subject.now.window quantum nodes.new S.QUIET
+            self.new.frames.items) }
+        ensures nodes { IfSome quantum (λ most. nodes.new ≤ most) }
+        ensures kept { StayKept local.old local.new }
+    {
+        let first = local.kept_count();
+        'next: loop {
+            if is_spent(quantum, *nodes) {
+                return Ok(Halt::Left(next, false));
+            }
+            if stop.asked() {
+                return Ok(Halt::Left(next, true));
+            }
+            *nodes = nodes.saturating_add(1);
+            make_room(local, first);
+            next = match self.step(subject, next, local, first)? {
+                Step::Further(next) => next,
+                Step::Found(starts) => return Ok(Halt::Found(starts)),
+                Step::Nothing => return Ok(Halt::Nothing),
+            };
+        }
+    }
+
+    /// How a search ended that came to a halt. One that was left can be gone on with (`opened`).
+    fn finish(
+        self,
+        alloc: Global,
+        subject: &Subject<N>,
+        halt: Result<Halt, AllocError>,
+        opened: &mut Option<OpenSearch<N>>,
+    ) -> Result<Ended, AllocError>
+        requires { IfOk halt (IsHaltOf N.network subject.now.capacities subject.now.window self.frames.items) }
+        ensures { IfOk result (IsFinished N.network subject.now.capacities subject.now.window halt) }
+    {
+        match halt {
+            Ok(Halt::Found(starts)) => Ok(Ended::found(alloc, starts)),
+            Ok(Halt::Nothing) => Ok(Ended::nothing(alloc)),
+            Ok(Halt::Left(next, stopped)) => self.leave(alloc, subject, next, stopped, opened),
+            Err(error) => Err(error),
+        }
+    }
+
+    /// Enters a window, and tells the next one. The first `count` records stay.
+    fn step(
+        &mut self,
+        subject: &Subject<N>,
+        next: Next,
+        local: &mut Local<N>,
+        count: usize,
+    ) -> Result<Step, AllocError>
+        requires { IsSearchingNext N.network subject.now.capacities subject.now.window
+            self.old.frames.items next.window next.from }
+        ensures step { IfOk result (IsStep N.network subject.now.capacities subject.now.window
+            self.old.frames.items next.window self.new.frames.items) }
+        ensures kept { StayKept (front count local.old) local.new }
+    {
+        if let Some(starts) = self.enter(subject, next.window, next.from, local)? {
+            return Ok(Step::Found(starts));
+        }
+        match self.next_window(subject, local, count)? {
+            Some(next) => Ok(Step::Further(next)),
+            None => Ok(Step::Nothing),
         }
     }
 
@@ -257,38 +352,90 @@ impl<N: OfNetwork> Stack<N> {
         Ok(None)
     }
 
-    /// Leaves a search. What is left of it are the windows that are left of the first frames, of as many as make enough,
-    /// and the window of the frame behind those, or the one to be searched next; in that the search can be gone on with.
-    /// The first frames are dropped.
-    fn leave(self, alloc: Global, subject: &Subject<N>, next: Next) -> Result<Left<N>, AllocError>
+    /// Leaves a search, which can then be gone on with (`opened`).
+    fn leave(
+        mut self,
+        alloc: Global,
+        subject: &Subject<N>,
+        next: Next,
+        stopped: bool,
+        opened: &mut Option<OpenSearch<N>>,
+    ) -> Result<Ended, AllocError>
         requires { IsSearchingNext N.network subject.now.capacities subject.now.window
             self.frames.items next.window next.from }
-        ensures { IfOk result (λ left. IsLeft N.network subject.now.capacities subject.now.window next.window left.rest.items) }
+        ensures { IfOk result (IsEndOf N.network subject.now.capacities subject.now.window (Left next stopped)) }
     {
-        let Stack {
-            mut frames,
-            mut workspace,
-        } = self;
-        let mut rest: Vec<Window> = Vec::new(alloc);
-        while rest.len() < ENOUGH_WINDOWS && !frames.is_empty() {
-            let frame = take_first(&mut frames);
-            let more = frame.into_rest(alloc, &mut workspace, subject)?;
-            append(&mut rest, more)?;
-        }
-        let window = front_window(&frames, &next)?;
-        let question = Question {
-            capacities: subject.capacities().copy()?,
-            window: window.copy()?,
-        };
-        rest.push(window)?;
-        let stack = Stack { frames, workspace };
-        let open = OpenSearch {
-            question,
-            stack,
-            next,
-        };
-        Ok(Left { rest, open })
+        let LeftOver { rest, question } = self.left_over(alloc, subject, &next)?;
+        keep(opened, OpenSearch::of(question, self, next));
+        Ok(Ended::left(rest, stopped))
     }
+
+    /// What is left of a search: the windows that are left of the first frames, of as many as make enough, and the window
+    /// of the frame behind those, or the one to be searched next; in that the search can be gone on with. The first frames
+    /// are dropped.
+    fn left_over(
+        &mut self,
+        alloc: Global,
+        subject: &Subject<N>,
+        next: &Next,
+    ) -> Result<LeftOver, AllocError>
+        requires { IsSearchingNext N.network subject.now.capacities subject.now.window
+            self.old.frames.items next.now.window next.now.from }
+        ensures left { IfOk result (λ left.
+            IsLeft N.network subject.now.capacities subject.now.window next.now.window left.rest.items) }
+        ensures question { IfOk result (λ left. IsSearchingNext N.network left.question.capacities left.question.window
+            self.new.frames.items next.now.window next.now.from) }
+    {
+        let rest = self.gather(alloc, subject, next)?;
+        let question = front_question(&self.frames, next, subject)?;
+        Ok(LeftOver { rest, question })
+    }
+
+    /// The windows that are left. The frames of which some are left are taken out.
+    fn gather(
+        &mut self,
+        alloc: Global,
+        subject: &Subject<N>,
+        next: &Next,
+    ) -> Result<Vec<Window>, AllocError>
+        requires { IsSearchingNext N.network subject.now.capacities subject.now.window
+            self.old.frames.items next.now.window next.now.from }
+        ensures left { IfOk result (λ rest.
+            IsLeft N.network subject.now.capacities subject.now.window next.now.window rest.items) }
+        ensures behind { IfOk result (λ _.
+            IsOpenBehind N.network subject.now.capacities self.new.frames.items next.now.window next.now.from) }
+    {
+        let mut rest: Vec<Window> = Vec::new(alloc);
+        while rest.len() < ENOUGH_WINDOWS && !self.frames.is_empty() {
+            self.leave_first(alloc, subject, &mut rest)?;
+        }
+        let window = front_window(&self.frames, next)?;
+        rest.push(window)?;
+        Ok(rest)
+    }
+
+    /// Takes the first frame out, and puts the windows that are left of it behind others.
+    fn leave_first(
+        &mut self,
+        alloc: Global,
+        subject: &Subject<N>,
+        rest: &mut Vec<Window>,
+    ) -> Result<(), AllocError>
+        requires { HasFirst subject.now.capacities self.old.frames.items }
+        ensures { IfOk result (λ _. IsFirstLeft N.network subject.now.capacities
+            self.old.frames.items self.new.frames.items rest.old.items rest.new.items) }
+    {
+        let frame = take_first(&mut self.frames);
+        let more = frame.into_rest(alloc, &mut self.workspace, subject)?;
+        append(rest, more)
+    }
+}
+
+/// Keeps a search that can be gone on with.
+fn keep<N: OfNetwork>(opened: &mut Option<OpenSearch<N>>, search: OpenSearch<N>)
+    ensures { opened.new ≡ Some search }
+{
+    *opened = Some(search);
 }
 
 /// Puts windows behind others.
@@ -319,9 +466,22 @@ fn front_window<N: OfNetwork>(frames: &Vec<Frame<N>>, next: &Next) -> Result<Win
     }
 }
 
-/// What is left of a search: its windows, and the search in the last of them.
+/// What is left of a search: its windows, and the question of the last of them.
 #[derive(Drop)]
-struct Left<N: OfNetwork> {
+struct LeftOver {
     rest: Vec<Window>,
-    open: OpenSearch<N>,
+    question: Question,
+}
+
+/// The question of the window of the first frame, or, where there is none, of the one that is searched next.
+fn front_question<N: OfNetwork>(
+    frames: &Vec<Frame<N>>,
+    next: &Next,
+    subject: &Subject<N>,
+) -> Result<Question, AllocError>
+    ensures { IfOk result (IsFrontQuestion subject.now.capacities frames.now.items next.now.window) }
+{
+    let window = front_window(frames, next)?;
+    let capacities = subject.capacities().copy()?;
+    Ok(Question { capacities, window })
 }

@@ -1,11 +1,10 @@
-ghost use Rattle.std.specs.Prelude.{◌≡◌, ◌≤◌, IsTrue, IsFalse, IfOk, IfSome};
+ghost use Rattle.std.specs.Prelude.{◌≡◌, IsTrue, IsFalse, IfOk};
 ghost use Rattle.racp_model.specs.Formed.{IsFormed};
 ghost use Rattle.racp_cutset.specs.Kept.{StayKept};
 ghost use Rattle.racp_search.specs.Truth.{IsExplored, IsDecision};
-ghost use Rattle.racp_search.specs.Ends.{AllowsNone, IsEnd};
+ghost use Rattle.racp_search.specs.Ends.{AllowsNone};
 
 use crate::depth_first::{OpenSearch, search};
-use crate::ended::Ended;
 use crate::finding::Finding;
 use crate::piece::Piece;
 use crate::stop::{Never, Stop};
@@ -38,7 +37,7 @@ pub fn explore<N: OfNetwork, S: Stop>(
     ensures quiet { IsTrue S.QUIET → IsFalse result.stopped }
     ensures kept { StayKept local.old local.new }
 {
-    explore_further(alloc, net, piece, quantum, board, local, stop, None).0
+    explore_from(alloc, net, piece, quantum, board, local, stop, &mut None)
 }
 
 /// Searches a piece as `explore` does, and answers beside the finding the search that was left, in the last window of
@@ -60,40 +59,37 @@ pub fn explore_further<N: OfNetwork, S: Stop>(
     ensures quiet { IsTrue S.QUIET → IsFalse result.0.stopped }
     ensures kept { StayKept local.old local.new }
 {
+    let mut opened = before;
+    let finding = explore_from(alloc, net, piece, quantum, board, local, stop, &mut opened);
+    (finding, opened)
+}
+
+/// Searches a piece, from the open search where it is that of the piece's question. The search that is left is open
+/// then, or none.
+fn explore_from<N: OfNetwork, S: Stop>(
+    alloc: Global,
+    net: &Network,
+    piece: Piece<N>,
+    quantum: Option<u64>,
+    board: &Board<N>,
+    local: &mut Local<N>,
+    stop: &S,
+    opened: &mut Option<OpenSearch<N>>,
+) -> Finding<N>
+    requires named { net.now ≡ N.network }
+    requires formed { IsFormed net.now piece.question }
+    ensures explored { IsExplored N.network piece quantum result }
+    ensures quiet { IsTrue S.QUIET → IsFalse result.stopped }
+    ensures kept { StayKept local.old local.new }
+{
     if allows_none(quantum) {
-        return (Finding::whole(piece, 0, false), None);
+        *opened = None;
+        return Finding::whole(piece, 0, false);
     }
     let mut nodes = 0;
     let subject = Subject::new(net, piece.question(), board);
-    let (end, left) = match search_from(alloc, &subject, before, quantum, &mut nodes, local, stop) {
-        Ok((ended, left)) => (Ok(ended), left),
-        Err(error) => (Err(error), None),
-    };
-    (Finding::after(piece, end, nodes), left)
-}
-
-/// Searches a question, from a search of it that was left, or from the start.
-fn search_from<N: OfNetwork, S: Stop>(
-    alloc: Global,
-    subject: &Subject<N>,
-    before: Option<OpenSearch<N>>,
-    quantum: Option<u64>,
-    nodes: &mut u64,
-    local: &mut Local<N>,
-    stop: &S,
-) -> Result<(Ended, Option<OpenSearch<N>>), AllocError>
-    requires quantum { IfSome quantum (λ most. 1 ≤ most) }
-    requires nodes { nodes.old ≡ 0 }
-    ensures end { IfOk result (λ end. IsEnd N.network subject.now.capacities subject.now.window quantum nodes.new end.0) }
-    ensures quiet { IfOk result (λ end. IsTrue S.QUIET → IsFalse end.0.stopped) }
-    ensures nodes { IfSome quantum (λ most. nodes.new ≤ most) }
-    ensures kept { StayKept local.old local.new }
-{
-    let start = match before {
-        Some(left) => left.or_new(alloc, subject)?,
-        None => OpenSearch::new(alloc, subject)?,
-    };
-    search(alloc, subject, start, quantum, nodes, local, stop)
+    let end = search(alloc, &subject, opened, quantum, &mut nodes, local, stop);
+    Finding::after(piece, end, nodes)
 }
 
 /// Whether the quantum allows no node.
@@ -135,8 +131,23 @@ fn decide_named<N: OfNetwork>(
 {
     let board: Board<N> = Board::new(alloc, net)?;
     let mut local: Local<N> = Local::new(alloc, net);
-    let subject = Subject::new(net, question, &board);
+    decide_with(alloc, net, question, &board, &mut local)
+}
+
+/// The same, with these records.
+fn decide_with<N: OfNetwork>(
+    alloc: Global,
+    net: &Network,
+    question: &Question,
+    board: &Board<N>,
+    local: &mut Local<N>,
+) -> Result<Option<Starts>, AllocError>
+    requires named { net.now ≡ N.network }
+    requires formed { IsFormed net.now question.now }
+    ensures { IfOk result (IsDecision net.now question.now.capacities question.now.window) }
+{
+    let subject = Subject::new(net, question, board);
     let mut nodes = 0;
-    let (ended, _) = search_from(alloc, &subject, None, None, &mut nodes, &mut local, &Never)?;
+    let ended = search(alloc, &subject, &mut None, None, &mut nodes, local, &Never)?;
     Ok(ended.into_found())
 }

@@ -4,9 +4,9 @@ use Rattle.racp_search.specs.DepthFirst.{IsSearchingNext}
 use Rattle.racp_search.proofs.Entering.{started}
 use Rattle.racp_search.proofs.depth_first.OpenSearch.new.Goals as goal
 
-pub invariant_of-result : goal.invariant_of-result
-invariant_of-result g c =
+pub of-requires : goal.of-requires
+of-requires g c =
     let same = c.in_ok-window.ensures ∙ c.whole.ensures.window in
     let start = started g.N.OfNetwork.network c.args.subject.now.capacities c.args.subject.now.window c.in_ok-window.window c.new-stack.result.frames.items c.whole.ensures.bounds (ap (λ (w : Bounds). w.lower) same) (ap (λ (w : Bounds). w.upper) same) c.new-stack.ensures in
-    subst (λ (xs : List ℕ). IsSearchingNext g.N.OfNetwork.network xs c.in_ok-copy-2.field-0 c.new-stack.result.frames.items c.in_ok-window.window 0) (sym (c.in_ok-copy.ensures ∙ c.capacities.ensures))
-    (subst (λ (w : Bounds). IsSearchingNext g.N.OfNetwork.network c.args.subject.now.capacities w c.new-stack.result.frames.items c.in_ok-window.window 0) (sym (c.in_ok-copy-2.ensures ∙ c.whole-2.ensures.window)) start)
+    subst (λ (xs : List ℕ). IsSearchingNext g.N.OfNetwork.network xs c.in_ok-question.question.window c.new-stack.result.frames.items c.in_ok-window.window 0) (sym c.in_ok-question.ensures.capacities)
+    (subst (λ (w : Bounds). IsSearchingNext g.N.OfNetwork.network c.args.subject.now.capacities w c.new-stack.result.frames.items c.in_ok-window.window 0) (sym c.in_ok-question.ensures.window) start)

@@ -2,16 +2,16 @@ use Rattle.std.proofs.Common.{◌≡◌, ◌<◌, ◌≤◌, ◌++◌, ◌∷◌
 use Rattle.racp_cutset.specs.Kept.{StayKept}
 use Rattle.racp_search.specs.DepthFirst.{IsSearchingNext, IsHigher, open_parts, weights}
 use Rattle.racp_search.specs.DepthFirst.Part.{all_of}
-use Rattle.racp_search.proofs.depth_first.search.Given as goal
+use Rattle.racp_search.proofs.depth_first.Stack.go_on.Given as goal
 
 abbrev pub invariant-next : goal.invariant-next
 invariant-next g l = record {
-  state : IsSearchingNext g.N.OfNetwork.network l.subject.capacities l.subject.window l.stack.frames.items l.window l.from;
-  higher : 0 < l.nodes → IsHigher g.N.OfNetwork.network l.subject.window l.window;
+  state : IsSearchingNext g.N.OfNetwork.network l.subject.capacities l.subject.window l.self.frames.items l.next.window l.next.from;
+  higher : 0 < l.nodes → IsHigher g.N.OfNetwork.network l.subject.window l.next.window;
   bounded : IfSome l.quantum (λ most. l.nodes ≤ most);
   kept : StayKept l.fn.local l.local;
   first : l.first ≡ length l.fn.local.records;
 }
 
 abbrev pub decreases-next : goal.decreases-next
-decreases-next g l = weights g.N.OfNetwork.network (open_parts l.stack.frames.items ++ all_of l.window ∷ [])
+decreases-next g l = weights g.N.OfNetwork.network (open_parts l.self.frames.items ++ all_of l.next.window ∷ [])
