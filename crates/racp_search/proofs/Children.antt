@@ -1,5 +1,5 @@
 -- Child windows of a node.
-use Rattle.std.proofs.Common.{◌≡◌, ◌≢◌, ℕ, ◌+◌, ◌<◌, ◌≤◌, List, [], ◌∷◌, length, slice_index, Contains, arith, refl, ◌∙◌, sym, subst, ap, All}
+use Rattle.std.proofs.Common.{◌≡◌, ◌≢◌, ℕ, ◌<◌, ◌≤◌, List, [], length, slice_index, Contains, arith, refl, ◌∙◌, subst, ap, All}
 use Rattle.racp_model.specs.Project.{Project, IsNumber, IsSound, number}
 use Rattle.racp_model.specs.Window.{Bounds}
 use Rattle.racp_model.proofs.lemmas.Relations.{all_members}

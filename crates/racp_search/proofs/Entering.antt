@@ -1,12 +1,12 @@
 -- A window is entered, and how a search ends.
-use Rattle.std.proofs.Common.{◌≡◌, ◌≢◌, ◌∙◌, inl, inr, ℕ, ◌+◌, ◌<◌, ◌≤◌, List, [], ◌∷◌, ◌++◌, true, Contains, arith, refl, sym, subst, ap, Option, Some, None, IfSome, IsTrue, IsFalse, false}
+use Rattle.std.proofs.Common.{◌≡◌, inl, inr, ℕ, ◌+◌, ◌<◌, ◌≤◌, List, [], ◌∷◌, ◌++◌, true, Contains, arith, refl, sym, subst, ap, Option, Some, None, IfSome, IsTrue, IsFalse, false}
 use Rattle.std.proofs.lemmas.Bool.{cases_lt}
 use Rattle.racp_model.specs.Project.{Project}
 use Rattle.racp_model.specs.Window.{Bounds, IsNo}
 use Rattle.racp_model.specs.Formed.{HasBounds}
 use Rattle.racp_model.proofs.lemmas.Relations.{no_member}
 use Rattle.racp_search.specs.Truth.{IsRestOf, IsFoundOrLeft, IsDecision}
-use Rattle.racp_search.specs.DepthFirst.{SearchFrame, open_parts, IsHigher, IsSearching, IsSearchingNext, IsFrameOf}
+use Rattle.racp_search.specs.DepthFirst.{SearchFrame, open_parts, IsSearching, IsSearchingNext, IsFrameOf}
 use Rattle.racp_search.specs.Glances.{IsGlance}
 use Rattle.racp_search.specs.declared.glance.Glance.{Glance}
 use Rattle.racp_search.specs.Steps.{IsClosed}

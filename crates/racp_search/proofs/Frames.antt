@@ -1,5 +1,5 @@
 -- The frame that is made for a window at a conflict of its early starts.
-use Rattle.std.proofs.Common.{◌≡◌, ◌≢◌, ◌∙◌, ℕ, ◌*◌, ◌<◌, ◌≤◌, List, [], ◌∷◌, length, slice_index, arith, refl, sym, subst, ap, true, Option, Some, None, is_some, IfSome}
+use Rattle.std.proofs.Common.{◌≡◌, ◌∙◌, ℕ, ◌*◌, ◌≤◌, List, [], length, slice_index, arith, refl, sym, subst, ap, true, Option, Some, None, is_some, IfSome}
 use Rattle.racp_model.specs.Project.{Project}
 use Rattle.racp_model.specs.Schedule.{usage}
 use Rattle.racp_model.specs.Window.{Bounds}
@@ -10,7 +10,7 @@ use Rattle.racp_delay.specs.declared.conflicts.Clash.{Clash}
 use Rattle.racp_delay.specs.Laws.{BranchingLosesNothing, SomeJobGoes, lower_sum}
 use Rattle.racp_cutset.specs.Covering.{SearchNode, IsNode, FitsBeforeTime}
 use Rattle.racp_search.specs.Glances.{HasConflict}
-use Rattle.racp_search.specs.DepthFirst.{SearchFrame, Part, HasActive, IsFrameOf, IsGoneOn}
+use Rattle.racp_search.specs.DepthFirst.{SearchFrame, HasActive, IsFrameOf, IsGoneOn}
 use Rattle.racp_search.specs.DepthFirst.Part.{behind}
 use Rattle.racp_search.proofs.Going.{empty_before}
 use Rattle.racp_search.proofs.Weights.{weights-one, behind-lighter}

@@ -1,12 +1,12 @@
 -- The last frame of a stack is taken out: a window below it is searched next, or it is used up.
-use Rattle.std.proofs.Common.{◌≡◌, inl, inr, ◌∙◌, ℕ, ◌≤◌, List, [], ◌∷◌, ◌++◌, length, slice_set, take, drop, arith, refl, sym, subst, ap}
+use Rattle.std.proofs.Common.{◌≡◌, inl, inr, ◌∙◌, ℕ, ◌≤◌, List, [], ◌∷◌, ◌++◌, length, slice_set, take, drop, arith, sym, subst, ap}
 use Rattle.std.proofs.lemmas.List.{append-nil, append_assoc, take-append-drop, take-set-le}
 use Rattle.std.proofs.Math.Seq.{take-append_seam}
 use Rattle.racp_model.specs.Project.{Project}
 use Rattle.racp_model.specs.Window.{Bounds, IsNo}
 use Rattle.racp_cutset.specs.Covering.{SearchNode}
 use Rattle.racp_cutset.specs.Kept.{Kept, StayKept, IsKeptOrDropped, TakesPlace, front}
-use Rattle.racp_search.specs.DepthFirst.{SearchFrame, Part, parts_of, open_parts, IsHigher, IsSearching, IsSearchingNext, IsTaken, IsUsedUp, weights}
+use Rattle.racp_search.specs.DepthFirst.{SearchFrame, Part, parts_of, open_parts, IsSearching, IsSearchingNext, IsTaken, IsUsedUp, weights}
 use Rattle.racp_search.specs.DepthFirst.Part.{all_of}
 use Rattle.racp_search.specs.Steps.{IsNext}
 use Rattle.racp_search.proofs.Stacks.{open-last, last-inside, inside-sum, searching-next, searching-popped, frame-refuted}

@@ -1,5 +1,5 @@
 -- What a frame gives: the child window that is searched next, or the windows that are left of it.
-use Rattle.std.proofs.Common.{◌≡◌, ◌≢◌, ◌⊎◌, inl, inr, ◌∙◌, ℕ, ◌≤◌, ◌<◌, List, [], ◌∷◌, ◌++◌, length, slice_index, map, Contains, true, false, Bool, arith, refl, sym, subst, ap, append_assoc, Result, Ok, Err, IfOk}
+use Rattle.std.proofs.Common.{◌≡◌, ◌⊎◌, inl, inr, ◌∙◌, ℕ, ◌≤◌, List, [], ◌∷◌, ◌++◌, length, map, Contains, true, false, Bool, arith, refl, sym, subst, ap, append_assoc, Result, Ok, Err, IfOk}
 use Rattle.std.proofs.lemmas.List.{append-nil}
 use Rattle.std.proofs.lemmas.List.Elements.{Contains-append_left, Contains-append_right, Contains-append_cases}
 use Rattle.racp_model.specs.Project.{Project}
@@ -7,11 +7,10 @@ use Rattle.racp_model.specs.Schedule.{Fits}
 use Rattle.racp_model.specs.Window.{Bounds, LiesIn, IsInside}
 use Rattle.racp_model.proofs.lemmas.Relations.{member_cases, member_first, no_member}
 use Rattle.racp_delay.specs.Alternatives.{Splits}
-use Rattle.racp_delay.specs.Branching.{IsChild}
-use Rattle.racp_delay.specs.Laws.{EachHasChild, ChildIsInside, EachJobAloneCovers, LiesWhereOneGoes, SubsetsGo}
+use Rattle.racp_delay.specs.Laws.{EachHasChild, ChildIsInside, EachJobAloneCovers, SubsetsGo}
 use Rattle.std.specs.List.Sorted.{IsStrictlyIncreasing}
 use Rattle.racp_cutset.specs.Covering.{SearchNode}
-use Rattle.racp_search.specs.Children.{IsChildFor, IsChildAnswer, IsEmptyChild}
+use Rattle.racp_search.specs.Children.{IsChildFor, IsEmptyChild}
 use Rattle.racp_search.specs.DepthFirst.{SearchFrame, Part, LiesInPart, LiesBehind, PartsCover, HasActive, IsFrame, IsBelow, IsQuiet, IsGoneOn, IsTaken, IsUsedUp, IsRestOfFrame, child_windows, parts_of, part_behind, weights}
 use Rattle.racp_search.specs.DepthFirst.Part.{all_of, behind}
 use Rattle.racp_search.specs.declared.child.Child.{Child}

@@ -9,7 +9,7 @@ use Rattle.racp_model.proofs.lemmas.Sums.{sum_below-mono}
 use Rattle.racp_model.proofs.lemmas.Relations.{member_cases, member_first, no_member}
 use Rattle.racp_delay.specs.Laws.{lower_sum}
 use Rattle.racp_cutset.specs.Covering.{SearchNode}
-use Rattle.racp_search.specs.DepthFirst.{SearchFrame, Part, LiesInPart, PartsCover, parts_of, open_parts, front_of, last_window, AreBelow, AreInside, IsBelow, IsBeneath, IsOpenFrame, AreOpenFrames, IsPartOf, IsQuiet, IsSearching, IsSearchingNext, IsFrameOf, IsTaken, IsUsedUp}
+use Rattle.racp_search.specs.DepthFirst.{SearchFrame, Part, PartsCover, parts_of, open_parts, front_of, last_window, AreBelow, AreInside, IsBelow, IsBeneath, IsOpenFrame, AreOpenFrames, IsPartOf, IsQuiet, IsSearching, IsSearchingNext, IsFrameOf, IsTaken, IsUsedUp}
 use Rattle.racp_search.specs.DepthFirst.Part.{all_of}
 
 -- the parts of a stack with one frame more

@@ -2,6 +2,8 @@
 use Rattle.std.specs.Prelude.{◌≡◌, ◌≢◌, ℕ, Contains, ◌<◌, ◌≤◌, List, [], ◌∷◌, ◌++◌, Option, Some, None}
 use Rattle.racp_model.specs.Project.{Project}
 use Rattle.racp_model.specs.Window.{Bounds, Answers}
+use Rattle.racp_cutset.specs.Covering.{SearchNode}
+use Rattle.racp_cutset.specs.Kept.{Kept, IsKeptOrDropped}
 use Rattle.racp_search.specs.Truth.{IsRestOf}
 use Rattle.racp_model.specs.declared.question.Question.{Question}
 use Rattle.racp_search.specs.declared.depth_first.Next.{Next}
@@ -87,3 +89,8 @@ pub record IsFrontQuestion (capacities : List ℕ) (frames : List SearchFrame) (
     (question : Question) : Type 0 where
   pub same : question.capacities ≡ capacities
   pub front : IsFrontWindow frames next question.window
+
+-- some record was kept, or none
+pub record IsKeptSomeOrDropped (first : ℕ) (old new : Kept) : Type 0 where
+  pub node : SearchNode
+  pub step : IsKeptOrDropped first old node new

@@ -1,16 +1,17 @@
 ghost use Rattle.std.specs.Prelude.{◌≡◌, ◌<◌, ◌≤◌, [], ◌∷◌, ◌++◌, IsTrue, IsFalse, IfOk, OnOk, IfSome, Some, length, take};
 ghost use Rattle.racp_search.specs.declared.depth_first.Halt.TheVariants.{Left};
+ghost use Rattle.racp_model.specs.Window.{IsNo};
 ghost use Rattle.racp_cutset.specs.Kept.{StayKept, front};
 ghost use Rattle.racp_search.specs.DepthFirst.{IsSearching, IsSearchingNext};
 ghost use Rattle.racp_search.specs.Ends.{IsEnd, IsEndOf, IsFinished, IsHalt, IsHaltOf, IsSpent};
-ghost use Rattle.racp_search.specs.Steps.{HasFirst, IsEntered, IsFirstLeft, IsFrontQuestion, IsFrontWindow, IsLeft, IsNextAnswer, IsOpenBehind, IsStep};
+ghost use Rattle.racp_search.specs.Steps.{HasFirst, IsEntered, IsFirstLeft, IsFrontQuestion, IsFrontWindow, IsLeft, IsNextAnswer, IsKeptSomeOrDropped, IsOpenBehind, IsStep};
 
 use crate::ended::Ended;
 use crate::frame::{Frame, expand};
 use crate::glance::{Glance, look_at};
 use crate::stop::Stop;
 use crate::subject::Subject;
-use crate::workspace::Workspace;
+use crate::workspace::{Spare, Workspace};
 use racp_cutset::{Local, Nogood};
 use racp_model::{Network, OfNetwork, Question, Starts, Window};
 use racp_timetable::{Tightened, tighten};
@@ -339,15 +340,7 @@ impl<N: OfNetwork> Stack<N> {
                 self.frames.push(frame)?;
                 return Ok(Some(Next { window, from }));
             }
-            let (node, children, last) = frame.into_parts();
-            let (nogood, lower, early, ends) = Nogood::of_reusing(node);
-            local.keep(nogood, count);
-            let spare = &mut self.workspace.spare;
-            spare.give_list(children);
-            spare.give_row(last);
-            spare.give_row(lower.into_vec());
-            spare.give_row(early.into_vec());
-            spare.give_row(ends);
+            record_frame(&mut self.workspace.spare, frame, local, count);
         }
         Ok(None)
     }
@@ -429,6 +422,26 @@ impl<N: OfNetwork> Stack<N> {
         let more = frame.into_rest(alloc, &mut self.workspace, subject)?;
         append(rest, more)
     }
+}
+
+/// Keeps the node of a frame, which is refuted, as a record; the first `count` records stay.
+fn record_frame<N: OfNetwork>(
+    spare: &mut Spare,
+    frame: Frame<N>,
+    local: &mut Local<N>,
+    count: usize,
+)
+    requires { IsNo N.network frame.node.capacities frame.node.window }
+    ensures { IsKeptSomeOrDropped count local.old local.new }
+{
+    let (node, children, last) = frame.into_parts();
+    let (nogood, lower, early, ends) = Nogood::of_reusing(node);
+    local.keep(nogood, count);
+    spare.give_list(children);
+    spare.give_row(last);
+    spare.give_row(lower.into_vec());
+    spare.give_row(early.into_vec());
+    spare.give_row(ends);
 }
 
 /// Keeps a search that can be gone on with.

@@ -2,9 +2,10 @@ ghost use Rattle.std.specs.Prelude.{◌≡◌, IsTrue, IsFalse, IfOk};
 ghost use Rattle.racp_model.specs.Formed.{IsFormed};
 ghost use Rattle.racp_cutset.specs.Kept.{StayKept};
 ghost use Rattle.racp_search.specs.Truth.{IsExplored, IsDecision};
-ghost use Rattle.racp_search.specs.Ends.{AllowsNone};
+ghost use Rattle.racp_search.specs.Ends.{AllowsNone, IsSearched};
 
 use crate::depth_first::{OpenSearch, search};
+use crate::ended::Ended;
 use crate::finding::Finding;
 use crate::piece::Piece;
 use crate::stop::{Never, Stop};
@@ -147,7 +148,18 @@ fn decide_with<N: OfNetwork>(
     ensures { IfOk result (IsDecision net.now question.now.capacities question.now.window) }
 {
     let subject = Subject::new(net, question, board);
-    let mut nodes = 0;
-    let ended = search(alloc, &subject, &mut None, None, &mut nodes, local, &Never)?;
+    let ended = search_all(alloc, &subject, local)?;
     Ok(ended.into_found())
+}
+
+/// Searches a question until starts are found or nothing is left.
+fn search_all<N: OfNetwork>(
+    alloc: Global,
+    subject: &Subject<N>,
+    local: &mut Local<N>,
+) -> Result<Ended, AllocError>
+    ensures { IfOk result (IsSearched N.network subject.now.capacities subject.now.window) }
+{
+    let mut nodes = 0;
+    search(alloc, subject, &mut None, None, &mut nodes, local, &Never)
 }

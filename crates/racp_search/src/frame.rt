@@ -302,16 +302,40 @@ fn first_frame<N: OfNetwork>(
 {
     laws::branching_loses_nothing();
     laws::some_job_goes();
-    let spare = &mut workspace.spare;
-    let last = spare.row_of(&[])?;
-    if !are_few(&conflict.active) {
-        return Ok(Frame::new(node, conflict.active, spare.list(), last));
+    if are_few(&conflict.active) {
+        return full_frame(workspace, subject, node, conflict);
     }
+    Ok(bare_frame(&mut workspace.spare, node, conflict.active))
+}
+
+/// The frame of a node at its conflict, with all of its child windows.
+fn full_frame<N: OfNetwork>(
+    workspace: &mut Workspace,
+    subject: &Subject<N>,
+    node: Node<N>,
+    conflict: Clash,
+) -> Result<Frame<N>, AllocError>
+    requires active { HasActive N.network node conflict.active }
+    requires same { node.capacities ≡ subject.now.capacities }
+    ensures { IfOk result (IsFrameOf N.network subject.now.capacities node.window) }
+{
+    laws::branching_loses_nothing();
+    laws::some_job_goes();
     let (net, capacities) = (subject.network(), subject.capacities());
     workspace.all.find(net, capacities, &conflict)?;
-    let mut frame = Frame::new(node, conflict.active, workspace.spare.list(), last);
+    let mut frame = bare_frame(&mut workspace.spare, node, conflict.active);
     frame.take_all(&mut workspace.spare, subject, workspace.all.lists())?;
     Ok(frame)
+}
+
+/// The frame of a node and the active jobs of its conflict, without child windows.
+fn bare_frame<N: OfNetwork>(spare: &mut Spare, node: Node<N>, active: JobSet) -> Frame<N>
+    requires { HasActive N.network node active }
+    ensures { result ≡ record { node = node; active = active; windows = []; last = []; more = true } }
+{
+    let children = spare.list();
+    let last = spare.empty_row();
+    Frame::new(node, active, children, last)
 }
 
 /// Whether the alternatives of these active jobs are so few that they are listed at once.

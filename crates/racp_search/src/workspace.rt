@@ -52,6 +52,15 @@ impl Spare {
         }
     }
 
+    /// A row without numbers.
+    pub(crate) fn empty_row(&mut self) -> Vec<u32>
+        ensures { result.items ≡ [] }
+    {
+        let mut row = self.row();
+        row.clear();
+        row
+    }
+
     /// A row with these numbers.
     pub(crate) fn row_of(&mut self, numbers: &[u32]) -> Result<Vec<u32>, AllocError>
         ensures { IfOk result (λ row. row.items ≡ numbers.now) }

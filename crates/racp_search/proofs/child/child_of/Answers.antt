@@ -1,11 +1,11 @@
-use Rattle.std.proofs.Common.{◌≡◌, ◌∙◌, ◌≤◌, ℕ, List, All, length, slice_index, arith, ap, sym, subst}
+use Rattle.std.proofs.Common.{◌∙◌, ◌≤◌, ℕ, List, All, length, slice_index, arith, ap, sym, subst}
 use Rattle.racp_model.specs.Project.{Project, IsNumber}
 use Rattle.racp_model.specs.Window.{Bounds}
 use Rattle.racp_delay.specs.Alternatives.{Splits}
 use Rattle.racp_delay.specs.Branching.{IsFirstEnd}
-use Rattle.racp_search.specs.Children.{IsChildFor, IsPutOff}
+use Rattle.racp_search.specs.Children.{IsPutOff}
 use Rattle.racp_delay.proofs.lemmas.Conflicts.{conflict_numbers}
-use Rattle.racp_search.proofs.Children.{gone_numbers, same_ends, end_small, child_is, child_empty, child_none}
+use Rattle.racp_search.proofs.Children.{gone_numbers, same_ends, end_small, child_is, child_empty}
 use Rattle.racp_search.proofs.child.child_of.Goals as goal
 
 pub first_end-requires-clause-active : goal.first_end-requires-clause-active

@@ -1,6 +1,5 @@
 use Rattle.std.proofs.Common.{◌≡◌, ◌∙◌, ℕ, List, sym, subst}
 use Rattle.racp_model.specs.Window.{Bounds, IsNo}
-use Rattle.racp_cutset.specs.Covering.{IsNode}
 use Rattle.racp_search.specs.DepthFirst.{IsFrameOf}
 use Rattle.racp_search.proofs.Frames.{if_some, has_active}
 use Rattle.racp_search.proofs.frame.expand.Goals as goal

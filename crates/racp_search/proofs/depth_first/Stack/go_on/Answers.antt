@@ -1,9 +1,8 @@
-use Rattle.std.proofs.Common.{sym, subst, arith, false, true, refl}
-use Rattle.racp_cutset.specs.Kept.{StayKept}
+use Rattle.std.proofs.Common.{subst, arith, false}
 use Rattle.racp_search.specs.Ends.{IsSpent}
 use Rattle.racp_search.specs.Steps.{IsFurther, IsStep}
-use Rattle.racp_search.proofs.Entering.{none_yet, within_still, spent_some, spent_exactly, not_false}
-use Rattle.racp_search.proofs.Popping.{kept_first, stays}
+use Rattle.racp_search.proofs.Entering.{within_still}
+use Rattle.racp_search.proofs.Popping.{kept_first}
 use Rattle.racp_search.proofs.depth_first.Stack.go_on.Goals as goal
 
 pub next-preserved : goal.next-preserved

@@ -1,7 +1,5 @@
-use Rattle.std.proofs.Common.{◌∙◌, ◌++◌, ◌∷◌, ap, arith, sym, subst, [], List, take}
+use Rattle.std.proofs.Common.{◌++◌, ◌∷◌, arith, subst, [], List}
 use Rattle.std.proofs.lemmas.List.{length-take}
-use Rattle.racp_model.specs.Window.{IsNo}
-use Rattle.racp_cutset.specs.Covering.{SearchNode}
 use Rattle.racp_cutset.specs.Kept.{front}
 use Rattle.racp_search.specs.DepthFirst.{SearchFrame, IsSearching, IsTaken, IsUsedUp}
 use Rattle.racp_search.specs.Steps.{IsTakenAnswer}
@@ -27,11 +25,10 @@ returns-in-Some-2-clause-next g c =
     is_next g.N.OfNetwork.network c.args.subject.now.capacities c.args.subject.now.window c.args.self.now.frames.items c.loop-frame.self.frames.items c.pop.new.self.items c.in-Some.frame c.next_child.new.self
     c.in-Some-2.window c.time-from.result c.push.new.self.items c.time-from.ensures c.in-Some.ensures.items c.loop-frame.invariant.state c.loop-frame.invariant.lighter taken c.in_ok-push.ensures.items
 
-pub of_reusing-nogood-requires-clause-refuted : goal.of_reusing-nogood-requires-clause-refuted
-of_reusing-nogood-requires-clause-refuted g c =
+pub record_frame-requires : goal.record_frame-requires
+record_frame-requires g c =
     let used : IsUsedUp g.N.OfNetwork.network c.args.subject.now.capacities c.in-Some.frame c.next_child.new.self = subst (IsTakenAnswer g.N.OfNetwork.network c.args.subject.now.capacities c.in-Some.frame c.next_child.new.self) c.in_default-2.is c.in_ok-window.ensures in
-    subst (λ (v : SearchNode). IsNo g.N.OfNetwork.network v.capacities v.window) (sym c.into_parts-node.ensures.node)
-    (is_refuted g.N.OfNetwork.network c.args.subject.now.capacities c.args.subject.now.window c.args.self.now.frames.items c.loop-frame.self.frames.items c.pop.new.self.items c.in-Some.frame c.next_child.new.self c.in-Some.ensures.items c.loop-frame.invariant.state used)
+    is_refuted g.N.OfNetwork.network c.args.subject.now.capacities c.args.subject.now.window c.args.self.now.frames.items c.loop-frame.self.frames.items c.pop.new.self.items c.in-Some.frame c.next_child.new.self c.in-Some.ensures.items c.loop-frame.invariant.state used
 
 pub loop-frame-preserved : goal.loop-frame-preserved
 loop-frame-preserved g c =
@@ -39,5 +36,5 @@ loop-frame-preserved g c =
     record {
       state = is_popped g.N.OfNetwork.network c.args.subject.now.capacities c.args.subject.now.window c.args.self.now.frames.items c.loop-frame.self.frames.items c.pop.new.self.items c.in-Some.frame c.next_child.new.self c.in-Some.ensures.items c.loop-frame.invariant.state used;
       lighter = popped-lighter g.N.OfNetwork.network c.args.subject.now.capacities c.args.subject.now.window c.args.self.now.frames.items c.loop-frame.self.frames.items c.pop.new.self.items c.in-Some.frame c.next_child.new.self c.in-Some.ensures.items c.loop-frame.invariant.lighter;
-      kept = one_more (front c.args.count c.args.local.now) c.loop-frame.local c.of_reusing-nogood.result.0 c.keep.new.self c.args.count (omega (arith, length-take c.args.count c.args.local.now.records)) c.loop-frame.invariant.kept c.keep.ensures;
+      kept = one_more (front c.args.count c.args.local.now) c.loop-frame.local c.record_frame.ensures.node c.record_frame.new.local c.args.count (omega (arith, length-take c.args.count c.args.local.now.records)) c.loop-frame.invariant.kept c.record_frame.ensures.step;
     }

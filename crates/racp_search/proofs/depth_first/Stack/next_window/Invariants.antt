@@ -1,4 +1,4 @@
-use Rattle.std.proofs.Common.{◌≤◌, [], take, vec_len}
+use Rattle.std.proofs.Common.{◌≤◌, [], vec_len}
 use Rattle.racp_cutset.specs.Kept.{StayKept, front}
 use Rattle.racp_search.specs.DepthFirst.{IsSearching, open_parts, weights}
 use Rattle.racp_search.proofs.depth_first.Stack.next_window.Given as goal

@@ -1,7 +1,6 @@
-use Rattle.std.proofs.Common.{◌≡◌, ◌∙◌, ◌≤◌, arith, ap, sym}
+use Rattle.std.proofs.Common.{◌∙◌, ap}
 use Rattle.racp_cutset.specs.Covering.{SearchNode}
-use Rattle.racp_search.specs.DepthFirst.{SearchFrame}
-use Rattle.racp_search.proofs.Going.{gone-same, gone-again, as-many}
+use Rattle.racp_search.proofs.Going.{gone-same, gone-again}
 use Rattle.racp_search.proofs.frame.Frame.find_children.Goals as goal
 
 pub loop-self-init : goal.loop-self-init

@@ -1,4 +1,4 @@
-use Rattle.std.proofs.Common.{◌≡◌, ◌∙◌, Bool, IfOk, false, true, Vec, ap, sym, subst}
+use Rattle.std.proofs.Common.{◌≡◌, ◌∙◌, Bool, false, ap, sym, subst}
 use Rattle.racp_search.specs.DepthFirst.{SearchFrame, IsFrame, IsGoneOn, IsRestOfFrame, child_windows}
 use Rattle.racp_search.proofs.Going.{frame_with}
 use Rattle.racp_search.proofs.Resting.{rest-of_gone, rest-is_children, if_ok_more}

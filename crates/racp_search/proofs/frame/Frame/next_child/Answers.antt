@@ -1,8 +1,8 @@
-use Rattle.std.proofs.Common.{◌≡◌, ◌≤◌, ◌∙◌, ◌++◌, ◌∷◌, [], List, true, length, arith, ap, sym, subst}
+use Rattle.std.proofs.Common.{◌≡◌, ◌≤◌, ◌∙◌, List, true, length, arith, sym, subst}
 use Rattle.std.proofs.lemmas.List.{append-nil}
-use Rattle.racp_search.specs.DepthFirst.{SearchFrame, IsFrame, IsGoneOn, IsUsedUp, child_windows}
+use Rattle.racp_search.specs.DepthFirst.{SearchFrame, IsGoneOn, IsUsedUp, child_windows}
 use Rattle.racp_search.specs.declared.child.Child.{Child}
-use Rattle.racp_search.proofs.Going.{frame_with, windows-append}
+use Rattle.racp_search.proofs.Going.{frame_with}
 use Rattle.racp_search.proofs.Resting.{is-taken, is-used_up, frame-less}
 use Rattle.racp_search.proofs.frame.Frame.next_child.Goals as goal
 

@@ -1,8 +1,7 @@
-use Rattle.std.proofs.Common.{◌≡◌, ◌∙◌, ◌∷◌, [], ℕ, List, ap, sym, subst}
+use Rattle.std.proofs.Common.{◌∙◌, ◌∷◌, [], ap, sym, subst}
 use Rattle.racp_search.specs.Children.{IsChildFor, IsChildAnswer, IsEmptyChild}
 use Rattle.racp_search.specs.DepthFirst.{SearchFrame, IsFrame}
 use Rattle.racp_search.proofs.Resting.{putting-start, next-alone, putting-none, putting-more, putting-end}
-use Rattle.racp_search.proofs.Going.{frame_with}
 use Rattle.racp_search.proofs.frame.Frame.put_off_each.Goals as goal
 
 pub loop-job-init : goal.loop-job-init

@@ -1,8 +1,8 @@
-use Rattle.std.proofs.Common.{◌≡◌, ◌∙◌, ℕ, List, Bool, false, true, length, slice_index_or, [], arith, ap, refl, sym, subst}
-use Rattle.racp_delay.specs.Alternatives.{AreAlternatives, job_lists}
+use Rattle.std.proofs.Common.{◌≡◌, ◌∙◌, ℕ, List, false, true, slice_index_or, [], arith, ap, refl, sym, subst}
+use Rattle.racp_delay.specs.Alternatives.{job_lists}
 use Rattle.racp_cutset.specs.Covering.{SearchNode}
 use Rattle.racp_search.specs.DepthFirst.{SearchFrame, LiesBehind, IsGoneOn, IsNextToLookAt}
-use Rattle.racp_search.proofs.Going.{frame_with, list_at, lists_length, gone-same, gone-again, gone-none, IsTakingUp, taking-start, taking-next, taking-more, taking-end}
+use Rattle.racp_search.proofs.Going.{frame_with, list_at, lists_length, gone-same, gone-again, gone-none, taking-start, taking-next, taking-more, taking-end}
 use Rattle.racp_search.proofs.frame.Frame.take_all.Goals as goal
 
 pub loop-list-init : goal.loop-list-init
