@@ -99,10 +99,10 @@ fn push_deadlines(text: &mut String, range: &Range) -> Result<(), AllocError> {
         let deadline = begin.saturating_add(number).saturating_mul(mark);
         if deadline <= range.last {
             let x = range.across(deadline);
-            write!(text, "<path d=\"M{x} {TOP}V{base}\" stroke=\"#ddd\"/>")?;
             writeln!(
                 text,
-                "<text x=\"{x}\" y=\"358\" text-anchor=\"middle\">{deadline}</text>"
+                "<path d=\"M{x} {TOP}V{base}\" stroke=\"#ddd\"/>\
+                 <text x=\"{x}\" y=\"358\" text-anchor=\"middle\">{deadline}</text>"
             )?;
         }
     }
@@ -118,10 +118,10 @@ fn push_costs(text: &mut String, range: &Range) -> Result<(), AllocError> {
         if cost <= range.most {
             let y = range.down(cost);
             let base = y.saturating_add(4);
-            write!(text, "<path d=\"M{LEFT} {y}H{right}\" stroke=\"#ddd\"/>")?;
             writeln!(
                 text,
-                "<text x=\"112\" y=\"{base}\" text-anchor=\"end\">{cost}</text>"
+                "<path d=\"M{LEFT} {y}H{right}\" stroke=\"#ddd\"/>\
+                 <text x=\"112\" y=\"{base}\" text-anchor=\"end\">{cost}</text>"
             )?;
         }
     }
@@ -130,17 +130,13 @@ fn push_costs(text: &mut String, range: &Range) -> Result<(), AllocError> {
 
 /// Adds the stair.
 fn push_stair(text: &mut String, corners: &[Corner], range: &Range) -> Result<(), AllocError> {
-    let mut begin = "M";
+    let (mut across, mut down) = ('M', ' ');
     text.push_str("<path d=\"")?;
     for corner in corners {
         let x = range.across(corner.deadline as u64);
         let y = range.down(corner.cost);
-        if begin == "M" {
-            write!(text, "M{x} {y}")?;
-        } else {
-            write!(text, "H{x}V{y}")?;
-        }
-        begin = "H";
+        write!(text, "{across}{x}{down}{y}")?;
+        (across, down) = ('H', 'V');
     }
     let right = LEFT.saturating_add(SPAN);
     writeln!(
@@ -154,9 +150,9 @@ fn push_corner(text: &mut String, corner: &Corner, range: &Range) -> Result<(), 
     let (deadline, cost) = (corner.deadline, corner.cost);
     let x = range.across(deadline as u64);
     let y = range.down(cost);
-    write!(
+    writeln!(
         text,
-        "<circle cx=\"{x}\" cy=\"{y}\" r=\"4\" fill=\"#4a7ebb\">"
-    )?;
-    writeln!(text, "<title>deadline {deadline}: {cost}</title></circle>")
+        "<circle cx=\"{x}\" cy=\"{y}\" r=\"4\" fill=\"#4a7ebb\">\
+         <title>deadline {deadline}: {cost}</title></circle>"
+    )
 }

@@ -11,6 +11,7 @@ use racp_model::Network;
 use racp_plan::Plan;
 use racp_prices::Order;
 use std::alloc::{AllocError, Global};
+use std::fmt;
 
 /// How wide labels are, in columns of text.
 const LABEL: usize = 24;
@@ -80,10 +81,10 @@ fn picture(alloc: Global, sheet: &Sheet<'_>, labels: &[String]) -> Result<String
 
 /// Adds the beginning of a picture of this height.
 pub(crate) fn push_head(text: &mut String, height: u64) -> Result<(), AllocError> {
-    text.push_str("<svg xmlns=\"http://www.w3.org/2000/svg\" ")?;
     writeln!(
         text,
-        "width=\"{WIDTH}\" height=\"{height}\" font-family=\"sans-serif\" font-size=\"11\">"
+        "<svg xmlns=\"http://www.w3.org/2000/svg\" \
+         width=\"{WIDTH}\" height=\"{height}\" font-family=\"sans-serif\" font-size=\"11\">"
     )
 }
 
@@ -125,10 +126,10 @@ fn push_axis(text: &mut String, deadline: u64, bottom: u64) -> Result<(), AllocE
 
 /// Adds one number of the axis.
 fn push_mark(text: &mut String, time: u64, x: u64, bottom: u64) -> Result<(), AllocError> {
-    write!(text, "<path d=\"M{x} {TOP}V{bottom}\" stroke=\"#ddd\"/>")?;
     writeln!(
         text,
-        "<text x=\"{x}\" y=\"16\" text-anchor=\"middle\">{time}</text>"
+        "<path d=\"M{x} {TOP}V{bottom}\" stroke=\"#ddd\"/>\
+         <text x=\"{x}\" y=\"16\" text-anchor=\"middle\">{time}</text>"
     )
 }
 
@@ -150,16 +151,20 @@ fn push_label(
     place: usize,
     y: u64,
 ) -> Result<(), AllocError> {
-    write!(text, "<text x=\"184\" y=\"{y}\" text-anchor=\"end\">")?;
-    push_label_text(text, labels, place)?;
-    text.push_str("</text>")
+    let label = label_at(labels, place);
+    write!(
+        text,
+        "<text x=\"184\" y=\"{y}\" text-anchor=\"end\">{label}</text>"
+    )
 }
 
-/// Adds the text of the label at this place.
-fn push_label_text(text: &mut String, labels: &[String], place: usize) -> Result<(), AllocError> {
+/// The label at this place, or the empty text where there is none.
+fn label_at(labels: &[String], place: usize) -> Escaped<'_> {
     match labels.get(place) {
-        Some(label) => push_escaped(text, label.as_str()),
-        None => Ok(()),
+        Some(label) => Escaped {
+            text: label.as_str(),
+        },
+        None => Escaped { text: "" },
     }
 }
 
@@ -175,15 +180,20 @@ fn push_bar(
     let end = entry.end;
     let x = across(start as u64, deadline);
     let width = across(end as u64, deadline).saturating_sub(x).max(1);
-    write!(
+    let name = name_of(entry, labels);
+    writeln!(
         text,
-        "<rect x=\"{x}\" y=\"{y}\" width=\"{width}\" height=\"12\" fill=\"#4a7ebb\"><title>"
-    )?;
+        "<rect x=\"{x}\" y=\"{y}\" width=\"{width}\" height=\"12\" fill=\"#4a7ebb\">\
+         <title>{name}: {start} to {end}</title></rect>"
+    )
+}
+
+/// The whole name of a job, or its label where it has none.
+fn name_of<'a>(entry: &JobEntry<'a>, labels: &'a [String]) -> Escaped<'a> {
     match entry.name {
-        Some(name) => push_escaped(text, name)?,
-        None => push_label_text(text, labels, entry.job.saturating_sub(1))?,
+        Some(name) => Escaped { text: name },
+        None => label_at(labels, entry.job.saturating_sub(1)),
     }
-    writeln!(text, ": {start} to {end}</title></rect>")
 }
 
 /// Adds a stair for each resource.
@@ -211,14 +221,11 @@ fn push_resources(
 /// Adds the dashed line of a capacity, and its number.
 fn push_capacity(text: &mut String, capacity: u32, y: u64) -> Result<(), AllocError> {
     let right = LEFT.saturating_add(SPAN);
-    write!(
-        text,
-        "<path d=\"M{LEFT} {y}H{right}\" stroke=\"#b33\" stroke-dasharray=\"4 3\"/>"
-    )?;
     let base = y.saturating_sub(2);
     writeln!(
         text,
-        "<text x=\"{LEFT}\" y=\"{base}\" fill=\"#b33\">{capacity}</text>"
+        "<path d=\"M{LEFT} {y}H{right}\" stroke=\"#b33\" stroke-dasharray=\"4 3\"/>\
+         <text x=\"{LEFT}\" y=\"{base}\" fill=\"#b33\">{capacity}</text>"
     )
 }
 
@@ -251,18 +258,32 @@ fn height(units: u32, capacity: u32) -> u64 {
     (units as u64).saturating_mul(HEIGHT) / capacity as u64
 }
 
-/// Adds a text in which no character stands for itself that means something else in XML.
-fn push_escaped(text: &mut String, name: &str) -> Result<(), AllocError> {
-    for letter in name.chars() {
-        match letter {
-            '&' => text.push_str("&amp;")?,
-            '<' => text.push_str("&lt;")?,
-            '>' => text.push_str("&gt;")?,
-            '"' => text.push_str("&quot;")?,
-            // No text in XML has these two.
-            '\u{fffe}' | '\u{ffff}' => {}
-            _ => text.push(letter)?,
+/// A text in which no character stands for itself that means something else in XML.
+#[derive(Clone, Copy)]
+struct Escaped<'a> {
+    text: &'a str,
+}
+
+impl fmt::Display for Escaped<'_> {
+    fn fmt<W: fmt::Write>(&self, f: &mut fmt::Formatter<W>) -> fmt::Result {
+        for letter in self.text.chars() {
+            match escape_of(letter) {
+                Some(escape) => f.write_str(escape)?,
+                None => f.write_char(letter)?,
+            }
         }
+        Ok(())
     }
-    Ok(())
+}
+
+/// What stands for a character that means something else in XML, or that no text in XML has.
+fn escape_of(letter: char) -> Option<&'static str> {
+    match letter {
+        '&' => Some("&amp;"),
+        '<' => Some("&lt;"),
+        '>' => Some("&gt;"),
+        '"' => Some("&quot;"),
+        '\u{fffe}' | '\u{ffff}' => Some(""),
+        _ => None,
+    }
 }

@@ -111,14 +111,20 @@ fn units_note(alloc: Global, capacity: u32, busy: u64) -> Result<String, AllocEr
 
 /// The first lines: the deadline, the critical length and the cost, in one line where they fit the width.
 fn head(alloc: Global, deadline: u32, plan: &Plan, width: usize) -> Result<String, AllocError> {
+    let line = head_with(alloc, deadline, plan, ", ")?;
+    // Two bytes of it end this line and the empty one.
+    if line.len() <= width.saturating_add(2) {
+        Ok(line)
+    } else {
+        head_with(alloc, deadline, plan, "\n")
+    }
+}
+
+/// The deadline, the critical length and the cost, with a text between two of them, and an empty line.
+fn head_with(alloc: Global, deadline: u32, plan: &Plan, gap: &str) -> Result<String, AllocError> {
     let critical = plan.critical;
     let cost = plan.cost;
-    let line = format!(in alloc; "deadline {deadline}, critical length {critical}, cost {cost}")?;
-    if line.len() <= width {
-        format!(in alloc; "{line}\n\n")
-    } else {
-        format!(in alloc; "deadline {deadline}\ncritical length {critical}\ncost {cost}\n\n")
-    }
+    format!(in alloc; "deadline {deadline}{gap}critical length {critical}{gap}cost {cost}\n\n")
 }
 
 /// Adds the ruler, a line for each job, an empty line, and a line for each resource. The first `label` columns of a
@@ -131,7 +137,7 @@ fn push_chart(
     chart: &Chart,
     ascii: bool,
 ) -> Result<(), AllocError> {
-    push_ruler(alloc, text, label, &chart.scale)?;
+    push_ruler(text, label, &chart.scale)?;
     for (place, row) in chart.jobs.iter().enumerate() {
         push_label(text, labels, place, label)?;
         push_job(text, row, chart.scale.columns, ascii)?;
@@ -146,38 +152,35 @@ fn push_chart(
 }
 
 /// Adds the two lines of the ruler, where there are columns: at each tenth column its first time, and a mark.
-fn push_ruler(
-    alloc: Global,
-    text: &mut String,
-    label: usize,
-    scale: &Scale,
-) -> Result<(), AllocError> {
+fn push_ruler(text: &mut String, label: usize, scale: &Scale) -> Result<(), AllocError> {
     let marks = scale.columns.div_ceil(MARK);
     if marks == 0 {
         return Ok(());
     }
     push_blanks(text, label)?;
-    for mark in 0..marks {
-        let time = mark.saturating_mul(MARK).saturating_mul(scale.span);
-        let number = format!(in alloc; "{time}")?;
-        push_mark(text, number.as_str(), marks - mark == 1)?;
-    }
-    text.push('\n')?;
+    push_times(text, marks - 1, scale.span)?;
     push_blanks(text, label)?;
-    for mark in 0..marks {
-        push_mark(text, "|", marks - mark == 1)?;
-    }
-    text.push('\n')?;
-    Ok(())
+    push_marks(text, marks - 1)
 }
 
-/// Adds what stands at a mark, and blanks up to the next one where it is not the last.
-fn push_mark(text: &mut String, mark: &str, is_last: bool) -> Result<(), AllocError> {
-    text.push_str(mark)?;
-    if is_last {
-        return Ok(());
+/// Adds the first time of each tenth column, where so many tenth columns stand before the last.
+fn push_times(text: &mut String, before: u32, span: u32) -> Result<(), AllocError> {
+    let width = MARK as usize;
+    let step = MARK.saturating_mul(span);
+    for mark in 0..before {
+        let time = mark.saturating_mul(step);
+        write!(text, "{time:<width$}")?;
     }
-    push_blanks(text, (MARK as usize).saturating_sub(mark.len()))
+    let time = before.saturating_mul(step);
+    writeln!(text, "{time}")
+}
+
+/// Adds a mark at each tenth column, where so many tenth columns stand before the last.
+fn push_marks(text: &mut String, before: u32) -> Result<(), AllocError> {
+    for _ in 0..before {
+        text.push_str("|         ")?;
+    }
+    text.push_str("|\n")
 }
 
 /// Adds the label at this place, and blanks after it.
