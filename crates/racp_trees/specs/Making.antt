@@ -1,13 +1,13 @@
 -- Contracts of private functions: a certificate is made, by a reader of the lines that are chosen.
-use Rattle.std.specs.Prelude.{◌≡◌, ⊤, ℕ, ◌<◌, ◌≤◌, List, [], ◌∷◌, ◌++◌, length, Option, Some, None}
+use Rattle.std.specs.Prelude.{◌≡◌, ⊤, ℕ, ◌+◌, ◌<◌, ◌≤◌, List, [], ◌∷◌, ◌++◌, length, true, Option, Some, None}
 use Rattle.racp_model.specs.Project.{Project}
 use Rattle.racp_model.specs.Window.{Bounds}
 use Rattle.racp_cutset.specs.Covering.{SearchNode}
 use Rattle.racp_trees.specs.Following.{IsRest}
 use Rattle.racp_trees.specs.Nodes.{HasPlace}
-use Rattle.racp_trees.specs.Readers.{HasRead, AsksNext}
+use Rattle.racp_trees.specs.Readers.{HasRead, AsksNext, IsReady, IsLineAnswer}
 use Rattle.racp_trees.specs.Records.{record_at}
-use Rattle.racp_trees.specs.Texts.{step_number, most_number}
+use Rattle.racp_trees.specs.Texts.{step_line, step_number, most_number}
 use Rattle.racp_trees.specs.declared.closed.Closed.{Closed}
 use Rattle.racp_trees.specs.declared.record.Record.{Record}
 use Rattle.racp_trees.specs.declared.reader.Reader.{Reader}
@@ -29,6 +29,21 @@ pub record IsThinnedReader (old new : Reader) : Type 0 where
 abbrev pub IsChoice : Reader → Reader → Option Step → Type 0
 IsChoice old new None = ⊤
 IsChoice old new (Some step) = IsThinnedReader old new × (step_number step ≤ most_number) × ((node : ℕ) → step ≡ C node → HasPlace new.closed node)
+
+-- a line was chosen for a window and added to a text; it holds, and the reader that forgot some records has read it
+pub record IsLineMade (p : Project) (capacities : List ℕ) (window : Bounds) (old : Reader) (text : List ℕ) (new : Reader) (whole : List ℕ) : Type 0 where
+  pub thin : Reader
+  pub thinned : IsThinnedReader old thin
+  pub step : Step
+  pub little : step_number step ≤ most_number
+  pub read : Reader
+  pub answer : IsLineAnswer p capacities window thin step true read
+  pub branches : new.branches.items ≡ read.branches.items
+  pub closed : new.closed ≡ read.closed
+  pub number : new.number ≡ thin.number + 1
+  pub ready : IsReady p capacities new
+  pub kept : (node : ℕ) → HasPlace thin.closed node → HasPlace new.closed node
+  pub added : whole ≡ text ++ step_line step
 
 -- the lines of a tree of the root window were added to a text, and what follows a certificate's rest may follow them
 pub record HasMadeTree (p : Project) (capacities : List ℕ) (root : Bounds) (old : Reader) (text : List ℕ) (new : Reader) (whole : List ℕ) : Type 0 where

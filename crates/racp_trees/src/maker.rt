@@ -1,10 +1,10 @@
 //! Making the tree of a block, line by line.
 
-ghost use Rattle.std.specs.Prelude.{◌≡◌, ◌≤◌, ℕ, [], All, IfOk, OnOk, None, length, slice_index};
+ghost use Rattle.std.specs.Prelude.{◌≡◌, ◌≤◌, ℕ, [], All, IfOk, IsTrue, OnOk, None, length, slice_index};
 ghost use Rattle.racp_model.specs.Formed.{HasBounds};
 ghost use Rattle.racp_model.specs.Limits.{most_bound};
 ghost use Rattle.racp_model.specs.Path.{IsEarly};
-ghost use Rattle.racp_trees.specs.Making.{IsChoice, IsThinnedReader, HasMadeTree};
+ghost use Rattle.racp_trees.specs.Making.{IsChoice, IsThinnedReader, IsLineMade, HasMadeTree};
 ghost use Rattle.racp_trees.specs.Readers.{IsReady};
 ghost use Rattle.racp_trees.specs.Records.{HasRows, record_at};
 ghost use Rattle.racp_trees.specs.declared.maker.Made.TheVariants.{Tree};
@@ -81,20 +81,43 @@ impl Maker {
         self.forget(alloc, ground.net);
         let mut lower = copied(alloc, ground.root.lower())?;
         while text.len() < MOST_BYTES {
-            let Some(step) = self.choose(alloc, ground, &lower)? else {
-                return Ok(Made::Open);
-            };
-            push_step(alloc, text, step)?;
-            if !self.reader.read_line(alloc, ground, step, lower)? {
+            if !self.make_line(alloc, ground, lower, text)? {
                 return Ok(Made::Open);
             }
-            self.reader.number += 1;
             match self.reader.next_window(alloc, ground)? {
                 Some(next) => lower = next,
                 None => return Ok(Made::Tree),
             }
         }
         Ok(Made::Long)
+    }
+
+    /// Makes the line of the window with these lower bounds, adds it to the text, and reads it. False where the window has
+    /// starts that fit.
+    fn make_line(
+        &mut self,
+        alloc: Global,
+        ground: &Ground,
+        lower: Vec<u32>,
+        text: &mut Vec<u8>,
+    ) -> Result<bool, AllocError>
+        requires capacities { length ground.now.capacities.now ≡ ground.now.net.now.resources }
+        requires root { HasBounds ground.now.net.now ground.now.root.now }
+        requires lower { length lower.items ≡ length ground.now.net.now.jobs }
+        requires small { All (λ x. x ≤ most_bound) lower.items }
+        requires ready { IsReady ground.now.net.now ground.now.capacities.now self.old.reader }
+        requires room { self.old.reader.number ≤ length text.old.items }
+        ensures { IfOk result (λ yes. IsTrue yes → IsLineMade ground.now.net.now ground.now.capacities.now (record { lower = lower.items; upper = ground.now.root.now.upper }) self.old.reader text.old.items self.new.reader text.new.items) }
+    {
+        let Some(step) = self.choose(alloc, ground, &lower)? else {
+            return Ok(false);
+        };
+        push_step(alloc, text, step)?;
+        if !self.reader.read_line(alloc, ground, step, lower)? {
+            return Ok(false);
+        }
+        self.reader.number += 1;
+        Ok(true)
     }
 
     /// Forgets all closed nodes.
