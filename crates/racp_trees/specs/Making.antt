@@ -1,5 +1,6 @@
 -- Contracts of private functions: a certificate is made, by a reader of the lines that are chosen.
-use Rattle.std.specs.Prelude.{◌≡◌, ⊤, ℕ, ◌+◌, ◌<◌, ◌≤◌, List, [], ◌∷◌, ◌++◌, length, true, Option, Some, None}
+use Rattle.std.specs.Prelude.{◌≡◌, ⊤, ℕ, ◌+◌, ◌<◌, ◌≤◌, List, [], ◌∷◌, ◌++◌, length, true, Option, Some, None, Vec}
+use Rattle.std.specs.Global.{Global}
 use Rattle.racp_model.specs.Project.{Project}
 use Rattle.racp_model.specs.Window.{Bounds}
 use Rattle.racp_cutset.specs.Covering.{SearchNode}
@@ -64,3 +65,10 @@ pub record HasMadeBlock (p : Project) (capacities : List ℕ) (root : Bounds) (o
   pub told : (rest : List ℕ) (wanted : List (List ℕ)) (vectors : List (List ℕ)) (nodes : List (ℕ × SearchNode)) → HasRead p root.upper nodes old →
       (later : List (ℕ × SearchNode)) × HasRead p root.upper later new ×
       (IsRest p wanted root (vectors ++ capacities ∷ []) later new.number rest → IsRest p wanted root vectors nodes old.number (lines ++ rest))
+
+-- a block was added to a text, and its vector behind those so far
+pub record HasAddedBlock (p : Project) (root : Bounds) (old : Reader) (before : List (Vec ℕ Global)) (text : List ℕ) (new : Reader) (blocks : List (Vec ℕ Global)) (whole : List ℕ) : Type 0 where
+  pub block : Vec ℕ Global
+  pub places : length block.items ≡ p.resources
+  pub behind : blocks ≡ before ++ block ∷ []
+  pub made : HasMadeBlock p block.items root old text new whole

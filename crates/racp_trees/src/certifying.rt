@@ -1,12 +1,14 @@
 //! Making a certificate.
 
-ghost use Rattle.std.specs.Prelude.{◌≡◌, ◌<◌, ◌≤◌, [], IfOk, IfSome, IsTrue, length};
+ghost use Rattle.std.specs.Prelude.{◌≡◌, ◌++◌, ◌<◌, ◌≤◌, ℕ, [], None, IfOk, IfSome, IsTrue, length};
 ghost use Rattle.racp_model.specs.Formed.{HasBounds};
 ghost use Rattle.racp_model.specs.Terms.{AreTermsOf, release_of, due_of};
 ghost use Rattle.racp_model.specs.Window.{IsRootWindow};
 ghost use Rattle.racp_prices.specs.Units.{AreMostUnits};
 ghost use Rattle.racp_trees.specs.Certificates.{IsCertificate};
-ghost use Rattle.racp_trees.specs.Making.{HasMadeBlock};
+ghost use Rattle.racp_trees.specs.Making.{HasAddedBlock, HasMadeBlock};
+ghost use Rattle.racp_trees.specs.Records.{record_at};
+ghost use Rattle.racp_trees.specs.Texts.{first_line, last_line};
 ghost use Rattle.racp_trees.specs.declared.maker.Made.TheVariants.{Tree};
 
 use crate::before::is_before;
@@ -22,6 +24,18 @@ use std::rc::Rc;
 
 /// How many blocks a certificate has at most. One has 13 bytes or more.
 const MOST_BLOCKS: usize = 1_290_555;
+
+/// What a certificate is to prove: that no capacities before these are enough on the terms of an order; with its root
+/// window, the roofs, and capacities of which the caller knows that they are not enough.
+#[derive(Clone, Copy)]
+struct Claim<'a> {
+    net: &'a Network,
+    order: &'a Order,
+    root: &'a Window,
+    roofs: &'a [u32],
+    capacities: &'a [u32],
+    hints: &'a [Vec<u32>],
+}
 
 /// A certificate that no capacities before these are enough; or `None` where none was made, since some capacities before
 /// them are enough, or it would have more than 16,777,216 bytes. Blocks are made while some vector up to the roofs stands
@@ -48,26 +62,87 @@ pub fn certificate(
     requires capacities { length capacities.now ≡ net.now.resources }
     ensures { IfOk result (λ text. IfSome text (λ text. IsCertificate net.now order.now capacities.now text.items)) }
 {
-    prove!(net.job_count() == net.job_count());
+    let claim = Claim {
+        net,
+        order,
+        root,
+        roofs,
+        capacities,
+        hints,
+    };
     let usual = Rc::new(alloc, copied(alloc, root.lower())?)?;
     let mut maker = Maker::new(alloc, net, usual);
     let mut text = b"proof\n".to_vec(alloc)?;
+    let is_made = push_blocks(alloc, &claim, &mut maker, &mut text)?;
+    Ok(if is_made { Some(text) } else { None })
+}
+
+/// Adds blocks until they are enough, and then the last line. False where some block was not made, or the text has too
+/// many bytes.
+fn push_blocks(
+    alloc: Global,
+    claim: &Claim,
+    maker: &mut Maker,
+    text: &mut Vec<u8>,
+) -> Result<bool, AllocError>
+    requires terms { AreTermsOf claim.now.net.now claim.now.order.now }
+    requires root { IsRootWindow claim.now.net.now (release_of claim.now.order.now) (due_of claim.now.order.now) claim.now.root.now }
+    requires roofs { AreMostUnits claim.now.net.now claim.now.order.now claim.now.roofs.now }
+    requires capacities { length claim.now.capacities.now ≡ claim.now.net.now.resources }
+    requires begun { text.old.items ≡ first_line }
+    requires number { maker.old.reader.number ≡ 1 }
+    requires closed { (number : ℕ) → record_at maker.old.reader.closed number ≡ None }
+    requires branches { maker.old.reader.branches.items ≡ [] }
+    ensures { IfOk result (λ yes. IsTrue yes → IsCertificate claim.now.net.now claim.now.order.now claim.now.capacities.now text.new.items) }
+{
+    prove!(claim.net.job_count() == claim.net.job_count());
+    let (net, order, roofs, capacities) = (claim.net, claim.order, claim.roofs, claim.capacities);
     let mut blocks = Vec::new(alloc);
     for _ in 0..MOST_BLOCKS {
         let Some(low) = gap(alloc, net, order, roofs, capacities, &blocks)? else {
-            text.extend_from_slice(b"end\n")?;
-            if text.len() > MOST_BYTES {
-                return Ok(None);
-            }
-            return Ok(Some(text));
+            let fits = push_end(text)?;
+            return Ok(fits);
         };
-        let vector = vector_above(alloc, net, order, roofs, capacities, hints, low)?;
-        if !push_block(alloc, &mut maker, net, root, &vector, &mut text)? {
-            return Ok(None);
+        if !push_next(alloc, claim, maker, &mut blocks, low, text)? {
+            return Ok(false);
         }
-        blocks.push(vector)?;
     }
-    Ok(None)
+    Ok(false)
+}
+
+/// Adds the last line. False where the text has too many bytes.
+fn push_end(text: &mut Vec<u8>) -> Result<bool, AllocError>
+    ensures { IfOk result (λ _. text.new.items ≡ text.old.items ++ last_line) }
+{
+    text.extend_from_slice(b"end\n")?;
+    Ok(text.len() <= MOST_BYTES)
+}
+
+/// Adds a block above a vector that stands before the capacities. False where none was made.
+fn push_next(
+    alloc: Global,
+    claim: &Claim,
+    maker: &mut Maker,
+    blocks: &mut Vec<Vec<u32>>,
+    low: Vec<u32>,
+    text: &mut Vec<u8>,
+) -> Result<bool, AllocError>
+    requires terms { AreTermsOf claim.now.net.now claim.now.order.now }
+    requires root { HasBounds claim.now.net.now claim.now.root.now }
+    requires roofs { length claim.now.roofs.now ≡ claim.now.net.now.resources }
+    requires capacities { length claim.now.capacities.now ≡ claim.now.net.now.resources }
+    requires low { length low.items ≡ claim.now.net.now.resources }
+    requires branches { maker.old.reader.branches.items ≡ [] }
+    requires room { maker.old.reader.number ≤ length text.old.items }
+    ensures { IfOk result (λ yes. IsTrue yes → HasAddedBlock claim.now.net.now claim.now.root.now maker.old.reader blocks.old.items text.old.items maker.new.reader blocks.new.items text.new.items) }
+{
+    let (net, order, hints) = (claim.net, claim.order, claim.hints);
+    let vector = vector_above(alloc, net, order, claim.roofs, claim.capacities, hints, low)?;
+    if !push_block(alloc, maker, net, claim.root, &vector, text)? {
+        return Ok(false);
+    }
+    blocks.push(vector)?;
+    Ok(true)
 }
 
 /// Adds the block of these capacities. False where none was made.

@@ -1,0 +1,5 @@
+use Rattle.racp_trees.proofs.Gathering.{IsCertifying}
+use Rattle.racp_trees.proofs.certifying.push_blocks.Given as goal
+
+abbrev pub invariant-loop : goal.invariant-loop
+invariant-loop l = IsCertifying l.claim.net.now l.claim.root.now l.blocks.items l.text.items l.maker.reader
