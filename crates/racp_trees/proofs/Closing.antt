@@ -104,7 +104,7 @@ kept_rows p a old new number' row own kept rows node r e = elim (equal_or_not no
     go (Some place) is e' = subst (λ (x : Record). HasRows p x) (kept_node row r (sym (kept.named place is) ∙ e')) own
 
 module _ (p : Project) (a : List ℕ) (root : Bounds) (old now new : Reader) (rest : List Branch) (b : Branch) (places : length a ≡ p.resources) (high : length root.upper ≡ length p.jobs) (is : IsPassing p a root old now) (before : now.branches.items ≡ rest ++ b ∷ []) where
-  last_branch : IsBranch p a b
+  pub last_branch : IsBranch p a b
   last_branch = is.stays.ready.branches b (subst (λ (xs : List Branch). Contains xs b) (sym before) (Contains-append_right rest (b ∷ []) b (member_first b [] b refl)))
 
   front_branch : (x : Branch) → Contains rest x → IsBranch p a x
@@ -168,6 +168,21 @@ module _ (p : Project) (a : List ℕ) (root : Bounds) (old now new : Reader) (re
       number = same ∙ is.stays.number;
       places = λ m h. subst (λ (k : Closed). HasPlace k m) (sym kept) (is.stays.places m h);
     }
+
+nothing_behind : (xs : List Branch) → xs ++ [] ≡ xs
+nothing_behind [] = refl
+nothing_behind (x ∷ xs) = ap (λ (ys : List Branch). x ∷ ys) (nothing_behind xs)
+
+-- no branch is taken off
+pub passing_stays : (p : Project) (a : List ℕ) (root : Bounds) (old now new : Reader) → IsPassing p a root old now → now.branches.items ≡ new.branches.items ++ [] → new.closed ≡ now.closed → new.number ≡ now.number → StaysReady p a old new
+passing_stays p a root old now new is items kept same = record {
+  ready = record {
+    rows = subst (λ (k : Closed). HaveRows p k) (sym kept) is.stays.ready.rows;
+    branches = λ b c. is.stays.ready.branches b (subst (λ (xs : List Branch). Contains xs b) (sym (items ∙ nothing_behind new.branches.items)) c);
+  };
+  number = same ∙ is.stays.number;
+  places = λ m h. subst (λ (k : Closed). HasPlace k m) (sym kept) (is.stays.places m h);
+}
 
 -- no branch is left
 pub passing_ends : (p : Project) (a : List ℕ) (root : Bounds) (old now new : Reader) → IsPassing p a root old now → now.branches.items ≡ new.branches.items ++ [] → length now.branches.items ≡ 0 → new.closed ≡ now.closed → new.number ≡ now.number →

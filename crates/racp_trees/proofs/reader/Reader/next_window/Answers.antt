@@ -1,9 +1,31 @@
-use Rattle.std.proofs.Common.{refl, ℕ, List, Vec, Option, subst, arith}
+use Rattle.std.proofs.Common.{refl, ap, length, [], ◌∷◌, ℕ, List, Vec, Option, subst, arith}
 use Rattle.std.specs.Global.{Global}
+use Rattle.std.proofs.lemmas.List.{length-append}
 use Rattle.racp_trees.specs.Readers.{IsGoneOn}
-use Rattle.racp_trees.proofs.Closing.{passing_closed, passing_child, child_places, child_stays, passing_ends}
+use Rattle.racp_trees.specs.declared.branch.Branch.{Branch}
+use Rattle.racp_trees.proofs.Closing.{passing_first, last_branch, passing_stays, passing_closed, passing_child, child_places, child_stays, passing_ends}
 use Rattle.racp_trees.specs.declared.reader.Reader.{Reader}
 use Rattle.racp_trees.proofs.reader.Reader.next_window.Goals as goal
+
+pub loop-branch-init : goal.loop-branch-init
+loop-branch-init c = passing_first c.args.ground.now.net.now c.args.ground.now.capacities.now c.args.ground.now.root.now c.args.self.now c.requires.ready
+
+pub go_on-requires-clause-branch : goal.go_on-requires-clause-branch
+go_on-requires-clause-branch c =
+    last_branch c.args.ground.now.net.now c.args.ground.now.capacities.now c.args.ground.now.root.now c.args.self.now c.loop-branch.self c.loop-branch.self c.pop.new.self.items c.in-Some.branch c.requires.capacities c.requires.root.upper c.loop-branch.invariant c.in-Some.ensures.items
+
+pub loop-branch-smaller : goal.loop-branch-smaller
+loop-branch-smaller c =
+    let p = c.args.ground.now.net.now in
+    let a : List ℕ = c.args.ground.now.capacities.now in
+    let popped : Reader = record { closed = c.loop-branch.self.closed; branches = c.pop.new.self; number = c.loop-branch.self.number; usual = c.loop-branch.self.usual } in
+    let g = subst (λ (o : Option (Vec ℕ Global)). IsGoneOn p a popped c.in-Some.branch c.go_on.new.self o) c.in_default-2.is c.in_ok-lower.ensures in
+    omega (arith, ap (λ (xs : List Branch). length xs) g.1, ap (λ (xs : List Branch). length xs) c.in-Some.ensures.items, length-append c.pop.new.self.items (c.in-Some.branch ∷ []))
+
+pub returns-clause-ready : goal.returns-clause-ready
+returns-clause-ready c =
+    passing_stays c.args.ground.now.net.now c.args.ground.now.capacities.now c.args.ground.now.root.now c.args.self.now c.loop-branch.self (record { closed = c.loop-branch.self.closed; branches = c.pop.new.self; number = c.loop-branch.self.number; usual = c.loop-branch.self.usual })
+    c.loop-branch.invariant c.in_default.ensures.items refl refl
 
 pub returns-in-Some-2-clause-window : goal.returns-in-Some-2-clause-window
 returns-in-Some-2-clause-window c =
