@@ -1,11 +1,12 @@
 ghost use Rattle.std.specs.Prelude.{◌≡◌};
 ghost use Rattle.racp_check.specs.PlanFaults.{fault_number};
 
+use std::fmt;
 use thiserror::Error;
 
 /// What is wrong with a plan: the first of these that holds, in this order. Jobs and resources are numbered from 1, and
 /// times are in time units.
-#[derive(Debug, Clone, Copy, PartialEq, Eq, Drop, Error)]
+#[derive(Clone, Copy, PartialEq, Eq, Drop, Error)]
 pub enum PlanFault {
     /// The cost is not that of the capacities at the order's prices, at which owned units are free.
     #[error("the cost is not that of the capacities")]
@@ -42,5 +43,12 @@ impl PlanFault {
             PlanFault::Ceiling(_) => 5,
             PlanFault::Early(_) => 6,
         }
+    }
+}
+
+/// The same text as that of `Display`.
+impl fmt::Debug for PlanFault {
+    fn fmt<W: fmt::Write>(&self, f: &mut fmt::Formatter<W>) -> fmt::Result {
+        fmt::Display::fmt(self, f)
     }
 }
