@@ -5,15 +5,16 @@ ghost use Rattle.std.specs.Io.{StartsWith};
 ghost use Rattle.racp_model.specs.Terms.{AreTermsOf};
 ghost use Rattle.racp_explain.specs.Causes.{IsNetworkCause, line_head, line_place, placed_head, network_head, order_head, plan_head};
 
-use crate::explain::title_of;
-use crate::finding::{Finding, cause_text};
+use crate::explain::push_title;
+use crate::finding::{THERE, push_more, push_short};
 use crate::input::Input;
-use crate::network_text::network_finding;
-use crate::order_text::{Sizes, order_finding};
-use crate::plan_faults::{head_finding, no_room, plan_finding, too_late, too_long};
-use crate::plan_text::text_finding;
+use crate::network_text::push_network_finding;
+use crate::order_text::{Sizes, push_order_finding};
+use crate::plan_faults::{
+    push_head_finding, push_no_room, push_plan_finding, push_too_late, push_too_long,
+};
+use crate::plan_text::push_text_finding;
 use crate::subject::{Line, Subject};
-use crate::topic::topic_of;
 use racp_check::{Opening, PlanFault, check_plan, opening_of};
 use racp_cpm::longest;
 use racp_model::Network;
@@ -102,36 +103,51 @@ pub fn proof_cause(
     plan: &Input<'_>,
     proof: &str,
 ) -> Result<String, AllocError> {
-    let text = plan_cause(alloc, net, order, plan)?;
-    if !text.is_empty() {
-        return Ok(text);
+    let mut text = plan_cause(alloc, net, order, plan)?;
+    if text.is_empty() {
+        push_unproved(&mut text, plan.name, proof)?;
     }
-    let plan = plan.name;
-    let head = format!(in alloc; "racp: {proof}: unproved")?;
-    let wanted = format!(in alloc;
-        "a certificate for {plan}, as racp prove makes it of its network and order"
+    Ok(text)
+}
+
+/// Adds that a text is no certificate for a plan.
+fn push_unproved(text: &mut String, plan: &str, proof: &str) -> Result<(), AllocError> {
+    write!(
+        text,
+        "racp: {proof}: unproved: the text is no certificate for this plan\nracp: wanted: a certificate for {plan}, as racp prove makes it of its network and order{THERE}a text that is none"
     )?;
-    let there = String::from_str(alloc, "a text that is none")?;
-    let finding = Finding { wanted, there };
-    cause_text(
-        alloc,
-        &head,
-        "the text is no certificate for this plan",
-        &finding,
-        "unproved",
-    )
+    push_more(text, Subject::Line(Line::Unproved))
 }
 
 /// What is told of a network text that is refused.
 fn of_network(alloc: Global, net: &Input<'_>, fault: SmFault) -> Result<String, AllocError>
     ensures { IfOk result (λ text. StartsWith (string_bytes text) (network_head net.now.name.now fault)) }
 {
-    let finding = network_finding(alloc, fault, net.bytes)?;
-    let short = topic_of(Subject::Sm(fault.kind)).short;
+    let mut rest = String::new(alloc);
+    push_network(alloc, &mut rest, net.bytes, fault)?;
     let (number, kind) = (fault.kind as u8, fault.kind.name());
-    let head = line_head(alloc, net.name, fault.line, "sm", number, kind)?;
-    let topic = format!(in alloc; "sm {number}")?;
-    cause_text(alloc, head.as_str(), short, &finding, &topic)
+    line_text(
+        alloc,
+        net.name,
+        fault.line,
+        "sm",
+        number,
+        kind,
+        rest.as_str(),
+    )
+}
+
+/// Adds what is told of a fault of a network text behind its name.
+fn push_network(
+    alloc: Global,
+    text: &mut String,
+    bytes: &[u8],
+    fault: SmFault,
+) -> Result<(), AllocError> {
+    let subject = Subject::Sm(fault.kind);
+    push_short(text, subject)?;
+    push_network_finding(alloc, text, fault, bytes)?;
+    push_more(text, subject)
 }
 
 /// What is told of an order that is refused.
@@ -149,12 +165,23 @@ fn of_order(
         resources: network.resource_count(),
         jobs: network.job_count(),
     };
-    let finding = order_finding(alloc, fault, order.bytes, sizes)?;
-    let short = topic_of(Subject::Order(fault)).short;
-    let head = order_words(alloc, order.name, fault)?;
-    let number = fault as u8;
-    let topic = format!(in alloc; "order {number}")?;
-    cause_text(alloc, head.as_str(), short, &finding, &topic)
+    let mut rest = String::new(alloc);
+    push_order(alloc, &mut rest, order.bytes, fault, sizes)?;
+    order_words(alloc, order.name, fault, rest.as_str())
+}
+
+/// Adds what is told of a fault of an order behind its name.
+fn push_order(
+    alloc: Global,
+    text: &mut String,
+    bytes: &[u8],
+    fault: OrderFault,
+    sizes: Sizes<'_>,
+) -> Result<(), AllocError> {
+    let subject = Subject::Order(fault);
+    push_short(text, subject)?;
+    push_order_finding(alloc, text, fault, bytes, sizes)?;
+    push_more(text, subject)
 }
 
 /// What is told of a plan text that is refused.
@@ -166,30 +193,50 @@ fn of_text(
 ) -> Result<String, AllocError>
     ensures { IfOk result (λ text. StartsWith (string_bytes text) (plan_head plan.now.name.now fault)) }
 {
-    let finding = text_finding(alloc, fault, plan.bytes, network)?;
-    let short = topic_of(Subject::Plan(fault.kind)).short;
+    let mut rest = String::new(alloc);
+    push_text(&mut rest, network, plan.bytes, fault)?;
     let (number, kind) = (fault.kind as u8, fault.kind.name());
-    let head = line_head(alloc, plan.name, fault.line, "plan", number, kind)?;
-    let topic = format!(in alloc; "plan {number}")?;
-    cause_text(alloc, head.as_str(), short, &finding, &topic)
+    line_text(
+        alloc,
+        plan.name,
+        fault.line,
+        "plan",
+        number,
+        kind,
+        rest.as_str(),
+    )
 }
 
-/// The words `racp: NAME:LINE: FORMAT NUMBER FAULT`, or `racp: NAME: FORMAT NUMBER FAULT` of no one line.
-fn line_head(
+/// Adds what is told of a fault of a plan text behind its name.
+fn push_text(
+    text: &mut String,
+    network: &Network,
+    bytes: &[u8],
+    fault: TextFault,
+) -> Result<(), AllocError> {
+    let subject = Subject::Plan(fault.kind);
+    push_short(text, subject)?;
+    push_text_finding(text, fault, bytes, network)?;
+    push_more(text, subject)
+}
+
+/// The words `racp: NAME:LINE: FORMAT NUMBER FAULT`, or `racp: NAME: FORMAT NUMBER FAULT` of no one line, and the rest.
+fn line_text(
     alloc: Global,
     name: &str,
     line: usize,
     format: &str,
     number: u8,
     fault: &str,
+    rest: &str,
 ) -> Result<String, AllocError>
-    ensures { IfOk result (λ text. string_bytes text ≡ line_head name.now line format.now number fault.now) }
+    ensures { IfOk result (λ text. StartsWith (string_bytes text) (line_head name.now line format.now number fault.now)) }
 {
     let place = line_place(alloc, line)?;
-    placed(alloc, name, place.as_str(), format, number, fault)
+    placed(alloc, name, place.as_str(), format, number, fault, rest)
 }
 
-/// The words `racp: NAMEPLACE: FORMAT NUMBER FAULT`.
+/// The words `racp: NAMEPLACE: FORMAT NUMBER FAULT`, and the rest.
 fn placed(
     alloc: Global,
     name: &str,
@@ -197,18 +244,25 @@ fn placed(
     format: &str,
     number: u8,
     fault: &str,
+    rest: &str,
 ) -> Result<String, AllocError>
-    ensures { IfOk result (λ text. string_bytes text ≡ placed_head name.now place.now format.now number fault.now) }
+    ensures { IfOk result (λ text. StartsWith (string_bytes text)
+        (placed_head name.now place.now format.now number fault.now)) }
 {
-    format!(in alloc; "racp: {name}{place}: {format} {number} {fault}")
+    format!(in alloc; "racp: {name}{place}: {format} {number} {fault}{rest}")
 }
 
-/// The words `racp: NAME: order NUMBER FAULT`.
-fn order_words(alloc: Global, name: &str, fault: OrderFault) -> Result<String, AllocError>
-    ensures { IfOk result (λ text. string_bytes text ≡ order_head name.now fault) }
+/// The words `racp: NAME: order NUMBER FAULT`, and the rest.
+fn order_words(
+    alloc: Global,
+    name: &str,
+    fault: OrderFault,
+    rest: &str,
+) -> Result<String, AllocError>
+    ensures { IfOk result (λ text. StartsWith (string_bytes text) (order_head name.now fault)) }
 {
     let (number, kind) = (fault as u8, fault.name());
-    format!(in alloc; "racp: {name}: order {number} {kind}")
+    format!(in alloc; "racp: {name}: order {number} {kind}{rest}")
 }
 
 /// The words `:LINE`, and nothing of no one line.
@@ -226,29 +280,81 @@ fn line_place(alloc: Global, line: usize) -> Result<String, AllocError>
 fn of_opening(alloc: Global, net: &Network, name: &str, order: &Order) -> Result<String, AllocError>
     requires { AreTermsOf net.now order.now }
 {
-    let (line, finding) = match opening_of(alloc, net, order)? {
-        Opening::TooLong { critical } => (Line::TooLate, too_long(alloc, order, critical)?),
-        Opening::TooLate { job } => (Line::Due, too_late(alloc, net, order, job)?),
-        Opening::Root { .. } => match &order.ceilings {
-            Some(ceilings) => (Line::NoRoom, no_room(alloc, order, ceilings)?),
-            None => return Ok(String::new(alloc)),
-        },
-    };
-    of_line(alloc, name, line, &finding)
+    let mut text = String::new(alloc);
+    push_opening(alloc, &mut text, net, name, order)?;
+    Ok(text)
 }
 
-/// What is told of a line without a number.
-fn of_line(alloc: Global, name: &str, line: Line, finding: &Finding) -> Result<String, AllocError> {
-    let subject = Subject::Line(line);
-    let topic = title_of(alloc, subject)?;
-    let head = format!(in alloc; "racp: {name}: {topic}")?;
-    cause_text(
-        alloc,
-        head.as_str(),
-        topic_of(subject).short,
-        finding,
-        &topic,
-    )
+/// Adds why there is no plan for an order, as far as it is known.
+fn push_opening(
+    alloc: Global,
+    text: &mut String,
+    net: &Network,
+    name: &str,
+    order: &Order,
+) -> Result<(), AllocError>
+    requires { AreTermsOf net.now order.now }
+{
+    match opening_of(alloc, net, order)? {
+        Opening::TooLong { critical } => push_deadline(text, name, order, critical),
+        Opening::TooLate { job } => push_due(alloc, text, net, name, order, job),
+        Opening::Root { .. } => push_ceilings(text, name, order),
+    }
+}
+
+/// Adds that the deadline of an order is too early.
+fn push_deadline(
+    text: &mut String,
+    name: &str,
+    order: &Order,
+    critical: u64,
+) -> Result<(), AllocError> {
+    push_line(text, name, Line::TooLate)?;
+    push_too_long(text, order, critical)?;
+    push_more(text, Subject::Line(Line::TooLate))
+}
+
+/// Adds that a job cannot end by its due time.
+fn push_due(
+    alloc: Global,
+    text: &mut String,
+    net: &Network,
+    name: &str,
+    order: &Order,
+    job: u32,
+) -> Result<(), AllocError>
+    requires { AreTermsOf net.now order.now }
+{
+    push_line(text, name, Line::Due)?;
+    push_too_late(alloc, text, net, order, job)?;
+    push_more(text, Subject::Line(Line::Due))
+}
+
+/// Adds that the ceilings of an order are too low, where it has any.
+fn push_ceilings(text: &mut String, name: &str, order: &Order) -> Result<(), AllocError> {
+    match &order.ceilings {
+        Some(ceilings) => push_low(text, name, order, ceilings),
+        None => Ok(()),
+    }
+}
+
+/// Adds that these ceilings are too low.
+fn push_low(
+    text: &mut String,
+    name: &str,
+    order: &Order,
+    ceilings: &[u32],
+) -> Result<(), AllocError> {
+    push_line(text, name, Line::NoRoom)?;
+    push_no_room(text, order, ceilings)?;
+    push_more(text, Subject::Line(Line::NoRoom))
+}
+
+/// Adds a line without a number behind the name of a file, what it means, and what stands before what was wanted.
+fn push_line(text: &mut String, name: &str, line: Line) -> Result<(), AllocError> {
+    write!(text, "racp: {name}: ")?;
+    push_title(text, Subject::Line(line))?;
+    push_short(text, Subject::Line(line))
 }
 
 /// What is wrong with a plan that was read.
@@ -263,17 +369,46 @@ fn of_fault(
     requires capacities { length plan.now.capacities ≡ net.now.resources }
     requires starts { length plan.now.starts ≡ length net.now.jobs }
 {
-    if plan.deadline != order.deadline || plan.critical != longest(alloc, net, &order.release)? {
-        let finding = head_finding(alloc, net, order, plan)?;
-        return of_line(alloc, name, Line::Head, &finding);
+    let critical = longest(alloc, net, &order.release)?;
+    let mut text = String::new(alloc);
+    if plan.deadline != order.deadline || plan.critical != critical {
+        push_head(&mut text, order, name, plan, critical)?;
+    } else if let Err(fault) = check_plan(net, order, plan) {
+        push_fault(&mut text, net, order, name, plan, fault)?;
     }
-    match check_plan(net, order, plan) {
-        Ok(()) => Ok(String::new(alloc)),
-        Err(fault) => {
-            let finding = plan_finding(alloc, net, order, plan, fault)?;
-            of_line(alloc, name, line_of(fault), &finding)
-        }
-    }
+    Ok(text)
+}
+
+/// Adds that the head of a plan is wrong.
+fn push_head(
+    text: &mut String,
+    order: &Order,
+    name: &str,
+    plan: &Plan,
+    critical: u64,
+) -> Result<(), AllocError> {
+    push_line(text, name, Line::Head)?;
+    push_head_finding(text, order, plan, critical)?;
+    push_more(text, Subject::Line(Line::Head))
+}
+
+/// Adds what is wrong with a plan with this fault.
+fn push_fault(
+    text: &mut String,
+    net: &Network,
+    order: &Order,
+    name: &str,
+    plan: &Plan,
+    fault: PlanFault,
+) -> Result<(), AllocError>
+    requires terms { AreTermsOf net.now order.now }
+    requires capacities { length plan.now.capacities ≡ net.now.resources }
+    requires starts { length plan.now.starts ≡ length net.now.jobs }
+{
+    let line = line_of(fault);
+    push_line(text, name, line)?;
+    push_plan_finding(text, net, order, plan, fault)?;
+    push_more(text, Subject::Line(line))
 }
 
 /// The line that tells of a fault.

@@ -7,7 +7,7 @@ ghost use Rattle.racp_explain.specs.declared.subjects.TheConstants.{SUBJECTS};
 
 use crate::subject::Subject;
 use crate::subjects::{SUBJECTS, named};
-use crate::topic::topic_of;
+use crate::topic::{Topic, topic_of};
 use std::alloc::{AllocError, Global};
 
 /// What stands before the list of subjects.
@@ -24,10 +24,16 @@ const LABEL: usize = 24;
 /// Memory was refused.
 pub fn subject_list(alloc: Global) -> Result<String, AllocError> {
     let mut text = String::from_str(alloc, BEFORE_LIST)?;
-    for subject in SUBJECTS {
-        push_entry(alloc, &mut text, subject)?;
-    }
+    push_entries(alloc, &mut text)?;
     Ok(text)
+}
+
+/// Adds the lines of all subjects.
+fn push_entries(alloc: Global, text: &mut String) -> Result<(), AllocError> {
+    for subject in SUBJECTS.iter() {
+        push_entry(alloc, text, *subject)?;
+    }
+    Ok(())
 }
 
 /// What is said of each subject that these words name; `None` where there is none.
@@ -54,13 +60,19 @@ pub fn explanation(
 /// What is said of these subjects, with an empty line between two of them.
 fn text_of(alloc: Global, subjects: &[Subject]) -> Result<String, AllocError> {
     let mut text = String::new(alloc);
+    push_topics(&mut text, subjects)?;
+    Ok(text)
+}
+
+/// Adds what is said of these subjects, with an empty line between two of them.
+fn push_topics(text: &mut String, subjects: &[Subject]) -> Result<(), AllocError> {
     for subject in subjects {
         if !text.is_empty() {
             text.push('\n')?;
         }
-        push_topic(alloc, &mut text, *subject)?;
+        push_topic(text, *subject)?;
     }
-    Ok(text)
+    Ok(())
 }
 
 /// Adds the line of a subject in the list.
@@ -71,19 +83,27 @@ fn push_entry(alloc: Global, text: &mut String, subject: Subject) -> Result<(), 
 }
 
 /// Adds what is said of a subject.
-fn push_topic(alloc: Global, text: &mut String, subject: Subject) -> Result<(), AllocError> {
-    let topic = topic_of(subject);
-    let title = title_of(alloc, subject)?;
-    writeln!(text, "{title}")?;
+fn push_topic(text: &mut String, subject: Subject) -> Result<(), AllocError> {
+    push_title(text, subject)?;
+    push_about(text, topic_of(subject))
+}
+
+/// Adds what a subject means, an example of it, and what helps.
+fn push_about(text: &mut String, topic: &Topic) -> Result<(), AllocError> {
+    text.push('\n')?;
     push_lines(text, "  ", topic.meaning)?;
-    if !topic.command.is_empty() {
-        let command = topic.command;
-        writeln!(text, "  Example: {command}")?;
-        push_lines(text, "    ", topic.file)?;
-    }
-    let cure = topic.cure;
+    push_example(text, topic.command, topic.file)?;
     text.push_str("  Cure:\n")?;
-    push_lines(text, "    ", cure)
+    push_lines(text, "    ", topic.cure)
+}
+
+/// Adds the command of an example and the text of its file, where there is an example.
+fn push_example(text: &mut String, command: &str, file: &str) -> Result<(), AllocError> {
+    if command.is_empty() {
+        return Ok(());
+    }
+    writeln!(text, "  Example: {command}")?;
+    push_lines(text, "    ", file)
 }
 
 /// Adds the lines of a text, each behind these blanks.
@@ -95,12 +115,19 @@ fn push_lines(text: &mut String, blanks: &str, lines: &str) -> Result<(), AllocE
 }
 
 /// The words by which a subject is asked for, as `sm 12 TooFew`, `impossible due` or `memory`.
-pub(crate) fn title_of(alloc: Global, subject: Subject) -> Result<String, AllocError> {
+fn title_of(alloc: Global, subject: Subject) -> Result<String, AllocError> {
+    let mut title = String::new(alloc);
+    push_title(&mut title, subject)?;
+    Ok(title)
+}
+
+/// Adds the words by which a subject is asked for.
+pub(crate) fn push_title(text: &mut String, subject: Subject) -> Result<(), AllocError> {
     let format = subject.format();
     let name = subject.name();
     match subject.number() {
-        Some(number) => format!(in alloc; "{format} {number} {name}"),
-        None if format == name => String::from_str(alloc, name),
-        None => format!(in alloc; "{format} {name}"),
+        Some(number) => write!(text, "{format} {number} {name}"),
+        None if format == name => text.push_str(name),
+        None => write!(text, "{format} {name}"),
     }
 }

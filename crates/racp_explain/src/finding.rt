@@ -1,56 +1,30 @@
-//! What was wanted, and what is there.
+//! The words of a cause behind where and what the fault is.
 
-ghost use Rattle.std.specs.Prelude.{◌≡◌, ◌++◌, IfOk, string_bytes};
-ghost use Rattle.std.specs.Io.{StartsWith};
+use crate::explain::push_title;
+use crate::subject::Subject;
+use crate::topic::topic_of;
+use std::alloc::AllocError;
 
-use std::alloc::{AllocError, Global};
+/// What stands between what was wanted and what is there.
+pub(crate) const THERE: &str = "\nracp: there:  ";
 
-/// What was wanted at some place, and what is there.
-#[derive(Drop)]
-pub(crate) struct Finding {
-    pub(crate) wanted: String,
-    pub(crate) there: String,
+/// Adds what a fault means, in short, and what stands before what was wanted.
+pub(crate) fn push_short(text: &mut String, subject: Subject) -> Result<(), AllocError> {
+    let short = topic_of(subject).short;
+    write!(text, ": {short}\nracp: wanted: ")
 }
 
-impl Finding {
-    /// What was wanted, in these words, and what is there.
-    pub(crate) fn new(alloc: Global, wanted: &str, there: String) -> Result<Self, AllocError> {
-        let wanted = String::from_str(alloc, wanted)?;
-        Ok(Finding { wanted, there })
+/// Adds the words by which more is told of a fault, behind what is there.
+pub(crate) fn push_more(text: &mut String, subject: Subject) -> Result<(), AllocError> {
+    text.push_str("\nracp: 'racp explain ")?;
+    match subject.number() {
+        Some(number) => push_number(text, subject.format(), number)?,
+        None => push_title(text, subject)?,
     }
+    text.push_str("' says more\n")
 }
 
-/// The words of a cause: where and what the fault is, what that means, what was wanted and what is there, and the words
-/// by which more is told.
-pub(crate) fn cause_text(
-    alloc: Global,
-    head: &str,
-    short: &str,
-    finding: &Finding,
-    topic: &str,
-) -> Result<String, AllocError>
-    ensures { IfOk result (λ text. StartsWith (string_bytes text) head.now) }
-{
-    let rest = rest_of(alloc, short, finding, topic)?;
-    joined(alloc, head, rest.as_str())
-}
-
-/// One text and then another.
-fn joined(alloc: Global, head: &str, rest: &str) -> Result<String, AllocError>
-    ensures { IfOk result (λ text. string_bytes text ≡ head.now ++ rest.now) }
-{
-    format!(in alloc; "{head}{rest}")
-}
-
-/// The words behind where and what the fault is.
-fn rest_of(
-    alloc: Global,
-    short: &str,
-    finding: &Finding,
-    topic: &str,
-) -> Result<String, AllocError> {
-    let (wanted, there) = (finding.wanted.as_str(), finding.there.as_str());
-    format!(in alloc;
-        ": {short}\nracp: wanted: {wanted}\nracp: there:  {there}\nracp: 'racp explain {topic}' says more\n"
-    )
+/// Adds the kind of text that is refused, and the number of its fault.
+fn push_number(text: &mut String, format: &str, number: u8) -> Result<(), AllocError> {
+    write!(text, "{format} {number}")
 }

@@ -1,7 +1,7 @@
 //! The lines of a text, as they are shown.
 
 use racp_text::cut_at;
-use std::alloc::{AllocError, Global};
+use std::alloc::AllocError;
 
 /// How many letters of a line are shown at most.
 const MOST_SHOWN: usize = 60;
@@ -23,37 +23,51 @@ pub(crate) fn body_of(bytes: &[u8]) -> &[u8] {
     }
 }
 
-/// A line in quotes, cut to 60 letters, without control characters and what is not UTF-8; or what is said of a line
+/// Adds a line in quotes, cut to 60 letters, without control characters and what is not UTF-8; or what is said of a line
 /// that is empty or not there.
-pub(crate) fn shown(alloc: Global, line: Option<&[u8]>) -> Result<String, AllocError> {
-    let Some(line) = line else {
-        return String::from_str(alloc, "no line");
-    };
-    let printed = printed(alloc, line)?;
-    if printed.is_empty() {
-        String::from_str(alloc, "an empty line")
-    } else {
-        format!(in alloc; "'{printed}'")
+pub(crate) fn push_shown(text: &mut String, line: Option<&[u8]>) -> Result<(), AllocError> {
+    match line {
+        Some(line) => push_line(text, line),
+        None => text.push_str("no line"),
     }
 }
 
-/// The first 60 letters of a line, without control characters and what is not UTF-8. A tab becomes a blank.
-fn printed(alloc: Global, line: &[u8]) -> Result<String, AllocError> {
-    let mut text = String::new(alloc);
+/// Adds a line in quotes, or what is said of a line with nothing to show.
+fn push_line(text: &mut String, line: &[u8]) -> Result<(), AllocError> {
+    if !has_letters(line) {
+        return text.push_str("an empty line");
+    }
+    text.push('\'')?;
+    push_letters(text, line)?;
+    text.push('\'')
+}
+
+/// Whether a line has a letter that is shown.
+fn has_letters(line: &[u8]) -> bool {
+    line.utf8_chunks()
+        .any(|chunk| chunk.valid().chars().any(is_shown))
+}
+
+/// Whether a letter is shown.
+fn is_shown(letter: char) -> bool {
+    !letter.is_control() || letter == '\t'
+}
+
+/// Adds the first 60 letters of a line, without control characters and what is not UTF-8. A tab becomes a blank.
+fn push_letters(text: &mut String, line: &[u8]) -> Result<(), AllocError> {
     let mut count = 0usize;
     for chunk in line.utf8_chunks() {
         for letter in chunk.valid().chars() {
             if count == MOST_SHOWN {
-                text.push_str("..")?;
-                return Ok(text);
+                return text.push_str("..");
             }
-            if !letter.is_control() || letter == '\t' {
+            if is_shown(letter) {
                 text.push(if letter == '\t' { ' ' } else { letter })?;
                 count = count.saturating_add(1);
             }
         }
     }
-    Ok(text)
+    Ok(())
 }
 
 /// How many words a line has, between blanks and tabs.

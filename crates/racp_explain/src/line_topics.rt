@@ -10,25 +10,25 @@ const CHECK: &str = "racp check examples/a.sm examples/a4.toml FILE";
 const PLAN: &str = "racp plan examples/a.sm FILE";
 
 /// What is said of a line without a number.
-pub(crate) fn line_topic(line: Line) -> Topic {
+pub(crate) fn line_topic(line: Line) -> &'static Topic {
     match line {
-        Line::Head => HEAD,
-        Line::Cost => COST,
-        Line::Late => LATE,
-        Line::Order => ORDER,
-        Line::Over => OVER,
-        Line::Ceiling => CEILING,
-        Line::Early => EARLY,
-        Line::TooLate => TOO_LATE,
-        Line::Due => DUE,
-        Line::NoRoom => NO_ROOM,
-        Line::Unproved => UNPROVED,
-        Line::Stopped => STOPPED,
-        Line::NoThread => NO_THREAD,
-        Line::Memory => MEMORY,
-        Line::Read => READ,
-        Line::Write => WRITE,
-        Line::TooLong => TOO_LONG,
+        Line::Head => &HEAD,
+        Line::Cost => &COST,
+        Line::Late => &LATE,
+        Line::Order => &ORDER,
+        Line::Over => &OVER,
+        Line::Ceiling => &CEILING,
+        Line::Early => &EARLY,
+        Line::TooLate => &TOO_LATE,
+        Line::Due => &DUE,
+        Line::NoRoom => &NO_ROOM,
+        Line::Unproved => &UNPROVED,
+        Line::Stopped => &STOPPED,
+        Line::NoThread => &NO_THREAD,
+        Line::Memory => &MEMORY,
+        Line::Read => &READ,
+        Line::Write => &WRITE,
+        Line::TooLong => &TOO_LONG,
     }
 }
 

@@ -1,54 +1,57 @@
 //! What is wrong with a network text.
 
-use crate::finding::Finding;
+use crate::finding::THERE;
 use crate::head::{head_number, line_like};
-use crate::line_of::{body_of, count_words, first_word, is_blank, line_at, shown};
+use crate::line_of::{body_of, count_words, first_word, is_blank, line_at, push_shown};
 use crate::ring::ring_of;
 use racp_sm::{SmFault, SmFaultKind};
 use std::alloc::{AllocError, Global};
 
-/// What a network text has in place of what was wanted where it has this fault.
-pub(crate) fn network_finding(
+/// Adds what a network text has to have where it has this fault, and what it has.
+pub(crate) fn push_network_finding(
     alloc: Global,
+    text: &mut String,
     fault: SmFault,
     bytes: &[u8],
-) -> Result<Finding, AllocError> {
+) -> Result<(), AllocError> {
     let body = body_of(bytes);
     match fault.kind {
-        SmFaultKind::NoJobs => missing(
-            alloc,
+        SmFaultKind::NoJobs => push_missing(
+            text,
             body,
             "a line before PRECEDENCE RELATIONS: that begins with jobs and has a colon",
             "jobs",
         ),
-        SmFaultKind::NoRenewable => missing(
-            alloc,
+        SmFaultKind::NoRenewable => push_missing(
+            text,
             body,
             "a line before PRECEDENCE RELATIONS: that begins with - renewable and has a colon",
             "renewable",
         ),
-        SmFaultKind::NoPrecedence => missing(
-            alloc,
+        SmFaultKind::NoPrecedence => push_missing(
+            text,
             body,
             "the line PRECEDENCE RELATIONS:",
             "precedence",
         ),
-        SmFaultKind::NoRequests => missing(
-            alloc,
+        SmFaultKind::NoRequests => push_missing(
+            text,
             body,
             "the line REQUESTS/DURATIONS: behind the precedence part",
             "requests",
         ),
-        SmFaultKind::TooFew => too_few(alloc, body, fault.line),
-        SmFaultKind::Cycle => ring(alloc, body),
-        SmFaultKind::BadNumber => bad_number(alloc, body, fault.line),
-        SmFaultKind::BadSuccessor => bad_successor(alloc, body, fault.line),
-        _ => Finding::new(
-            alloc,
-            wanted(fault.kind),
-            shown(alloc, line_at(body, fault.line))?,
-        ),
+        SmFaultKind::TooFew => push_too_few(text, body, fault.line),
+        SmFaultKind::Cycle => push_ring(alloc, text, body),
+        SmFaultKind::BadNumber => push_bad_number(text, body, fault.line),
+        SmFaultKind::BadSuccessor => push_bad_successor(text, body, fault.line),
+        _ => push_bad_line(text, wanted(fault.kind), line_at(body, fault.line)),
     }
+}
+
+/// Adds what a line has to be, and the line.
+fn push_bad_line(text: &mut String, wanted: &str, line: Option<&[u8]>) -> Result<(), AllocError> {
+    write!(text, "{wanted}{THERE}")?;
+    push_shown(text, line)
 }
 
 /// What a line has to be, by the fault that it has.
@@ -66,20 +69,30 @@ fn wanted(kind: SmFaultKind) -> &'static str {
     }
 }
 
-/// What a text has in place of a line that is not there, by a word of it.
-fn missing(alloc: Global, body: &[u8], wanted: &str, word: &str) -> Result<Finding, AllocError> {
-    let there = if looks_like_order(body) {
-        String::from_str(alloc, "what looks like an order; the network comes first")?
+/// Adds which line has to be there, and what the text has in its place, by a word of it.
+fn push_missing(
+    text: &mut String,
+    body: &[u8],
+    wanted: &str,
+    word: &str,
+) -> Result<(), AllocError> {
+    write!(text, "{wanted}{THERE}")?;
+    if looks_like_order(body) {
+        text.push_str("what looks like an order; the network comes first")
     } else {
-        match line_like(body, word) {
-            Some((number, line)) => {
-                let line = shown(alloc, Some(line))?;
-                format!(in alloc; "no such line; line {number} is {line}")?
-            }
-            None => String::from_str(alloc, "no such line")?,
+        push_like(text, line_like(body, word))
+    }
+}
+
+/// Adds that a line is missing, and the line that is like it, if any.
+fn push_like(text: &mut String, like: Option<(usize, &[u8])>) -> Result<(), AllocError> {
+    match like {
+        Some((number, line)) => {
+            write!(text, "no such line; line {number} is ")?;
+            push_shown(text, Some(line))
         }
-    };
-    Finding::new(alloc, wanted, there)
+        None => text.push_str("no such line"),
+    }
 }
 
 /// Whether a text looks like an order.
@@ -88,21 +101,40 @@ fn looks_like_order(body: &[u8]) -> bool {
         && line.contains(&b'='))
 }
 
-/// How many numbers the part with this title has, and how many it has to have.
-fn too_few(alloc: Global, body: &[u8], title: usize) -> Result<Finding, AllocError> {
-    let count = numbers_behind(body, title);
-    let jobs = head_number(body, &[b"jobs"]);
-    let resources = head_number(body, &[b"-", b"renewable"]);
-    let wanted = if is_of_requests(body, title) {
-        let numbers = resources.saturating_add(3).saturating_mul(jobs);
-        format!(in alloc;
-            "so many numbers behind this title: {numbers} (jobs: {jobs}, resources: {resources})"
-        )?
+/// Adds how many numbers the part with this title has to have, and how many it has.
+fn push_too_few(text: &mut String, body: &[u8], title: usize) -> Result<(), AllocError> {
+    if is_of_requests(body, title) {
+        push_requests(text, body)?;
     } else {
-        format!(in alloc; "a row for each job behind this title (jobs: {jobs})")?
-    };
-    let there = format!(in alloc; "so many numbers up to the end of the part: {count}")?;
-    Ok(Finding { wanted, there })
+        push_rows(text, body)?;
+    }
+    let count = numbers_behind(body, title);
+    write!(
+        text,
+        "{THERE}so many numbers up to the end of the part: {count}"
+    )
+}
+
+/// Adds how many numbers the requests part has to have.
+fn push_requests(text: &mut String, body: &[u8]) -> Result<(), AllocError> {
+    let jobs = jobs_of(body);
+    let resources = head_number(body, &[b"-", b"renewable"]);
+    let numbers = resources.saturating_add(3).saturating_mul(jobs);
+    write!(
+        text,
+        "so many numbers behind this title: {numbers} (jobs: {jobs}, resources: {resources})"
+    )
+}
+
+/// Adds how many rows the precedence part has to have.
+fn push_rows(text: &mut String, body: &[u8]) -> Result<(), AllocError> {
+    let jobs = jobs_of(body);
+    write!(text, "a row for each job behind this title (jobs: {jobs})")
+}
+
+/// How many jobs there are, by the head.
+fn jobs_of(body: &[u8]) -> u64 {
+    head_number(body, &[b"jobs"])
 }
 
 /// Whether the title in this line is that of the requests part.
@@ -143,28 +175,39 @@ fn is_of_dashes(line: &[u8]) -> bool {
     first_word(line).starts_with(b"-")
 }
 
-/// The jobs that wait for each other.
-fn ring(alloc: Global, body: &[u8]) -> Result<Finding, AllocError> {
-    let jobs = head_number(body, &[b"jobs"]);
-    let mut there = String::from_str(alloc, "jobs that wait for each other:")?;
-    for job in ring_of(alloc, body, jobs)? {
-        write!(there, " {job}")?;
-    }
-    Finding::new(alloc, "no job that has to wait for itself", there)
+/// Adds the jobs that wait for each other.
+fn push_ring(alloc: Global, text: &mut String, body: &[u8]) -> Result<(), AllocError> {
+    write!(
+        text,
+        "no job that has to wait for itself{THERE}jobs that wait for each other:"
+    )?;
+    let ring = ring_of(alloc, body, jobs_of(body))?;
+    push_jobs(text, &ring)
 }
 
-/// The word that is no number.
-fn bad_number(alloc: Global, body: &[u8], number: usize) -> Result<Finding, AllocError> {
+/// Adds the numbers of jobs.
+fn push_jobs(text: &mut String, jobs: &[u64]) -> Result<(), AllocError> {
+    for job in jobs {
+        write!(text, " {job}")?;
+    }
+    Ok(())
+}
+
+/// Adds the word that is no number, and its line.
+fn push_bad_number(text: &mut String, body: &[u8], number: usize) -> Result<(), AllocError> {
+    write!(text, "a whole number, of decimal digits alone{THERE}")?;
     let line = line_at(body, number);
-    let text = shown(alloc, line)?;
-    let there = match line.and_then(no_number) {
-        Some(word) => {
-            let word = shown(alloc, Some(word))?;
-            format!(in alloc; "{word} in {text}")?
-        }
-        None => text,
-    };
-    Finding::new(alloc, "a whole number, of decimal digits alone", there)
+    push_word(text, line.and_then(no_number))?;
+    push_shown(text, line)
+}
+
+/// Adds a word of a line, where there is one, and what stands before its line.
+fn push_word(text: &mut String, word: Option<&[u8]>) -> Result<(), AllocError> {
+    if word.is_some() {
+        push_shown(text, word)?;
+        text.push_str(" in ")?;
+    }
+    Ok(())
 }
 
 /// The first word of a line, or of what stands behind its colon, that is no number.
@@ -181,12 +224,12 @@ fn no_number(line: &[u8]) -> Option<&[u8]> {
     None
 }
 
-/// The row with a successor that is none.
-fn bad_successor(alloc: Global, body: &[u8], number: usize) -> Result<Finding, AllocError> {
-    let jobs = head_number(body, &[b"jobs"]);
-    let wanted = format!(in alloc;
-        "successors from 1 to {jobs}, as many as the third column says"
+/// Adds the row with a successor that is none.
+fn push_bad_successor(text: &mut String, body: &[u8], number: usize) -> Result<(), AllocError> {
+    let jobs = jobs_of(body);
+    write!(
+        text,
+        "successors from 1 to {jobs}, as many as the third column says{THERE}"
     )?;
-    let there = shown(alloc, line_at(body, number))?;
-    Ok(Finding { wanted, there })
+    push_shown(text, line_at(body, number))
 }

@@ -1,7 +1,7 @@
 //! What is wrong with an order.
 
-use crate::finding::Finding;
-use crate::line_of::{line_at, shown};
+use crate::finding::THERE;
+use crate::line_of::{line_at, push_shown};
 use racp_prices::OrderFault;
 use std::alloc::{AllocError, Global};
 use toml::{Table, Value};
@@ -23,85 +23,105 @@ pub(crate) struct Sizes<'a> {
     pub(crate) jobs: usize,
 }
 
-/// The arrays of an order, in the order in which they are read; those of resources come first.
-const ARRAYS: [&str; 5] = ["prices", "owned", "ceiling", "release", "due"];
+/// The keys of an order with one number, in the order in which they are read.
+const NUMBERS: &[&str] = &["version", "deadline"];
 
-/// What an order has in place of what was wanted where it has this fault.
-pub(crate) fn order_finding(
+/// The arrays of an order, in the order in which they are read; those of resources come first.
+const ARRAYS: &[&str] = &["prices", "owned", "ceiling", "release", "due"];
+
+/// Adds what an order has to have where it has this fault, and what it has.
+pub(crate) fn push_order_finding(
     alloc: Global,
+    text: &mut String,
     fault: OrderFault,
     bytes: &[u8],
     sizes: Sizes<'_>,
-) -> Result<Finding, AllocError> {
-    let Ok(text) = std::str::from_utf8(bytes) else {
-        let there = String::from_str(alloc, "bytes that are not UTF-8")?;
-        return Finding::new(alloc, "a text in UTF-8", there);
+) -> Result<(), AllocError> {
+    let Ok(order) = std::str::from_utf8(bytes) else {
+        return write!(text, "a text in UTF-8{THERE}bytes that are not UTF-8");
     };
-    match toml::table_from_str(alloc, text) {
-        Ok(table) => table_finding(alloc, fault, &table, sizes),
+    match toml::table_from_str(alloc, order) {
+        Ok(table) => push_table_finding(text, fault, &table, sizes),
         Err(error) if error.is_memory() => Err(AllocError),
-        Err(error) => {
-            let start = match error.span() {
-                Some(span) => span.start,
-                None => 0,
-            };
-            no_toml(alloc, bytes, start, error.message())
-        }
+        Err(error) => push_no_toml(text, bytes, start_of(&error), error.message()),
     }
 }
 
-/// What is no TOML, at this byte, and why.
-fn no_toml(
-    alloc: Global,
+/// The byte at which a text is no TOML.
+fn start_of(error: &toml::de::Error) -> usize {
+    match error.span() {
+        Some(span) => span.start,
+        None => 0,
+    }
+}
+
+/// Adds what is no TOML, at this byte, and why.
+fn push_no_toml(
+    text: &mut String,
     bytes: &[u8],
     start: usize,
     message: &str,
-) -> Result<Finding, AllocError> {
+) -> Result<(), AllocError> {
+    let line = line_number(bytes, start);
+    write!(
+        text,
+        "lines as 'deadline = 4' and 'prices = [10]'{THERE}line {line}: "
+    )?;
+    push_shown(text, line_at(bytes, line))?;
+    write!(text, ": {message}")
+}
+
+/// The number, from 1, of the line in which this byte stands.
+fn line_number(bytes: &[u8], start: usize) -> usize {
     let before = bytes.get(..start).unwrap_or(bytes);
-    let line = before
+    before
         .iter()
         .filter(|byte| **byte == b'\n')
         .count()
-        .saturating_add(1);
-    let text = shown(alloc, line_at(bytes, line))?;
-    let there = format!(in alloc; "line {line}: {text}: {message}")?;
-    Finding::new(alloc, "lines as 'deadline = 4' and 'prices = [10]'", there)
+        .saturating_add(1)
 }
 
-/// What a table has in place of what was wanted.
-fn table_finding(
-    alloc: Global,
+/// Adds what a table has to have, and what it has.
+fn push_table_finding(
+    text: &mut String,
     fault: OrderFault,
     table: &Table,
     sizes: Sizes<'_>,
-) -> Result<Finding, AllocError> {
+) -> Result<(), AllocError> {
     match fault {
-        OrderFault::Missing => missing(alloc, table),
-        OrderFault::Unknown => unknown(alloc, table),
-        OrderFault::NotWhole => not_whole(alloc, table),
-        OrderFault::Range => out_of_range(alloc, table),
-        OrderFault::Count => wrong_count(alloc, table, sizes),
-        OrderFault::Version => {
-            let there = value_of(alloc, "version", table.get("version"))?;
-            Finding::new(alloc, "version = 2, or no version", there)
-        }
-        _ => Finding::new(alloc, "enough memory", String::new(alloc)),
+        OrderFault::Missing => push_missing(text, table),
+        OrderFault::Unknown => push_unknown(text, table),
+        OrderFault::NotWhole => push_not_whole(text, table),
+        OrderFault::Range => push_out_of_range(text, table),
+        OrderFault::Count => push_wrong_count(text, table, sizes),
+        OrderFault::Version => push_version(text, table),
+        _ => write!(text, "enough memory{THERE}"),
     }
 }
 
-/// The key that is missing, and one like it that is there.
-fn missing(alloc: Global, table: &Table) -> Result<Finding, AllocError> {
+/// Adds the version of an order.
+fn push_version(text: &mut String, table: &Table) -> Result<(), AllocError> {
+    write!(text, "version = 2, or no version{THERE}")?;
+    push_value(text, "version", table.get("version"))
+}
+
+/// Adds the key that is missing, and one like it that is there.
+fn push_missing(text: &mut String, table: &Table) -> Result<(), AllocError> {
     let key = if table.get("deadline").is_none() {
         "deadline"
     } else {
         "prices"
     };
-    let there = match table.keys().find(|other| is_like(other, key)) {
-        Some(other) => format!(in alloc; "no such key, but the key {other}")?,
-        None => String::from_str(alloc, "no such key")?,
-    };
-    let wanted = format!(in alloc; "the key {key}")?;
-    Ok(Finding { wanted, there })
+    match key_like(table, key) {
+        Some(other) => write!(text, "the key {key}{THERE}no such key, but the key {other}"),
+        None => write!(text, "the key {key}{THERE}no such key"),
+    }
+}
+
+/// The first key that is like this one.
+fn key_like<'a>(table: &'a Table, key: &str) -> Option<&'a str> {
+    let found = table.keys().find(|other| is_like(other, key))?;
+    Some(found.as_str())
 }
 
 /// Whether two keys begin with the same four letters, whatever their case.
@@ -112,47 +132,87 @@ fn is_like(other: &str, key: &str) -> bool {
     }
 }
 
-/// The first key that no order of the version has.
-fn unknown(alloc: Global, table: &Table) -> Result<Finding, AllocError> {
+/// Adds the keys of the version, and the first that is none of them.
+fn push_unknown(text: &mut String, table: &Table) -> Result<(), AllocError> {
     let has_version = table.get("version").is_some();
-    let wanted = if has_version {
+    text.push_str(known_keys(has_version))?;
+    match unknown_key(table, has_version) {
+        Some(key) => write!(text, "{THERE}the key {key}"),
+        None => write!(text, "{THERE}the key"),
+    }
+}
+
+/// The keys that an order may have.
+fn known_keys(has_version: bool) -> &'static str {
+    if has_version {
         "the keys version, deadline, prices, owned, ceiling, release and due alone"
     } else {
         "the keys deadline and prices alone, where there is no 'version = 2'"
-    };
-    let mut there = String::from_str(alloc, "the key")?;
-    if let Some(key) = table.keys().find(|key| !is_known(key, has_version)) {
-        write!(there, " {key}")?;
     }
-    Finding::new(alloc, wanted, there)
+}
+
+/// The first key that no order of the version has.
+fn unknown_key(table: &Table, has_version: bool) -> Option<&str> {
+    let found = table.keys().find(|key| !is_known(key, has_version))?;
+    Some(found.as_str())
 }
 
 /// Whether an order may have this key.
 fn is_known(key: &str, has_version: bool) -> bool {
-    key == "deadline"
-        || key == "prices"
-        || has_version && (key == "version" || ARRAYS.iter().any(|other| *other == key))
+    key == "deadline" || key == "prices" || has_version && is_of_version(key)
 }
 
-/// The first value that is no whole number, or no array of them.
-fn not_whole(alloc: Global, table: &Table) -> Result<Finding, AllocError> {
-    for key in ["version", "deadline"] {
-        let value = table.get(key);
-        if value.is_some_and(|value| !value.is_integer()) {
-            let wanted = format!(in alloc; "{key} as a whole number")?;
-            let there = value_of(alloc, key, value)?;
-            return Ok(Finding { wanted, there });
+/// Whether an order with a version may have this key, beside the deadline and the prices.
+fn is_of_version(key: &str) -> bool {
+    key == "version" || ARRAYS.iter().any(|other| *other == key)
+}
+
+/// Adds the first value that is no whole number, or no array of them.
+fn push_not_whole(text: &mut String, table: &Table) -> Result<(), AllocError> {
+    match number_not_whole(table) {
+        Some(key) => push_no_number(text, key, table.get(key)),
+        None => push_no_array(text, table),
+    }
+}
+
+/// The first key whose value is not one whole number, where it has to be.
+fn number_not_whole(table: &Table) -> Option<&'static str> {
+    for &key in NUMBERS {
+        if table.get(key).is_some_and(|value| !value.is_integer()) {
+            return Some(key);
         }
     }
-    for key in ARRAYS {
-        let value = table.get(key);
-        if value.is_some_and(|value| !is_of_whole(value)) {
-            let wanted = format!(in alloc; "{key} as an array of whole numbers, in brackets")?;
-            let there = array_of(alloc, key, value)?;
-            return Ok(Finding { wanted, there });
+    None
+}
+
+/// Adds a value that is not one whole number.
+fn push_no_number(text: &mut String, key: &str, value: Option<&Value>) -> Result<(), AllocError> {
+    write!(text, "{key} as a whole number{THERE}")?;
+    push_value(text, key, value)
+}
+
+/// Adds the first value that is no array of whole numbers.
+fn push_no_array(text: &mut String, table: &Table) -> Result<(), AllocError> {
+    match array_not_whole(table) {
+        Some(key) => {
+            write!(
+                text,
+                "{key} as an array of whole numbers, in brackets{THERE}"
+            )?;
+            push_array(text, key, table.get(key))
+        }
+        None => write!(text, "whole numbers{THERE}"),
+    }
+}
+
+/// The first key whose value is no array of whole numbers, where it has to be.
+fn array_not_whole(table: &Table) -> Option<&'static str> {
+    for &key in ARRAYS {
+        if table.get(key).is_some_and(|value| !is_of_whole(value)) {
+            return Some(key);
         }
     }
-    Finding::new(alloc, "whole numbers", String::new(alloc))
+    None
 }
 
 /// Whether a value is an array of whole numbers.
@@ -163,63 +223,109 @@ fn is_of_whole(value: &Value) -> bool {
     }
 }
 
-/// What stands in place of an array of whole numbers.
-fn array_of(alloc: Global, key: &str, value: Option<&Value>) -> Result<String, AllocError> {
-    let items = match value.and_then(|value| value.as_array()) {
-        Some(items) => items,
-        None => return value_of(alloc, key, value),
-    };
+/// Adds what stands in place of an array of whole numbers.
+fn push_array(text: &mut String, key: &str, value: Option<&Value>) -> Result<(), AllocError> {
+    match value.and_then(|value| value.as_array()) {
+        Some(items) => push_item(text, key, first_not_whole(items)),
+        None => push_value(text, key, value),
+    }
+}
+
+/// The first element that is no whole number, by its place, from 1, and its type.
+fn first_not_whole(items: &[Value]) -> Option<(usize, &'static str)> {
     let mut place = 1usize;
     for item in items {
         if !item.is_integer() {
-            let kind = item.type_str();
-            return format!(in alloc; "its number {place} is of the type {kind}");
+            return Some((place, item.type_str()));
         }
         place = place.saturating_add(1);
     }
-    String::from_str(alloc, key)
+    None
 }
 
-/// A key and its value, where that is a number, or else the type of the value.
-fn value_of(alloc: Global, key: &str, value: Option<&Value>) -> Result<String, AllocError> {
+/// Adds the place and the type of an element, or else the key of the array.
+fn push_item(text: &mut String, key: &str, item: Option<(usize, &str)>) -> Result<(), AllocError> {
+    match item {
+        Some((place, kind)) => write!(text, "its number {place} is of the type {kind}"),
+        None => text.push_str(key),
+    }
+}
+
+/// Adds a key and its value, where that is a number, or else the type of the value.
+fn push_value(text: &mut String, key: &str, value: Option<&Value>) -> Result<(), AllocError> {
     let Some(value) = value else {
-        return String::from_str(alloc, "no such key");
+        return text.push_str("no such key");
     };
     match value.as_integer() {
-        Some(number) => format!(in alloc; "{key} = {number}"),
+        Some(number) => write!(text, "{key} = {number}"),
         None => {
             let kind = value.type_str();
-            format!(in alloc; "{key} of the type {kind}")
+            write!(text, "{key} of the type {kind}")
         }
     }
 }
 
-/// The first number that is out of its range.
-fn out_of_range(alloc: Global, table: &Table) -> Result<Finding, AllocError> {
-    if let Some(number) = table.get("deadline").and_then(|value| value.as_integer()) {
-        if !(0..=MOST).contains(&number) {
-            let there = format!(in alloc; "deadline = {number}")?;
-            return Finding::new(alloc, "a deadline from 0 to 10,000,000", there);
+/// Adds the first number that is out of its range.
+fn push_out_of_range(text: &mut String, table: &Table) -> Result<(), AllocError> {
+    match deadline_out(table) {
+        Some(number) => write!(
+            text,
+            "a deadline from 0 to 10,000,000{THERE}deadline = {number}"
+        ),
+        None => push_out_of_array(text, array_out(table)),
+    }
+}
+
+/// The deadline, where it is out of its range.
+fn deadline_out(table: &Table) -> Option<i64> {
+    let number = table.get("deadline")?.as_integer()?;
+    if is_within(number, MOST) {
+        None
+    } else {
+        Some(number)
+    }
+}
+
+/// Whether a number is at least 0, and at most another.
+fn is_within(number: i64, most: i64) -> bool {
+    0 <= number && number <= most
+}
+
+/// Adds the number of an array that is out of its range.
+fn push_out_of_array(text: &mut String, out: Option<(&str, usize, i64)>) -> Result<(), AllocError> {
+    match out {
+        Some((key, place, number)) => {
+            let most = most_of(key);
+            write!(
+                text,
+                "{key} from 0 to {most}{THERE}{number}, as number {place} of {key}"
+            )
+        }
+        None => write!(text, "numbers in their range{THERE}"),
+    }
+}
+
+/// The first number of an array that is out of its range, by the key of the array and its place there, from 1.
+fn array_out(table: &Table) -> Option<(&'static str, usize, i64)> {
+    for &key in ARRAYS {
+        if let Some((place, number)) = first_out(table.get(key), most_of(key)) {
+            return Some((key, place, number));
         }
     }
-    for key in ARRAYS {
-        let most = if key == "prices" { MOST_PRICE } else { MOST };
-        if let Some((place, number)) = first_out(table.get(key), most) {
-            let wanted = format!(in alloc; "{key} from 0 to {most}")?;
-            let there = format!(in alloc; "{number}, as number {place} of {key}")?;
-            return Ok(Finding { wanted, there });
-        }
-    }
-    Finding::new(alloc, "numbers in their range", String::new(alloc))
+    None
+}
+
+/// The greatest number that an array may have.
+fn most_of(key: &str) -> i64 {
+    if key == "prices" { MOST_PRICE } else { MOST }
 }
 
 /// The first number of an array that is below 0 or above `most`, with its place, from 1.
 fn first_out(value: Option<&Value>, most: i64) -> Option<(usize, i64)> {
-    let items = value?.as_array()?;
     let mut place = 1usize;
-    for item in items {
+    for item in value?.as_array()? {
         let number = item.as_integer()?;
-        if !(0..=most).contains(&number) {
+        if !is_within(number, most) {
             return Some((place, number));
         }
         place = place.saturating_add(1);
@@ -227,28 +333,56 @@ fn first_out(value: Option<&Value>, most: i64) -> Option<(usize, i64)> {
     None
 }
 
-/// The first array with another number of elements than there are resources, or jobs.
-fn wrong_count(alloc: Global, table: &Table, sizes: Sizes<'_>) -> Result<Finding, AllocError> {
-    for key in ARRAYS {
-        let is_of_jobs = key == "release" || key == "due";
-        let (count, owners) = if is_of_jobs {
-            (sizes.jobs, "jobs")
-        } else {
-            (sizes.resources, "resources")
-        };
-        if let Some(items) = table.get(key).and_then(|value| value.as_array()) {
-            let found = items.len();
-            if found != count {
-                let net = sizes.net;
-                let wanted = format!(in alloc; "as many numbers as {net} has {owners}: {count}")?;
-                let there = format!(in alloc; "{key} has so many: {found}")?;
-                return Ok(Finding { wanted, there });
-            }
+/// Adds the first array with another number of elements than there are resources, or jobs.
+fn push_wrong_count(text: &mut String, table: &Table, sizes: Sizes<'_>) -> Result<(), AllocError> {
+    match wrong_array(table, sizes) {
+        Some((key, found)) => push_count(text, key, found, sizes),
+        None => write!(text, "a number for each resource or job{THERE}"),
+    }
+}
+
+/// Adds how many elements an array has to have, and how many it has.
+fn push_count(
+    text: &mut String,
+    key: &str,
+    found: usize,
+    sizes: Sizes<'_>,
+) -> Result<(), AllocError> {
+    let net = sizes.net;
+    let count = count_of(key, sizes);
+    let owners = if is_of_jobs(key) { "jobs" } else { "resources" };
+    write!(
+        text,
+        "as many numbers as {net} has {owners}: {count}{THERE}{key} has so many: {found}"
+    )
+}
+
+/// The first array with another number of elements than there are resources, or jobs, and that number.
+fn wrong_array(table: &Table, sizes: Sizes<'_>) -> Option<(&'static str, usize)> {
+    for &key in ARRAYS {
+        if let Some(found) = other_count(table.get(key), count_of(key, sizes)) {
+            return Some((key, found));
         }
     }
-    Finding::new(
-        alloc,
-        "a number for each resource or job",
-        String::new(alloc),
-    )
+    None
+}
+
+/// How many elements an array has, where it has another number of them.
+fn other_count(value: Option<&Value>, count: usize) -> Option<usize> {
+    let found = value?.as_array()?.len();
+    if found == count { None } else { Some(found) }
+}
+
+/// How many elements an array has to have.
+fn count_of(key: &str, sizes: Sizes<'_>) -> usize {
+    if is_of_jobs(key) {
+        sizes.jobs
+    } else {
+        sizes.resources
+    }
+}
+
+/// Whether an array has an element for each job.
+fn is_of_jobs(key: &str) -> bool {
+    key == "release" || key == "due"
 }

@@ -7,16 +7,16 @@ use racp_prices::OrderFault;
 const READ: &str = "racp plan examples/a.sm FILE";
 
 /// What is said of a fault of an order.
-pub(crate) fn order_topic(fault: OrderFault) -> Topic {
+pub(crate) fn order_topic(fault: OrderFault) -> &'static Topic {
     match fault {
-        OrderFault::NotToml => NOT_TOML,
-        OrderFault::Missing => MISSING,
-        OrderFault::Unknown => UNKNOWN,
-        OrderFault::NotWhole => NOT_WHOLE,
-        OrderFault::Range => RANGE,
-        OrderFault::Count => COUNT,
-        OrderFault::Memory => MEMORY,
-        OrderFault::Version => VERSION,
+        OrderFault::NotToml => &NOT_TOML,
+        OrderFault::Missing => &MISSING,
+        OrderFault::Unknown => &UNKNOWN,
+        OrderFault::NotWhole => &NOT_WHOLE,
+        OrderFault::Range => &RANGE,
+        OrderFault::Count => &COUNT,
+        OrderFault::Memory => &MEMORY,
+        OrderFault::Version => &VERSION,
     }
 }
 

@@ -3,9 +3,9 @@
 ghost use Rattle.std.specs.Prelude.{◌≡◌, length};
 ghost use Rattle.racp_model.specs.Terms.{AreTermsOf};
 
-use crate::finding::Finding;
+use crate::finding::THERE;
 use racp_check::PlanFault;
-use racp_cpm::{early, longest};
+use racp_cpm::early;
 use racp_model::{Network, usage_at};
 use racp_plan::Plan;
 use racp_prices::{Order, cost_of};
@@ -37,197 +37,235 @@ fn due_of(order: &Order, job: u32) -> u32 {
     at(&order.due, job).min(order.deadline)
 }
 
-/// What the head of a plan says, and what it has to say.
-pub(crate) fn head_finding(
-    alloc: Global,
-    net: &Network,
+/// Adds what the head of a plan has to say, and what it says.
+pub(crate) fn push_head_finding(
+    text: &mut String,
     order: &Order,
     plan: &Plan,
-) -> Result<Finding, AllocError>
-    requires { AreTermsOf net.now order.now }
-{
-    let critical = longest(alloc, net, &order.release)?;
-    let deadline = order.deadline;
-    let wanted = format!(in alloc; "deadline {deadline} and critical {critical}")?;
-    let (deadline, critical) = (plan.deadline, plan.critical);
-    let there = format!(in alloc; "deadline {deadline} and critical {critical}")?;
-    Ok(Finding { wanted, there })
+    critical: u64,
+) -> Result<(), AllocError> {
+    let wanted = order.deadline;
+    let (deadline, length) = (plan.deadline, plan.critical);
+    write!(
+        text,
+        "deadline {wanted} and critical {critical}{THERE}deadline {deadline} and critical {length}"
+    )
 }
 
-/// What is wanted of a plan with this fault, and what it has.
-pub(crate) fn plan_finding(
-    alloc: Global,
+/// Adds what is wanted of a plan with this fault, and what it has.
+pub(crate) fn push_plan_finding(
+    text: &mut String,
     net: &Network,
     order: &Order,
     plan: &Plan,
     fault: PlanFault,
-) -> Result<Finding, AllocError>
+) -> Result<(), AllocError>
     requires terms { AreTermsOf net.now order.now }
     requires capacities { length plan.now.capacities ≡ net.now.resources }
     requires starts { length plan.now.starts ≡ length net.now.jobs }
 {
     let starts = plan.starts.as_slice();
     match fault {
-        PlanFault::Cost => cost(alloc, net, order, plan),
-        PlanFault::Late(job) => late(alloc, net, order, starts, job),
-        PlanFault::Order(before, after) => order_of(alloc, net, starts, before, after),
-        PlanFault::Over(resource, time) => over(alloc, net, plan, resource, time),
-        PlanFault::Ceiling(resource) => ceiling(alloc, order, plan, resource),
-        PlanFault::Early(job) => early_start(alloc, order, starts, job),
+        PlanFault::Cost => push_cost(text, net, order, plan),
+        PlanFault::Late(job) => push_late(text, net, order, starts, job),
+        PlanFault::Order(before, after) => push_order(text, net, starts, before, after),
+        PlanFault::Over(resource, time) => push_over(text, net, plan, resource, time),
+        PlanFault::Ceiling(resource) => push_ceiling(text, order, plan, resource),
+        PlanFault::Early(job) => push_early(text, order, starts, job),
     }
 }
 
-/// The cost of a plan.
-fn cost(alloc: Global, net: &Network, order: &Order, plan: &Plan) -> Result<Finding, AllocError>
+/// Adds the cost that a plan has to have, and that which it has.
+fn push_cost(text: &mut String, net: &Network, order: &Order, plan: &Plan) -> Result<(), AllocError>
     requires terms { AreTermsOf net.now order.now }
     requires capacities { length plan.now.capacities ≡ net.now.resources }
 {
-    let cost = cost_of(net, order, plan.capacities.as_slice());
-    let wanted = format!(in alloc;
-        "cost {cost}, for the units of these capacities that are not owned"
-    )?;
+    let wanted = cost_of(net, order, plan.capacities.as_slice());
     let cost = plan.cost;
-    let there = format!(in alloc; "cost {cost}")?;
-    Ok(Finding { wanted, there })
+    write!(
+        text,
+        "cost {wanted}, for the units of these capacities that are not owned{THERE}cost {cost}"
+    )
 }
 
-/// The end of a job, and when it has to end.
-fn late(
-    alloc: Global,
+/// Adds when a job has to end, and when it ends.
+fn push_late(
+    text: &mut String,
     net: &Network,
     order: &Order,
     starts: &[u32],
     job: u32,
-) -> Result<Finding, AllocError> {
+) -> Result<(), AllocError> {
     let due = due_of(order, job);
-    let wanted = format!(in alloc; "job {job} ends by {due}")?;
     let end = end_of(net, job, at(starts, job));
-    let there = format!(in alloc; "it ends at {end}")?;
-    Ok(Finding { wanted, there })
+    write!(text, "job {job} ends by {due}{THERE}it ends at {end}")
 }
 
-/// The end of a job, and the start of one that has to wait for it.
-fn order_of(
-    alloc: Global,
+/// Adds the end of a job, and the start of one that has to wait for it.
+fn push_order(
+    text: &mut String,
     net: &Network,
     starts: &[u32],
     before: u32,
     after: u32,
-) -> Result<Finding, AllocError> {
+) -> Result<(), AllocError> {
     let end = end_of(net, before, at(starts, before));
-    let wanted = format!(in alloc;
-        "job {after} starts at {end} or later, when job {before} has ended"
-    )?;
     let start = at(starts, after);
-    let there = format!(in alloc; "it starts at {start}")?;
-    Ok(Finding { wanted, there })
+    write!(
+        text,
+        "job {after} starts at {end} or later, when job {before} has ended{THERE}it starts at {start}"
+    )
 }
 
-/// The units of a resource, and those that are used at a time.
-fn over(
-    alloc: Global,
+/// Adds the units of a resource, and those that are used at a time.
+fn push_over(
+    text: &mut String,
     net: &Network,
     plan: &Plan,
     resource: u32,
     time: u32,
-) -> Result<Finding, AllocError>
+) -> Result<(), AllocError>
     requires capacities { length plan.now.capacities ≡ net.now.resources }
     requires starts { length plan.now.starts ≡ length net.now.jobs }
 {
     let starts = plan.starts.as_slice();
     let capacity = at(plan.capacities.as_slice(), resource);
-    let wanted = format!(in alloc;
-        "at most {capacity} units of resource {resource} at time {time}"
+    let usage = used_at(net, starts, resource, time);
+    write!(
+        text,
+        "at most {capacity} units of resource {resource} at time {time}{THERE}{usage}, by the jobs that run then:"
     )?;
+    push_running(text, net, starts, time)
+}
+
+/// How many units of the resource with this number are used at a time.
+fn used_at(net: &Network, starts: &[u32], resource: u32, time: u32) -> u64
+    requires starts { length starts.now ≡ length net.now.jobs }
+{
     let place = place_of(resource);
-    let usage = if place < net.resource_count() {
+    if place < net.resource_count() {
         usage_at(net, starts, place, time)
     } else {
         0
-    };
-    let mut there = format!(in alloc; "{usage}, by the jobs that run then:")?;
-    for job in 1..=net.job_count() as u32 {
-        let start = at(starts, job);
-        if start <= time && (time as u64) < end_of(net, job, start) {
-            write!(there, " {job}")?;
-        }
     }
-    Ok(Finding { wanted, there })
 }
 
-/// The capacity of a resource, and its ceiling.
-fn ceiling(
-    alloc: Global,
+/// Adds the jobs that run at a time.
+fn push_running(
+    text: &mut String,
+    net: &Network,
+    starts: &[u32],
+    time: u32,
+) -> Result<(), AllocError> {
+    for job in 1..=net.job_count() as u32 {
+        if is_running(net, starts, job, time) {
+            write!(text, " {job}")?;
+        }
+    }
+    Ok(())
+}
+
+/// Whether a job runs at a time.
+fn is_running(net: &Network, starts: &[u32], job: u32, time: u32) -> bool {
+    let start = at(starts, job);
+    start <= time && (time as u64) < end_of(net, job, start)
+}
+
+/// Adds the ceiling of a resource, and its capacity.
+fn push_ceiling(
+    text: &mut String,
     order: &Order,
     plan: &Plan,
     resource: u32,
-) -> Result<Finding, AllocError> {
-    let most = match &order.ceilings {
-        Some(ceilings) => at(ceilings, resource),
-        None => 0,
-    };
-    let wanted = format!(in alloc; "at most {most} units of resource {resource}")?;
+) -> Result<(), AllocError> {
+    let most = ceiling_of(order, resource);
     let capacity = at(plan.capacities.as_slice(), resource);
-    let there = format!(in alloc; "{capacity}")?;
-    Ok(Finding { wanted, there })
+    write!(
+        text,
+        "at most {most} units of resource {resource}{THERE}{capacity}"
+    )
 }
 
-/// The start of a job, and its release time.
-fn early_start(
-    alloc: Global,
+/// The ceiling of a resource, or 0 where there is none.
+fn ceiling_of(order: &Order, resource: u32) -> u32 {
+    match &order.ceilings {
+        Some(ceilings) => at(ceilings, resource),
+        None => 0,
+    }
+}
+
+/// Adds the release time of a job, and its start.
+fn push_early(
+    text: &mut String,
     order: &Order,
     starts: &[u32],
     job: u32,
-) -> Result<Finding, AllocError> {
+) -> Result<(), AllocError> {
     let release = at(&order.release, job);
-    let wanted = format!(in alloc; "job {job} starts at {release} or later")?;
     let start = at(starts, job);
-    let there = format!(in alloc; "it starts at {start}")?;
-    Ok(Finding { wanted, there })
+    write!(
+        text,
+        "job {job} starts at {release} or later{THERE}it starts at {start}"
+    )
 }
 
-/// The shortest deadline, and the order's.
-pub(crate) fn too_long(alloc: Global, order: &Order, critical: u64) -> Result<Finding, AllocError> {
-    let wanted = format!(in alloc;
-        "a deadline of {critical} or later, the length of the longest chain of jobs"
-    )?;
+/// Adds the shortest deadline, and the order's.
+pub(crate) fn push_too_long(
+    text: &mut String,
+    order: &Order,
+    critical: u64,
+) -> Result<(), AllocError> {
     let deadline = order.deadline;
-    let there = format!(in alloc; "deadline = {deadline}")?;
-    Ok(Finding { wanted, there })
+    write!(
+        text,
+        "a deadline of {critical} or later, the length of the longest chain of jobs{THERE}deadline = {deadline}"
+    )
 }
 
-/// The earliest end of a job, and when it has to end.
-pub(crate) fn too_late(
+/// Adds the earliest end of a job, and when it has to end.
+pub(crate) fn push_too_late(
     alloc: Global,
+    text: &mut String,
     net: &Network,
     order: &Order,
     job: u32,
-) -> Result<Finding, AllocError>
+) -> Result<(), AllocError>
+    requires { AreTermsOf net.now order.now }
+{
+    let end = earliest_end(alloc, net, order, job)?;
+    let due = due_of(order, job);
+    write!(
+        text,
+        "a due time of job {job} of {end} or later, when it can end at the earliest{THERE}due time {due}"
+    )
+}
+
+/// When a job can end at the earliest.
+fn earliest_end(alloc: Global, net: &Network, order: &Order, job: u32) -> Result<u64, AllocError>
     requires { AreTermsOf net.now order.now }
 {
     let starts = early(alloc, net, order.release.as_slice())?;
-    let end = end_of(net, job, at(starts.as_slice(), job));
-    let wanted = format!(in alloc;
-        "a due time of job {job} of {end} or later, when it can end at the earliest"
-    )?;
-    let due = due_of(order, job);
-    let there = format!(in alloc; "due time {due}")?;
-    Ok(Finding { wanted, there })
+    Ok(end_of(net, job, at(starts.as_slice(), job)))
 }
 
-/// The ceilings of an order that leave no room.
-pub(crate) fn no_room(
-    alloc: Global,
+/// Adds that the ceilings of an order leave no room, and the ceilings.
+pub(crate) fn push_no_room(
+    text: &mut String,
     order: &Order,
     ceilings: &[u32],
-) -> Result<Finding, AllocError> {
+) -> Result<(), AllocError> {
     let deadline = order.deadline;
-    let wanted = format!(in alloc;
-        "more units than the ceilings allow, or a later deadline than {deadline}"
+    write!(
+        text,
+        "more units than the ceilings allow, or a later deadline than {deadline}{THERE}the ceilings"
     )?;
-    let mut there = String::from_str(alloc, "the ceilings")?;
-    for units in ceilings {
-        write!(there, " {units}")?;
+    push_units(text, ceilings)
+}
+
+/// Adds numbers of units.
+fn push_units(text: &mut String, numbers: &[u32]) -> Result<(), AllocError> {
+    for units in numbers {
+        write!(text, " {units}")?;
     }
-    Ok(Finding { wanted, there })
+    Ok(())
 }

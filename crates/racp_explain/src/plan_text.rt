@@ -1,59 +1,60 @@
 //! What is wrong with a plan text.
 
-use crate::finding::Finding;
-use crate::line_of::{line_at, shown};
+use crate::finding::THERE;
+use crate::line_of::{line_at, push_shown};
 use racp_model::Network;
 use racp_plan::{TextFault, TextFaultKind};
-use std::alloc::{AllocError, Global};
+use std::alloc::AllocError;
 
 /// How many lines stand before those of the resources.
 const HEAD: usize = 3;
 
-/// What a plan text has in place of what was wanted where it has this fault.
-pub(crate) fn text_finding(
-    alloc: Global,
+/// Adds what a plan text has to have where it has this fault, and what it has.
+pub(crate) fn push_text_finding(
+    text: &mut String,
     fault: TextFault,
     bytes: &[u8],
     net: &Network,
-) -> Result<Finding, AllocError> {
-    let form = form_of(alloc, fault.line, net.resource_count(), net.job_count())?;
-    let form = form.as_str();
-    let line = shown(alloc, line_at(bytes, fault.line))?;
-    let wanted = match fault.kind {
-        TextFaultKind::Range if fault.line == HEAD => {
-            format!(in alloc; "{form}, with a number of at most 1,000,000,000,000,000")?
-        }
-        TextFaultKind::Range => format!(in alloc; "{form}, with a number of at most 10,000,000")?,
-        _ => format!(in alloc; "{form}, and a line feed")?,
-    };
-    Ok(Finding {
-        wanted,
-        there: line,
-    })
+) -> Result<(), AllocError> {
+    push_form(text, fault.line, net.resource_count(), net.job_count())?;
+    text.push_str(limit_of(fault))?;
+    text.push_str(THERE)?;
+    push_shown(text, line_at(bytes, fault.line))
 }
 
-/// The form of the line with this number, from 1, in the plan of so many resources and jobs.
-fn form_of(
-    alloc: Global,
+/// What else a line has to have, by its fault.
+fn limit_of(fault: TextFault) -> &'static str {
+    match fault.kind {
+        TextFaultKind::Range if fault.line == HEAD => {
+            ", with a number of at most 1,000,000,000,000,000"
+        }
+        TextFaultKind::Range => ", with a number of at most 10,000,000",
+        _ => ", and a line feed",
+    }
+}
+
+/// Adds the form of the line with this number, from 1, in the plan of so many resources and jobs.
+fn push_form(
+    text: &mut String,
     line: usize,
     resources: usize,
     jobs: usize,
-) -> Result<String, AllocError> {
+) -> Result<(), AllocError> {
     let starts = resources.saturating_add(HEAD);
     let end = starts.saturating_add(jobs).saturating_add(1);
     match line {
-        1 => String::from_str(alloc, "'deadline T'"),
-        2 => String::from_str(alloc, "'critical C'"),
-        HEAD => String::from_str(alloc, "'cost X'"),
+        1 => text.push_str("'deadline T'"),
+        2 => text.push_str("'critical C'"),
+        HEAD => text.push_str("'cost X'"),
         _ if line <= starts => {
             let resource = line.saturating_sub(HEAD);
-            format!(in alloc; "'capacity {resource} A'")
+            write!(text, "'capacity {resource} A'")
         }
         _ if line < end => {
             let job = line.saturating_sub(starts);
-            format!(in alloc; "'start {job} S'")
+            write!(text, "'start {job} S'")
         }
-        _ if line == end => String::from_str(alloc, "'end'"),
-        _ => String::from_str(alloc, "nothing behind the line 'end'"),
+        _ if line == end => text.push_str("'end'"),
+        _ => text.push_str("nothing behind the line 'end'"),
     }
 }

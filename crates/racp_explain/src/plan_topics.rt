@@ -7,11 +7,11 @@ use racp_plan::TextFaultKind;
 const READ: &str = "racp check examples/a.sm examples/a4.toml FILE";
 
 /// What is said of a fault of a plan text.
-pub(crate) fn plan_topic(kind: TextFaultKind) -> Topic {
+pub(crate) fn plan_topic(kind: TextFaultKind) -> &'static Topic {
     match kind {
-        TextFaultKind::Syntax => SYNTAX,
-        TextFaultKind::Range => RANGE,
-        TextFaultKind::Memory => MEMORY,
+        TextFaultKind::Syntax => &SYNTAX,
+        TextFaultKind::Range => &RANGE,
+        TextFaultKind::Memory => &MEMORY,
     }
 }
 

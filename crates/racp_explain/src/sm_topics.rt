@@ -7,23 +7,23 @@ use racp_sm::SmFaultKind;
 const READ: &str = "racp cpm FILE";
 
 /// What is said of a fault of a network text.
-pub(crate) fn sm_topic(kind: SmFaultKind) -> Topic {
+pub(crate) fn sm_topic(kind: SmFaultKind) -> &'static Topic {
     match kind {
-        SmFaultKind::NoJobs => NO_JOBS,
-        SmFaultKind::NoRenewable => NO_RENEWABLE,
-        SmFaultKind::ManyProjects => MANY_PROJECTS,
-        SmFaultKind::OtherResources => OTHER_RESOURCES,
-        SmFaultKind::NoPrecedence => NO_PRECEDENCE,
-        SmFaultKind::NoRequests => NO_REQUESTS,
-        SmFaultKind::BadNumber => BAD_NUMBER,
-        SmFaultKind::Limit => LIMIT,
-        SmFaultKind::BadRow => BAD_ROW,
-        SmFaultKind::NotSingleMode => NOT_SINGLE_MODE,
-        SmFaultKind::BadSuccessor => BAD_SUCCESSOR,
-        SmFaultKind::TooFew => TOO_FEW,
-        SmFaultKind::TooMany => TOO_MANY,
-        SmFaultKind::Cycle => CYCLE,
-        SmFaultKind::Memory => MEMORY,
+        SmFaultKind::NoJobs => &NO_JOBS,
+        SmFaultKind::NoRenewable => &NO_RENEWABLE,
+        SmFaultKind::ManyProjects => &MANY_PROJECTS,
+        SmFaultKind::OtherResources => &OTHER_RESOURCES,
+        SmFaultKind::NoPrecedence => &NO_PRECEDENCE,
+        SmFaultKind::NoRequests => &NO_REQUESTS,
+        SmFaultKind::BadNumber => &BAD_NUMBER,
+        SmFaultKind::Limit => &LIMIT,
+        SmFaultKind::BadRow => &BAD_ROW,
+        SmFaultKind::NotSingleMode => &NOT_SINGLE_MODE,
+        SmFaultKind::BadSuccessor => &BAD_SUCCESSOR,
+        SmFaultKind::TooFew => &TOO_FEW,
+        SmFaultKind::TooMany => &TOO_MANY,
+        SmFaultKind::Cycle => &CYCLE,
+        SmFaultKind::Memory => &MEMORY,
     }
 }
 

@@ -7,7 +7,6 @@ use crate::sm_topics::sm_topic;
 use crate::subject::Subject;
 
 /// What is said of a subject.
-#[derive(Clone, Copy)]
 pub struct Topic {
     /// What it means, in a few words.
     pub short: &'static str,
@@ -31,12 +30,12 @@ const NAMES: Topic = Topic {
 };
 
 /// What is said of a subject.
-pub fn topic_of(subject: Subject) -> Topic {
+pub fn topic_of(subject: Subject) -> &'static Topic {
     match subject {
         Subject::Sm(kind) => sm_topic(kind),
         Subject::Order(fault) => order_topic(fault),
         Subject::Plan(kind) => plan_topic(kind),
-        Subject::Names => NAMES,
+        Subject::Names => &NAMES,
         Subject::Line(line) => line_topic(line),
     }
 }
