@@ -75,18 +75,28 @@ pub fn plan_cause(
     order: &Input<'_>,
     plan: &Input<'_>,
 ) -> Result<String, AllocError> {
-    let network = match read_sm(alloc, net.bytes) {
-        Ok(network) => network,
-        Err(fault) => return of_network(alloc, net, fault),
-    };
+    match read_sm(alloc, net.bytes) {
+        Ok(network) => of_plan(alloc, net.name, &network, order, plan),
+        Err(fault) => of_network(alloc, net, fault),
+    }
+}
+
+/// What is wrong with the texts of an order and a plan for a network.
+fn of_plan(
+    alloc: Global,
+    net: &str,
+    network: &Network,
+    order: &Input<'_>,
+    plan: &Input<'_>,
+) -> Result<String, AllocError> {
     let (resources, jobs) = (network.resource_count(), network.job_count());
     let terms = match read_order(alloc, order.bytes, resources, jobs) {
         Ok(terms) => terms,
-        Err(fault) => return of_order(alloc, net.name, &network, order, fault),
+        Err(fault) => return of_order(alloc, net, network, order, fault),
     };
-    match read_plan(alloc, plan.bytes, &network) {
-        Ok(read) => of_fault(alloc, &network, &terms, plan.name, &read),
-        Err(fault) => of_text(alloc, &network, plan, fault),
+    match read_plan(alloc, plan.bytes, network) {
+        Ok(read) => of_fault(alloc, network, &terms, plan.name, &read),
+        Err(fault) => of_text(alloc, network, plan, fault),
     }
 }
 
@@ -114,7 +124,8 @@ pub fn proof_cause(
 fn push_unproved(text: &mut String, plan: &str, proof: &str) -> Result<(), AllocError> {
     write!(
         text,
-        "racp: {proof}: unproved: the text is no certificate for this plan\nracp: wanted: a certificate for {plan}, as racp prove makes it of its network and order{THERE}a text that is none"
+        "racp: {proof}: unproved: the text is no certificate for this plan
+racp: wanted: a certificate for {plan}, as racp prove makes it of its network and order{THERE}a text that is none"
     )?;
     push_more(text, Subject::Line(Line::Unproved))
 }
@@ -195,16 +206,8 @@ fn of_text(
 {
     let mut rest = String::new(alloc);
     push_text(&mut rest, network, plan.bytes, fault)?;
-    let (number, kind) = (fault.kind as u8, fault.kind.name());
-    line_text(
-        alloc,
-        plan.name,
-        fault.line,
-        "plan",
-        number,
-        kind,
-        rest.as_str(),
-    )
+    let (line, number, kind) = (fault.line, fault.kind as u8, fault.kind.name());
+    line_text(alloc, plan.name, line, "plan", number, kind, &rest)
 }
 
 /// Adds what is told of a fault of a plan text behind its name.
@@ -371,12 +374,30 @@ fn of_fault(
 {
     let critical = longest(alloc, net, &order.release)?;
     let mut text = String::new(alloc);
-    if plan.deadline != order.deadline || plan.critical != critical {
-        push_head(&mut text, order, name, plan, critical)?;
-    } else if let Err(fault) = check_plan(net, order, plan) {
-        push_fault(&mut text, net, order, name, plan, fault)?;
-    }
+    push_plan(&mut text, net, order, name, plan, critical)?;
     Ok(text)
+}
+
+/// Adds what is wrong with a plan that was read, of a project with this critical length.
+fn push_plan(
+    text: &mut String,
+    net: &Network,
+    order: &Order,
+    name: &str,
+    plan: &Plan,
+    critical: u64,
+) -> Result<(), AllocError>
+    requires terms { AreTermsOf net.now order.now }
+    requires capacities { length plan.now.capacities ≡ net.now.resources }
+    requires starts { length plan.now.starts ≡ length net.now.jobs }
+{
+    if plan.deadline != order.deadline || plan.critical != critical {
+        return push_head(text, order, name, plan, critical);
+    }
+    match check_plan(net, order, plan) {
+        Ok(()) => Ok(()),
+        Err(fault) => push_fault(text, net, order, name, plan, fault),
+    }
 }
 
 /// Adds that the head of a plan is wrong.

@@ -6,13 +6,21 @@ use racp_text::{cut_at, number};
 /// The number that the first line with a key that begins with these words gives; 0 where there is none.
 pub(crate) fn head_number(body: &[u8], key: &[&[u8]]) -> u64 {
     for line in body.split(|byte| *byte == b'\n') {
-        if let Some((before, behind)) = cut_at(line, b':') {
-            if begins_with(before, key) {
-                return number(first_word(behind)).unwrap_or(0);
-            }
+        if let Some(value) = value_of(line, key) {
+            return number(first_word(value)).unwrap_or(0);
         }
     }
     0
+}
+
+/// What stands behind the colon of a line with a key that begins with these words.
+fn value_of<'a>(line: &'a [u8], key: &[&[u8]]) -> Option<&'a [u8]> {
+    let (before, behind) = cut_at(line, b':')?;
+    if begins_with(before, key) {
+        Some(behind)
+    } else {
+        None
+    }
 }
 
 /// Whether the words of a line begin with these.

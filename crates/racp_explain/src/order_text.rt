@@ -120,8 +120,12 @@ fn push_missing(text: &mut String, table: &Table) -> Result<(), AllocError> {
 
 /// The first key that is like this one.
 fn key_like<'a>(table: &'a Table, key: &str) -> Option<&'a str> {
-    let found = table.keys().find(|other| is_like(other, key))?;
-    Some(found.as_str())
+    for other in table.keys() {
+        if is_like(other, key) {
+            return Some(other.as_str());
+        }
+    }
+    None
 }
 
 /// Whether two keys begin with the same four letters, whatever their case.
@@ -153,8 +157,12 @@ fn known_keys(has_version: bool) -> &'static str {
 
 /// The first key that no order of the version has.
 fn unknown_key(table: &Table, has_version: bool) -> Option<&str> {
-    let found = table.keys().find(|key| !is_known(key, has_version))?;
-    Some(found.as_str())
+    for key in table.keys() {
+        if !is_known(key, has_version) {
+            return Some(key.as_str());
+        }
+    }
+    None
 }
 
 /// Whether an order may have this key.
@@ -164,7 +172,12 @@ fn is_known(key: &str, has_version: bool) -> bool {
 
 /// Whether an order with a version may have this key, beside the deadline and the prices.
 fn is_of_version(key: &str) -> bool {
-    key == "version" || ARRAYS.iter().any(|other| *other == key)
+    for other in ARRAYS {
+        if *other == key {
+            return true;
+        }
+    }
+    key == "version"
 }
 
 /// Adds the first value that is no whole number, or no array of them.
@@ -225,10 +238,16 @@ fn is_of_whole(value: &Value) -> bool {
 
 /// Adds what stands in place of an array of whole numbers.
 fn push_array(text: &mut String, key: &str, value: Option<&Value>) -> Result<(), AllocError> {
-    match value.and_then(|value| value.as_array()) {
+    match items_of(value) {
         Some(items) => push_item(text, key, first_not_whole(items)),
         None => push_value(text, key, value),
     }
+}
+
+/// The elements of a value, where it is an array.
+fn items_of(value: Option<&Value>) -> Option<&[Value]> {
+    let items = value?.as_array()?;
+    Some(items.as_slice())
 }
 
 /// The first element that is no whole number, by its place, from 1, and its type.
@@ -323,7 +342,7 @@ fn most_of(key: &str) -> i64 {
 /// The first number of an array that is below 0 or above `most`, with its place, from 1.
 fn first_out(value: Option<&Value>, most: i64) -> Option<(usize, i64)> {
     let mut place = 1usize;
-    for item in value?.as_array()? {
+    for item in items_of(value)? {
         let number = item.as_integer()?;
         if !is_within(number, most) {
             return Some((place, number));
@@ -369,7 +388,7 @@ fn wrong_array(table: &Table, sizes: Sizes<'_>) -> Option<(&'static str, usize)>
 
 /// How many elements an array has, where it has another number of them.
 fn other_count(value: Option<&Value>, count: usize) -> Option<usize> {
-    let found = value?.as_array()?.len();
+    let found = items_of(value)?.len();
     if found == count { None } else { Some(found) }
 }
 

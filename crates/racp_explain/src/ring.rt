@@ -22,26 +22,50 @@ pub(crate) fn ring_of(alloc: Global, body: &[u8], jobs: u64) -> Result<Vec<u64>,
 /// The pairs of the precedence part: a job, and a successor of it.
 fn pairs_of(alloc: Global, body: &[u8]) -> Result<Vec<(u64, u64)>, AllocError> {
     let mut pairs = Vec::new(alloc);
+    push_pairs(&mut pairs, body)?;
+    Ok(pairs)
+}
+
+/// Adds the pairs of the precedence part.
+fn push_pairs(pairs: &mut Vec<(u64, u64)>, body: &[u8]) -> Result<(), AllocError> {
     let mut row = Row::Number;
     for line in body
         .split(|byte| *byte == b'\n')
         .skip_while(|line| first_word(line) != b"PRECEDENCE".as_slice())
         .skip(2)
     {
-        let first = first_word(line);
-        if first.starts_with(b"*") || first.starts_with(b"REQUESTS") {
-            return Ok(pairs);
+        if ends_precedence(line) {
+            return Ok(());
         }
-        for word in line.split(|byte| is_blank(*byte)) {
-            if let Some(number) = number(word) {
-                if let Row::Successors(job, _) = row {
-                    pairs.push((job, number))?;
-                }
-                row = row.behind(number);
-            }
+        row = push_line(pairs, line, row)?;
+    }
+    Ok(())
+}
+
+/// Whether a line ends the precedence part.
+fn ends_precedence(line: &[u8]) -> bool {
+    let first = first_word(line);
+    first.starts_with(b"*") || first.starts_with(b"REQUESTS")
+}
+
+/// Adds the pairs of a line, and says what the next number behind it is.
+fn push_line(pairs: &mut Vec<(u64, u64)>, line: &[u8], row: Row) -> Result<Row, AllocError> {
+    let mut row = row;
+    for word in line.split(|byte| is_blank(*byte)) {
+        if let Some(number) = number(word) {
+            push_pair(pairs, row, number)?;
+            row = row.behind(number);
         }
     }
-    Ok(pairs)
+    Ok(row)
+}
+
+/// Adds the pair that this number makes, if any.
+fn push_pair(pairs: &mut Vec<(u64, u64)>, row: Row, number: u64) -> Result<(), AllocError> {
+    if let Row::Successors(job, _) = row {
+        pairs.push((job, number))?;
+    }
+    Ok(())
 }
 
 /// What the next number of the precedence part is.
@@ -95,24 +119,51 @@ fn walk(
     jobs: usize,
 ) -> Result<Vec<u64>, AllocError> {
     let mut path = Vec::new(alloc);
-    let mut job = match (1..=jobs).find(|job| is_waiting(waits, *job as u64)) {
-        Some(job) => job as u64,
-        None => return Ok(path),
-    };
-    for _step in 0..=jobs {
-        if let Some(place) = path.iter().position(|other| *other == job) {
-            path.push(job)?;
-            let mut ring = path.get(place..).unwrap_or(&[]).to_vec(alloc)?;
-            ring.reverse();
-            return Ok(ring);
-        }
-        path.push(job)?;
-        job = match before(waits, pairs, job) {
-            Some(other) => other,
-            None => return Ok(Vec::new(alloc)),
-        };
+    match push_path(&mut path, waits, pairs, jobs)? {
+        Some(place) => turned(alloc, path.get(place..).unwrap_or(&[])),
+        None => Ok(Vec::new(alloc)),
     }
-    Ok(Vec::new(alloc))
+}
+
+/// Adds jobs that wait, each behind one that has to wait for it, up to one that is there already, and answers the place
+/// of that one.
+fn push_path(
+    path: &mut Vec<u64>,
+    waits: &[bool],
+    pairs: &[(u64, u64)],
+    jobs: usize,
+) -> Result<Option<usize>, AllocError> {
+    let mut next = first_waiting(waits, jobs);
+    for _step in 0..=jobs {
+        let Some(job) = next else {
+            return Ok(None);
+        };
+        let place = place_in(path, job);
+        path.push(job)?;
+        if place.is_some() {
+            return Ok(place);
+        }
+        next = before(waits, pairs, job);
+    }
+    Ok(None)
+}
+
+/// The first job that waits.
+fn first_waiting(waits: &[bool], jobs: usize) -> Option<u64> {
+    let job = (1..=jobs).find(|job| is_waiting(waits, *job as u64))?;
+    Some(job as u64)
+}
+
+/// The place of a job on a path.
+fn place_in(path: &[u64], job: u64) -> Option<usize> {
+    path.iter().position(|other| *other == job)
+}
+
+/// A path from its end to its beginning.
+fn turned(alloc: Global, path: &[u64]) -> Result<Vec<u64>, AllocError> {
+    let mut ring = path.to_vec(alloc)?;
+    ring.reverse();
+    Ok(ring)
 }
 
 /// A job that waits, before this one.
