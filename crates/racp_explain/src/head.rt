@@ -1,11 +1,11 @@
 //! The head of a network text, as far as faults are told by it.
 
-use crate::line_of::{first_word, is_blank};
+use crate::line_of::{first_word, is_blank, is_line_feed};
 use racp_text::{cut_at, number};
 
 /// The number that the first line with a key that begins with these words gives; 0 where there is none.
 pub(crate) fn head_number(body: &[u8], key: &[&[u8]]) -> u64 {
-    for line in body.split(|byte| *byte == b'\n') {
+    for line in body.split(is_line_feed) {
         if let Some(value) = value_of(line, key) {
             return number(first_word(value)).unwrap_or(0);
         }
@@ -26,7 +26,7 @@ fn value_of<'a>(line: &'a [u8], key: &[&[u8]]) -> Option<&'a [u8]> {
 /// Whether the words of a line begin with these.
 fn begins_with(line: &[u8], key: &[&[u8]]) -> bool {
     let mut words = key.iter();
-    for word in line.split(|byte| is_blank(*byte)) {
+    for word in line.split(is_blank) {
         if word.is_empty() {
             continue;
         }
@@ -42,7 +42,7 @@ fn begins_with(line: &[u8], key: &[&[u8]]) -> bool {
 /// The first line that has this word, whatever its letters' case, and its number, from 1.
 pub(crate) fn line_like<'a>(body: &'a [u8], word: &str) -> Option<(usize, &'a [u8])> {
     let mut number = 1usize;
-    for line in body.split(|byte| *byte == b'\n') {
+    for line in body.split(is_line_feed) {
         if has_word(line, word.as_bytes()) {
             return Some((number, line));
         }
@@ -53,6 +53,10 @@ pub(crate) fn line_like<'a>(body: &'a [u8], word: &str) -> Option<(usize, &'a [u
 
 /// Whether a word stands in a line, whatever its letters' case.
 fn has_word(line: &[u8], word: &[u8]) -> bool {
-    line.windows(word.len().max(1))
-        .any(|part| part.eq_ignore_ascii_case(word))
+    for part in line.windows(word.len().max(1)) {
+        if part.eq_ignore_ascii_case(word) {
+            return true;
+        }
+    }
+    false
 }

@@ -12,7 +12,7 @@ const END: u8 = 0x1A;
 /// The line with this number, from 1; `None` where there is none.
 pub(crate) fn line_at(bytes: &[u8], number: usize) -> Option<&[u8]> {
     let place = number.checked_sub(1)?;
-    bytes.split(|byte| *byte == b'\n').nth(place)
+    bytes.split(is_line_feed).nth(place)
 }
 
 /// A network text up to its first byte 0x1A.
@@ -44,8 +44,12 @@ fn push_line(text: &mut String, line: &[u8]) -> Result<(), AllocError> {
 
 /// Whether a line has a letter that is shown.
 fn has_letters(line: &[u8]) -> bool {
-    line.utf8_chunks()
-        .any(|chunk| chunk.valid().chars().any(is_shown))
+    for chunk in line.utf8_chunks() {
+        if chunk.valid().chars().any(is_shown) {
+            return true;
+        }
+    }
+    false
 }
 
 /// Whether a letter is shown.
@@ -72,14 +76,18 @@ fn push_letters(text: &mut String, line: &[u8]) -> Result<(), AllocError> {
 
 /// How many words a line has, between blanks and tabs.
 pub(crate) fn count_words(line: &[u8]) -> usize {
-    line.split(|byte| is_blank(*byte))
-        .filter(|word| !word.is_empty())
-        .count()
+    let mut count = 0usize;
+    for word in line.split(is_blank) {
+        if !word.is_empty() {
+            count = count.saturating_add(1);
+        }
+    }
+    count
 }
 
 /// The first word of a line, or nothing.
 pub(crate) fn first_word(line: &[u8]) -> &[u8] {
-    for word in line.split(|byte| is_blank(*byte)) {
+    for word in line.split(is_blank) {
         if !word.is_empty() {
             return word;
         }
@@ -88,6 +96,11 @@ pub(crate) fn first_word(line: &[u8]) -> &[u8] {
 }
 
 /// Whether a byte stands between words.
-pub(crate) fn is_blank(byte: u8) -> bool {
-    byte == b' ' || byte == b'\t' || byte == b'\r'
+pub(crate) fn is_blank(byte: &u8) -> bool {
+    *byte == b' ' || *byte == b'\t' || *byte == b'\r'
+}
+
+/// Whether a byte stands between lines.
+pub(crate) fn is_line_feed(byte: &u8) -> bool {
+    *byte == b'\n'
 }

@@ -2,7 +2,9 @@
 
 use crate::finding::THERE;
 use crate::head::{head_number, line_like};
-use crate::line_of::{body_of, count_words, first_word, is_blank, line_at, push_shown};
+use crate::line_of::{
+    body_of, count_words, first_word, is_blank, is_line_feed, line_at, push_shown,
+};
 use crate::ring::ring_of;
 use racp_sm::{SmFault, SmFaultKind};
 use std::alloc::{AllocError, Global};
@@ -97,8 +99,12 @@ fn push_like(text: &mut String, like: Option<(usize, &[u8])>) -> Result<(), Allo
 
 /// Whether a text looks like an order.
 fn looks_like_order(body: &[u8]) -> bool {
-    body.split(|byte| *byte == b'\n').any(|line| first_word(line).starts_with(b"deadline")
-        && line.contains(&b'='))
+    for line in body.split(is_line_feed) {
+        if first_word(line).starts_with(b"deadline") && line.contains(&b'=') {
+            return true;
+        }
+    }
+    false
 }
 
 /// Adds how many numbers the part with this title has to have, and how many it has.
@@ -148,10 +154,7 @@ fn is_of_requests(body: &[u8], title: usize) -> bool {
 /// How many words the part has whose title is in this line.
 fn numbers_behind(body: &[u8], title: usize) -> usize {
     let mut count = 0usize;
-    for line in body
-        .split(|byte| *byte == b'\n')
-        .skip(title.saturating_add(1))
-    {
+    for line in body.split(is_line_feed).skip(title.saturating_add(1)) {
         if ends_part(line) {
             return count;
         }
@@ -216,7 +219,7 @@ fn no_number(line: &[u8]) -> Option<&[u8]> {
         Some((_, numbers)) => numbers,
         None => line,
     };
-    for word in numbers.split(|byte| is_blank(*byte)) {
+    for word in numbers.split(is_blank) {
         if !word.is_empty() && racp_text::number(word).is_none() {
             return Some(word);
         }

@@ -1,7 +1,7 @@
 //! What is wrong with an order.
 
 use crate::finding::THERE;
-use crate::line_of::{line_at, push_shown};
+use crate::line_of::{is_line_feed, line_at, push_shown};
 use racp_prices::OrderFault;
 use std::alloc::{AllocError, Global};
 use toml::{Table, Value};
@@ -74,11 +74,7 @@ fn push_no_toml(
 /// The number, from 1, of the line in which this byte stands.
 fn line_number(bytes: &[u8], start: usize) -> usize {
     let before = bytes.get(..start).unwrap_or(bytes);
-    before
-        .iter()
-        .filter(|byte| **byte == b'\n')
-        .count()
-        .saturating_add(1)
+    before.split(is_line_feed).count()
 }
 
 /// Adds what a table has to have, and what it has.
@@ -191,11 +187,19 @@ fn push_not_whole(text: &mut String, table: &Table) -> Result<(), AllocError> {
 /// The first key whose value is not one whole number, where it has to be.
 fn number_not_whole(table: &Table) -> Option<&'static str> {
     for &key in NUMBERS {
-        if table.get(key).is_some_and(|value| !value.is_integer()) {
+        if is_no_number(table.get(key)) {
             return Some(key);
         }
     }
     None
+}
+
+/// Whether a value is there, and is not one whole number.
+fn is_no_number(value: Option<&Value>) -> bool {
+    match value {
+        Some(value) => !value.is_integer(),
+        None => false,
+    }
 }
 
 /// Adds a value that is not one whole number.
@@ -221,18 +225,18 @@ fn push_no_array(text: &mut String, table: &Table) -> Result<(), AllocError> {
 /// The first key whose value is no array of whole numbers, where it has to be.
 fn array_not_whole(table: &Table) -> Option<&'static str> {
     for &key in ARRAYS {
-        if table.get(key).is_some_and(|value| !is_of_whole(value)) {
+        if is_no_array(table.get(key)) {
             return Some(key);
         }
     }
     None
 }
 
-/// Whether a value is an array of whole numbers.
-fn is_of_whole(value: &Value) -> bool {
-    match value.as_array() {
-        Some(items) => items.iter().all(|item| item.is_integer()),
-        None => false,
+/// Whether a value is there, and is no array of whole numbers.
+fn is_no_array(value: Option<&Value>) -> bool {
+    match items_of(value) {
+        Some(items) => first_not_whole(items).is_some(),
+        None => value.is_some(),
     }
 }
 

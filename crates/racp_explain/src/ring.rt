@@ -1,6 +1,6 @@
 //! Jobs that wait for each other.
 
-use crate::line_of::{first_word, is_blank};
+use crate::line_of::{first_word, is_blank, is_line_feed};
 use racp_text::number;
 use std::alloc::{AllocError, Global};
 
@@ -29,17 +29,18 @@ fn pairs_of(alloc: Global, body: &[u8]) -> Result<Vec<(u64, u64)>, AllocError> {
 /// Adds the pairs of the precedence part.
 fn push_pairs(pairs: &mut Vec<(u64, u64)>, body: &[u8]) -> Result<(), AllocError> {
     let mut row = Row::Number;
-    for line in body
-        .split(|byte| *byte == b'\n')
-        .skip_while(|line| first_word(line) != b"PRECEDENCE".as_slice())
-        .skip(2)
-    {
+    for line in body.split(is_line_feed).skip_while(is_before).skip(2) {
         if ends_precedence(line) {
             return Ok(());
         }
         row = push_line(pairs, line, row)?;
     }
     Ok(())
+}
+
+/// Whether a line is not the title of the precedence part.
+fn is_before(line: &&[u8]) -> bool {
+    first_word(line) != b"PRECEDENCE".as_slice()
 }
 
 /// Whether a line ends the precedence part.
@@ -51,7 +52,7 @@ fn ends_precedence(line: &[u8]) -> bool {
 /// Adds the pairs of a line, and says what the next number behind it is.
 fn push_line(pairs: &mut Vec<(u64, u64)>, line: &[u8], row: Row) -> Result<Row, AllocError> {
     let mut row = row;
-    for word in line.split(|byte| is_blank(*byte)) {
+    for word in line.split(is_blank) {
         if let Some(number) = number(word) {
             push_pair(pairs, row, number)?;
             row = row.behind(number);
@@ -98,9 +99,7 @@ impl Row {
 /// Notes which jobs wait for none that waits.
 fn settle(waits: &mut [bool], pairs: &[(u64, u64)]) {
     for job in 1..waits.len() {
-        let has_wait = pairs.iter().any(|&(before, after)| after == job as u64
-            && is_waiting(waits, before));
-        if !has_wait {
+        if before(waits, pairs, job as u64).is_none() {
             waits[job] = false;
         }
     }
@@ -150,13 +149,22 @@ fn push_path(
 
 /// The first job that waits.
 fn first_waiting(waits: &[bool], jobs: usize) -> Option<u64> {
-    let job = (1..=jobs).find(|job| is_waiting(waits, *job as u64))?;
-    Some(job as u64)
+    for job in 1..=jobs as u64 {
+        if is_waiting(waits, job) {
+            return Some(job);
+        }
+    }
+    None
 }
 
 /// The place of a job on a path.
 fn place_in(path: &[u64], job: u64) -> Option<usize> {
-    path.iter().position(|other| *other == job)
+    for place in 0..path.len() {
+        if path[place] == job {
+            return Some(place);
+        }
+    }
+    None
 }
 
 /// A path from its end to its beginning.
@@ -168,6 +176,10 @@ fn turned(alloc: Global, path: &[u64]) -> Result<Vec<u64>, AllocError> {
 
 /// A job that waits, before this one.
 fn before(waits: &[bool], pairs: &[(u64, u64)], job: u64) -> Option<u64> {
-    let pair = pairs.iter().find(|&&(before, after)| after == job && is_waiting(waits, before))?;
-    Some(pair.0)
+    for &(before, after) in pairs {
+        if after == job && is_waiting(waits, before) {
+            return Some(before);
+        }
+    }
+    None
 }
