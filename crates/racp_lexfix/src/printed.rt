@@ -4,6 +4,7 @@ ghost use Rattle.racp_model.specs.Terms.{AreTermsOf};
 ghost use Rattle.racp_candidates.specs.AnySeries.{any_questions};
 ghost use Rattle.racp_desk.specs.Closing.{IsRunClosed};
 ghost use Rattle.racp_lexfix.specs.Answers.{IsAnswer};
+ghost use Rattle.racp_lexfix.specs.Crowds.{RunsDesks};
 ghost use Rattle.racp_lexfix.specs.Printing.{IsPrinting, IsCrowdPrinting, IsCrowdStop};
 ghost use Rattle.racp_lexfix.specs.Texts.{answer_text, answer_status};
 ghost use Rattle.racp_lexfix.specs.declared.answer.PlanStop.TheVariants.{Memory};
@@ -207,7 +208,7 @@ pub fn plan_crowd_by<G: Gate + Sync, P: Stop + Sync, O: Observer, R: Threads + W
 {
     let net = read_sm(alloc, net_bytes)?;
     let order = read_order(alloc, order_text, net.resource_count(), net.job_count())?;
-    let (answer, effort) = plan_by::<Brand, G, P, O, R>(rt, alloc, &net, &order, crew)?;
+    let (answer, effort) = plan_by::<Brand, G, P, O, R>(rt, alloc, &net, &order, &crew)?;
     Ok((print_answer(alloc, &order, &answer)?, effort))
 }
 
@@ -257,42 +258,89 @@ fn plan_by<
     alloc: Global,
     net: &Network,
     order: &Order,
-    crew: Crew<'_, G, P, O>,
+    crew: &Crew<'_, G, P, O>,
 ) -> Result<(Answer, Effort), PlanStop>
     requires named { net.now ≡ N.network }
     requires terms { AreTermsOf net.now order.now }
-    requires workers { crew.workers ≤ 64 }
-    requires turns { crew.turns ≤ 1000000000000 }
-    requires memory { crew.memory ≤ 1048576 }
+    requires workers { crew.now.workers ≤ 64 }
+    requires turns { crew.now.turns ≤ 1000000000000 }
+    requires memory { crew.now.memory ≤ 1048576 }
     ensures answer { IfOk result (λ done. IsAnswer net.now order.now done.0) }
     ensures stop { IfErr result (IsCrowdStop net.now order.now) }
 {
-    let Crew {
-        workers,
-        turns,
-        memory,
-        gate,
-        stop,
-        observer,
-    } = crew;
-    observer.hear_deadline(order.deadline);
-    let board: Board<N> = Board::within(alloc, net, memory, workers)?;
-    let pricing = Pricing::new(net, order, observer);
+    crew.observer.hear_deadline(order.deadline);
+    let board: Board<N> = Board::within(alloc, net, crew.memory, crew.workers)?;
+    plan_over(rt, alloc, net, order, crew, &board)
+}
+
+/// The same, by runs of a desk over this board of records.
+fn plan_over<
+    N: OfNetwork + Send + Sync,
+    G: Gate + Sync,
+    P: Stop + Sync,
+    O: Observer,
+    R: Threads + Wait + Sync,
+>(
+    rt: &R,
+    alloc: Global,
+    net: &Network,
+    order: &Order,
+    crew: &Crew<'_, G, P, O>,
+    board: &Board<N>,
+) -> Result<(Answer, Effort), PlanStop>
+    requires named { net.now ≡ N.network }
+    requires terms { AreTermsOf net.now order.now }
+    requires workers { crew.now.workers ≤ 64 }
+    requires turns { crew.now.turns ≤ 1000000000000 }
+    ensures answer { IfOk result (λ done. IsAnswer net.now order.now done.0) }
+    ensures stop { IfErr result (IsCrowdStop net.now order.now) }
+{
+    let pricing = Pricing::new(net, order, crew.observer);
     let mut crowd: Crowd<N, P, Pricing<'_, O>, _> = Crowd::new(
-        workers,
-        turns,
+        crew.workers,
+        crew.turns,
         pricing,
         |series: AnySeries, quantum: u64, turns: u64| -> Result<Closed, DeskFault>
             requires { (net.now ≡ N.network) × AreFormed net.now (any_questions series) ×
-                (workers ≤ 64) × (quantum ≤ 1000000) × (turns ≤ 1000000000000) }
+                (crew.now.workers ≤ 64) × (quantum ≤ 1000000) × (turns ≤ 1000000000000) }
             ensures { IfOk result (IsRunClosed net.entry.now (any_questions series) turns P.QUIET) }
         {
             run(
-                rt, alloc, net, series, workers, quantum, turns, &board, gate, stop,
+                rt,
+                alloc,
+                net,
+                series,
+                crew.workers,
+                quantum,
+                turns,
+                board,
+                crew.gate,
+                crew.stop,
             )
         },
     );
-    let answer = plan(alloc, net, order, &mut crowd)?;
+    plan_with(alloc, net, order, &mut crowd)
+}
+
+/// The same, by an asker with workers that was told nothing yet.
+fn plan_with<
+    N: OfNetwork,
+    P: Stop,
+    O: Observer + Drop,
+    F: Fn(AnySeries, u64, u64) -> Result<Closed, DeskFault> + Drop,
+>(
+    alloc: Global,
+    net: &Network,
+    order: &Order,
+    crowd: &mut Crowd<N, P, O, F>,
+) -> Result<(Answer, Effort), PlanStop>
+    requires named { net.now ≡ N.network }
+    requires terms { AreTermsOf net.now order.now }
+    requires run { RunsDesks N.network P.QUIET (F.pre crowd.old.run) (F.post crowd.old.run) }
+    ensures answer { IfOk result (λ done. IsAnswer net.now order.now done.0) }
+    ensures stop { IfErr result (IsCrowdStop net.now order.now) }
+{
+    let answer = plan(alloc, net, order, crowd)?;
     let effort = crowd.effort();
     Ok((answer, effort))
 }
