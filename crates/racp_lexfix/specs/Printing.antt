@@ -19,6 +19,11 @@ pub record AreTextsOf (net order : List ℕ) (network : Project) (terms : Terms)
   pub is_network : IsReading net (Ok network)
   pub is_order : IsOrder network.resources (length network.jobs) order (Ok terms)
 
+-- the text and the status of the answer for a network and an order
+abbrev pub IsAnswerPrinted : Project → Terms → List ℕ → ℕ → Type 0
+IsAnswerPrinted network terms text status = (answer : Answer) × IsAnswer network terms answer ×
+    (text ≡ answer_text terms.deadline answer) × (status ≡ answer_status answer)
+
 -- the text and the status of the answer for the network and the order that two texts are read as
 pub record IsPrinted (net order text : List ℕ) (status : ℕ) : Type 0 where
   pub network : Project

@@ -1,11 +1,12 @@
-ghost use Rattle.std.specs.Prelude.{◌≡◌, ◌≤◌, IfOk, IfErr};
+ghost use Rattle.std.specs.Prelude.{◌≡◌, ◌≤◌, ℕ, List, Ok, IfOk, IfErr};
 ghost use Rattle.racp_model.specs.Formed.{AreFormed};
 ghost use Rattle.racp_model.specs.Terms.{AreTermsOf};
 ghost use Rattle.racp_candidates.specs.AnySeries.{any_questions};
+ghost use Rattle.racp_sm.specs.Reading.{IsReading};
 ghost use Rattle.racp_desk.specs.Closing.{IsRunClosed};
 ghost use Rattle.racp_lexfix.specs.Answers.{IsAnswer};
 ghost use Rattle.racp_lexfix.specs.Crowds.{RunsDesks};
-ghost use Rattle.racp_lexfix.specs.Printing.{IsPrinting, IsCrowdPrinting, IsCrowdStop};
+ghost use Rattle.racp_lexfix.specs.Printing.{IsAnswerPrinted, IsPrinting, IsCrowdPrinting, IsCrowdStop};
 ghost use Rattle.racp_lexfix.specs.Texts.{answer_text, answer_status};
 ghost use Rattle.racp_lexfix.specs.declared.answer.PlanStop.TheVariants.{Memory};
 
@@ -130,9 +131,7 @@ pub fn plan_alone_within(
     ensures { IsPrinting net_bytes.now order_text.now result }
 {
     let net = read_sm(alloc, net_bytes)?;
-    let order = read_order(alloc, order_text, net.resource_count(), net.job_count())?;
-    let answer = plan_named::<Brand>(alloc, &net, &order, mebibytes)?;
-    Ok(print_answer(alloc, &order, &answer)?)
+    print_order(alloc, &net, order_text, mebibytes)
 }
 
 /// The answer to the texts of a network and an order, made by 1 to 64 workers on threads of their own with so many
@@ -207,9 +206,7 @@ pub fn plan_crowd_by<G: Gate + Sync, P: Stop + Sync, O: Observer, R: Threads + W
     ensures { IsCrowdPrinting net_bytes.now order_text.now result }
 {
     let net = read_sm(alloc, net_bytes)?;
-    let order = read_order(alloc, order_text, net.resource_count(), net.job_count())?;
-    let (answer, effort) = plan_by::<Brand, G, P, O, R>(rt, alloc, &net, &order, &crew)?;
-    Ok((print_answer(alloc, &order, &answer)?, effort))
+    print_order_by(rt, alloc, &net, order_text, &crew)
 }
 
 /// The text of an answer on the terms of an order, with its status.
@@ -228,6 +225,36 @@ pub(crate) fn print_answer(
     })
 }
 
+/// The answer to the text of an order for a network, made on the calling thread.
+fn print_order(
+    alloc: Global,
+    net: &Network,
+    order_text: &[u8],
+    mebibytes: usize,
+) -> Result<Printed, Refusal>
+    requires { mebibytes ≤ 1048576 }
+    ensures { (text : List ℕ) → IsReading text (Ok net.now) → IsPrinting text order_text.now result }
+{
+    let order = read_order(alloc, order_text, net.resource_count(), net.job_count())?;
+    Ok(print_plan(alloc, net, &order, mebibytes)?)
+}
+
+/// The text of the plan of an order, or of why there is none, made on the calling thread.
+fn print_plan(
+    alloc: Global,
+    net: &Network,
+    order: &Order,
+    mebibytes: usize,
+) -> Result<Printed, PlanStop>
+    requires memory { mebibytes ≤ 1048576 }
+    requires terms { AreTermsOf net.now order.now }
+    ensures answer { IfOk result (λ printed. IsAnswerPrinted net.now order.now printed.text.items printed.status) }
+    ensures stop { IfErr result (λ stop. stop ≡ Memory) }
+{
+    let answer = plan_named::<Brand>(alloc, net, order, mebibytes)?;
+    Ok(print_answer(alloc, order, &answer)?)
+}
+
 /// The plan of an order, or why there is none, made on the calling thread. The network is the one that `N` names.
 fn plan_named<N: OfNetwork>(
     alloc: Global,
@@ -243,6 +270,42 @@ fn plan_named<N: OfNetwork>(
 {
     let mut alone: Alone<N> = Alone::within(alloc, net, mebibytes)?;
     plan(alloc, net, order, &mut alone)
+}
+
+/// The answer to the text of an order for a network, made by workers, and how much work they did.
+fn print_order_by<G: Gate + Sync, P: Stop + Sync, O: Observer, R: Threads + Wait + Sync>(
+    rt: &R,
+    alloc: Global,
+    net: &Network,
+    order_text: &[u8],
+    crew: &Crew<'_, G, P, O>,
+) -> Result<(Printed, Effort), Refusal>
+    requires workers { crew.now.workers ≤ 64 }
+    requires turns { crew.now.turns ≤ 1000000000000 }
+    requires memory { crew.now.memory ≤ 1048576 }
+    ensures { (text : List ℕ) → IsReading text (Ok net.now) → IsCrowdPrinting text order_text.now result }
+{
+    let order = read_order(alloc, order_text, net.resource_count(), net.job_count())?;
+    Ok(print_plan_by(rt, alloc, net, &order, crew)?)
+}
+
+/// The text of the plan of an order, or of why there is none, made by workers, and how much work they did.
+fn print_plan_by<G: Gate + Sync, P: Stop + Sync, O: Observer, R: Threads + Wait + Sync>(
+    rt: &R,
+    alloc: Global,
+    net: &Network,
+    order: &Order,
+    crew: &Crew<'_, G, P, O>,
+) -> Result<(Printed, Effort), PlanStop>
+    requires terms { AreTermsOf net.now order.now }
+    requires workers { crew.now.workers ≤ 64 }
+    requires turns { crew.now.turns ≤ 1000000000000 }
+    requires memory { crew.now.memory ≤ 1048576 }
+    ensures answer { IfOk result (λ done. IsAnswerPrinted net.now order.now done.0.text.items done.0.status) }
+    ensures stop { IfErr result (IsCrowdStop net.now order.now) }
+{
+    let (answer, effort) = plan_by::<Brand, G, P, O, R>(rt, alloc, net, order, crew)?;
+    Ok((print_answer(alloc, order, &answer)?, effort))
 }
 
 /// The plan of an order, or why there is none, made by workers, and how much work they did. The network is the one that
