@@ -26,6 +26,11 @@ IsProofOf p terms (Impossible longest) text status =
 IsProofOf p terms (Due job) text status = (status ≡ answer_status (Due job)) × (text ≡ answer_text terms.deadline (Due job))
 IsProofOf p terms Ceiling text status = (status ≡ answer_status Ceiling) × (text ≡ answer_text terms.deadline Ceiling)
 
+-- the text and the status for the answer for a network and an order
+abbrev pub IsAnswerProved : Project → Terms → List ℕ → ℕ → Type 0
+IsAnswerProved network terms text status = (answer : Answer) × IsAnswer network terms answer ×
+    IsProofOf network terms answer text status
+
 -- the text and the status for the answer to the network and the order that two texts are read as
 pub record IsProofPrinted (net order text : List ℕ) (status : ℕ) : Type 0 where
   pub network : Project

@@ -5,6 +5,7 @@ ghost use Rattle.racp_model.specs.Plan.{IsLeast, IsEnough};
 ghost use Rattle.racp_model.specs.Terms.{AreTermsOf, IsBefore, release_of, due_of};
 ghost use Rattle.racp_model.specs.Window.{IsRootWindow};
 ghost use Rattle.racp_candidates.specs.Box.{AreBoxQuestions};
+ghost use Rattle.racp_check.specs.Openings.{IsRoot};
 ghost use Rattle.racp_lexfix.specs.Answers.{IsAnswer, IsStoppedAt, IsPlanStop};
 ghost use Rattle.racp_lexfix.specs.Stages.{AreFloorsOfEnough, AreSharpFloorsAndRoofs, IsChosen, IsLeastOfEnough, IsStoppedInBox};
 
@@ -74,18 +75,45 @@ pub(crate) fn plan_and_keep<A: Asker<AnySeries>>(
         (A.answered asker.new - A.answered asker.old) (A.told asker.new))
         (A.may_stop asker.new) (A.may_want_thread asker.new)) }
 {
-    let (critical, root) = match opening_of(alloc, net, order)? {
-        Opening::Root { critical, window } => (critical, window),
-        Opening::TooLong { critical } => return Ok(Answer::Impossible { longest: critical }),
-        Opening::TooLate { job } => return Ok(Answer::Due { job }),
-    };
-    let Some((capacities, starts)) = chosen(alloc, net, order, &root, asker, kept)? else {
+    match opening_of(alloc, net, order)? {
+        Opening::Root { critical, window } => {
+            plan_within(alloc, net, order, critical, &window, asker, kept)
+        }
+        Opening::TooLong { critical } => Ok(Answer::Impossible { longest: critical }),
+        Opening::TooLate { job } => Ok(Answer::Due { job }),
+    }
+}
+
+/// The plan within the root window, of a project with this critical length, or that no capacities within the ceilings are
+/// enough.
+fn plan_within<A: Asker<AnySeries>>(
+    alloc: Global,
+    net: &Network,
+    order: &Order,
+    critical: u64,
+    root: &Window,
+    asker: &mut A,
+    kept: &mut Option<Sharp>,
+) -> Result<Answer, PlanStop>
+    requires named { A.about asker.old net.now }
+    requires terms { AreTermsOf net.now order.now }
+    requires root { IsRoot net.now order.now critical root.now }
+    requires floors { (floors : List ℕ) → AreFloorsOfEnough net.now order.now floors → A.may_hear_floors floors }
+    requires least { (least : ℕ) → IsLeastOfEnough net.now order.now least → A.may_hear_cost least }
+    ensures network { A.about asker.new net.now }
+    ensures answer { IfOk result (IsAnswer net.now order.now) }
+    ensures stop { IfErr result (IsPlanStop (IsStoppedAt net.now order.now
+        (A.answered asker.new - A.answered asker.old) (A.told asker.new))
+        (A.may_stop asker.new) (A.may_want_thread asker.new)) }
+{
+    let Some((capacities, starts)) = chosen(alloc, net, order, root, asker, kept)? else {
         return Ok(Answer::Ceiling);
     };
+    let cost = cost_of(net, order, capacities.as_slice());
     Ok(Answer::Plan(Plan {
         deadline: order.deadline,
         critical,
-        cost: cost_of(net, order, capacities.as_slice()),
+        cost,
         capacities,
         starts,
     }))

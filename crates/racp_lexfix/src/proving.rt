@@ -1,10 +1,13 @@
 //! A certificate that no capacities before those of a plan are enough.
 
-ghost use Rattle.std.specs.Prelude.{◌≡◌, ℕ, IfOk, IfErr, IfSome, length};
-ghost use Rattle.racp_model.specs.Terms.{AreTermsOf};
+ghost use Rattle.std.specs.Prelude.{◌≡◌, ℕ, List, Ok, IfOk, IfErr, IfSome, length};
+ghost use Rattle.racp_model.specs.Terms.{AreTermsOf, release_of, due_of};
+ghost use Rattle.racp_model.specs.Window.{IsRootWindow};
+ghost use Rattle.racp_sm.specs.Reading.{IsReading};
+ghost use Rattle.racp_prices.specs.Units.{AreMostUnits};
 ghost use Rattle.racp_trees.specs.Certificates.{IsCertificate};
 ghost use Rattle.racp_lexfix.specs.Answers.{IsAnswer};
-ghost use Rattle.racp_lexfix.specs.Proving.{IsProofOf, IsProving, unproved_line};
+ghost use Rattle.racp_lexfix.specs.Proving.{IsAnswerProved, IsProofOf, IsProving, unproved_line};
 ghost use Rattle.racp_lexfix.specs.declared.answer.Answer.TheVariants.{Plan as ThePlan};
 ghost use Rattle.racp_lexfix.specs.declared.answer.PlanStop.TheVariants.{Memory};
 
@@ -14,7 +17,7 @@ use crate::planning::plan_and_keep;
 use crate::printed::{Printed, Refusal, print_answer};
 use racp_bounds::Sharp;
 use racp_check::{Opening, opening_of};
-use racp_model::{Capacities, Network, OfNetwork};
+use racp_model::{Capacities, Network, OfNetwork, Window};
 use racp_plan::Plan;
 use racp_prices::{Order, most_units, read_order};
 use racp_sm::read_sm;
@@ -39,27 +42,48 @@ pub fn prove_alone(alloc: Global, net_bytes: &[u8], order_text: &[u8]) -> Result
     ensures { IsProving net_bytes.now order_text.now result }
 {
     let net = read_sm(alloc, net_bytes)?;
-    let order = read_order(alloc, order_text, net.resource_count(), net.job_count())?;
-    let (answer, sharp) = plan_with_floors::<Brand>(alloc, &net, &order)?;
-    Ok(print_proof(alloc, &net, &order, &answer, &sharp)?)
+    prove_order(alloc, &net, order_text)
 }
 
-/// The plan of an order, or why there is none, and the sharpened floors where they were asked for. The network is the
-/// one that `N` names.
+/// A certificate for the plan of the text of an order for a network, or why there is none.
+fn prove_order(alloc: Global, net: &Network, order_text: &[u8]) -> Result<Printed, Refusal>
+    ensures { (text : List ℕ) → IsReading text (Ok net.now) → IsProving text order_text.now result }
+{
+    let order = read_order(alloc, order_text, net.resource_count(), net.job_count())?;
+    let mut sharp = None;
+    Ok(prove_plan(alloc, net, &order, &mut sharp)?)
+}
+
+/// A certificate for the plan of an order, or why there is none. The sharpened floors are kept where they were asked for.
+fn prove_plan(
+    alloc: Global,
+    net: &Network,
+    order: &Order,
+    sharp: &mut Option<Sharp>,
+) -> Result<Printed, PlanStop>
+    requires terms { AreTermsOf net.now order.now }
+    ensures proof { IfOk result (λ printed. IsAnswerProved net.now order.now printed.text.items printed.status) }
+    ensures stop { IfErr result (λ stop. stop ≡ Memory) }
+{
+    let answer = plan_with_floors::<Brand>(alloc, net, order, sharp)?;
+    Ok(print_proof(alloc, net, order, &answer, sharp)?)
+}
+
+/// The plan of an order, or why there is none; the sharpened floors are kept where they were asked for. The network is
+/// the one that `N` names.
 fn plan_with_floors<N: OfNetwork>(
     alloc: Global,
     net: &Network,
     order: &Order,
-) -> Result<(Answer, Option<Sharp>), PlanStop>
+    sharp: &mut Option<Sharp>,
+) -> Result<Answer, PlanStop>
     requires named { net.now ≡ N.network }
     requires terms { AreTermsOf net.now order.now }
-    ensures answer { IfOk result (λ planned. IsAnswer net.now order.now planned.0) }
+    ensures answer { IfOk result (IsAnswer net.now order.now) }
     ensures stop { IfErr result (λ stop. stop ≡ Memory) }
 {
-    let mut sharp = None;
     let mut alone: Alone<N> = Alone::new(alloc, net)?;
-    let answer = plan_and_keep(alloc, net, order, &mut alone, &mut sharp)?;
-    Ok((answer, sharp))
+    plan_and_keep(alloc, net, order, &mut alone, sharp)
 }
 
 /// The text and the status for an answer: a certificate for the plan, or why there is no plan.
@@ -122,13 +146,49 @@ fn certificate_of(
     let Opening::Root { window, .. } = opening_of(alloc, net, order)? else {
         return Ok(None);
     };
+    certificate_within(alloc, net, order, &window, capacities, sharp)
+}
+
+/// The same, where there is a root window.
+fn certificate_within(
+    alloc: Global,
+    net: &Network,
+    order: &Order,
+    root: &Window,
+    capacities: &[u32],
+    sharp: &Option<Sharp>,
+) -> Result<Option<Vec<u8>>, AllocError>
+    requires terms { AreTermsOf net.now order.now }
+    requires root { IsRootWindow net.now (release_of order.now) (due_of order.now) root.now }
+    requires capacities { length capacities.now ≡ net.now.resources }
+    ensures { IfOk result (λ text. IfSome text (λ text. IsCertificate net.now order.now capacities.now text.items)) }
+{
     let roofs = most_units(alloc, net, order)?;
-    let hints = hints_of(alloc, sharp, &roofs)?;
+    certificate_below(alloc, net, order, root, &roofs, capacities, sharp)
+}
+
+/// The same, with the most units of each resource.
+fn certificate_below(
+    alloc: Global,
+    net: &Network,
+    order: &Order,
+    root: &Window,
+    roofs: &Capacities,
+    capacities: &[u32],
+    sharp: &Option<Sharp>,
+) -> Result<Option<Vec<u8>>, AllocError>
+    requires terms { AreTermsOf net.now order.now }
+    requires root { IsRootWindow net.now (release_of order.now) (due_of order.now) root.now }
+    requires roofs { AreMostUnits net.now order.now roofs.now }
+    requires capacities { length capacities.now ≡ net.now.resources }
+    ensures { IfOk result (λ text. IfSome text (λ text. IsCertificate net.now order.now capacities.now text.items)) }
+{
+    let hints = hints_of(alloc, sharp, roofs)?;
     certificate(
         alloc,
         net,
         order,
-        &window,
+        root,
         roofs.as_slice(),
         capacities,
         &hints,
