@@ -50,12 +50,21 @@ fn prove_order(alloc: Global, net: &Network, order_text: &[u8]) -> Result<Printe
     ensures { (text : List ℕ) → IsReading text (Ok net.now) → IsProving text order_text.now result }
 {
     let order = read_order(alloc, order_text, net.resource_count(), net.job_count())?;
-    let mut sharp = None;
-    Ok(prove_plan(alloc, net, &order, &mut sharp)?)
+    Ok(prove_plan(alloc, net, &order)?)
 }
 
-/// A certificate for the plan of an order, or why there is none. The sharpened floors are kept where they were asked for.
-fn prove_plan(
+/// A certificate for the plan of an order, or why there is none.
+fn prove_plan(alloc: Global, net: &Network, order: &Order) -> Result<Printed, PlanStop>
+    requires terms { AreTermsOf net.now order.now }
+    ensures proof { IfOk result (λ printed. IsAnswerProved net.now order.now printed.text.items printed.status) }
+    ensures stop { IfErr result (λ stop. stop ≡ Memory) }
+{
+    let mut sharp = None;
+    prove_and_keep(alloc, net, order, &mut sharp)
+}
+
+/// The same, which also keeps the sharpened floors, once they are known.
+fn prove_and_keep(
     alloc: Global,
     net: &Network,
     order: &Order,
@@ -66,7 +75,7 @@ fn prove_plan(
     ensures stop { IfErr result (λ stop. stop ≡ Memory) }
 {
     let answer = plan_with_floors::<Brand>(alloc, net, order, sharp)?;
-    Ok(print_proof(alloc, net, order, &answer, sharp)?)
+    print_proof(alloc, net, order, &answer, sharp)
 }
 
 /// The plan of an order, or why there is none; the sharpened floors are kept where they were asked for. The network is
@@ -93,13 +102,14 @@ fn print_proof(
     order: &Order,
     answer: &Answer,
     sharp: &Option<Sharp>,
-) -> Result<Printed, AllocError>
+) -> Result<Printed, PlanStop>
     requires terms { AreTermsOf net.now order.now }
     requires answer { IsAnswer net.now order.now answer.now }
-    ensures { IfOk result (λ printed. IsProofOf net.now order.now answer.now printed.text.items printed.status) }
+    ensures proof { IfOk result (λ printed. IsProofOf net.now order.now answer.now printed.text.items printed.status) }
+    ensures stop { IfErr result (λ stop. stop ≡ Memory) }
 {
     match answer {
-        Answer::Plan(plan) => print_certificate(alloc, net, order, plan, sharp),
+        Answer::Plan(plan) => Ok(print_certificate(alloc, net, order, plan, sharp)?),
         _ => {
             let printed = print_answer(alloc, order, answer)?;
             Ok(printed)
