@@ -1,8 +1,9 @@
-use Rattle.std.proofs.Common.{◌≡◌, ◌+◌, ◌∷◌, arith, refl, slice_index, vec_len}
+use Rattle.std.proofs.Common.{◌≡◌, ◌+◌, ◌∷◌, arith, refl, length, slice_index, vec_len}
 use Rattle.std.proofs.lemmas.Result.{IfOk-weaker}
-use Rattle.racp_model.specs.Project.{request}
+use Rattle.racp_model.specs.Project.{request, IsNumber}
 use Rattle.racp_delay.specs.Alternatives.{place}
 use Rattle.racp_delay.specs.Found.{IsAny, IsExtended}
+use Rattle.racp_delay.proofs.Adding.{all-same}
 use Rattle.racp_delay.proofs.Chosen.{among-fewer, among-goes, among-same, goes-extended, stays-extended, stays-over}
 use Rattle.racp_delay.proofs.Extended.{extended-loose, extended-here, extended-goes, as_before, none-goes, extended-over, extended-stays}
 use Rattle.racp_delay.proofs.following.+extending.Goals as goal
@@ -79,3 +80,28 @@ extend-branch-choice-requires t c = (
   omega (arith, c.decreases),
   (c.requires.choice, (c.requires.gone, λ runs. cc (c.are_within.ensures.1 runs, c.if-are_within.false))),
 )
+
+pub extend-some_have_room-requires-clause-capacities : goal.extend-some_have_room-requires-clause-capacities
+extend-some_have_room-requires-clause-capacities t c = c.requires.choice.units
+
+pub extend-some_have_room-requires-clause-jobs : goal.extend-some_have_room-requires-clause-jobs
+extend-some_have_room-requires-clause-jobs t c =
+    all-same (IsNumber (length c.args.choice.now.net.now.jobs)) c.args.gone.now.items c.deref.result.now c.deref.ensures.value c.requires.gone
+
+pub extend-some_have_room-requires-clause-small : goal.extend-some_have_room-requires-clause-small
+extend-some_have_room-requires-clause-small t c = c.requires.choice.small
+
+pub extend-are_within-requires : goal.extend-are_within-requires
+extend-are_within-requires t c = record { capacities = c.requires.choice.units }
+
+pub branch-where_goes-less-requires-clause-choice : goal.branch-where_goes-less-requires-clause-choice
+branch-where_goes-less-requires-clause-choice t c = c.requires.choice
+
+pub branch-where_goes-less-requires-clause-first : goal.branch-where_goes-less-requires-clause-first
+branch-where_goes-less-requires-clause-first t c = c.in-Some.ensures.cases.0
+
+pub branch-where_stays-requires-clause-choice : goal.branch-where_stays-requires-clause-choice
+branch-where_stays-requires-clause-choice t c = c.requires.choice
+
+pub branch-where_stays-requires-clause-first : goal.branch-where_stays-requires-clause-first
+branch-where_stays-requires-clause-first t c = c.in-Some.ensures.cases.0

@@ -1,9 +1,10 @@
-use Rattle.std.proofs.Common.{◌≡◌, ◌+◌, ◌∷◌, ◌++◌, [], arith, ap, ◌∙◌, refl, slice_index, vec_len}
+use Rattle.std.proofs.Common.{◌≡◌, ◌+◌, ◌∷◌, ◌++◌, [], arith, ap, ◌∙◌, refl, length, slice_index, vec_len}
 use Rattle.std.proofs.lemmas.Result.{IfOk-weaker}
-use Rattle.racp_model.specs.Project.{request}
+use Rattle.racp_model.specs.Project.{request, IsNumber}
 use Rattle.racp_delay.specs.Alternatives.{place}
 use Rattle.racp_model.specs.Terms.{IsLexBefore}
 use Rattle.racp_delay.specs.Found.{IsAny, IsExtended, HasNoExtension}
+use Rattle.racp_delay.proofs.Adding.{all-same}
 use Rattle.racp_delay.proofs.Chosen.{among-fewer, among-goes, among-same, goes-extended, stays-extended, stays-over}
 use Rattle.racp_delay.proofs.Extended.{extended-loose, extended-past, extended-goes, as_before, none-goes, extended-over, extended-stays, not_behind, behind_same, behind_less_job, any-behind_empty, any-behind_less}
 use Rattle.racp_delay.proofs.following.+extending_behind.Goals as goal
@@ -131,3 +132,28 @@ extend_behind-branch_behind-requires t c = (
   omega (arith, c.decreases),
   (c.requires.choice, (c.requires.gone, λ runs. cc (c.are_within.ensures.1 runs, c.if-are_within.false))),
 )
+
+pub extend_behind-some_have_room-requires-clause-capacities : goal.extend_behind-some_have_room-requires-clause-capacities
+extend_behind-some_have_room-requires-clause-capacities t c = c.requires.choice.units
+
+pub extend_behind-some_have_room-requires-clause-jobs : goal.extend_behind-some_have_room-requires-clause-jobs
+extend_behind-some_have_room-requires-clause-jobs t c =
+    all-same (IsNumber (length c.args.choice.now.net.now.jobs)) c.args.gone.now.items c.deref.result.now c.deref.ensures.value c.requires.gone
+
+pub extend_behind-some_have_room-requires-clause-small : goal.extend_behind-some_have_room-requires-clause-small
+extend_behind-some_have_room-requires-clause-small t c = c.requires.choice.small
+
+pub extend_behind-are_within-requires : goal.extend_behind-are_within-requires
+extend_behind-are_within-requires t c = record { capacities = c.requires.choice.units }
+
+pub branch_behind-where_goes-less-requires-clause-choice : goal.branch_behind-where_goes-less-requires-clause-choice
+branch_behind-where_goes-less-requires-clause-choice t c = c.requires.choice
+
+pub branch_behind-where_goes-less-requires-clause-first : goal.branch_behind-where_goes-less-requires-clause-first
+branch_behind-where_goes-less-requires-clause-first t c = c.in-Some-split_first.ensures.cases.0
+
+pub branch_behind-where_stays-requires-clause-choice : goal.branch_behind-where_stays-requires-clause-choice
+branch_behind-where_stays-requires-clause-choice t c = c.requires.choice
+
+pub branch_behind-where_stays-requires-clause-first : goal.branch_behind-where_stays-requires-clause-first
+branch_behind-where_stays-requires-clause-first t c = c.in-Some-split_first.ensures.cases.0
