@@ -10,61 +10,79 @@ use racp_samples::{SampleFault, network, root_window};
 use std::alloc::{AllocError, Global};
 use std::test::Fail;
 
-/// In words, a network with a deadline, its floors and its roofs.
-type Row = (&'static str, Sample, u32, &'static [u32], &'static [u32]);
+/// A network with a deadline, its floors and its roofs.
+struct Row {
+    name: &'static str,
+    sample: Sample,
+    deadline: u32,
+    floors: &'static [u32],
+    roofs: &'static [u32],
+}
 
 const BOUNDS: &[Row] = &[
-    ("core usage", Sample::Parallel, 4, &[3], &[4]),
-    (
-        "two resources, no slack",
-        Sample::Crossed,
-        2,
-        &[2, 2],
-        &[2, 2],
-    ),
-    (
-        "two resources, some slack",
-        Sample::Crossed,
-        3,
-        &[1, 1],
-        &[2, 2],
-    ),
-    (
-        "two resources, enough slack",
-        Sample::Crossed,
-        4,
-        &[1, 1],
-        &[2, 2],
-    ),
-    ("a chain", Sample::Chained, 8, &[2], &[5]),
-    (
-        "the largest request",
-        Sample::Free(1, &[(0, &[9]), (2, &[7]), (2, &[1])]),
-        100,
-        &[7],
-        &[17],
-    ),
-    (
-        "the energy",
-        Sample::Free(1, &[(2, &[3]), (2, &[3]), (2, &[3])]),
-        4,
-        &[5],
-        &[9],
-    ),
-    (
-        "the core usage",
-        Sample::Free(1, &[(2, &[1]), (2, &[1]), (2, &[1])]),
-        3,
-        &[3],
-        &[3],
-    ),
-    (
-        "nothing",
-        Sample::Free(1, &[(0, &[0]), (0, &[4])]),
-        0,
-        &[0],
-        &[4],
-    ),
+    Row {
+        name: "core usage",
+        sample: Sample::Parallel,
+        deadline: 4,
+        floors: &[3],
+        roofs: &[4],
+    },
+    Row {
+        name: "two resources, no slack",
+        sample: Sample::Crossed,
+        deadline: 2,
+        floors: &[2, 2],
+        roofs: &[2, 2],
+    },
+    Row {
+        name: "two resources, some slack",
+        sample: Sample::Crossed,
+        deadline: 3,
+        floors: &[1, 1],
+        roofs: &[2, 2],
+    },
+    Row {
+        name: "two resources, enough slack",
+        sample: Sample::Crossed,
+        deadline: 4,
+        floors: &[1, 1],
+        roofs: &[2, 2],
+    },
+    Row {
+        name: "a chain",
+        sample: Sample::Chained,
+        deadline: 8,
+        floors: &[2],
+        roofs: &[5],
+    },
+    Row {
+        name: "the largest request",
+        sample: Sample::Free(1, &[(0, &[9]), (2, &[7]), (2, &[1])]),
+        deadline: 100,
+        floors: &[7],
+        roofs: &[17],
+    },
+    Row {
+        name: "the energy",
+        sample: Sample::Free(1, &[(2, &[3]), (2, &[3]), (2, &[3])]),
+        deadline: 4,
+        floors: &[5],
+        roofs: &[9],
+    },
+    Row {
+        name: "the core usage",
+        sample: Sample::Free(1, &[(2, &[1]), (2, &[1]), (2, &[1])]),
+        deadline: 3,
+        floors: &[3],
+        roofs: &[3],
+    },
+    Row {
+        name: "nothing",
+        sample: Sample::Free(1, &[(0, &[0]), (0, &[4])]),
+        deadline: 0,
+        floors: &[0],
+        roofs: &[4],
+    },
 ];
 
 /// Whether each job ends by the deadline.
@@ -119,15 +137,15 @@ fn difference(
 
 /// What is found otherwise than the floors and roofs of a row.
 fn row_difference(alloc: Global, row: &Row) -> Result<Option<&'static str>, SampleFault> {
-    let net = sampled(alloc, row.1)?;
-    difference(alloc, &net, row.2, row.3, row.4)
+    let net = sampled(alloc, row.sample)?;
+    difference(alloc, &net, row.deadline, row.floors, row.roofs)
 }
 
 #[test]
 fn finds_floors_and_roofs(rt: HostRuntime) -> Result<(), Fail> {
     for row in BOUNDS {
         let difference = row_difference(rt.alloc(), row)?;
-        assert_eq!(rt; difference, None, "{}", row.0);
+        assert_eq!(rt; difference, None, "{}", row.name);
     }
     Ok(())
 }

@@ -24,121 +24,121 @@ struct Expected<'a> {
     alternatives: &'a [Resolution<'a>],
 }
 
-/// In words, a network with capacities and starts, and their first conflict.
-type Row = (
-    &'static str,
-    Sample,
-    &'static [u32],
-    &'static [u32],
-    Option<Expected<'static>>,
-);
+/// A network with capacities and starts, and their first conflict.
+struct Row {
+    name: &'static str,
+    sample: Sample,
+    capacities: &'static [u32],
+    starts: &'static [u32],
+    expected: Option<Expected<'static>>,
+}
 
 const CONFLICTS: &[Row] = &[
-    (
-        "three jobs beside each other",
-        Sample::Parallel,
-        &[2],
-        &[0, 0, 0, 0, 3],
-        Some(Expected {
+    Row {
+        name: "three jobs beside each other",
+        sample: Sample::Parallel,
+        capacities: &[2],
+        starts: &[0, 0, 0, 0, 3],
+        expected: Some(Expected {
             time: 0,
             active: &[2, 3, 4],
             alternatives: &[(&[2], Some(2)), (&[3, 4], Some(3))],
         }),
-    ),
-    (
-        "enough units",
-        Sample::Parallel,
-        &[4],
-        &[0, 0, 0, 0, 3],
-        None,
-    ),
-    (
-        "jobs put off",
-        Sample::Parallel,
-        &[2],
-        &[0, 0, 3, 3, 5],
-        None,
-    ),
-    (
-        "a job beside a chain",
-        Sample::Chained,
-        &[2],
-        &[0, 0, 0, 1, 4, 8],
-        Some(Expected {
+    },
+    Row {
+        name: "enough units",
+        sample: Sample::Parallel,
+        capacities: &[4],
+        starts: &[0, 0, 0, 0, 3],
+        expected: None,
+    },
+    Row {
+        name: "jobs put off",
+        sample: Sample::Parallel,
+        capacities: &[2],
+        starts: &[0, 0, 3, 3, 5],
+        expected: None,
+    },
+    Row {
+        name: "a job beside a chain",
+        sample: Sample::Chained,
+        capacities: &[2],
+        starts: &[0, 0, 0, 1, 4, 8],
+        expected: Some(Expected {
             time: 1,
             active: &[2, 4],
             alternatives: &[(&[2], Some(4)), (&[4], Some(4))],
         }),
-    ),
-    (
-        "enough units for a chain",
-        Sample::Chained,
-        &[3],
-        &[0, 0, 0, 1, 4, 8],
-        None,
-    ),
-    (
-        "both resources are exceeded at once",
-        Sample::Free(2, &[(2, &[2, 0]), (2, &[0, 2]), (2, &[1, 1]), (2, &[1, 1])]),
-        &[2, 2],
-        &[0; 4],
-        Some(Expected {
+    },
+    Row {
+        name: "enough units for a chain",
+        sample: Sample::Chained,
+        capacities: &[3],
+        starts: &[0, 0, 0, 1, 4, 8],
+        expected: None,
+    },
+    Row {
+        name: "both resources are exceeded at once",
+        sample: Sample::Free(2, &[(2, &[2, 0]), (2, &[0, 2]), (2, &[1, 1]), (2, &[1, 1])]),
+        capacities: &[2, 2],
+        starts: &[0; 4],
+        expected: Some(Expected {
             time: 0,
             active: &[1, 2, 3, 4],
             alternatives: &[(&[1, 2], Some(2)), (&[3, 4], Some(2))],
         }),
-    ),
-    (
-        "only the second resource is exceeded, and not at the first start",
-        Sample::Free(2, &[(1, &[1, 0]), (3, &[0, 2]), (3, &[0, 2])]),
-        &[1, 3],
-        &[7, 2, 4],
-        Some(Expected {
+    },
+    Row {
+        name: "only the second resource is exceeded, and not at the first start",
+        sample: Sample::Free(2, &[(1, &[1, 0]), (3, &[0, 2]), (3, &[0, 2])]),
+        capacities: &[1, 3],
+        starts: &[7, 2, 4],
+        expected: Some(Expected {
             time: 4,
             active: &[2, 3],
             alternatives: &[(&[2], Some(7)), (&[3], Some(5))],
         }),
-    ),
-    (
-        "one job alone requests more than there is",
-        Sample::Free(1, &[(2, &[3]), (2, &[1])]),
-        &[2],
-        &[0, 5],
-        Some(Expected {
+    },
+    Row {
+        name: "one job alone requests more than there is",
+        sample: Sample::Free(1, &[(2, &[3]), (2, &[1])]),
+        capacities: &[2],
+        starts: &[0, 5],
+        expected: Some(Expected {
             time: 0,
             active: &[1],
             alternatives: &[(&[1], None)],
         }),
-    ),
-    (
-        "a job of duration 0 is never active, and one that requests nothing never has to go",
-        Sample::Free(1, &[(0, &[9]), (2, &[0]), (2, &[2]), (2, &[2])]),
-        &[3],
-        &[0; 4],
-        Some(Expected {
+    },
+    Row {
+        name: "a job of duration 0 is never active, and one that requests nothing never has to go",
+        sample: Sample::Free(1, &[(0, &[9]), (2, &[0]), (2, &[2]), (2, &[2])]),
+        capacities: &[3],
+        starts: &[0; 4],
+        expected: Some(Expected {
             time: 0,
             active: &[2, 3, 4],
             alternatives: &[(&[3], Some(2)), (&[4], Some(2))],
         }),
-    ),
-    (
-        "a job that ends when another starts is no longer active",
-        Sample::Free(1, &[(2, &[2]), (2, &[2])]),
-        &[3],
-        &[0, 2],
-        None,
-    ),
-    (
-        "the last time units that a start can be",
-        Sample::Free(1, &[(10_000, &[2]), (1, &[2])]),
-        &[3],
-        &[4_294_967_295; 2],
-        Some(Expected {
+    },
+    Row {
+        name: "a job that ends when another starts is no longer active",
+        sample: Sample::Free(1, &[(2, &[2]), (2, &[2])]),
+        capacities: &[3],
+        starts: &[0, 2],
+        expected: None,
+    },
+    Row {
+        name: "the last time units that a start can be",
+        sample: Sample::Free(1, &[(10_000, &[2]), (1, &[2])]),
+        capacities: &[3],
+        starts: &[4_294_967_295; 2],
+        expected: Some(Expected {
             time: 4_294_967_295,
             active: &[1, 2],
             alternatives: &[(&[1], Some(4_294_967_296)), (&[2], Some(4_294_977_295))],
         }),
-    ),
+    },
 ];
 
 /// Whether these are the alternatives of a conflict.
@@ -294,15 +294,15 @@ fn first_difference(
 
 /// What is found otherwise than the conflict of a row.
 fn row_difference(alloc: Global, row: &Row) -> Result<Option<&'static str>, SampleFault> {
-    let net = sampled(alloc, row.1)?;
-    Ok(difference(alloc, &net, row.2, row.3, row.4)?)
+    let net = sampled(alloc, row.sample)?;
+    Ok(difference(alloc, &net, row.capacities, row.starts, row.expected)?)
 }
 
 #[test]
 fn finds_conflicts_and_alternatives(rt: HostRuntime) -> Result<(), Fail> {
     for row in CONFLICTS {
         let difference = row_difference(rt.alloc(), row)?;
-        assert_eq!(rt; difference, None, "{}", row.0);
+        assert_eq!(rt; difference, None, "{}", row.name);
     }
     Ok(())
 }

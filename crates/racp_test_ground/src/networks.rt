@@ -6,127 +6,163 @@ use racp_samples::{SampleFault, network};
 use std::alloc::{AllocError, Global};
 use std::test::Fail;
 
-/// In words, the resources, jobs and pairs of a network, and why it is not made.
-type Attempt = (
-    &'static str,
-    usize,
-    &'static [(u32, &'static [u32])],
-    &'static [(u32, u32)],
-    Option<NetFault>,
-);
+/// The resources, jobs and pairs of a network, and why it is not made.
+struct Attempt {
+    name: &'static str,
+    resources: usize,
+    jobs: &'static [(u32, &'static [u32])],
+    arcs: &'static [(u32, u32)],
+    fault: Option<NetFault>,
+}
 
 /// Six equal jobs.
 const SIX: [(u32, &[u32]); 6] = [(1, &[1]); 6];
 
 const ATTEMPTS: &[Attempt] = &[
-    ("no job", 1, &[], &[], Some(NetFault::Limit)),
-    ("no resource", 0, &[(1, &[])], &[], Some(NetFault::Limit)),
-    ("16 resources", 16, &[(1, &[1; 16])], &[], None),
-    (
-        "17 resources",
-        17,
-        &[(1, &[1; 17])],
-        &[],
-        Some(NetFault::Limit),
-    ),
-    (
-        "a request is missing",
-        2,
-        &[(1, &[1])],
-        &[],
-        Some(NetFault::Limit),
-    ),
-    (
-        "one request too many",
-        1,
-        &[(1, &[1, 1])],
-        &[],
-        Some(NetFault::Limit),
-    ),
-    ("greatest numbers", 1, &[(10_000, &[10_000])], &[], None),
-    ("duration", 1, &[(10_001, &[1])], &[], Some(NetFault::Limit)),
-    ("request", 1, &[(1, &[10_001])], &[], Some(NetFault::Limit)),
-    (
-        "before job 0",
-        1,
-        &SIX,
-        &[(1, 2), (1, 0)],
-        Some(NetFault::BadJob),
-    ),
-    (
-        "after job 0",
-        1,
-        &SIX,
-        &[(1, 2), (0, 1)],
-        Some(NetFault::BadJob),
-    ),
-    (
-        "before job 7",
-        1,
-        &SIX,
-        &[(1, 2), (1, 7)],
-        Some(NetFault::BadJob),
-    ),
-    (
-        "after job 7",
-        1,
-        &SIX,
-        &[(1, 2), (7, 1)],
-        Some(NetFault::BadJob),
-    ),
-    (
-        "a job after itself",
-        1,
-        &SIX,
-        &[(2, 2)],
-        Some(NetFault::Cycle),
-    ),
-    (
-        "a ring of two jobs",
-        1,
-        &SIX,
-        &[(1, 2), (2, 1)],
-        Some(NetFault::Cycle),
-    ),
-    (
-        "a ring of four jobs",
-        1,
-        &SIX,
-        &[(1, 2), (2, 4), (4, 6), (6, 3), (3, 2), (1, 5)],
-        Some(NetFault::Cycle),
-    ),
-    (
-        "the same without the last pairs",
-        1,
-        &SIX,
-        &[(1, 2), (2, 4), (4, 6), (6, 3)],
-        None,
-    ),
-    (
-        "a number before a pair",
-        1,
-        &[(10_001, &[1])],
-        &[(1, 1), (1, 9)],
-        Some(NetFault::Limit),
-    ),
-    (
-        "a pair before a ring",
-        1,
-        &[(1, &[1])],
-        &[(1, 1), (1, 9)],
-        Some(NetFault::BadJob),
-    ),
+    Attempt {
+        name: "no job",
+        resources: 1,
+        jobs: &[],
+        arcs: &[],
+        fault: Some(NetFault::Limit),
+    },
+    Attempt {
+        name: "no resource",
+        resources: 0,
+        jobs: &[(1, &[])],
+        arcs: &[],
+        fault: Some(NetFault::Limit),
+    },
+    Attempt {
+        name: "16 resources",
+        resources: 16,
+        jobs: &[(1, &[1; 16])],
+        arcs: &[],
+        fault: None,
+    },
+    Attempt {
+        name: "17 resources",
+        resources: 17,
+        jobs: &[(1, &[1; 17])],
+        arcs: &[],
+        fault: Some(NetFault::Limit),
+    },
+    Attempt {
+        name: "a request is missing",
+        resources: 2,
+        jobs: &[(1, &[1])],
+        arcs: &[],
+        fault: Some(NetFault::Limit),
+    },
+    Attempt {
+        name: "one request too many",
+        resources: 1,
+        jobs: &[(1, &[1, 1])],
+        arcs: &[],
+        fault: Some(NetFault::Limit),
+    },
+    Attempt {
+        name: "greatest numbers",
+        resources: 1,
+        jobs: &[(10_000, &[10_000])],
+        arcs: &[],
+        fault: None,
+    },
+    Attempt {
+        name: "duration",
+        resources: 1,
+        jobs: &[(10_001, &[1])],
+        arcs: &[],
+        fault: Some(NetFault::Limit),
+    },
+    Attempt {
+        name: "request",
+        resources: 1,
+        jobs: &[(1, &[10_001])],
+        arcs: &[],
+        fault: Some(NetFault::Limit),
+    },
+    Attempt {
+        name: "before job 0",
+        resources: 1,
+        jobs: &SIX,
+        arcs: &[(1, 2), (1, 0)],
+        fault: Some(NetFault::BadJob),
+    },
+    Attempt {
+        name: "after job 0",
+        resources: 1,
+        jobs: &SIX,
+        arcs: &[(1, 2), (0, 1)],
+        fault: Some(NetFault::BadJob),
+    },
+    Attempt {
+        name: "before job 7",
+        resources: 1,
+        jobs: &SIX,
+        arcs: &[(1, 2), (1, 7)],
+        fault: Some(NetFault::BadJob),
+    },
+    Attempt {
+        name: "after job 7",
+        resources: 1,
+        jobs: &SIX,
+        arcs: &[(1, 2), (7, 1)],
+        fault: Some(NetFault::BadJob),
+    },
+    Attempt {
+        name: "a job after itself",
+        resources: 1,
+        jobs: &SIX,
+        arcs: &[(2, 2)],
+        fault: Some(NetFault::Cycle),
+    },
+    Attempt {
+        name: "a ring of two jobs",
+        resources: 1,
+        jobs: &SIX,
+        arcs: &[(1, 2), (2, 1)],
+        fault: Some(NetFault::Cycle),
+    },
+    Attempt {
+        name: "a ring of four jobs",
+        resources: 1,
+        jobs: &SIX,
+        arcs: &[(1, 2), (2, 4), (4, 6), (6, 3), (3, 2), (1, 5)],
+        fault: Some(NetFault::Cycle),
+    },
+    Attempt {
+        name: "the same without the last pairs",
+        resources: 1,
+        jobs: &SIX,
+        arcs: &[(1, 2), (2, 4), (4, 6), (6, 3)],
+        fault: None,
+    },
+    Attempt {
+        name: "a number before a pair",
+        resources: 1,
+        jobs: &[(10_001, &[1])],
+        arcs: &[(1, 1), (1, 9)],
+        fault: Some(NetFault::Limit),
+    },
+    Attempt {
+        name: "a pair before a ring",
+        resources: 1,
+        jobs: &[(1, &[1])],
+        arcs: &[(1, 1), (1, 9)],
+        fault: Some(NetFault::BadJob),
+    },
 ];
 
 /// Why the network of an attempt is not made.
 fn fault_of(alloc: Global, row: &Attempt) -> Option<NetFault> {
-    network(alloc, row.1, row.2, row.3).err()
+    network(alloc, row.resources, row.jobs, row.arcs).err()
 }
 
 #[test]
 fn tells_why_no_network_is_made(rt: HostRuntime) {
     for row in ATTEMPTS {
-        assert_eq!(rt; fault_of(rt.alloc(), row), row.4, "{}", row.0);
+        assert_eq!(rt; fault_of(rt.alloc(), row), row.fault, "{}", row.name);
     }
 }
 
@@ -219,66 +255,73 @@ fn reads_back_what_was_given(rt: HostRuntime) -> Result<(), Fail> {
 /// Two jobs that each request nothing of the first resource, and a unit of the second.
 const SECOND: Sample = Sample::Free(2, &[(1, &[0, 1]), (1, &[0, 1])]);
 
-/// In words, a network with capacities, starts and a deadline, and whether these starts fit.
-type Fit = (
-    &'static str,
-    Sample,
-    &'static [u32],
-    &'static [u32],
-    u64,
-    bool,
-);
+/// A network with capacities, starts and a deadline, and whether these starts fit.
+struct Fit {
+    name: &'static str,
+    sample: Sample,
+    capacities: &'static [u32],
+    starts: &'static [u32],
+    deadline: u64,
+    fits: bool,
+}
 
 const FITS: &[Fit] = &[
-    (
-        "the plan",
-        Sample::Parallel,
-        &[3],
-        &[0, 0, 0, 2, 4],
-        4,
-        true,
-    ),
-    (
-        "the deadline is over",
-        Sample::Parallel,
-        &[3],
-        &[0, 0, 0, 2, 4],
-        3,
-        false,
-    ),
-    (
-        "job 5 starts before job 4 ends",
-        Sample::Parallel,
-        &[3],
-        &[0, 0, 0, 2, 3],
-        4,
-        false,
-    ),
-    (
-        "three units at time 0",
-        Sample::Parallel,
-        &[2],
-        &[0, 0, 0, 2, 4],
-        4,
-        false,
-    ),
-    (
-        "four units at time 1",
-        Sample::Parallel,
-        &[3],
-        &[0, 0, 0, 1, 4],
-        4,
-        false,
-    ),
-    (
-        "two units of the second resource",
-        SECOND,
-        &[0, 1],
-        &[0, 0],
-        1,
-        false,
-    ),
-    ("as many as there are", SECOND, &[0, 2], &[0, 0], 1, true),
+    Fit {
+        name: "the plan",
+        sample: Sample::Parallel,
+        capacities: &[3],
+        starts: &[0, 0, 0, 2, 4],
+        deadline: 4,
+        fits: true,
+    },
+    Fit {
+        name: "the deadline is over",
+        sample: Sample::Parallel,
+        capacities: &[3],
+        starts: &[0, 0, 0, 2, 4],
+        deadline: 3,
+        fits: false,
+    },
+    Fit {
+        name: "job 5 starts before job 4 ends",
+        sample: Sample::Parallel,
+        capacities: &[3],
+        starts: &[0, 0, 0, 2, 3],
+        deadline: 4,
+        fits: false,
+    },
+    Fit {
+        name: "three units at time 0",
+        sample: Sample::Parallel,
+        capacities: &[2],
+        starts: &[0, 0, 0, 2, 4],
+        deadline: 4,
+        fits: false,
+    },
+    Fit {
+        name: "four units at time 1",
+        sample: Sample::Parallel,
+        capacities: &[3],
+        starts: &[0, 0, 0, 1, 4],
+        deadline: 4,
+        fits: false,
+    },
+    Fit {
+        name: "two units of the second resource",
+        sample: SECOND,
+        capacities: &[0, 1],
+        starts: &[0, 0],
+        deadline: 1,
+        fits: false,
+    },
+    Fit {
+        name: "as many as there are",
+        sample: SECOND,
+        capacities: &[0, 2],
+        starts: &[0, 0],
+        deadline: 1,
+        fits: true,
+    },
 ];
 
 /// Whether starts fit a network with these capacities by a deadline, or none where there is not a number for each resource
@@ -299,15 +342,15 @@ fn is_fitting(
 }
 
 /// Whether the starts of a row fit.
-fn fit(alloc: Global, row: &Fit) -> Result<Option<bool>, SampleFault> {
-    let net = sampled(alloc, row.1)?;
-    Ok(is_fitting(alloc, &net, row.2, row.3, row.4)?)
+fn row_fits(alloc: Global, row: &Fit) -> Result<Option<bool>, SampleFault> {
+    let net = sampled(alloc, row.sample)?;
+    Ok(is_fitting(alloc, &net, row.capacities, row.starts, row.deadline)?)
 }
 
 #[test]
 fn tells_which_starts_fit(rt: HostRuntime) -> Result<(), Fail> {
     for row in FITS {
-        assert_eq!(rt; fit(rt.alloc(), row)?, Some(row.5), "{}", row.0);
+        assert_eq!(rt; row_fits(rt.alloc(), row)?, Some(row.fits), "{}", row.name);
     }
     Ok(())
 }
