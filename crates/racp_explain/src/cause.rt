@@ -6,17 +6,15 @@ ghost use Rattle.racp_model.specs.Terms.{AreTermsOf};
 ghost use Rattle.racp_explain.specs.Causes.{IsNetworkCause, line_head, line_place, placed_head, network_head, order_head, plan_head};
 
 use crate::explain::push_title;
-use crate::finding::{THERE, push_more, push_short};
+use crate::finding::{push_more, push_short};
 use crate::input::Input;
-use crate::network_text::push_network_finding;
-use crate::order_text::{Sizes, push_order_finding};
-use crate::plan_faults::{
-    push_head_finding, push_no_room, push_plan_finding, push_too_late, push_too_long,
-};
-use crate::plan_text::push_text_finding;
 use crate::subject::{Line, Subject};
 use racp_check::{Opening, PlanFault, check_plan, opening_of};
 use racp_cpm::longest;
+use racp_findings::{
+    Sizes, THERE, push_head_finding, push_network_finding, push_no_room, push_order_finding,
+    push_plan_finding, push_text_finding, push_too_late, push_too_long,
+};
 use racp_model::Network;
 use racp_plan::{Plan, TextFault, read_plan};
 use racp_prices::{Order, OrderFault, read_order};

@@ -5,9 +5,6 @@ use crate::subject::Subject;
 use crate::topic::topic_of;
 use std::alloc::AllocError;
 
-/// What stands between what was wanted and what is there.
-pub(crate) const THERE: &str = "\nracp: there:  ";
-
 /// Adds what a fault means, in short, and what stands before what was wanted.
 pub(crate) fn push_short(text: &mut String, subject: Subject) -> Result<(), AllocError> {
     let short = topic_of(subject).short;

@@ -23,9 +23,8 @@
 //! `order_cause` says why there is no plan, as far as that is known without a search, and `plan_cause` what is wrong with
 //! the plan.
 //!
-//! The texts are read a second time by the same readers, so the fault is theirs. What was wanted and what is there is
-//! found by a plain look at the text: at the line of the fault, at the words before the title, at the keys of the table.
-//! Jobs that wait for each other are found by leaving out, round by round, the jobs that wait for none.
+//! The texts are read a second time by the same readers, so the fault is theirs. What was wanted and what is there is said
+//! by racp_findings.
 //!
 //! Proved: `named` answers exactly the subjects of the table that the words name, in its order; `explanation` answers
 //! `None` exactly where there is none. A subject's number and name are those of the fault. In `laws`: each fault, and
@@ -38,18 +37,11 @@
 mod cause;
 mod explain;
 mod finding;
-mod head;
 mod input;
 pub mod laws;
-mod line_of;
 mod line_topics;
-mod network_text;
-mod order_text;
 mod order_topics;
-mod plan_faults;
-mod plan_text;
 mod plan_topics;
-mod ring;
 mod sm_topics;
 mod subject;
 mod subjects;

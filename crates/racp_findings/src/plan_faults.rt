@@ -3,7 +3,7 @@
 ghost use Rattle.std.specs.Prelude.{◌≡◌, length};
 ghost use Rattle.racp_model.specs.Terms.{AreTermsOf};
 
-use crate::finding::THERE;
+use crate::THERE;
 use racp_check::PlanFault;
 use racp_cpm::early;
 use racp_model::{Network, usage_at};
@@ -38,7 +38,11 @@ fn due_of(order: &Order, job: u32) -> u32 {
 }
 
 /// Adds what the head of a plan has to say, and what it says.
-pub(crate) fn push_head_finding(
+///
+/// # Errors
+///
+/// Memory was refused.
+pub fn push_head_finding(
     text: &mut String,
     order: &Order,
     plan: &Plan,
@@ -53,7 +57,11 @@ pub(crate) fn push_head_finding(
 }
 
 /// Adds what is wanted of a plan with this fault, and what it has.
-pub(crate) fn push_plan_finding(
+///
+/// # Errors
+///
+/// Memory was refused.
+pub fn push_plan_finding(
     text: &mut String,
     net: &Network,
     order: &Order,
@@ -210,11 +218,11 @@ fn push_early(
 }
 
 /// Adds the shortest deadline, and the order's.
-pub(crate) fn push_too_long(
-    text: &mut String,
-    order: &Order,
-    critical: u64,
-) -> Result<(), AllocError> {
+///
+/// # Errors
+///
+/// Memory was refused.
+pub fn push_too_long(text: &mut String, order: &Order, critical: u64) -> Result<(), AllocError> {
     let deadline = order.deadline;
     write!(
         text,
@@ -223,7 +231,11 @@ pub(crate) fn push_too_long(
 }
 
 /// Adds the earliest end of a job, and when it has to end.
-pub(crate) fn push_too_late(
+///
+/// # Errors
+///
+/// Memory was refused.
+pub fn push_too_late(
     alloc: Global,
     text: &mut String,
     net: &Network,
@@ -249,11 +261,11 @@ fn earliest_end(alloc: Global, net: &Network, order: &Order, job: u32) -> Result
 }
 
 /// Adds that the ceilings of an order leave no room, and the ceilings.
-pub(crate) fn push_no_room(
-    text: &mut String,
-    order: &Order,
-    ceilings: &[u32],
-) -> Result<(), AllocError> {
+///
+/// # Errors
+///
+/// Memory was refused.
+pub fn push_no_room(text: &mut String, order: &Order, ceilings: &[u32]) -> Result<(), AllocError> {
     let deadline = order.deadline;
     write!(
         text,

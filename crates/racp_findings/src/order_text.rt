@@ -1,6 +1,6 @@
 //! What is wrong with an order.
 
-use crate::finding::THERE;
+use crate::THERE;
 use crate::line_of::{is_line_feed, line_at, push_shown};
 use racp_prices::OrderFault;
 use std::alloc::{AllocError, Global};
@@ -14,13 +14,13 @@ const MOST: i64 = 10_000_000;
 
 /// How many numbers an array of an order has, and for what.
 #[derive(Clone, Copy)]
-pub(crate) struct Sizes<'a> {
+pub struct Sizes<'a> {
     /// The name of the network.
-    pub(crate) net: &'a str,
+    pub net: &'a str,
     /// How many resources it has.
-    pub(crate) resources: usize,
+    pub resources: usize,
     /// How many jobs it has.
-    pub(crate) jobs: usize,
+    pub jobs: usize,
 }
 
 /// The keys of an order with one number, in the order in which they are read.
@@ -30,7 +30,11 @@ const NUMBERS: &[&str] = &["version", "deadline"];
 const ARRAYS: &[&str] = &["prices", "owned", "ceiling", "release", "due"];
 
 /// Adds what an order has to have where it has this fault, and what it has.
-pub(crate) fn push_order_finding(
+///
+/// # Errors
+///
+/// Memory was refused.
+pub fn push_order_finding(
     alloc: Global,
     text: &mut String,
     fault: OrderFault,

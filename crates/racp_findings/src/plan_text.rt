@@ -1,6 +1,6 @@
 //! What is wrong with a plan text.
 
-use crate::finding::THERE;
+use crate::THERE;
 use crate::line_of::{line_at, push_shown};
 use racp_model::Network;
 use racp_plan::{TextFault, TextFaultKind};
@@ -10,7 +10,11 @@ use std::alloc::AllocError;
 const HEAD: usize = 3;
 
 /// Adds what a plan text has to have where it has this fault, and what it has.
-pub(crate) fn push_text_finding(
+///
+/// # Errors
+///
+/// Memory was refused.
+pub fn push_text_finding(
     text: &mut String,
     fault: TextFault,
     bytes: &[u8],

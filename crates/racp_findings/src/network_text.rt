@@ -1,6 +1,6 @@
 //! What is wrong with a network text.
 
-use crate::finding::THERE;
+use crate::THERE;
 use crate::head::{head_number, line_like};
 use crate::line_of::{
     body_of, count_words, first_word, is_blank, is_line_feed, line_at, push_shown,
@@ -10,7 +10,11 @@ use racp_sm::{SmFault, SmFaultKind};
 use std::alloc::{AllocError, Global};
 
 /// Adds what a network text has to have where it has this fault, and what it has.
-pub(crate) fn push_network_finding(
+///
+/// # Errors
+///
+/// Memory was refused.
+pub fn push_network_finding(
     alloc: Global,
     text: &mut String,
     fault: SmFault,
