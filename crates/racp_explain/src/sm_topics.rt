@@ -86,7 +86,7 @@ const BAD_NUMBER: Topic = Topic {
 the colon of a key. A number is made of decimal digits alone: no point, no sign, no brackets.",
     command: READ,
     file: "jobs: 1\n- renewable: 1\nPRECEDENCE RELATIONS:\njob modes successors\n1 1 0
-REQUESTS/DURATIONS:\njob mode duration R1\n1 1 4.5 2\n",
+REQUESTS/DURATIONS:\njob mode duration R 1\n1 1 4.5 2\n",
     cure: "Write a whole number in that line; where durations are parts of a unit, count in a smaller unit. One line
 behind each title is taken for the heading, and an empty one counts.",
 };
@@ -134,7 +134,7 @@ successors it has, and these; the requests part its number, 1, its duration, and
 is that of the part's title.",
     command: READ,
     file: "jobs: 1\n- renewable: 1\nPRECEDENCE RELATIONS:\njob modes successors\n1 1 0
-REQUESTS/DURATIONS:\njob mode duration R1\n1 1 4\n",
+REQUESTS/DURATIONS:\njob mode duration R 1\n1 1 4\n",
     cure: "Add what is missing at the end of the part: a row, or the requests of a resource. Or the head says that there
 are more jobs or resources than there are.",
 };
@@ -144,7 +144,7 @@ const TOO_MANY: Topic = Topic {
     meaning: "A number stands behind the last one of a part.",
     command: READ,
     file: "jobs: 1\n- renewable: 1\nPRECEDENCE RELATIONS:\njob modes successors\n1 1 0
-REQUESTS/DURATIONS:\njob mode duration R1\n1 1 4 2 2\n",
+REQUESTS/DURATIONS:\njob mode duration R 1\n1 1 4 2 2\n",
     cure: "Leave it out. Or the head says that there are fewer jobs or resources than there are.",
 };
 
@@ -154,7 +154,7 @@ const CYCLE: Topic = Topic {
 back to it.",
     command: READ,
     file: "jobs: 2\n- renewable: 1\nPRECEDENCE RELATIONS:\njob modes successors\n1 1 1 2\n2 1 1 1
-REQUESTS/DURATIONS:\njob mode duration R1\n1 1 4 2\n2 1 3 1\n",
+REQUESTS/DURATIONS:\njob mode duration R 1\n1 1 4 2\n2 1 3 1\n",
     cure: "Follow the successors of the job that --explain names, and leave one of them out.",
 };
 
