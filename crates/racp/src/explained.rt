@@ -5,10 +5,10 @@ ghost use Rattle.racp.specs.Statuses.{IsStatusOfAnswer};
 
 use crate::failure::Failure;
 use crate::inputs::{opened, told, whole};
-use crate::run::{check_of, cpm_of, plain, plan_of, verify_of};
+use crate::run::{Making, check_of, cpm_of, plain, plan_of, verify_of};
 use racp_cli::{CHECK_FAILED, IMPOSSIBLE, REFUSED, StreamFault};
 use racp_explain::{Input as Text, network_cause, order_cause, plan_cause, proof_cause};
-use racp_words::{Crew, Memory, OrderFiles, PlanFiles, ProofFiles, Request, Source};
+use racp_words::{OrderFiles, PlanFiles, ProofFiles, Request, Source};
 use std::alloc::AllocError;
 use std::io::Read;
 use std::rt::Files;
@@ -25,7 +25,9 @@ pub(crate) fn explained<
 {
     let answered = match request {
         Request::Cpm(network) => cpm(rt, network),
-        Request::Plan(files, memory, crew) => plan(rt, files, memory, crew, on_terminal),
+        Request::Plan(files, memory, crew) => {
+            plan(rt, files, Making::of(memory, crew, on_terminal))
+        }
         Request::Check(files) => check(rt, files),
         Request::Verify(files) => verify(rt, files),
         other => plain(rt, other, on_terminal),
@@ -77,9 +79,7 @@ fn cpm_told<R: Print + Eprint + AllocGlobal>(rt: &R, net: &Text<'_>) -> Result<u
 fn plan<R: Clock + Files + Print + Eprint + AllocGlobal + Threads + Wait + Sync>(
     rt: &R,
     files: OrderFiles<'_>,
-    memory: Memory,
-    crew: Option<Crew>,
-    on_terminal: bool,
+    making: Making,
 ) -> Result<u8, Failure>
     ensures { IfOk result IsStatusOfAnswer }
 {
@@ -88,7 +88,7 @@ fn plan<R: Clock + Files + Print + Eprint + AllocGlobal + Threads + Wait + Sync>
     let net = whole(rt.alloc(), &mut net, files.net)?;
     let order = whole(rt.alloc(), &mut order, files.order)?;
     let (net, order) = (text(files.net, &net), text(files.order, &order));
-    plan_told(rt, &net, &order, memory, crew, on_terminal)
+    plan_told(rt, &net, &order, making)
 }
 
 /// The plan of these texts.
@@ -96,14 +96,12 @@ fn plan_told<R: Clock + Files + Print + Eprint + AllocGlobal + Threads + Wait + 
     rt: &R,
     net: &Text<'_>,
     order: &Text<'_>,
-    memory: Memory,
-    crew: Option<Crew>,
-    on_terminal: bool,
+    making: Making,
 ) -> Result<u8, Failure>
     ensures { IfOk result IsStatusOfAnswer }
 {
     let (mut network, mut terms) = (net.bytes, order.bytes);
-    let status = plan_of(rt, &mut network, &mut terms, memory, crew, on_terminal)?;
+    let status = plan_of(rt, &mut network, &mut terms, making)?;
     if is_told(status) {
         tell(rt, order_cause(rt.alloc(), net, order));
     }

@@ -36,6 +36,28 @@ pub(crate) struct Terminals {
     pub(crate) errors: bool,
 }
 
+/// How a plan is made, and how that is told.
+#[derive(Clone, Copy)]
+pub(crate) struct Making {
+    /// How much memory records take.
+    pub(crate) memory: Memory,
+    /// The workers; one thread alone where there are none.
+    pub(crate) crew: Option<Crew>,
+    /// Whether standard error is a terminal.
+    pub(crate) on_terminal: bool,
+}
+
+impl Making {
+    /// With so much memory, and by these workers, where there are some.
+    pub(crate) fn of(memory: Memory, crew: Option<Crew>, on_terminal: bool) -> Self {
+        Making {
+            memory,
+            crew,
+            on_terminal,
+        }
+    }
+}
+
 /// Runs the program, and answers its status.
 pub(crate) fn status<
     R: Clock + Env + Files + Input + Print + Eprint + AllocGlobal + Threads + Wait + Sync,
@@ -75,7 +97,9 @@ pub(crate) fn plain<
 {
     match request {
         Request::Cpm(network) => Ok(cpm(rt, network)?),
-        Request::Plan(files, memory, crew) => Ok(plan(rt, files, memory, crew, on_terminal)?),
+        Request::Plan(files, memory, crew) => {
+            Ok(plan(rt, files, Making::of(memory, crew, on_terminal))?)
+        }
         Request::Prove(files) => Ok(prove(rt, files)?),
         Request::Check(files) => Ok(check(rt, files)?),
         Request::Verify(files) => Ok(verify(rt, files)?),
@@ -123,56 +147,29 @@ pub(crate) fn cpm_of<R: Print + AllocGlobal, N: Read>(
 fn plan<R: Clock + Files + Print + Eprint + AllocGlobal + Threads + Wait + Sync>(
     rt: &R,
     files: OrderFiles<'_>,
-    memory: Memory,
-    crew: Option<Crew>,
-    on_terminal: bool,
+    making: Making,
 ) -> Result<u8, StreamFault>
     ensures { IfOk result IsStatusOfAnswer }
 {
     let mut net = open(rt, files.net)?;
     let mut order = open(rt, files.order)?;
-    plan_of(rt, &mut net, &mut order, memory, crew, on_terminal)
+    plan_of(rt, &mut net, &mut order, making)
 }
 
 /// Writes the plan for a network and an order that are read there, or why there is none: made by workers where there is a
-/// crew, and else on one thread.
+/// crew, and else on one thread. With an answer by workers, the work that was done goes to standard error where that is
+/// asked for, and until then how far planning has come.
 pub(crate) fn plan_of<
     R: Clock + Files + Print + Eprint + AllocGlobal + Threads + Wait + Sync,
     N: Read,
     O: Read,
->(
-    rt: &R,
-    net: &mut N,
-    order: &mut O,
-    memory: Memory,
-    crew: Option<Crew>,
-    on_terminal: bool,
-) -> Result<u8, StreamFault>
+>(rt: &R, net: &mut N, order: &mut O, making: Making) -> Result<u8, StreamFault>
     ensures { IfOk result IsStatusOfAnswer }
 {
-    match crew {
-        Some(crew) => plan_by(rt, net, order, memory, crew, on_terminal),
-        None => plan_alone(rt, net, order, memory),
-    }
-}
-
-/// Writes the plan for a network and an order that are read there, made by workers, or why there is none. With an answer,
-/// the work that was done goes to standard error where that is asked for, and until then how far planning has come.
-fn plan_by<
-    R: Clock + Files + Print + Eprint + AllocGlobal + Threads + Wait + Sync,
-    N: Read,
-    O: Read,
->(
-    rt: &R,
-    net: &mut N,
-    order: &mut O,
-    memory: Memory,
-    crew: Crew,
-    on_terminal: bool,
-) -> Result<u8, StreamFault>
-    ensures { IfOk result IsStatusOfAnswer }
-{
-    let progress = match progress_of(rt.alloc(), crew.progress, on_terminal) {
+    let Some(crew) = making.crew else {
+        return plan_alone(rt, net, order, making.memory);
+    };
+    let progress = match progress_of(rt.alloc(), crew.progress, making.on_terminal) {
         Ok(progress) => progress,
         Err(_) => return Err(StreamFault::Memory),
     };
@@ -181,7 +178,7 @@ fn plan_by<
     let workers = racp_lexfix::Crew {
         workers: crew.workers,
         turns: crew.turns,
-        memory: memory.mebibytes,
+        memory: making.memory.mebibytes,
         gate: &Open,
         stop: &limit,
         observer: &listener,

@@ -25,8 +25,8 @@ pub(crate) const MOST_WIDTH: u64 = 1000;
 /// The most seconds after which planning can be asked to stop.
 pub(crate) const MOST_SECONDS: u64 = 1_000_000_000;
 
-/// The version, and what the program was proved with.
-const VERSION: &str = "0.1.0\nproved with rattle-kit-13f, logic dac8208d";
+/// The version, and what the program was proved with: the logic is named by its sum, which several kits of the toolchain share.
+const VERSION: &str = "0.1.0\nproved with Rattle, logic dac8208d650f15bf";
 
 /// What stands behind the list of commands.
 const BEHIND_HELP: &str =
@@ -50,7 +50,7 @@ Exit status:
   3  there is no plan           7  a file or a stream failed
   4  planning was stopped       8  the plan or the certificate is not right
 
-Proved with rattle-kit-13f.";
+Proved with Rattle, logic dac8208d650f15bf.";
 
 /// A word of a command: its name first, and what help says of it last.
 #[derive(Clone, Copy)]
@@ -84,6 +84,14 @@ const ORDER: Word = Word::File("ORDER", "The order: a deadline and prices, TOML"
 
 /// The word for a plan.
 const PLAN: Word = Word::File("PLAN", "The plan");
+
+/// How many workers make a plan.
+const WORKERS: Word = Word::Number(
+    "workers",
+    "N",
+    MOST_WORKERS,
+    "How many workers make the plan, 1 to 64",
+);
 
 /// How many pieces workers take.
 const TURNS: Word = Word::Number(
@@ -129,12 +137,7 @@ const COMMANDS: &[Line] = &[
         words: &[
             NET,
             ORDER,
-            Word::Number(
-                "workers",
-                "N",
-                MOST_WORKERS,
-                "How many workers make the plan, 1 to 64",
-            ),
+            WORKERS,
             TURNS,
             Word::Flag(
                 "stats",
