@@ -372,30 +372,16 @@ fn of_fault(
 {
     let critical = longest(alloc, net, &order.release)?;
     let mut text = String::new(alloc);
-    push_plan(&mut text, net, order, name, plan, critical)?;
+    let pushed = if plan.deadline != order.deadline || plan.critical != critical {
+        push_head(&mut text, order, name, plan, critical)
+    } else {
+        match check_plan(net, order, plan) {
+            Ok(()) => Ok(()),
+            Err(fault) => push_fault(&mut text, net, order, name, plan, fault),
+        }
+    };
+    pushed?;
     Ok(text)
-}
-
-/// Adds what is wrong with a plan that was read, of a project with this critical length.
-fn push_plan(
-    text: &mut String,
-    net: &Network,
-    order: &Order,
-    name: &str,
-    plan: &Plan,
-    critical: u64,
-) -> Result<(), AllocError>
-    requires terms { AreTermsOf net.now order.now }
-    requires capacities { length plan.now.capacities ≡ net.now.resources }
-    requires starts { length plan.now.starts ≡ length net.now.jobs }
-{
-    if plan.deadline != order.deadline || plan.critical != critical {
-        return push_head(text, order, name, plan, critical);
-    }
-    match check_plan(net, order, plan) {
-        Ok(()) => Ok(()),
-        Err(fault) => push_fault(text, net, order, name, plan, fault),
-    }
 }
 
 /// Adds that the head of a plan is wrong.
