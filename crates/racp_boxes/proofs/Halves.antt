@@ -4,17 +4,18 @@ use Rattle.std.proofs.lemmas.Bool.{cases_lt}
 use Rattle.std.proofs.lemmas.List.{length-set}
 use Rattle.racp_model.specs.Project.{Project}
 use Rattle.racp_model.specs.Schedule.{sum_below}
-use Rattle.racp_model.specs.Terms.{Terms, AreTermsOf, IsBefore}
-use Rattle.racp_model.specs.Window.{Bounds, IsNo}
+use Rattle.racp_model.specs.Terms.{Terms, IsBefore}
+use Rattle.racp_model.specs.Window.{IsNo}
 use Rattle.racp_model.proofs.lemmas.Lists.{at_set}
 use Rattle.racp_model.proofs.lemmas.Sums.{sum_below-lt}
 use Rattle.racp_candidates.specs.Box.{IsBetween}
 use Rattle.racp_boxes.specs.Enough.{IsAtMost}
-use Rattle.racp_boxes.specs.Searched.{AreHalved, IsBetterKnown, IsCut, IsCutAnswer, IsKnown, IsSearched, IsSpan, IsTold, IsWidest, SaysRefuted}
+use Rattle.racp_boxes.specs.Searched.{AreHalved, IsBetterKnown, IsCut, IsCutAnswer, IsKnown, IsSearched, IsSpan, IsSubject, IsTold, IsWidest, SaysRefuted}
 use Rattle.racp_boxes.specs.declared.halving.Span.{Span}
 use Rattle.racp_boxes.specs.declared.known.Known.{Known}
 use Rattle.racp_boxes.specs.declared.known.Told.{Told}
 use Rattle.racp_boxes.specs.declared.known.Told.TheVariants.{Enough, Refuted, Open}
+use Rattle.racp_boxes.specs.declared.subject.Subject.{Subject}
 use Rattle.racp_boxes.proofs.Learning.{fewer_no, known-same}
 use Rattle.racp_boxes.proofs.lemmas.AtMost.{at_most-before}
 
@@ -23,62 +24,61 @@ abbrev pub width : Project → Span → ℕ
 width p span = sum_below p.resources (λ k. slice_index span.high k - slice_index span.low k)
 
 -- two narrower boxes that have all of a box that stands before the best vector
-pub record AreHalves (p : Project) (terms : Terms) (roofs : List ℕ) (span : Span) (best : List ℕ) (halves : Span × Span)
-    : Type 0 where
-  pub below : IsSpan p roofs halves.0
-  pub above : IsSpan p roofs halves.1
-  pub narrower_below : width p halves.0 < width p span
-  pub narrower_above : width p halves.1 < width p span
-  pub cover : (vector : List ℕ) → IsBetween span.low span.high vector → IsBefore terms vector best →
+pub record AreHalves (s : Subject) (span : Span) (best : List ℕ) (halves : Span × Span) : Type 0 where
+  pub below : IsSpan s halves.0
+  pub above : IsSpan s halves.1
+  pub narrower_below : width s.net.now halves.0 < width s.net.now span
+  pub narrower_above : width s.net.now halves.1 < width s.net.now span
+  pub cover : (vector : List ℕ) → IsBetween span.low span.high vector → IsBefore s.order.now vector best →
       IsBetween halves.0.low halves.0.high vector ⊎ IsBetween halves.1.low halves.1.high vector
 
 -- what is learnt in two steps
-pub better-trans : (p : Project) (terms : Terms) (window : Bounds) (roofs : List ℕ) (a b c : Known) → IsBetterKnown p terms window roofs a b → IsBetterKnown p terms window roofs b c → IsBetterKnown p terms window roofs a c
-better-trans p terms window roofs a b c first then = record { known = then.known; no_later = λ vector before. first.no_later vector (then.no_later vector before) }
+pub better-trans : (s : Subject) (a b c : Known) → IsBetterKnown s a b → IsBetterKnown s b c → IsBetterKnown s a c
+better-trans s a b c first then = record { known = then.known; no_later = λ vector before. first.no_later vector (then.no_later vector before) }
 
 -- two boxes by their numbers
 pair_is : (a b : Span) (halves : Span × Span) → halves.0 ≡ a → halves.1 ≡ b → (a, b) ≡ halves
 pair_is a b (x, y) e f = cc (e, f)
 
 -- a vector that is refuted is a no
-pub refuted_no : (p : Project) (terms : Terms) (window : Bounds) (units : List ℕ) (most : Option ℕ) (best : List ℕ) (told : Told) (result : Bool) → IsTold p terms window units most best told → SaysRefuted told result → result ≡ true → IsNo p units window
-refuted_no p terms window units most best Refuted result h says is = h
-refuted_no p terms window units most best Enough result h says is = absurd (cc (says, is))
-refuted_no p terms window units most best Open result h says is = absurd (cc (says, is))
+pub refuted_no : (s : Subject) (units : List ℕ) (most : Option ℕ) (best : List ℕ) (told : Told) (result : Bool) → IsTold s units most best told → SaysRefuted told result → result ≡ true → IsNo s.net.now units s.root.now
+refuted_no s units most best Refuted result h says is = h
+refuted_no s units most best Enough result h says is = absurd (cc (says, is))
+refuted_no s units most best Open result h says is = absurd (cc (says, is))
 
 -- one that is not, and was searched to the end, does not stand before the best one
-pub enough_not_before : (p : Project) (terms : Terms) (window : Bounds) (units : List ℕ) (most : Option ℕ) (best : List ℕ) (told : Told) (result : Bool) → IsTold p terms window units most best told → SaysRefuted told result → result ≡ false → most ≡ None →
-    IsBefore terms units best → ⊥
-enough_not_before p terms window units most best Refuted result h says is none = absurd (cc (says, is))
-enough_not_before p terms window units most best Enough result h says is none = h
-enough_not_before p terms window units most best Open result h says is none = absurd (h none)
+pub enough_not_before : (s : Subject) (units : List ℕ) (most : Option ℕ) (best : List ℕ) (told : Told) (result : Bool) → IsTold s units most best told → SaysRefuted told result → result ≡ false → most ≡ None →
+    IsBefore s.order.now units best → ⊥
+enough_not_before s units most best Refuted result h says is none = absurd (cc (says, is))
+enough_not_before s units most best Enough result h says is none = h
+enough_not_before s units most best Open result h says is none = absurd (h none)
 
-module _ (p : Project) (terms : Terms) (window : Bounds) (roofs : List ℕ) (span : Span) (t : AreTermsOf p terms) (is_span : IsSpan p roofs span) (old : Known) (h : IsKnown p terms window roofs old) where
+module _ (s : Subject) (t : IsSubject s) (span : Span) (is_span : IsSpan s span) (old : Known) (h : IsKnown s old) where
   -- there is nothing in the box
-  pub searched-empty : ((vector : List ℕ) → IsBetween span.low span.high vector → IsBefore terms vector old.best → ⊥) → IsSearched p terms window roofs span old old
-  searched-empty none = record { better = known-same p terms window roofs t old h; none = λ vector between some before. none vector between before }
+  pub searched-empty : ((vector : List ℕ) → IsBetween span.low span.high vector → IsBefore s.order.now vector old.best → ⊥) → IsSearched s span old old
+  searched-empty none = record { better = known-same s t old h; none = λ vector between some before. none vector between before }
 
-  module _ (cut : List ℕ) (is_cut : IsCut p terms span.low span.high old.best cut) (next : Known) (better : IsBetterKnown p terms window roofs old next) where
+  module _ (cut : List ℕ) (is_cut : IsCut s.net.now s.order.now span.low span.high old.best cut) (next : Known) (better : IsBetterKnown s old next) where
     -- a vector that is of interest is at most the high one
-    within_cut : (vector : List ℕ) → IsBetween span.low span.high vector → IsBefore terms vector next.best → IsAtMost p vector cut
+    within_cut : (vector : List ℕ) → IsBetween span.low span.high vector → IsBefore s.order.now vector next.best → IsAtMost s.net.now vector cut
     within_cut vector between before = is_cut.all vector between (better.no_later vector before)
 
     -- the high vector is refuted
-    pub searched-refuted : IsNo p cut window → IsSearched p terms window roofs span old next
+    pub searched-refuted : IsNo s.net.now cut s.root.now → IsSearched s span old next
     searched-refuted is_no = record {
       better = better;
-      none = λ vector between some before. fewer_no p vector cut window (within_cut vector between before) is_no some.0 some.1;
+      none = λ vector between some before. fewer_no s.net.now vector cut s.root.now (within_cut vector between before) is_no some.0 some.1;
     }
 
     -- there is one vector, and it does not stand before the best one
-    pub searched-one : ((k : ℕ) → k < length span.low → slice_index cut k ≤ slice_index span.low k) → (IsBefore terms cut next.best → ⊥) → IsSearched p terms window roofs span old next
+    pub searched-one : ((k : ℕ) → k < length span.low → slice_index cut k ≤ slice_index span.low k) → (IsBefore s.order.now cut next.best → ⊥) → IsSearched s span old next
     searched-one one not_before = record {
       better = better;
       none = λ vector between some before.
-          not_before (at_most-before p terms t cut vector (λ k l. let m : k < length span.low = omega (arith, l, is_span.low) in omega (arith, one k m, between.above k m)) is_cut.places (omega (arith, between.places, is_span.low)) next.best before);
+          not_before (at_most-before s.net.now s.order.now t.terms cut vector (λ k l. let m : k < length span.low = omega (arith, l, is_span.low) in omega (arith, one k m, between.above k m)) is_cut.places (omega (arith, between.places, is_span.low)) next.best before);
     }
 
-    module _ (k : ℕ) (resource : k < p.resources) (halves : Span × Span) (are : AreHalved span.low cut k halves) where
+    module _ (k : ℕ) (resource : k < s.net.now.resources) (halves : Span × Span) (are : AreHalved span.low cut k halves) where
       -- the halves by their numbers
       abbrev low_half : Span
       low_half = record { low = span.low; high = set cut k are.middle }
@@ -98,7 +98,7 @@ module _ (p : Project) (terms : Terms) (window : Bounds) (roofs : List ℕ) (spa
       cut_of : (q : ℕ) → q ≡ k → are.middle < slice_index cut q
       cut_of q e = rw e are.to
 
-      low_span : IsSpan p roofs low_half
+      low_span : IsSpan s low_half
       low_span = record {
         low = is_span.low;
         high = length-set cut k are.middle ∙ is_cut.places;
@@ -106,7 +106,7 @@ module _ (p : Project) (terms : Terms) (window : Bounds) (roofs : List ℕ) (spa
         within = λ q l. elim (at_high q) [ inl at ↦ omega (arith, at.1, cut_of q at.0, is_cut.below q l, is_span.within q l) | inr other ↦ omega (arith, other.1, is_cut.below q l, is_span.within q l) ];
       }
 
-      high_span : IsSpan p roofs high_half
+      high_span : IsSpan s high_half
       high_span = record {
         low = length-set span.low k (are.middle + 1) ∙ is_span.low;
         high = is_cut.places;
@@ -114,17 +114,17 @@ module _ (p : Project) (terms : Terms) (window : Bounds) (roofs : List ℕ) (spa
         within = λ q l. omega (arith, is_cut.below q l, is_span.within q l);
       }
 
-      low_narrower : width p low_half < width p span
-      low_narrower = sum_below-lt p.resources (λ q. slice_index (set cut k are.middle) q - slice_index span.low q) (λ q. slice_index span.high q - slice_index span.low q) k
+      low_narrower : width s.net.now low_half < width s.net.now span
+      low_narrower = sum_below-lt s.net.now.resources (λ q. slice_index (set cut k are.middle) q - slice_index span.low q) (λ q. slice_index span.high q - slice_index span.low q) k
           (λ q l. elim (at_high q) [ inl at ↦ omega (arith, at.1, cut_of q at.0, is_cut.below q l) | inr other ↦ omega (arith, other.1, is_cut.below q l) ]) resource
           (elim (at_high k) [ inl at ↦ omega (arith, at.1, are.to, are.from, is_cut.below k resource) | inr other ↦ absurd (other.0 refl) ])
 
-      high_narrower : width p high_half < width p span
-      high_narrower = sum_below-lt p.resources (λ q. slice_index cut q - slice_index (set span.low k (are.middle + 1)) q) (λ q. slice_index span.high q - slice_index span.low q) k
+      high_narrower : width s.net.now high_half < width s.net.now span
+      high_narrower = sum_below-lt s.net.now.resources (λ q. slice_index cut q - slice_index (set span.low k (are.middle + 1)) q) (λ q. slice_index span.high q - slice_index span.low q) k
           (λ q l. elim (at_low q) [ inl at ↦ omega (arith, at.1, low_of q at.0, is_cut.below q l) | inr other ↦ omega (arith, other.1, is_cut.below q l) ]) resource
           (elim (at_low k) [ inl at ↦ omega (arith, at.1, are.to, are.from, is_cut.below k resource) | inr other ↦ absurd (other.0 refl) ])
 
-      half_of : (vector : List ℕ) → IsBetween span.low span.high vector → IsBefore terms vector next.best → IsBetween low_half.low low_half.high vector ⊎ IsBetween high_half.low high_half.high vector
+      half_of : (vector : List ℕ) → IsBetween span.low span.high vector → IsBefore s.order.now vector next.best → IsBetween low_half.low low_half.high vector ⊎ IsBetween high_half.low high_half.high vector
       half_of vector between before = elim (cases_lt are.middle (slice_index vector k)) [
         | inl more ↦ inr (record {
           places = omega (arith, between.places, length-set span.low k (are.middle + 1));
@@ -145,8 +145,8 @@ module _ (p : Project) (terms : Terms) (window : Bounds) (roofs : List ℕ) (spa
           less_at q e m = rw e m
 
       -- they have all that is of interest
-      pub halved-halves : AreHalves p terms roofs span next.best halves
-      halved-halves = subst (AreHalves p terms roofs span next.best) (pair_is low_half high_half halves are.below are.above) (record {
+      pub halved-halves : AreHalves s span next.best halves
+      halved-halves = subst (AreHalves s span next.best) (pair_is low_half high_half halves are.below are.above) (record {
         below = low_span;
         above = high_span;
         narrower_below = low_narrower;
@@ -155,10 +155,10 @@ module _ (p : Project) (terms : Terms) (window : Bounds) (roofs : List ℕ) (spa
       })
 
   -- both halves were searched, one after the other
-  pub searched-both : (halves : Span × Span) (next mid new : Known) → IsBetterKnown p terms window roofs old next → AreHalves p terms roofs span next.best halves → IsSearched p terms window roofs halves.0 next mid → IsSearched p terms window roofs halves.1 mid new →
-      IsSearched p terms window roofs span old new
+  pub searched-both : (halves : Span × Span) (next mid new : Known) → IsBetterKnown s old next → AreHalves s span next.best halves → IsSearched s halves.0 next mid → IsSearched s halves.1 mid new →
+      IsSearched s span old new
   searched-both halves next mid new better are first then = record {
-    better = better-trans p terms window roofs old next new better (better-trans p terms window roofs next mid new first.better then.better);
+    better = better-trans s old next new better (better-trans s next mid new first.better then.better);
     none = λ vector between some before. elim (are.cover vector between (first.better.no_later vector (then.better.no_later vector before))) [
       | inl low ↦ first.none vector low some (then.better.no_later vector before)
       | inr high ↦ then.none vector high some before

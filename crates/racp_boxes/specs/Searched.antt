@@ -1,30 +1,45 @@
 -- Contracts of private functions: the search of a box of vectors below one that is known to be enough.
 use Rattle.std.specs.Prelude.{◌≡◌, ◌≢◌, ◌⊎◌, ℕ, ◌+◌, ◌<◌, ◌≤◌, Bool, IsTrue, IsFalse, List, length, slice_index, set, Contains, Option, Some, None}
 use Rattle.racp_model.specs.Project.{Project}
-use Rattle.racp_model.specs.Terms.{Terms, cost, IsBefore}
-use Rattle.racp_model.specs.Window.{Bounds, IsYes, IsNo}
+use Rattle.racp_model.specs.Formed.{HasBounds}
+use Rattle.racp_model.specs.Terms.{Terms, AreTermsOf, cost, IsBefore}
+use Rattle.racp_model.specs.Window.{IsYes, IsNo}
 use Rattle.racp_candidates.specs.Box.{IsBetween}
-use Rattle.racp_boxes.specs.Enough.{IsAtMost, IsEnoughWithin}
+use Rattle.racp_boxes.specs.Enough.{IsAtMost, IsEnoughWithin, IsLeastCost}
 use Rattle.racp_boxes.specs.declared.halving.Span.{Span}
 use Rattle.racp_boxes.specs.declared.known.Known.{Known}
 use Rattle.racp_boxes.specs.declared.known.Told.{Told}
 use Rattle.racp_boxes.specs.declared.known.Told.TheVariants.{Enough, Refuted, Open}
+use Rattle.racp_boxes.specs.declared.subject.Subject.{Subject}
+
+-- the order's terms are those of the network, and the window has bounds for each job
+pub record IsSubject (s : Subject) : Type 0 where
+  pub terms : AreTermsOf s.net.now s.order.now
+  pub root : HasBounds s.net.now s.root.now
+
+-- capacities that are enough: within the roofs, and some starts in the window fit
+abbrev pub IsEnough : Subject → List ℕ → Type 0
+IsEnough s vector = IsEnoughWithin s.net.now s.root.now s.roofs.now vector
+
+-- all of these cost at least so much
+abbrev pub CostAtLeast : Subject → ℕ → Type 0
+CostAtLeast s least = IsLeastCost s.net.now s.order.now s.root.now s.roofs.now least
 
 -- what is known: a vector that is enough, with its cost, and vectors with which nothing fits
-pub record IsKnown (p : Project) (terms : Terms) (window : Bounds) (roofs : List ℕ) (known : Known) : Type 0 where
-  pub enough : IsEnoughWithin p window roofs known.best
-  pub priced : known.cost ≡ cost terms known.best
-  pub places : (other : List ℕ) → Contains known.refuted.items other → length other ≡ p.resources
-  pub refuted : (other : List ℕ) → Contains known.refuted.items other → IsNo p other window
+pub record IsKnown (s : Subject) (known : Known) : Type 0 where
+  pub enough : IsEnough s known.best
+  pub priced : known.cost ≡ cost s.order.now known.best
+  pub places : (other : List ℕ) → Contains known.refuted.items other → length other ≡ s.net.now.resources
+  pub refuted : (other : List ℕ) → Contains known.refuted.items other → IsNo s.net.now other s.root.now
 
 -- what stands before a vector stands before another too
 abbrev pub IsNoLater : Terms → List ℕ → List ℕ → Type 0
 IsNoLater terms old new = (vector : List ℕ) → IsBefore terms vector new → IsBefore terms vector old
 
 -- what is known after some questions: no less than before
-pub record IsBetterKnown (p : Project) (terms : Terms) (window : Bounds) (roofs : List ℕ) (old new : Known) : Type 0 where
-  pub known : IsKnown p terms window roofs new
-  pub no_later : IsNoLater terms old.best new.best
+pub record IsBetterKnown (s : Subject) (old new : Known) : Type 0 where
+  pub known : IsKnown s new
+  pub no_later : IsNoLater s.order.now old.best new.best
 
 -- a vector is at most one of some others
 abbrev pub IsRefutedBy : List (List ℕ) → List ℕ → Type 0
@@ -39,10 +54,10 @@ pub record IsLearnt (terms : Terms) (old : Known) (units : List ℕ) (new : Know
   pub refuted : new.refuted ≡ old.refuted
 
 -- what is told of a vector: nothing fits, it does not stand before the best one, or neither, where nodes had a bound
-abbrev pub IsTold : Project → Terms → Bounds → List ℕ → (most : Option ℕ) → List ℕ → Told → Type 0
-IsTold p terms window units most best Enough = IsBefore terms units best → ⊥
-IsTold p terms window units most best Refuted = IsNo p units window
-IsTold p terms window units most best Open = most ≢ None
+abbrev pub IsTold : Subject → List ℕ → (most : Option ℕ) → List ℕ → Told → Type 0
+IsTold s units most best Enough = IsBefore s.order.now units best → ⊥
+IsTold s units most best Refuted = IsNo s.net.now units s.root.now
+IsTold s units most best Open = most ≢ None
 
 -- whether nothing fits
 abbrev pub SaysRefuted : Told → Bool → Type 0
@@ -51,27 +66,26 @@ SaysRefuted Enough result = IsFalse result
 SaysRefuted Open result = IsFalse result
 
 -- a box of vectors within the roofs
-pub record IsSpan (p : Project) (roofs : List ℕ) (span : Span) : Type 0 where
-  pub low : length span.low ≡ p.resources
-  pub high : length span.high ≡ p.resources
-  pub bounds : IsAtMost p span.low span.high
-  pub within : IsAtMost p span.high roofs
+pub record IsSpan (s : Subject) (span : Span) : Type 0 where
+  pub low : length span.low ≡ s.net.now.resources
+  pub high : length span.high ≡ s.net.now.resources
+  pub bounds : IsAtMost s.net.now span.low span.high
+  pub within : IsAtMost s.net.now span.high s.roofs.now
 
 -- no vector of a box, with which some starts fit, stands before the best one
-abbrev pub HasNoneBefore : Project → Terms → Bounds → Span → List ℕ → Type 0
-HasNoneBefore p terms window span best =
-    (vector : List ℕ) → IsBetween span.low span.high vector → IsYes p vector window → IsBefore terms vector best → ⊥
+abbrev pub HasNoneBefore : Subject → Span → List ℕ → Type 0
+HasNoneBefore s span best = (vector : List ℕ) → IsBetween span.low span.high vector →
+    IsYes s.net.now vector s.root.now → IsBefore s.order.now vector best → ⊥
 
 -- a box has all vectors within the roofs, with which some starts fit, that cost less than a number
-abbrev pub HasAllBelow : Project → Terms → Bounds → (roofs : List ℕ) → Span → ℕ → Type 0
-HasAllBelow p terms window roofs span rest = (vector : List ℕ) → IsEnoughWithin p window roofs vector →
-    cost terms vector < rest → IsBetween span.low span.high vector
+abbrev pub HasAllBelow : Subject → Span → ℕ → Type 0
+HasAllBelow s span rest =
+    (vector : List ℕ) → IsEnough s vector → cost s.order.now vector < rest → IsBetween span.low span.high vector
 
 -- a box was searched
-pub record IsSearched (p : Project) (terms : Terms) (window : Bounds) (roofs : List ℕ) (span : Span) (old new : Known)
-    : Type 0 where
-  pub better : IsBetterKnown p terms window roofs old new
-  pub none : HasNoneBefore p terms window span new.best
+pub record IsSearched (s : Subject) (span : Span) (old new : Known) : Type 0 where
+  pub better : IsBetterKnown s old new
+  pub none : HasNoneBefore s span new.best
 
 -- a box was halved between two numbers of units of the resource at place k
 pub record AreHalved (low high : List ℕ) (k : ℕ) (halves : Span × Span) : Type 0 where

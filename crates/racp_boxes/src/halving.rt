@@ -6,10 +6,11 @@ ghost use Rattle.racp_model.specs.Plan.{IsLeast};
 ghost use Rattle.racp_model.specs.Terms.{AreTermsOf, IsBefore};
 ghost use Rattle.racp_questions.specs.FirstYes.{IsProbeStop};
 ghost use Rattle.racp_boxes.specs.Enough.{AreFloorsOf, IsEnoughWithin, IsLeastCost};
-ghost use Rattle.racp_boxes.specs.Searched.{AreHalved, HasAllBelow, IsKnown, IsSearched, IsSpan, IsWidest};
+ghost use Rattle.racp_boxes.specs.Searched.{AreHalved, CostAtLeast, HasAllBelow, IsKnown, IsSearched, IsSpan, IsSubject, IsWidest};
 
 use crate::cut::cut;
 use crate::known::Known;
+use crate::subject::Subject;
 use racp_candidates::AnySeries;
 use racp_model::{Capacities, Network, Window};
 use racp_prices::{Order, cost_of};
@@ -51,17 +52,13 @@ pub fn first_enough<A: Asker<AnySeries>>(
         low: floors.copy()?,
         high: roofs.copy()?,
     };
-    search(
-        alloc,
+    let subject = Subject {
         net,
         order,
         root,
         roofs,
-        &mut known,
-        whole,
-        u64::MAX,
-        asker,
-    )?;
+    };
+    search(alloc, &subject, &mut known, whole, u64::MAX, asker)?;
     Ok(known.best)
 }
 
@@ -77,27 +74,24 @@ struct Span {
 /// are in the box. The asker is told what they cost at least.
 fn search<A: Asker<AnySeries>>(
     alloc: Global,
-    net: &Network,
-    order: &Order,
-    root: &Window,
-    roofs: &Capacities,
+    subject: &Subject,
     known: &mut Known,
     span: Span,
     rest: u64,
     asker: &mut A,
 ) -> Result<(), AskStop>
-    requires named { A.about asker.old net.now }
-    requires terms { AreTermsOf net.now order.now }
-    requires root { HasBounds net.now root.now }
-    requires span { IsSpan net.now roofs.now span }
-    requires known { IsKnown net.now order.now root.now roofs.now known.old }
-    requires rest { HasAllBelow net.now order.now root.now roofs.now span rest }
-    requires heard { (least : ℕ) → IsLeastCost net.now order.now root.now roofs.now least → A.may_hear_cost least }
-    ensures network { A.about asker.new net.now }
-    ensures searched { IfOk result (λ _. IsSearched net.now order.now root.now roofs.now span known.old known.new) }
+    requires named { A.about asker.old subject.now.net.now }
+    requires subject { IsSubject subject.now }
+    requires span { IsSpan subject.now span }
+    requires known { IsKnown subject.now known.old }
+    requires rest { HasAllBelow subject.now span rest }
+    requires heard { (least : ℕ) → CostAtLeast subject.now least → A.may_hear_cost least }
+    ensures network { A.about asker.new subject.now.net.now }
+    ensures searched { IfOk result (λ _. IsSearched subject.now span known.old known.new) }
     ensures answered { A.answered asker.new ≡ A.answered asker.old }
     ensures stop { IfErr result (IsProbeStop (A.told asker.new) (A.may_stop asker.new) (A.may_want_thread asker.new)) }
 {
+    let (net, order) = (subject.net, subject.order);
     let Span { low, high } = span;
     asker.hear_cost(cost_of(net, order, low.as_slice()).min(rest));
     let Some(high) = cut(alloc, net, order, known, &low, &high)? else {
@@ -105,7 +99,7 @@ fn search<A: Asker<AnySeries>>(
     };
     let lane = widest(order, &low, &high);
     let most = most_nodes(lane);
-    let told = known.ask(alloc, net, order, root, roofs, &high, most, asker)?;
+    let told = known.ask(alloc, subject, &high, most, asker)?;
     if told.is_refuted() {
         return Ok(());
     }
@@ -115,29 +109,9 @@ fn search<A: Asker<AnySeries>>(
     let (below, above) = halved(low, high, k)?;
     let other = cost_of(net, order, above.low.as_slice());
     let rest_of_below = rest.min(known.cost).min(other);
-    search(
-        alloc,
-        net,
-        order,
-        root,
-        roofs,
-        known,
-        below,
-        rest_of_below,
-        asker,
-    )?;
+    search(alloc, subject, known, below, rest_of_below, asker)?;
     let rest_of_above = rest.min(known.cost);
-    search(
-        alloc,
-        net,
-        order,
-        root,
-        roofs,
-        known,
-        above,
-        rest_of_above,
-        asker,
-    )
+    search(alloc, subject, known, above, rest_of_above, asker)
 }
 
 /// The two halves of a box along the resource at place `k`: that with fewer units, and the other one.

@@ -6,8 +6,9 @@ ghost use Rattle.racp_model.specs.Terms.{AreTermsOf, IsBefore, cost};
 ghost use Rattle.racp_questions.specs.FirstYes.{IsProbed, IsProbeStop};
 ghost use Rattle.racp_candidates.specs.Questions.{question_of};
 ghost use Rattle.racp_boxes.specs.Enough.{IsAtMost};
-ghost use Rattle.racp_boxes.specs.Searched.{IsKnown, IsBetterKnown, IsLearnt, IsRefutedBy, IsTold, SaysRefuted};
+ghost use Rattle.racp_boxes.specs.Searched.{IsKnown, IsBetterKnown, IsLearnt, IsRefutedBy, IsSubject, IsTold, SaysRefuted};
 
+use crate::subject::Subject;
 use racp_candidates::AnySeries;
 use racp_model::{Capacities, Network, Question, Window, peaks};
 use racp_prices::{Order, cost_of};
@@ -118,23 +119,19 @@ impl Known {
     pub(crate) fn ask<A: Asker<AnySeries>>(
         &mut self,
         alloc: Global,
-        net: &Network,
-        order: &Order,
-        root: &Window,
-        roofs: &Capacities,
+        subject: &Subject,
         units: &Capacities,
         most: Option<u64>,
         asker: &mut A,
     ) -> Result<Told, AskStop>
-        requires named { A.about asker.old net.now }
-        requires terms { AreTermsOf net.now order.now }
-        requires root { HasBounds net.now root.now }
-        requires units { length units.now ≡ net.now.resources }
-        requires within { IsAtMost net.now units.now roofs.now }
-        requires known { IsKnown net.now order.now root.now roofs.now self.old }
-        ensures network { A.about asker.new net.now }
-        ensures better { IfOk result (λ _. IsBetterKnown net.now order.now root.now roofs.now self.old self.new) }
-        ensures told { IfOk result (IsTold net.now order.now root.now units.now most self.new.best) }
+        requires named { A.about asker.old subject.now.net.now }
+        requires subject { IsSubject subject.now }
+        requires units { length units.now ≡ subject.now.net.now.resources }
+        requires within { IsAtMost subject.now.net.now units.now subject.now.roofs.now }
+        requires known { IsKnown subject.now self.old }
+        ensures network { A.about asker.new subject.now.net.now }
+        ensures better { IfOk result (λ _. IsBetterKnown subject.now self.old self.new) }
+        ensures told { IfOk result (IsTold subject.now units.now most self.new.best) }
         ensures answered { A.answered asker.new ≡ A.answered asker.old }
         ensures stop { IfErr result (IsProbeStop (A.told asker.new) (A.may_stop asker.new)
             (A.may_want_thread asker.new)) }
@@ -145,14 +142,18 @@ impl Known {
         if is_at_most(self.best.as_slice(), units.as_slice()) {
             return Ok(Told::Enough);
         }
-        match probe(net, root, units, most, asker)? {
+        match probe(subject.net, subject.root, units, most, asker)? {
             Probe::Open => Ok(Told::Open),
             Probe::No => {
                 self.keep(units.copy()?)?;
                 Ok(Told::Refuted)
             }
             Probe::Yes(starts) => {
-                self.learn(net, order, peaks(alloc, net, &starts)?);
+                self.learn(
+                    subject.net,
+                    subject.order,
+                    peaks(alloc, subject.net, &starts)?,
+                );
                 Ok(Told::Enough)
             }
         }

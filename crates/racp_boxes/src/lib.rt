@@ -41,5 +41,6 @@
 mod cut;
 mod halving;
 mod known;
+mod subject;
 
 pub use halving::first_enough;

@@ -2,4 +2,4 @@ use Rattle.racp_boxes.proofs.Halves.{width}
 use Rattle.racp_boxes.proofs.halving.+search.Given as goal
 
 abbrev pub decreases-search : goal.decreases-search
-decreases-search g l = width l.net.now l.span
+decreases-search g l = width l.subject.now.net.now l.span

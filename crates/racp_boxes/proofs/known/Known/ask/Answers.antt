@@ -6,26 +6,26 @@ use Rattle.racp_boxes.proofs.known.Known.ask.Goals as goal
 
 pub returns-then-refutes-clause-told : goal.returns-then-refutes-clause-told
 returns-then-refutes-clause-told g c =
-    known-refutes c.args.net.now c.args.order.now c.args.root.now c.args.roofs.now c.requires.terms c.args.self.now c.requires.known c.args.units.now c.requires.units (c.refutes.ensures c.if-refutes.true)
+    known-refutes c.args.subject.now c.requires.subject c.args.self.now c.requires.known c.args.units.now c.requires.units (c.refutes.ensures c.if-refutes.true)
 
 pub returns-then-is_at_most-clause-told : goal.returns-then-is_at_most-clause-told
 returns-then-is_at_most-clause-told g c =
-    known-enough c.args.net.now c.args.order.now c.args.root.now c.args.roofs.now c.requires.terms c.args.self.now c.requires.known c.args.units.now c.as_slice.result.now c.as_slice-2.result.now c.as_slice.ensures c.as_slice-2.ensures c.requires.units
+    known-enough c.args.subject.now c.requires.subject c.args.self.now c.requires.known c.args.units.now c.as_slice.result.now c.as_slice-2.result.now c.as_slice.ensures c.as_slice-2.ensures c.requires.units
     (c.is_at_most.ensures.0 c.if-is_at_most.true)
 
 pub returns-in_ok-keep-in-No-clause-better : goal.returns-in_ok-keep-in-No-clause-better
 returns-in_ok-keep-in-No-clause-better g c =
-    let is_no : IsNo c.args.net.now c.args.units.now c.args.root.now = told_no c.args.net.now (question_of c.args.units.now c.args.root.now) c.args.most _ c.in_ok-probe.ensures.probed c.in-No.is in
+    let is_no : IsNo c.args.subject.now.net.now c.args.units.now c.args.subject.now.root.now = told_no c.args.subject.now.net.now (question_of c.args.units.now c.args.subject.now.root.now) c.args.most _ c.in_ok-probe.ensures.probed c.in-No.is in
     let same : c.in_ok-copy-in-No.field-0 ≡ c.args.units.now = c.in_ok-copy-in-No.ensures in
-    known-kept c.args.net.now c.args.order.now c.args.root.now c.args.roofs.now c.requires.terms c.args.self.now c.requires.known c.in_ok-copy-in-No.field-0 c.keep.new.self (rw same c.requires.units) (rw same is_no)
+    known-kept c.args.subject.now c.requires.subject c.args.self.now c.requires.known c.in_ok-copy-in-No.field-0 c.keep.new.self (rw same c.requires.units) (rw same is_no)
     c.keep.ensures.best c.keep.ensures.cost c.in_ok-keep-in-No.ensures.refuted
 
 pub returns-in_ok-peaks-in-Yes-clause-better : goal.returns-in_ok-peaks-in-Yes-clause-better
 returns-in_ok-peaks-in-Yes-clause-better g c =
-    known-learnt c.args.net.now c.args.order.now c.args.root.now c.args.roofs.now c.requires.terms c.args.self.now c.requires.known c.args.units.now c.in-Yes.starts c.in_ok-peaks-in-Yes.field-0 c.learn.new.self c.requires.units c.requires.within
-    (told_yes c.args.net.now (question_of c.args.units.now c.args.root.now) c.args.most _ c.in-Yes.starts c.in_ok-probe.ensures.probed c.in-Yes.is) c.in_ok-peaks-in-Yes.ensures c.learn.ensures
+    known-learnt c.args.subject.now c.requires.subject c.args.self.now c.requires.known c.args.units.now c.in-Yes.starts c.in_ok-peaks-in-Yes.field-0 c.learn.new.self c.requires.units c.requires.within
+    (told_yes c.args.subject.now.net.now (question_of c.args.units.now c.args.subject.now.root.now) c.args.most _ c.in-Yes.starts c.in_ok-probe.ensures.probed c.in-Yes.is) c.in_ok-peaks-in-Yes.ensures c.learn.ensures
 
 pub returns-in_ok-peaks-in-Yes-clause-told : goal.returns-in_ok-peaks-in-Yes-clause-told
 returns-in_ok-peaks-in-Yes-clause-told g c =
-    learnt-enough c.args.net.now c.args.order.now c.args.root.now c.args.roofs.now c.requires.terms c.args.self.now c.requires.known c.args.units.now c.in-Yes.starts c.in_ok-peaks-in-Yes.field-0 c.learn.new.self c.requires.units c.requires.within
-    (told_yes c.args.net.now (question_of c.args.units.now c.args.root.now) c.args.most _ c.in-Yes.starts c.in_ok-probe.ensures.probed c.in-Yes.is) c.in_ok-peaks-in-Yes.ensures c.learn.ensures
+    learnt-enough c.args.subject.now c.requires.subject c.args.self.now c.requires.known c.args.units.now c.in-Yes.starts c.in_ok-peaks-in-Yes.field-0 c.learn.new.self c.requires.units c.requires.within
+    (told_yes c.args.subject.now.net.now (question_of c.args.units.now c.args.subject.now.root.now) c.args.most _ c.in-Yes.starts c.in_ok-probe.ensures.probed c.in-Yes.is) c.in_ok-peaks-in-Yes.ensures c.learn.ensures
