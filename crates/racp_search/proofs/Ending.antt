@@ -1,12 +1,12 @@
 -- How a search ends that came to a halt.
-use Rattle.std.proofs.Common.{ℕ, List, Contains, refl, sym, subst, Bool, true, Option, None, Result, Ok, Err, IfOk, IsTrue, IsFalse}
+use Rattle.std.proofs.Common.{ℕ, List, Contains, refl, sym, subst, Bool, Option, Result, Ok, Err, IfOk, IsTrue, IsFalse}
 use Rattle.std.specs.declared.alloc.AllocError.{AllocError}
 use Rattle.racp_model.specs.Project.{Project}
 use Rattle.racp_model.specs.Window.{Bounds}
 use Rattle.racp_model.proofs.lemmas.Relations.{no_member}
 use Rattle.racp_search.specs.Truth.{IsFoundOrLeft}
 use Rattle.racp_search.specs.DepthFirst.{SearchFrame}
-use Rattle.racp_search.specs.Ends.{IsEnd, IsEndOf, IsFinished, IsHalt, IsHaltOf, IsSearched}
+use Rattle.racp_search.specs.Ends.{IsEnd, IsEndOf, IsFinished, IsHalt, IsHaltOf}
 use Rattle.racp_search.specs.declared.ended.Ended.{Ended}
 use Rattle.racp_search.specs.declared.depth_first.Halt.{Halt}
 use Rattle.racp_search.specs.declared.depth_first.Halt.TheVariants.{Found, Nothing, Left}
@@ -58,8 +58,3 @@ module _ (p : Project) (capacities : List ℕ) (window : Bounds) (quantum : Opti
   finished_quiet halt (Err error) h e = tt
   finished_quiet (Ok halt) (Ok ended) h e = not_stopped halt ended h e
   finished_quiet (Err error) (Ok ended) h e = absurd e
-
--- where there is no quantum and the stop is quiet, all is searched
-pub searched : (p : Project) (capacities : List ℕ) (window : Bounds) (nodes : ℕ) (end : Result Ended AllocError) → IfOk end (IsEnd p capacities window None nodes) → IfOk end (λ ended. IsTrue true → IsFalse ended.stopped) → IfOk end (IsSearched p capacities window)
-searched p capacities window nodes (Err error) is on = tt
-searched p capacities window nodes (Ok ended) is on = record { nodes = nodes; end = is; on = on refl }

@@ -27,12 +27,6 @@ pub record IsEnd (p : Project) (capacities : List ℕ) (window : Bounds) (quantu
   pub all : IsFalse ended.stopped → quantum ≡ None → ended.rest.items ≡ []
   pub higher : 0 < nodes → (part : Bounds) → Contains ended.rest.items part → IsHigher p window part
 
--- a search without a quantum, after some number of nodes, that was not stopped
-pub record IsSearched (p : Project) (capacities : List ℕ) (window : Bounds) (ended : Ended) : Type 0 where
-  pub nodes : ℕ
-  pub end : IsEnd p capacities window None nodes ended
-  pub on : IsFalse ended.stopped
-
 -- where a search comes to a halt: at starts that answer, where nothing is left, or before a window
 abbrev pub IsHaltOf : Project → List ℕ → Bounds → List SearchFrame → Halt → Type 0
 IsHaltOf p capacities window stack (Found starts) = Answers p capacities window starts

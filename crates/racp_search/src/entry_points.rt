@@ -2,10 +2,9 @@ ghost use Rattle.std.specs.Prelude.{◌≡◌, IsTrue, IsFalse, IfOk};
 ghost use Rattle.racp_model.specs.Formed.{IsFormed};
 ghost use Rattle.racp_cutset.specs.Kept.{StayKept};
 ghost use Rattle.racp_search.specs.Truth.{IsExplored, IsDecision};
-ghost use Rattle.racp_search.specs.Ends.{AllowsNone, IsSearched};
+ghost use Rattle.racp_search.specs.Ends.{AllowsNone};
 
 use crate::depth_first::{OpenSearch, search};
-use crate::ended::Ended;
 use crate::finding::Finding;
 use crate::piece::Piece;
 use crate::stop::{Never, Stop};
@@ -38,7 +37,7 @@ pub fn explore<N: OfNetwork, S: Stop>(
     ensures quiet { IsTrue S.QUIET → IsFalse result.stopped }
     ensures kept { StayKept local.old local.new }
 {
-    explore_from(alloc, net, piece, quantum, board, local, stop, &mut None)
+    explore_further(alloc, net, piece, quantum, board, local, stop, None).0
 }
 
 /// Searches a piece as `explore` does, and answers beside the finding the search that was left, in the last window of
@@ -60,37 +59,22 @@ pub fn explore_further<N: OfNetwork, S: Stop>(
     ensures quiet { IsTrue S.QUIET → IsFalse result.0.stopped }
     ensures kept { StayKept local.old local.new }
 {
-    let mut opened = before;
-    let finding = explore_from(alloc, net, piece, quantum, board, local, stop, &mut opened);
-    (finding, opened)
-}
-
-/// Searches a piece, from the open search where it is that of the piece's question. The search that is left is open
-/// then, or none.
-fn explore_from<N: OfNetwork, S: Stop>(
-    alloc: Global,
-    net: &Network,
-    piece: Piece<N>,
-    quantum: Option<u64>,
-    board: &Board<N>,
-    local: &mut Local<N>,
-    stop: &S,
-    opened: &mut Option<OpenSearch<N>>,
-) -> Finding<N>
-    requires named { net.now ≡ N.network }
-    requires formed { IsFormed net.now piece.question }
-    ensures explored { IsExplored N.network piece quantum result }
-    ensures quiet { IsTrue S.QUIET → IsFalse result.stopped }
-    ensures kept { StayKept local.old local.new }
-{
     if allows_none(quantum) {
-        *opened = None;
-        return Finding::whole(piece, 0, false);
+        return (Finding::whole(piece, 0, false), None);
     }
+    let mut opened = before;
     let mut nodes = 0;
     let subject = Subject::new(net, piece.question(), board);
-    let end = search(alloc, &subject, opened, quantum, &mut nodes, local, stop);
-    Finding::after(piece, end, nodes)
+    let end = search(
+        alloc,
+        &subject,
+        &mut opened,
+        quantum,
+        &mut nodes,
+        local,
+        stop,
+    );
+    (Finding::after(piece, end, nodes), opened)
 }
 
 /// Whether the quantum allows no node.
@@ -132,24 +116,8 @@ fn decide_named<N: OfNetwork>(
 {
     let board: Board<N> = Board::new(alloc, net)?;
     let mut local: Local<N> = Local::new(alloc, net);
-    decide_with(alloc, net, question, &board, &mut local)
-}
-
-/// The same, with these records.
-fn decide_with<N: OfNetwork>(
-    alloc: Global,
-    net: &Network,
-    question: &Question,
-    board: &Board<N>,
-    local: &mut Local<N>,
-) -> Result<Option<Starts>, AllocError>
-    requires named { net.now ≡ N.network }
-    requires formed { IsFormed net.now question.now }
-    ensures { IfOk result (IsDecision net.now question.now.capacities question.now.window) }
-{
-    let subject = Subject::new(net, question, board);
-    let ended = search_all(alloc, &subject, local)?;
-    Ok(ended.into_found())
+    let subject = Subject::new(net, question, &board);
+    search_all(alloc, &subject, &mut local)
 }
 
 /// Searches a question until starts are found or nothing is left.
@@ -157,9 +125,10 @@ fn search_all<N: OfNetwork>(
     alloc: Global,
     subject: &Subject<N>,
     local: &mut Local<N>,
-) -> Result<Ended, AllocError>
-    ensures { IfOk result (IsSearched N.network subject.now.capacities subject.now.window) }
+) -> Result<Option<Starts>, AllocError>
+    ensures { IfOk result (IsDecision N.network subject.now.capacities subject.now.window) }
 {
     let mut nodes = 0;
-    search(alloc, subject, &mut None, None, &mut nodes, local, &Never)
+    let ended = search(alloc, subject, &mut None, None, &mut nodes, local, &Never)?;
+    Ok(ended.into_found())
 }

@@ -302,25 +302,9 @@ fn first_frame<N: OfNetwork>(
 {
     laws::branching_loses_nothing();
     laws::some_job_goes();
-    if are_few(&conflict.active) {
-        return full_frame(workspace, subject, node, conflict);
+    if !are_few(&conflict.active) {
+        return Ok(bare_frame(&mut workspace.spare, node, conflict.active));
     }
-    Ok(bare_frame(&mut workspace.spare, node, conflict.active))
-}
-
-/// The frame of a node at its conflict, with all of its child windows.
-fn full_frame<N: OfNetwork>(
-    workspace: &mut Workspace,
-    subject: &Subject<N>,
-    node: Node<N>,
-    conflict: Clash,
-) -> Result<Frame<N>, AllocError>
-    requires active { HasActive N.network node conflict.active }
-    requires same { node.capacities ≡ subject.now.capacities }
-    ensures { IfOk result (IsFrameOf N.network subject.now.capacities node.window) }
-{
-    laws::branching_loses_nothing();
-    laws::some_job_goes();
     let (net, capacities) = (subject.network(), subject.capacities());
     workspace.all.find(net, capacities, &conflict)?;
     let mut frame = bare_frame(&mut workspace.spare, node, conflict.active);
