@@ -13,6 +13,7 @@ use Rattle.racp_model.proofs.lemmas.Sums.{sum_below-mono, sum_below-lt}
 use Rattle.racp_model.proofs.lemmas.Orders.{HasFirstPlace, first_from_lex, vectors_ordered}
 use Rattle.racp_model.proofs.lemmas.Costs.{before_cases, before_trans}
 use Rattle.racp_model.proofs.lemmas.Relations.{member_cases, member_first, member_later, no_member}
+use Rattle.racp_trees.specs.declared.claim.Claim.{Claim}
 use Rattle.racp_trees.specs.declared.parts.Part.{Part}
 use Rattle.racp_trees.specs.Enough.{IsGapAnswer, IsAtMost, IsBelowSome, AreEnoughBlocks, IsPartAt, AreParts, ArePartsAdded, IsPart, IsIn, IsLeft, IsLooking, slack, weights}
 
@@ -330,8 +331,8 @@ empty [] e = refl
 empty (x ∷ xs) e = absurd (omega (arith, e))
 
 -- whether the blocks are enough is whether no vector is above each of them
-pub gap_told : (p : Project) (terms : Terms) (roofs capacities : List ℕ) (blocks : List (Vec ℕ Global)) (found : Option (Vec ℕ Global)) (b : Bool) → is_some found ≡ not b → IsGapAnswer p terms roofs capacities blocks found → IsTrue b ↔ AreEnoughBlocks p terms roofs capacities blocks
-gap_told p terms roofs capacities blocks (Some low) true e gap = absurd (cc e)
-gap_told p terms roofs capacities blocks (Some low) false e gap = (λ yes'. absurd (never false refl yes'), λ enough. absurd (gap.above (enough low.items gap.places gap.within gap.before)))
-gap_told p terms roofs capacities blocks None true e enough = (λ yes'. enough, λ h. refl)
-gap_told p terms roofs capacities blocks None false e enough = absurd (cc e)
+pub gap_told : (c : Claim) (blocks : List (Vec ℕ Global)) (found : Option (Vec ℕ Global)) (b : Bool) → is_some found ≡ not b → IsGapAnswer c blocks found → IsTrue b ↔ AreEnoughBlocks c.net.now c.order.now c.roofs.now c.capacities.now blocks
+gap_told c blocks (Some low) true e gap = absurd (cc e)
+gap_told c blocks (Some low) false e gap = (λ yes'. absurd (never false refl yes'), λ enough. absurd (gap.above (enough low.items gap.places gap.within gap.before)))
+gap_told c blocks None true e enough = (λ yes'. enough, λ h. refl)
+gap_told c blocks None false e enough = absurd (cc e)

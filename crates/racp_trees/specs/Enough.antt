@@ -3,7 +3,8 @@ use Rattle.std.specs.Prelude.{◌≡◌, ◌⊎◌, ℕ, ◌+◌, ◌-◌, ◌^�
 use Rattle.std.specs.Global.{Global}
 use Rattle.racp_model.specs.Project.{Project}
 use Rattle.racp_model.specs.Schedule.{sum_below}
-use Rattle.racp_model.specs.Terms.{Terms, IsBefore}
+use Rattle.racp_model.specs.Terms.{Terms, AreTermsOf, IsBefore}
+use Rattle.racp_trees.specs.declared.claim.Claim.{Claim}
 use Rattle.racp_trees.specs.declared.parts.Part.{Part}
 
 -- in each of n places, no number is above the one of another list
@@ -26,10 +27,16 @@ pub record IsGap (p : Project) (terms : Terms) (roofs capacities : List ℕ) (bl
   pub before : IsBefore terms low capacities
   pub above : IsBelowSome p.resources blocks low → ⊥
 
+-- a claim's terms are those of the network, and it has a roof and a capacity for each resource
+pub record IsClaim (c : Claim) : Type 0 where
+  pub terms : AreTermsOf c.net.now c.order.now
+  pub roofs : length c.roofs.now ≡ c.net.now.resources
+  pub capacities : length c.capacities.now ≡ c.net.now.resources
+
 -- such a vector, or none where the blocks are enough
-abbrev pub IsGapAnswer : Project → Terms → List ℕ → List ℕ → List (Vec ℕ Global) → Option (Vec ℕ Global) → Type 0
-IsGapAnswer p terms roofs capacities blocks (Some low) = IsGap p terms roofs capacities blocks low.items
-IsGapAnswer p terms roofs capacities blocks None = AreEnoughBlocks p terms roofs capacities blocks
+abbrev pub IsGapAnswer : Claim → List (Vec ℕ Global) → Option (Vec ℕ Global) → Type 0
+IsGapAnswer c blocks (Some low) = IsGap c.net.now c.order.now c.roofs.now c.capacities.now blocks low.items
+IsGapAnswer c blocks None = AreEnoughBlocks c.net.now c.order.now c.roofs.now c.capacities.now blocks
 
 -- the place of the first block at or above a vector, or none where none is
 abbrev pub IsBlockAnswer : List (Vec ℕ Global) → List ℕ → Option ℕ → Type 0

@@ -2,18 +2,29 @@
 use Rattle.std.specs.Prelude.{◌≡◌, ⊤, ℕ, ◌+◌, ◌<◌, ◌≤◌, List, [], ◌∷◌, ◌++◌, length, true, Option, Some, None, Vec}
 use Rattle.std.specs.Global.{Global}
 use Rattle.racp_model.specs.Project.{Project}
-use Rattle.racp_model.specs.Window.{Bounds}
+use Rattle.racp_model.specs.Terms.{AreTermsOf, release_of, due_of}
+use Rattle.racp_model.specs.Window.{Bounds, IsRootWindow}
+use Rattle.racp_prices.specs.Units.{AreMostUnits}
 use Rattle.racp_cutset.specs.Covering.{SearchNode}
 use Rattle.racp_trees.specs.Following.{IsRest}
 use Rattle.racp_trees.specs.Nodes.{HasPlace}
 use Rattle.racp_trees.specs.Readers.{HasRead, AsksNext, IsReady, IsLineAnswer}
 use Rattle.racp_trees.specs.Records.{record_at}
 use Rattle.racp_trees.specs.Texts.{step_line, step_number, most_number}
+use Rattle.racp_trees.specs.declared.certifying.Given.{Given}
 use Rattle.racp_trees.specs.declared.closed.Closed.{Closed}
 use Rattle.racp_trees.specs.declared.record.Record.{Record}
 use Rattle.racp_trees.specs.declared.reader.Reader.{Reader}
 use Rattle.racp_trees.specs.declared.step.Step.{Step}
 use Rattle.racp_trees.specs.declared.step.Step.TheVariants.{C}
+
+-- what a certificate is made of fits together: the order's terms are those of the network, the window is the root window
+-- of the order, the roofs are cut to its ceilings, and there is a capacity for each resource
+pub record IsGiven (g : Given) : Type 0 where
+  pub terms : AreTermsOf g.claim.net.now g.claim.order.now
+  pub root : IsRootWindow g.claim.net.now (release_of g.claim.order.now) (due_of g.claim.order.now) g.root.now
+  pub roofs : AreMostUnits g.claim.net.now g.claim.order.now g.claim.roofs.now
+  pub capacities : length g.claim.capacities.now ≡ g.claim.net.now.resources
 
 -- some records were forgotten, and places were made for nodes from this number on
 pub record IsThinned (old new : Closed) (number : ℕ) : Type 0 where

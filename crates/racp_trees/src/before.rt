@@ -1,20 +1,20 @@
 ghost use Rattle.std.specs.Prelude.{◌≡◌, ◌↔◌, ◌≤◌, ℕ, ◌<◌, IsTrue, IsSome, IfSome, IfNone, Contains, length, slice_index, slice_index_or};
-ghost use Rattle.racp_model.specs.Terms.{AreTermsOf, IsBefore};
-ghost use Rattle.racp_trees.specs.Enough.{IsAtMost, IsBlockAnswer};
+ghost use Rattle.racp_model.specs.Terms.{IsBefore};
+ghost use Rattle.racp_trees.specs.Enough.{IsAtMost, IsBlockAnswer, IsClaim};
 
-use racp_model::Network;
-use racp_prices::{Order, cost_of};
+use crate::claim::Claim;
+use racp_prices::cost_of;
 use std::cmp::Ordering;
 
-/// Whether one capacity vector stands before another.
-pub(crate) fn is_before(net: &Network, order: &Order, first: &[u32], second: &[u32]) -> bool
-    requires terms { AreTermsOf net.now order.now }
-    requires first { length first.now ≡ net.now.resources }
-    requires second { length second.now ≡ net.now.resources }
-    ensures { IsTrue result ↔ IsBefore order.now first.now second.now }
+/// Whether a capacity vector stands before the capacities.
+pub(crate) fn is_before(claim: &Claim, vector: &[u32]) -> bool
+    requires claim { IsClaim claim.now }
+    requires vector { length vector.now ≡ claim.now.net.now.resources }
+    ensures { IsTrue result ↔ IsBefore claim.now.order.now vector.now claim.now.capacities.now }
 {
-    let (cost, other) = (cost_of(net, order, first), cost_of(net, order, second));
-    cost.cmp(&other).then(first.cmp(second)) == Ordering::Less
+    let (net, order, capacities) = (claim.net, claim.order, claim.capacities);
+    let (cost, other) = (cost_of(net, order, vector), cost_of(net, order, capacities));
+    cost.cmp(&other).then(vector.cmp(capacities)) == Ordering::Less
 }
 
 /// Whether no number is above the one at its place in another list.

@@ -6,13 +6,15 @@ ghost use Rattle.racp_model.specs.Terms.{AreTermsOf, release_of, due_of};
 ghost use Rattle.racp_model.specs.Window.{IsRootWindow};
 ghost use Rattle.racp_prices.specs.Units.{AreMostUnits};
 ghost use Rattle.racp_trees.specs.Certificates.{IsCertificate};
-ghost use Rattle.racp_trees.specs.Making.{HasAddedBlock, HasMadeBlock};
+ghost use Rattle.racp_trees.specs.Enough.{IsClaim};
+ghost use Rattle.racp_trees.specs.Making.{HasAddedBlock, HasMadeBlock, IsGiven};
 ghost use Rattle.racp_trees.specs.Records.{record_at};
 ghost use Rattle.racp_trees.specs.Texts.{first_line, last_line};
 ghost use Rattle.racp_trees.specs.declared.maker.Made.TheVariants.{Tree};
 
 use crate::before::is_before;
 use crate::branch::copied;
+use crate::claim::Claim;
 use crate::enough::gap;
 use crate::maker::{MOST_BYTES, Made, Maker};
 use crate::reader::Ground;
@@ -25,15 +27,12 @@ use std::rc::Rc;
 /// How many blocks a certificate has at most. One has 13 bytes or more.
 const MOST_BLOCKS: usize = 1_290_555;
 
-/// What a certificate is to prove: that no capacities before these are enough on the terms of an order; with its root
-/// window, the roofs, and capacities of which the caller knows that they are not enough.
+/// What a certificate is made of: what it is to prove, with the root window of the order, and capacities of which the
+/// caller knows that they are not enough.
 #[derive(Clone, Copy)]
-struct Claim<'a> {
-    net: &'a Network,
-    order: &'a Order,
+struct Given<'a> {
+    claim: Claim<'a>,
     root: &'a Window,
-    roofs: &'a [u32],
-    capacities: &'a [u32],
     hints: &'a [Vec<u32>],
 }
 
@@ -65,15 +64,14 @@ pub fn certificate(
     let claim = Claim {
         net,
         order,
-        root,
         roofs,
         capacities,
-        hints,
     };
+    let given = Given { claim, root, hints };
     let usual = Rc::new(alloc, copied(alloc, root.lower())?)?;
     let mut maker = Maker::new(alloc, net, usual);
     let mut text = b"proof\n".to_vec(alloc)?;
-    let is_made = push_blocks(alloc, &claim, &mut maker, &mut text)?;
+    let is_made = push_blocks(alloc, &given, &mut maker, &mut text)?;
     Ok(if is_made { Some(text) } else { None })
 }
 
@@ -81,29 +79,26 @@ pub fn certificate(
 /// many bytes.
 fn push_blocks(
     alloc: Global,
-    claim: &Claim,
+    given: &Given,
     maker: &mut Maker,
     text: &mut Vec<u8>,
 ) -> Result<bool, AllocError>
-    requires terms { AreTermsOf claim.now.net.now claim.now.order.now }
-    requires root { IsRootWindow claim.now.net.now (release_of claim.now.order.now) (due_of claim.now.order.now) claim.now.root.now }
-    requires roofs { AreMostUnits claim.now.net.now claim.now.order.now claim.now.roofs.now }
-    requires capacities { length claim.now.capacities.now ≡ claim.now.net.now.resources }
+    requires given { IsGiven given.now }
     requires begun { text.old.items ≡ first_line }
     requires number { maker.old.reader.number ≡ 1 }
     requires closed { (number : ℕ) → record_at maker.old.reader.closed number ≡ None }
     requires branches { maker.old.reader.branches.items ≡ [] }
-    ensures { IfOk result (λ yes. IsTrue yes → IsCertificate claim.now.net.now claim.now.order.now claim.now.capacities.now text.new.items) }
+    ensures { IfOk result (λ yes. IsTrue yes → IsCertificate given.now.claim.net.now given.now.claim.order.now given.now.claim.capacities.now text.new.items) }
 {
+    let claim = &given.claim;
     prove!(claim.net.job_count() == claim.net.job_count());
-    let (net, order, roofs, capacities) = (claim.net, claim.order, claim.roofs, claim.capacities);
     let mut blocks = Vec::new(alloc);
     for _ in 0..MOST_BLOCKS {
-        let Some(low) = gap(alloc, net, order, roofs, capacities, &blocks)? else {
+        let Some(low) = gap(alloc, claim, &blocks)? else {
             let fits = push_end(text)?;
             return Ok(fits);
         };
-        if !push_next(alloc, claim, maker, &mut blocks, low, text)? {
+        if !push_next(alloc, given, maker, &mut blocks, low, text)? {
             return Ok(false);
         }
     }
@@ -121,24 +116,21 @@ fn push_end(text: &mut Vec<u8>) -> Result<bool, AllocError>
 /// Adds a block above a vector that stands before the capacities. False where none was made.
 fn push_next(
     alloc: Global,
-    claim: &Claim,
+    given: &Given,
     maker: &mut Maker,
     blocks: &mut Vec<Vec<u32>>,
     low: Vec<u32>,
     text: &mut Vec<u8>,
 ) -> Result<bool, AllocError>
-    requires terms { AreTermsOf claim.now.net.now claim.now.order.now }
-    requires root { HasBounds claim.now.net.now claim.now.root.now }
-    requires roofs { length claim.now.roofs.now ≡ claim.now.net.now.resources }
-    requires capacities { length claim.now.capacities.now ≡ claim.now.net.now.resources }
-    requires low { length low.items ≡ claim.now.net.now.resources }
+    requires claim { IsClaim given.now.claim }
+    requires root { HasBounds given.now.claim.net.now given.now.root.now }
+    requires low { length low.items ≡ given.now.claim.net.now.resources }
     requires branches { maker.old.reader.branches.items ≡ [] }
     requires room { maker.old.reader.number ≤ length text.old.items }
-    ensures { IfOk result (λ yes. IsTrue yes → HasAddedBlock claim.now.net.now claim.now.root.now maker.old.reader blocks.old.items text.old.items maker.new.reader blocks.new.items text.new.items) }
+    ensures { IfOk result (λ yes. IsTrue yes → HasAddedBlock given.now.claim.net.now given.now.root.now maker.old.reader blocks.old.items text.old.items maker.new.reader blocks.new.items text.new.items) }
 {
-    let (net, order, hints) = (claim.net, claim.order, claim.hints);
-    let vector = vector_above(alloc, net, order, claim.roofs, claim.capacities, hints, low)?;
-    if !push_block(alloc, maker, net, claim.root, &vector, text)? {
+    let vector = vector_above(alloc, given, low)?;
+    if !push_block(alloc, maker, given.claim.net, given.root, &vector, text)? {
         return Ok(false);
     }
     blocks.push(vector)?;
@@ -184,28 +176,18 @@ fn is_tree(made: &Made) -> bool
 
 /// The first of the hints that is at or above a vector that stands before the capacities, or else a vector at or above
 /// it that still does and is as great as can be.
-fn vector_above(
-    alloc: Global,
-    net: &Network,
-    order: &Order,
-    roofs: &[u32],
-    capacities: &[u32],
-    hints: &[Vec<u32>],
-    low: Vec<u32>,
-) -> Result<Vec<u32>, AllocError>
-    requires terms { AreTermsOf net.now order.now }
-    requires roofs { length roofs.now ≡ net.now.resources }
-    requires capacities { length capacities.now ≡ net.now.resources }
-    requires low { length low.items ≡ net.now.resources }
-    ensures { IfOk result (λ vector. length vector.items ≡ net.now.resources) }
+fn vector_above(alloc: Global, given: &Given, low: Vec<u32>) -> Result<Vec<u32>, AllocError>
+    requires claim { IsClaim given.now.claim }
+    requires low { length low.items ≡ given.now.claim.net.now.resources }
+    ensures { IfOk result (λ vector. length vector.items ≡ given.now.claim.net.now.resources) }
 {
-    for hint in hints {
+    for hint in given.hints {
         if is_above(hint, &low) {
             return hint.to_vec(alloc);
         }
     }
     let mut vector = low;
-    raise_all(net, order, roofs, capacities, &mut vector);
+    raise_all(&given.claim, &mut vector);
     Ok(vector)
 }
 
@@ -216,33 +198,30 @@ fn is_above(hint: &[u32], low: &[u32]) -> bool
     hint.len() == low.len() && (0..low.len()).all(|k| low[k] <= hint[k])
 }
 
-/// Raises the capacities of a vector, one place after another, each as far as the vector stands before these.
-fn raise_all(net: &Network, order: &Order, roofs: &[u32], capacities: &[u32], vector: &mut [u32])
-    requires terms { AreTermsOf net.now order.now }
-    requires roofs { length roofs.now ≡ net.now.resources }
-    requires capacities { length capacities.now ≡ net.now.resources }
-    requires vector { length vector.old ≡ net.now.resources }
+/// Raises the numbers of a vector, one place after another, each as far as the vector stands before the capacities.
+fn raise_all(claim: &Claim, vector: &mut [u32])
+    requires claim { IsClaim claim.now }
+    requires vector { length vector.old ≡ claim.now.net.now.resources }
     ensures { length vector.new ≡ length vector.old }
 {
     for k in 0..vector.len() {
-        raise(net, order, roofs[k], capacities, vector, k);
+        raise(claim, vector, k);
     }
 }
 
-/// Raises one capacity of a vector up to a roof, as far as the vector stands before these.
-fn raise(net: &Network, order: &Order, roof: u32, capacities: &[u32], vector: &mut [u32], k: usize)
-    requires terms { AreTermsOf net.now order.now }
-    requires capacities { length capacities.now ≡ net.now.resources }
-    requires vector { length vector.old ≡ net.now.resources }
+/// Raises one number of a vector up to its roof, as far as the vector stands before the capacities.
+fn raise(claim: &Claim, vector: &mut [u32], k: usize)
+    requires claim { IsClaim claim.now }
+    requires vector { length vector.old ≡ claim.now.net.now.resources }
     requires place { k < length vector.old }
     ensures { length vector.new ≡ length vector.old }
 {
     let mut low = vector[k];
-    let mut high = roof;
+    let mut high = claim.roofs[k];
     while low < high {
         let middle = high - (high - low) / 2;
         vector[k] = middle;
-        if is_before(net, order, vector, capacities) {
+        if is_before(claim, vector) {
             low = middle;
         } else {
             high = middle - 1;

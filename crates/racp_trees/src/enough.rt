@@ -1,9 +1,10 @@
 ghost use Rattle.std.specs.Prelude.{◌≡◌, ◌↔◌, ◌≤◌, ℕ, ◌<◌, IfOk, IsTrue, length, slice_index, slice_index_or};
 ghost use Rattle.racp_model.specs.Project.{IsSound};
 ghost use Rattle.racp_model.specs.Terms.{AreTermsOf};
-ghost use Rattle.racp_trees.specs.Enough.{AreEnoughBlocks, IsGapAnswer, IsPart, AreParts};
+ghost use Rattle.racp_trees.specs.Enough.{AreEnoughBlocks, IsClaim, IsGapAnswer, IsPart, AreParts};
 
 use crate::before::{is_before, place_above};
+use crate::claim::Claim;
 use crate::parts::{Part, push_parts};
 use racp_model::Network;
 use racp_prices::Order;
@@ -31,30 +32,31 @@ pub fn are_enough(
     requires blocks { (k : ℕ) → k < length blocks.now → (d : _) → length (slice_index_or blocks.now k d).items ≡ net.now.resources }
     ensures { IfOk result (λ yes. IsTrue yes ↔ AreEnoughBlocks net.now order.now roofs.now capacities.now blocks.now) }
 {
-    Ok(gap(alloc, net, order, roofs, capacities, blocks)?.is_none())
+    let claim = Claim {
+        net,
+        order,
+        roofs,
+        capacities,
+    };
+    Ok(gap(alloc, &claim, blocks)?.is_none())
 }
 
 /// A capacity vector up to the roofs that stands before the capacities and is above each block, or `None` where the blocks
 /// are enough.
 pub(crate) fn gap(
     alloc: Global,
-    net: &Network,
-    order: &Order,
-    roofs: &[u32],
-    capacities: &[u32],
+    claim: &Claim,
     blocks: &[Vec<u32>],
 ) -> Result<Option<Vec<u32>>, AllocError>
-    requires sound { IsSound net.now }
-    requires terms { AreTermsOf net.now order.now }
-    requires roofs { length roofs.now ≡ net.now.resources }
-    requires capacities { length capacities.now ≡ net.now.resources }
-    requires blocks { (k : ℕ) → k < length blocks.now → (d : _) → length (slice_index_or blocks.now k d).items ≡ net.now.resources }
-    ensures { IfOk result (IsGapAnswer net.now order.now roofs.now capacities.now blocks.now) }
+    requires sound { IsSound claim.now.net.now }
+    requires claim { IsClaim claim.now }
+    requires blocks { (k : ℕ) → k < length blocks.now → (d : _) → length (slice_index_or blocks.now k d).items ≡ claim.now.net.now.resources }
+    ensures { IfOk result (IsGapAnswer claim.now blocks.now) }
 {
     let mut parts = Vec::new(alloc);
-    parts.push(whole(alloc, roofs)?)?;
+    parts.push(whole(alloc, claim.roofs)?)?;
     while let Some(part) = parts.pop() {
-        if !is_before(net, order, &part.low, capacities) {
+        if !is_before(claim, &part.low) {
             continue;
         }
         match place_above(blocks, &part.low) {

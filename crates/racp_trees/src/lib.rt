@@ -53,6 +53,7 @@ mod before;
 mod blocks;
 mod branch;
 mod certifying;
+mod claim;
 mod closed;
 mod enough;
 pub mod laws;

@@ -1,4 +1,4 @@
-use Rattle.std.proofs.Common.{◌≡◌, List, ℕ, Vec, Option, subst}
+use Rattle.std.proofs.Common.{List, ℕ, Vec, Option, subst}
 use Rattle.std.specs.Global.{Global}
 use Rattle.racp_trees.specs.Enough.{AreEnoughBlocks, IsGapAnswer}
 use Rattle.racp_trees.proofs.Gathering.{certifying_first, certifying_more, certifying_ends}
@@ -6,18 +6,18 @@ use Rattle.racp_trees.proofs.certifying.push_blocks.Goals as goal
 
 pub loop-init : goal.loop-init
 loop-init c =
-    certifying_first c.args.claim.now.net.now c.args.claim.now.root.now c.new-blocks.result.items c.args.text.now.items c.args.maker.now.reader c.new-blocks.ensures.items c.requires.begun c.requires.number c.requires.closed c.requires.branches
+    certifying_first c.args.given.now.claim.net.now c.args.given.now.root.now c.new-blocks.result.items c.args.text.now.items c.args.maker.now.reader c.new-blocks.ensures.items c.requires.begun c.requires.number c.requires.closed c.requires.branches
 
 pub returns-in_default : goal.returns-in_default
 returns-in_default c proved =
-    let enough : AreEnoughBlocks c.args.claim.now.net.now c.args.claim.now.order.now c.args.claim.now.roofs.now c.args.claim.now.capacities.now c.loop.blocks.items =
-    subst (λ (bs : List (Vec ℕ Global)). AreEnoughBlocks c.args.claim.now.net.now c.args.claim.now.order.now c.args.claim.now.roofs.now c.args.claim.now.capacities.now bs) c.deref.ensures.value
-    (subst (λ (o : Option (Vec ℕ Global)). IsGapAnswer c.args.claim.now.net.now c.args.claim.now.order.now c.args.claim.now.roofs.now c.args.claim.now.capacities.now c.deref.result.now o) c.in_default.is c.in_ok-low.ensures) in
-    certifying_ends c.args.claim.now.net.now c.args.claim.now.root.now c.loop.blocks.items c.loop.text.items c.loop.maker.reader c.loop.invariant c.args.claim.now.order.now c.args.claim.now.roofs.now c.args.claim.now.capacities.now c.push_end.new.text.items
-    c.requires.root c.requires.roofs enough c.in_ok-fits.ensures
+    let enough : AreEnoughBlocks c.args.given.now.claim.net.now c.args.given.now.claim.order.now c.args.given.now.claim.roofs.now c.args.given.now.claim.capacities.now c.loop.blocks.items =
+    subst (λ (bs : List (Vec ℕ Global)). AreEnoughBlocks c.args.given.now.claim.net.now c.args.given.now.claim.order.now c.args.given.now.claim.roofs.now c.args.given.now.claim.capacities.now bs) c.deref.ensures.value
+    (subst (λ (o : Option (Vec ℕ Global)). IsGapAnswer c.args.given.now.claim c.deref.result.now o) c.in_default.is c.in_ok-low.ensures) in
+    certifying_ends c.args.given.now.claim.net.now c.args.given.now.root.now c.loop.blocks.items c.loop.text.items c.loop.maker.reader c.loop.invariant c.args.given.now.claim.order.now c.args.given.now.claim.roofs.now c.args.given.now.claim.capacities.now c.push_end.new.text.items
+    c.requires.given.root c.requires.given.roofs enough c.in_ok-fits.ensures
 
 pub loop-preserved : goal.loop-preserved
 loop-preserved c =
     let added = c.in_ok-push_next.ensures c.if-not-branch.false in
-    certifying_more c.args.claim.now.net.now c.args.claim.now.root.now c.loop.blocks.items c.loop.text.items c.loop.maker.reader c.loop.invariant added.block c.push_next.new.text.items c.push_next.new.maker.reader c.push_next.new.blocks.items
+    certifying_more c.args.given.now.claim.net.now c.args.given.now.root.now c.loop.blocks.items c.loop.text.items c.loop.maker.reader c.loop.invariant added.block c.push_next.new.text.items c.push_next.new.maker.reader c.push_next.new.blocks.items
     added.behind added.places added.made
