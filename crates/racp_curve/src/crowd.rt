@@ -8,6 +8,7 @@ ghost use Rattle.racp_desk.specs.Closing.{IsRunClosed};
 ghost use Rattle.racp_curve.specs.Curves.{IsCurveAnswer, IsCurveStop};
 
 use crate::following::{curve, out_of_memory};
+use crate::ground::Ground;
 use crate::step::{CurveAnswer, CurveStop};
 use racp_candidates::AnySeries;
 use racp_cutset::Board;
@@ -40,25 +41,23 @@ pub fn curve_crowd<G: Gate + Sync, P: Stop + Sync, R: Threads + Wait + Sync>(
     ensures curve { IfOk result (IsCurveAnswer net.now order.now) }
     ensures stop { IfErr result (λ end. IsCurveStop net.now order.now ⊤ ⊤ end.steps.items end.stop) }
 {
-    curve_by::<Brand, G, P, R>(rt, alloc, net, order, crew)
+    curve_by::<Brand, G, P, R>(rt, &Ground { alloc, net, order }, crew)
 }
 
 /// The same. The network is the one that `N` names.
 fn curve_by<N: OfNetwork + Send + Sync, G: Gate + Sync, P: Stop + Sync, R: Threads + Wait + Sync>(
     rt: &R,
-    alloc: Global,
-    net: &Network,
-    order: &Order,
+    ground: &Ground,
     crew: Crew<'_, G, P, Unheard>,
 ) -> Result<CurveAnswer, CurveStop>
-    requires named { net.now ≡ N.network }
+    requires named { ground.now.net.now ≡ N.network }
     requires workers { crew.workers ≤ 64 }
     requires turns { crew.turns ≤ 1000000000000 }
     requires memory { crew.memory ≤ 1048576 }
-    requires terms { AreTermsOf net.now order.now }
-    ensures curve { IfOk result (IsCurveAnswer net.now order.now) }
-    ensures stop { IfErr result (λ end. IsCurveStop net.now order.now ⊤ ⊤ end.steps.items end.stop) }
+    ensures curve { IfOk result (IsCurveAnswer ground.now.net.now ground.now.order.now) }
+    ensures stop { IfErr result (λ end. IsCurveStop ground.now.net.now ground.now.order.now ⊤ ⊤ end.steps.items end.stop) }
 {
+    let Ground { alloc, net, order } = *ground;
     let Crew {
         workers,
         turns,

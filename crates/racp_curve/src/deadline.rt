@@ -1,15 +1,15 @@
 //! An order with another deadline.
 
 ghost use Rattle.std.specs.Prelude.{◌≡◌, ◌+◌, ◌≤◌, option_map, IfOk, IfErr};
-ghost use Rattle.racp_model.specs.Terms.{AreTermsOf};
 ghost use Rattle.racp_lexfix.specs.Answers.{IsPlanStop};
-ghost use Rattle.racp_curve.specs.Curves.{order_by, AreNotAfterEnough, MayHearCost, MayHearFloors};
-ghost use Rattle.racp_curve.specs.Following.{plan_in, IsPlanOrNone, IsRootOrNone};
+ghost use Rattle.racp_curve.specs.Curves.{order_by, AreNotAfterEnough};
+ghost use Rattle.racp_curve.specs.Following.{plan_in, IsPlanOrNone, IsRootOrNone, MayHear};
 
+use crate::ground::Ground;
 use racp_candidates::AnySeries;
 use racp_check::{Opening, opening_of};
 use racp_lexfix::{Answer, PlanStop, plan};
-use racp_model::{Network, Window};
+use racp_model::Window;
 use racp_plan::Plan;
 use racp_prices::Order;
 use racp_questions::Asker;
@@ -47,25 +47,21 @@ fn copied(alloc: Global, numbers: &Option<Vec<u32>>) -> Result<Option<Vec<u32>>,
 /// The plan for another deadline, which is at most the order's; or none where there is no plan for it. Questions go to the asker,
 /// which is about this network.
 pub(crate) fn plan_by<A: Asker<AnySeries>>(
-    alloc: Global,
-    net: &Network,
-    order: &Order,
+    ground: &Ground,
     deadline: u32,
     asker: &mut A,
 ) -> Result<Option<Plan>, PlanStop>
-    requires named { A.about asker.old net.now }
-    requires terms { AreTermsOf net.now order.now }
-    requires deadline { deadline ≤ order.now.deadline }
-    requires floors { MayHearFloors net.now order.now A.may_hear_floors }
-    requires least { MayHearCost net.now order.now A.may_hear_cost }
-    ensures network { A.about asker.new net.now }
-    ensures plan { IfOk result (IsPlanOrNone net.now (order_by deadline order.now)) }
-    ensures stop { IfErr result (IsPlanStop (AreNotAfterEnough net.now order.now (deadline + 1))
+    requires named { A.about asker.old ground.now.net.now }
+    requires deadline { deadline ≤ ground.now.order.now.deadline }
+    requires hears { MayHear ground.now.net.now ground.now.order.now A.may_hear_floors A.may_hear_cost }
+    ensures network { A.about asker.new ground.now.net.now }
+    ensures plan { IfOk result (IsPlanOrNone ground.now.net.now (order_by deadline ground.now.order.now)) }
+    ensures stop { IfErr result (IsPlanStop (AreNotAfterEnough ground.now.net.now ground.now.order.now (deadline + 1))
         (A.may_stop asker.new) (A.may_want_thread asker.new)) }
 {
-    prove!(1 <= net.job_count());
-    let other = with_deadline(alloc, order, deadline)?;
-    let answer = plan(alloc, net, &other, asker)?;
+    prove!(1 <= ground.net.job_count());
+    let other = with_deadline(ground.alloc, ground.order, deadline)?;
+    let answer = plan(ground.alloc, ground.net, &other, asker)?;
     Ok(plan_in(answer))
 }
 
@@ -82,19 +78,13 @@ fn plan_in(answer: Answer) -> Option<Plan>
 }
 
 /// The root window for another deadline, which is at most the order's; or none where no starts are in time.
-pub(crate) fn root_by(
-    alloc: Global,
-    net: &Network,
-    order: &Order,
-    deadline: u32,
-) -> Result<Option<Window>, AllocError>
-    requires terms { AreTermsOf net.now order.now }
-    requires deadline { deadline ≤ order.now.deadline }
-    ensures { IfOk result (IsRootOrNone net.now (order_by deadline order.now)) }
+pub(crate) fn root_by(ground: &Ground, deadline: u32) -> Result<Option<Window>, AllocError>
+    requires { deadline ≤ ground.now.order.now.deadline }
+    ensures { IfOk result (IsRootOrNone ground.now.net.now (order_by deadline ground.now.order.now)) }
 {
-    prove!(1 <= net.job_count());
-    let other = with_deadline(alloc, order, deadline)?;
-    match opening_of(alloc, net, &other)? {
+    prove!(1 <= ground.net.job_count());
+    let other = with_deadline(ground.alloc, ground.order, deadline)?;
+    match opening_of(ground.alloc, ground.net, &other)? {
         Opening::Root {
             critical: _,
             window,

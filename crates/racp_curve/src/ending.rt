@@ -2,7 +2,7 @@
 
 ghost use Rattle.std.specs.Prelude.{◌≡◌, ◌≤◌, None, length, OnOk, IfOk, IfErr};
 ghost use Rattle.racp_model.specs.Schedule.{EndsBy};
-ghost use Rattle.racp_model.specs.Terms.{AreTermsOf, IsWithinCeilings};
+ghost use Rattle.racp_model.specs.Terms.{IsWithinCeilings};
 ghost use Rattle.racp_model.specs.Plan.{IsEnough};
 ghost use Rattle.racp_model.specs.Formed.{HasBounds};
 ghost use Rattle.racp_questions.specs.FirstYes.{IsProbed};
@@ -13,37 +13,33 @@ ghost use Rattle.racp_curve.specs.Curves.{order_by};
 ghost use Rattle.racp_curve.specs.Following.{IsShortest, IsSooner};
 
 use crate::deadline::root_by;
+use crate::ground::Ground;
 use racp_candidates::AnySeries;
 use racp_cpm::last_end;
 use racp_lexfix::PlanStop;
 use racp_model::{Capacities, Network, Question, Starts, Window};
-use racp_prices::Order;
 use racp_questions::{AskStop, Asker, Probe};
-use std::alloc::Global;
 
 /// Lowers a time by which some starts that fit these capacities end, on the terms of the order, to the least such time: they are
 /// enough for that deadline, and for none before it. Where it ends early, they are enough for the deadline that it came to.
 pub(crate) fn shorten<A: Asker<AnySeries>>(
-    alloc: Global,
-    net: &Network,
-    order: &Order,
+    ground: &Ground,
     capacities: &Capacities,
     end: &mut u32,
     asker: &mut A,
 ) -> Result<(), PlanStop>
-    requires named { A.about asker.old net.now }
-    requires terms { AreTermsOf net.now order.now }
-    requires end { end.old ≤ order.now.deadline }
-    requires enough { IsEnough net.now (order_by end.old order.now) capacities.now }
-    ensures network { A.about asker.new net.now }
+    requires named { A.about asker.old ground.now.net.now }
+    requires end { end.old ≤ ground.now.order.now.deadline }
+    requires enough { IsEnough ground.now.net.now (order_by end.old ground.now.order.now) capacities.now }
+    ensures network { A.about asker.new ground.now.net.now }
     ensures sooner { end.new ≤ end.old }
-    ensures enough { IsEnough net.now (order_by end.new order.now) capacities.now }
-    ensures shortest { OnOk result (IsShortest net.now order.now capacities.now end.new) }
+    ensures enough { IsEnough ground.now.net.now (order_by end.new ground.now.order.now) capacities.now }
+    ensures shortest { OnOk result (IsShortest ground.now.net.now ground.now.order.now capacities.now end.new) }
     ensures stop { IfErr result (IsPlanStop (λ told. told ≡ capacities.now)
         (A.may_stop asker.new) (A.may_want_thread asker.new)) }
 {
     'ends: while let Some(deadline) = end.checked_sub(1) {
-        match sooner(alloc, net, order, capacities, deadline, asker)? {
+        match sooner(ground, capacities, deadline, asker)? {
             Some(earlier) => *end = earlier,
             None => return Ok(()),
         }
@@ -53,28 +49,25 @@ pub(crate) fn shorten<A: Asker<AnySeries>>(
 
 /// A deadline, at most this one, for which the capacities are enough; or none where they are not enough for this one.
 fn sooner<A: Asker<AnySeries>>(
-    alloc: Global,
-    net: &Network,
-    order: &Order,
+    ground: &Ground,
     capacities: &Capacities,
     deadline: u32,
     asker: &mut A,
 ) -> Result<Option<u32>, PlanStop>
-    requires named { A.about asker.old net.now }
-    requires terms { AreTermsOf net.now order.now }
-    requires deadline { deadline ≤ order.now.deadline }
-    requires places { length capacities.now ≡ net.now.resources }
-    requires ceilings { IsWithinCeilings order.now capacities.now }
-    ensures network { A.about asker.new net.now }
-    ensures sooner { IfOk result (IsSooner net.now order.now capacities.now deadline) }
+    requires named { A.about asker.old ground.now.net.now }
+    requires deadline { deadline ≤ ground.now.order.now.deadline }
+    requires places { length capacities.now ≡ ground.now.net.now.resources }
+    requires ceilings { IsWithinCeilings ground.now.order.now capacities.now }
+    ensures network { A.about asker.new ground.now.net.now }
+    ensures sooner { IfOk result (IsSooner ground.now.net.now ground.now.order.now capacities.now deadline) }
     ensures stop { IfErr result (IsPlanStop (λ told. told ≡ capacities.now)
         (A.may_stop asker.new) (A.may_want_thread asker.new)) }
 {
-    let Some(window) = root_by(alloc, net, order, deadline)? else {
+    let Some(window) = root_by(ground, deadline)? else {
         return Ok(None);
     };
-    match ask(net, window, capacities, asker)? {
-        Probe::Yes(starts) => Ok(Some(end_of(net, &starts, deadline))),
+    match ask(ground.net, window, capacities, asker)? {
+        Probe::Yes(starts) => Ok(Some(end_of(ground.net, &starts, deadline))),
         Probe::No => Ok(None),
         Probe::Open => unreachable!(),
     }

@@ -7,10 +7,11 @@ ghost use Rattle.racp_lexfix.specs.Laws.{IsNoPlan};
 ghost use Rattle.racp_lexfix.specs.declared.answer.Answer.TheVariants.{Plan as ThePlan};
 ghost use Rattle.racp_lexfix.specs.declared.answer.PlanStop.TheVariants.{Memory};
 ghost use Rattle.racp_curve.specs.Curves.{AreSteps, IsCurve, IsCurveAnswer, IsCurveStop, MayHearCost, MayHearFloors};
-ghost use Rattle.racp_curve.specs.Following.{step_of, IsBegun, IsFollowed, IsNext};
+ghost use Rattle.racp_curve.specs.Following.{step_of, IsBegun, IsFollowed, IsNext, MayHear};
 
 use crate::deadline::plan_by;
 use crate::ending::{end_of, shorten};
+use crate::ground::Ground;
 use crate::step::{CurveAnswer, CurveStop, Step};
 use racp_candidates::AnySeries;
 use racp_lexfix::{Alone, Answer, PlanStop, plan};
@@ -50,8 +51,9 @@ pub fn curve<A: Asker<AnySeries>>(
             return Err(CurveStop { steps, stop });
         }
     };
+    let ground = Ground { alloc, net, order };
     match plan_or_reason(answer) {
-        Ok(plan) => curve_from(alloc, net, order, plan, asker),
+        Ok(plan) => curve_from(&ground, plan, asker),
         Err(reason) => Ok(CurveAnswer::NoPlan(reason)),
     }
 }
@@ -70,24 +72,20 @@ fn plan_or_reason(answer: Answer) -> Result<Plan, Answer>
 
 /// The curve of an order that has this plan.
 fn curve_from<A: Asker<AnySeries>>(
-    alloc: Global,
-    net: &Network,
-    order: &Order,
+    ground: &Ground,
     plan: Plan,
     asker: &mut A,
 ) -> Result<CurveAnswer, CurveStop>
-    requires named { A.about asker.old net.now }
-    requires terms { AreTermsOf net.now order.now }
-    requires floors { MayHearFloors net.now order.now A.may_hear_floors }
-    requires least { MayHearCost net.now order.now A.may_hear_cost }
-    requires plan { IsPlanOf net.now order.now plan }
-    ensures network { A.about asker.new net.now }
-    ensures curve { IfOk result (IsCurveAnswer net.now order.now) }
-    ensures stop { IfErr result (λ end. IsCurveStop net.now order.now (A.may_stop asker.new)
+    requires named { A.about asker.old ground.now.net.now }
+    requires hears { MayHear ground.now.net.now ground.now.order.now A.may_hear_floors A.may_hear_cost }
+    requires plan { IsPlanOf ground.now.net.now ground.now.order.now plan }
+    ensures network { A.about asker.new ground.now.net.now }
+    ensures curve { IfOk result (IsCurveAnswer ground.now.net.now ground.now.order.now) }
+    ensures stop { IfErr result (λ end. IsCurveStop ground.now.net.now ground.now.order.now (A.may_stop asker.new)
         (A.may_want_thread asker.new) end.steps.items end.stop) }
 {
-    let mut steps = Vec::new(alloc);
-    match follow(alloc, net, order, plan, &mut steps, asker) {
+    let mut steps = Vec::new(ground.alloc);
+    match follow(ground, plan, &mut steps, asker) {
         Ok(()) => Ok(CurveAnswer::Steps(steps)),
         Err(stop) => Err(CurveStop { steps, stop }),
     }
@@ -95,26 +93,22 @@ fn curve_from<A: Asker<AnySeries>>(
 
 /// Puts all steps of the curve that are still to come before those so far, which the plan's deadline stands just before.
 fn follow<A: Asker<AnySeries>>(
-    alloc: Global,
-    net: &Network,
-    order: &Order,
+    ground: &Ground,
     plan: Plan,
     steps: &mut Vec<Step>,
     asker: &mut A,
 ) -> Result<(), PlanStop>
-    requires named { A.about asker.old net.now }
-    requires terms { AreTermsOf net.now order.now }
-    requires floors { MayHearFloors net.now order.now A.may_hear_floors }
-    requires least { MayHearCost net.now order.now A.may_hear_cost }
-    requires next { IsNext net.now order.now plan steps.old.items }
-    ensures network { A.about asker.new net.now }
-    ensures curve { OnOk result (IsCurve net.now order.now steps.new.items) }
-    ensures stop { IfErr result (IsCurveStop net.now order.now (A.may_stop asker.new)
+    requires named { A.about asker.old ground.now.net.now }
+    requires hears { MayHear ground.now.net.now ground.now.order.now A.may_hear_floors A.may_hear_cost }
+    requires next { IsNext ground.now.net.now ground.now.order.now plan steps.old.items }
+    ensures network { A.about asker.new ground.now.net.now }
+    ensures curve { OnOk result (IsCurve ground.now.net.now ground.now.order.now steps.new.items) }
+    ensures stop { IfErr result (IsCurveStop ground.now.net.now ground.now.order.now (A.may_stop asker.new)
         (A.may_want_thread asker.new) steps.new.items) }
 {
     let mut plan = plan;
     'plans: loop {
-        match step_back(alloc, net, order, plan, steps, asker)? {
+        match step_back(ground, plan, steps, asker)? {
             Some(earlier) => plan = earlier,
             None => return Ok(()),
         }
@@ -124,26 +118,22 @@ fn follow<A: Asker<AnySeries>>(
 /// Puts the step of a plan before those so far, and gives the plan for the deadline before it; or none where there is none, so
 /// that the curve is whole.
 fn step_back<A: Asker<AnySeries>>(
-    alloc: Global,
-    net: &Network,
-    order: &Order,
+    ground: &Ground,
     plan: Plan,
     steps: &mut Vec<Step>,
     asker: &mut A,
 ) -> Result<Option<Plan>, PlanStop>
-    requires named { A.about asker.old net.now }
-    requires terms { AreTermsOf net.now order.now }
-    requires floors { MayHearFloors net.now order.now A.may_hear_floors }
-    requires least { MayHearCost net.now order.now A.may_hear_cost }
-    requires next { IsNext net.now order.now plan steps.old.items }
-    ensures network { A.about asker.new net.now }
-    ensures followed { IfOk result (IsFollowed net.now order.now plan.deadline steps.new.items) }
-    ensures stop { IfErr result (IsCurveStop net.now order.now (A.may_stop asker.new)
+    requires named { A.about asker.old ground.now.net.now }
+    requires hears { MayHear ground.now.net.now ground.now.order.now A.may_hear_floors A.may_hear_cost }
+    requires next { IsNext ground.now.net.now ground.now.order.now plan steps.old.items }
+    ensures network { A.about asker.new ground.now.net.now }
+    ensures followed { IfOk result (IsFollowed ground.now.net.now ground.now.order.now plan.deadline steps.new.items) }
+    ensures stop { IfErr result (IsCurveStop ground.now.net.now ground.now.order.now (A.may_stop asker.new)
         (A.may_want_thread asker.new) steps.new.items) }
 {
-    let begin = put_step(alloc, net, order, plan, steps, asker)?;
+    let begin = put_step(ground, plan, steps, asker)?;
     match begin.checked_sub(1) {
-        Some(deadline) => plan_by(alloc, net, order, deadline, asker),
+        Some(deadline) => plan_by(ground, deadline, asker),
         None => Ok(None),
     }
 }
@@ -151,24 +141,21 @@ fn step_back<A: Asker<AnySeries>>(
 /// Puts the step of a plan before those so far, and tells its first deadline. Where the asker gives up, the step begins at the
 /// deadline that it came to.
 fn put_step<A: Asker<AnySeries>>(
-    alloc: Global,
-    net: &Network,
-    order: &Order,
+    ground: &Ground,
     plan: Plan,
     steps: &mut Vec<Step>,
     asker: &mut A,
 ) -> Result<u32, PlanStop>
-    requires named { A.about asker.old net.now }
-    requires terms { AreTermsOf net.now order.now }
-    requires next { IsNext net.now order.now plan steps.old.items }
-    ensures network { A.about asker.new net.now }
+    requires named { A.about asker.old ground.now.net.now }
+    requires next { IsNext ground.now.net.now ground.now.order.now plan steps.old.items }
+    ensures network { A.about asker.new ground.now.net.now }
     ensures within { IfOk result (λ begin. begin ≤ plan.deadline) }
-    ensures begun { IfOk result (λ begin. IsBegun net.now order.now begin steps.new.items) }
-    ensures stop { IfErr result (IsCurveStop net.now order.now (A.may_stop asker.new)
+    ensures begun { IfOk result (λ begin. IsBegun ground.now.net.now ground.now.order.now begin steps.new.items) }
+    ensures stop { IfErr result (IsCurveStop ground.now.net.now ground.now.order.now (A.may_stop asker.new)
         (A.may_want_thread asker.new) steps.new.items) }
 {
-    let mut begin = end_of(net, &plan.starts, plan.deadline);
-    match shorten(alloc, net, order, &plan.capacities, &mut begin, asker) {
+    let mut begin = end_of(ground.net, &plan.starts, plan.deadline);
+    match shorten(ground, &plan.capacities, &mut begin, asker) {
         Ok(()) => {
             put_first(steps, step_of(plan, begin))?;
             Ok(begin)
@@ -218,28 +205,22 @@ pub fn curve_alone(
     ensures steps { IfErr result (λ end. AreSteps net.now order.now end.steps.items) }
     ensures stop { IfErr result (λ end. end.stop ≡ Memory) }
 {
-    curve_named::<Brand>(alloc, net, order, mebibytes)
+    curve_named::<Brand>(&Ground { alloc, net, order }, mebibytes)
 }
 
 /// The same. The network is the one that `N` names.
-fn curve_named<N: OfNetwork>(
-    alloc: Global,
-    net: &Network,
-    order: &Order,
-    mebibytes: usize,
-) -> Result<CurveAnswer, CurveStop>
-    requires named { net.now ≡ N.network }
+fn curve_named<N: OfNetwork>(ground: &Ground, mebibytes: usize) -> Result<CurveAnswer, CurveStop>
+    requires named { ground.now.net.now ≡ N.network }
     requires memory { mebibytes ≤ 1048576 }
-    requires terms { AreTermsOf net.now order.now }
-    ensures curve { IfOk result (IsCurveAnswer net.now order.now) }
-    ensures steps { IfErr result (λ end. AreSteps net.now order.now end.steps.items) }
+    ensures curve { IfOk result (IsCurveAnswer ground.now.net.now ground.now.order.now) }
+    ensures steps { IfErr result (λ end. AreSteps ground.now.net.now ground.now.order.now end.steps.items) }
     ensures stop { IfErr result (λ end. end.stop ≡ Memory) }
 {
-    let mut alone: Alone<N> = match Alone::within(alloc, net, mebibytes) {
+    let mut alone: Alone<N> = match Alone::within(ground.alloc, ground.net, mebibytes) {
         Ok(alone) => alone,
-        Err(_) => return Err(out_of_memory(alloc)),
+        Err(_) => return Err(out_of_memory(ground.alloc)),
     };
-    curve(alloc, net, order, &mut alone)
+    curve(ground.alloc, ground.net, ground.order, &mut alone)
 }
 
 /// That memory was refused before there were steps.

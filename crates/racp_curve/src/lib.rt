@@ -41,6 +41,7 @@ mod crowd;
 mod deadline;
 mod ending;
 mod following;
+mod ground;
 pub mod laws;
 mod lines;
 mod step;

@@ -8,5 +8,5 @@ use Rattle.racp_curve.proofs.crowd.curve_by.Goals as goal
 pub returns-clause-stop : goal.returns-clause-stop
 returns-clause-stop g c =
     let may_stop = (c.curve.new.asker.left ≡ 0) ⊎ (g.P.Stop.QUIET ≡ false) in
-    IfErr-weaker c.curve.result (λ end. IsCurveStop c.args.net.now c.args.order.now may_stop ⊤ end.steps.items end.stop) (λ end. IsCurveStop c.args.net.now c.args.order.now ⊤ ⊤ end.steps.items end.stop)
-    (λ end h. for_any_reason c.args.net.now c.args.order.now may_stop ⊤ end.steps.items end.stop h) c.curve.ensures.stop
+    IfErr-weaker c.curve.result (λ end. IsCurveStop c.args.ground.now.net.now c.args.ground.now.order.now may_stop ⊤ end.steps.items end.stop) (λ end. IsCurveStop c.args.ground.now.net.now c.args.ground.now.order.now ⊤ ⊤ end.steps.items end.stop)
+    (λ end h. for_any_reason c.args.ground.now.net.now c.args.ground.now.order.now may_stop ⊤ end.steps.items end.stop h) c.curve.ensures.stop

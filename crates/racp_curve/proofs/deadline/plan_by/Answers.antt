@@ -12,20 +12,20 @@ use Rattle.racp_curve.proofs.Telling.{told_too, stopped_by}
 use Rattle.racp_curve.proofs.deadline.plan_by.Goals as goal
 
 pub plan-requires-clause-terms : goal.plan-requires-clause-terms
-plan-requires-clause-terms g c = subst (AreTermsOf c.args.net.now) (sym c.in_ok-other.ensures) (terms_by c.args.net.now c.args.order.now c.args.deadline c.requires.deadline c.requires.terms)
+plan-requires-clause-terms g c = subst (AreTermsOf c.args.ground.now.net.now) (sym c.in_ok-other.ensures) (terms_by c.args.ground.now.net.now c.args.ground.now.order.now c.args.deadline c.requires.deadline c.args.ground.now.terms)
 
 pub plan-requires-clause-floors : goal.plan-requires-clause-floors
 plan-requires-clause-floors g c = λ floors are.
-    c.requires.floors c.args.deadline c.requires.deadline floors (subst (λ (t : Terms). AreFloorsOfEnough c.args.net.now t floors) c.in_ok-other.ensures are)
+    c.requires.hears.floors c.args.deadline c.requires.deadline floors (subst (λ (t : Terms). AreFloorsOfEnough c.args.ground.now.net.now t floors) c.in_ok-other.ensures are)
 
 pub plan-requires-clause-least : goal.plan-requires-clause-least
 plan-requires-clause-least g c = λ least is.
-    c.requires.least c.args.deadline c.requires.deadline least (subst (λ (t : Terms). IsLeastOfEnough c.args.net.now t least) c.in_ok-other.ensures is)
+    c.requires.hears.least c.args.deadline c.requires.deadline least (subst (λ (t : Terms). IsLeastOfEnough c.args.ground.now.net.now t least) c.in_ok-other.ensures is)
 
 pub returns-in_err-answer-clause-stop : goal.returns-in_err-answer-clause-stop
 returns-in_err-answer-clause-stop g c =
-    let net = c.args.net.now in
-    let terms = c.args.order.now in
+    let net = c.args.ground.now.net.now in
+    let terms = c.args.ground.now.order.now in
     let answered = g.A.Asker.answered c.plan.new.asker - g.A.Asker.answered c.args.asker.now in
     let told = g.A.Asker.told c.plan.new.asker in
     let p = err_from_is_err_and c.from_residual-in_err-answer.result c.from_residual-in_err-answer.ensures.1 in
@@ -35,7 +35,7 @@ returns-in_err-answer-clause-stop g c =
 
 pub returns-clause-plan : goal.returns-clause-plan
 returns-clause-plan g c =
-    let net = c.args.net.now in
-    let terms = order_by c.args.deadline c.args.order.now in
+    let net = c.args.ground.now.net.now in
+    let terms = order_by c.args.deadline c.args.ground.now.order.now in
     let is_answer = subst (λ (t : Terms). IsAnswer net t c.in_ok-answer.answer) c.in_ok-other.ensures c.in_ok-answer.ensures.answer in
     subst (λ (found : Option Plan). IsPlanOrNone net terms found) (sym c.plan_in.ensures) (plan_or_none net terms c.job_count.ensures.sound c.in_ok-answer.answer is_answer)

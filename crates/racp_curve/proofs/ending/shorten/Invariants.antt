@@ -5,9 +5,9 @@ use Rattle.racp_curve.proofs.ending.shorten.Given as goal
 
 abbrev pub invariant-ends : goal.invariant-ends
 invariant-ends g l = record {
-  network : g.A.Asker.about l.asker l.net;
+  network : g.A.Asker.about l.asker l.ground.net.now;
   sooner : l.end ≤ l.fn.end;
-  enough : IsEnough l.net (order_by l.end l.order) l.capacities;
+  enough : IsEnough l.ground.net.now (order_by l.end l.ground.order.now) l.capacities;
 }
 
 abbrev pub decreases-ends : goal.decreases-ends

@@ -5,8 +5,8 @@ use Rattle.racp_curve.proofs.Growing.{next_first, curve_some}
 use Rattle.racp_curve.proofs.following.curve_from.Goals as goal
 
 pub follow-requires-clause-next : goal.follow-requires-clause-next
-follow-requires-clause-next g c = subst (λ (steps : List Step). IsNext c.args.net.now c.args.order.now c.args.plan steps) (sym c.new-steps.ensures.items) (next_first c.args.net.now c.args.order.now c.args.plan c.requires.plan)
+follow-requires-clause-next g c = subst (λ (steps : List Step). IsNext c.args.ground.now.net.now c.args.ground.now.order.now c.args.plan steps) (sym c.new-steps.ensures.items) (next_first c.args.ground.now.net.now c.args.ground.now.order.now c.args.plan c.requires.plan)
 
 pub returns-in-Ok-clause-curve : goal.returns-in-Ok-clause-curve
 returns-in-Ok-clause-curve g c =
-    (c.in-Ok.ensures.curve, curve_some c.args.net.now c.args.order.now c.follow.new.steps.items c.args.plan.capacities c.in-Ok.ensures.curve c.requires.plan.is_plan.vector.is)
+    (c.in-Ok.ensures.curve, curve_some c.args.ground.now.net.now c.args.ground.now.order.now c.follow.new.steps.items c.args.plan.capacities c.in-Ok.ensures.curve c.requires.plan.is_plan.vector.is)

@@ -3,8 +3,8 @@ use Rattle.racp_curve.proofs.following.follow.Given as goal
 
 abbrev pub invariant-plans : goal.invariant-plans
 invariant-plans g l = record {
-  network : g.A.Asker.about l.asker l.net;
-  next : IsNext l.net l.order l.plan l.steps.items;
+  network : g.A.Asker.about l.asker l.ground.net.now;
+  next : IsNext l.ground.net.now l.ground.order.now l.plan l.steps.items;
 }
 
 abbrev pub decreases-plans : goal.decreases-plans
