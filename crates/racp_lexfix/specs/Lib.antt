@@ -5,5 +5,6 @@ pub mod Proving
 pub mod Working
 pub mod Fixing
 pub mod Stages
+pub mod Boxed
 pub mod Laws
 pub mod Crowds

@@ -62,6 +62,13 @@ pub record AreFloorsOfEnough (p : Project) (terms : Terms) (floors : List ℕ) :
 abbrev pub IsLeastOfEnough : Project → Terms → ℕ → Type 0
 IsLeastOfEnough p terms least = (enough : List ℕ) → IsEnough p terms enough → least ≤ cost terms enough
 
+-- an asker may be told what planning finds of an order on its way: floors of all capacities that are enough, and what these cost at
+-- least
+pub record MayBeTold (p : Project) (terms : Terms) (may_hear_floors : List ℕ → Type 0) (may_hear_cost : ℕ → Type 0)
+    : Type 0 where
+  pub floors : (floors : List ℕ) → AreFloorsOfEnough p terms floors → may_hear_floors floors
+  pub least : (least : ℕ) → IsLeastOfEnough p terms least → may_hear_cost least
+
 -- the capacities and the starts of the plan, or none where no capacities are enough
 abbrev pub IsChosen : Project → Terms → Option (List ℕ × List ℕ) → Type 0
 IsChosen p terms (Some chosen) = IsPlan p terms chosen.0 chosen.1

@@ -11,6 +11,7 @@ ghost use Rattle.racp_lexfix.specs.Answers.{IsStoppedAt, IsPlanStop};
 ghost use Rattle.racp_lexfix.specs.Stages.{AreFloorsOfEnough, IsBounded, IsYesOrNo, given_up};
 
 use crate::answer::PlanStop;
+use crate::planning::Task;
 use racp_bounds::floors;
 use racp_candidates::{AnySeries, One};
 use racp_model::{Capacities, Network, Window};
@@ -25,24 +26,25 @@ use std::alloc::{AllocError, Global};
 ///
 /// The asker gave up, or memory was refused.
 pub(crate) fn floors_and_roofs<A: Asker<AnySeries>>(
-    alloc: Global,
-    net: &Network,
-    order: &Order,
+    task: &Task,
     root: &Window,
     asker: &mut A,
 ) -> Result<Option<(Capacities, Capacities)>, PlanStop>
-    requires named { A.about asker.old net.now }
-    requires terms { AreTermsOf net.now order.now }
-    requires root { IsRootWindow net.now (release_of order.now) (due_of order.now) root.now }
-    requires floors { (floors : List ℕ) → AreFloorsOfEnough net.now order.now floors → A.may_hear_floors floors }
-    ensures network { A.about asker.new net.now }
-    ensures bounded { IfOk result (IsBounded net.now order.now root.now (A.answered asker.new - A.answered asker.old)) }
+    requires named { A.about asker.old task.now.net.now }
+    requires terms { AreTermsOf task.now.net.now task.now.order.now }
+    requires root { IsRootWindow task.now.net.now (release_of task.now.order.now) (due_of task.now.order.now) root.now }
+    requires floors { (floors : List ℕ) → AreFloorsOfEnough task.now.net.now task.now.order.now floors →
+        A.may_hear_floors floors }
+    ensures network { A.about asker.new task.now.net.now }
+    ensures bounded { IfOk result (IsBounded task.now.net.now task.now.order.now root.now
+        (A.answered asker.new - A.answered asker.old)) }
     ensures no_fewer { A.answered asker.old ≤ A.answered asker.new }
-    ensures stop { IfErr result (IsPlanStop (IsStoppedAt net.now order.now
+    ensures stop { IfErr result (IsPlanStop (IsStoppedAt task.now.net.now task.now.order.now
         (A.answered asker.new - A.answered asker.old) (A.told asker.new))
         (A.may_stop asker.new) (A.may_want_thread asker.new)) }
 {
-    let floors = lowest_units(alloc, net, order, root)?;
+    let (alloc, net, order) = (task.alloc, task.net, task.order);
+    let floors = lowest_units(task, root)?;
     let roofs = most_units(alloc, net, order)?;
     if !is_below(&floors, &roofs) {
         return Ok(None);
@@ -59,16 +61,12 @@ pub(crate) fn floors_and_roofs<A: Asker<AnySeries>>(
 }
 
 /// The floor of each resource.
-fn lowest_units(
-    alloc: Global,
-    net: &Network,
-    order: &Order,
-    root: &Window,
-) -> Result<Capacities, AllocError>
-    requires { IsRootWindow net.now (release_of order.now) (due_of order.now) root.now }
-    ensures { IfOk result (AreFloors net.now root.now order.now.deadline) }
+fn lowest_units(task: &Task, root: &Window) -> Result<Capacities, AllocError>
+    requires { IsRootWindow task.now.net.now (release_of task.now.order.now) (due_of task.now.order.now) root.now }
+    ensures { IfOk result (AreFloors task.now.net.now root.now task.now.order.now.deadline) }
 {
-    floors(alloc, net, root, order.deadline)
+    let order = task.order;
+    floors(task.alloc, task.net, root, order.deadline)
 }
 
 /// Whether the order has ceilings.

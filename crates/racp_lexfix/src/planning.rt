@@ -1,13 +1,12 @@
 //! From the root window to the plan.
 
-ghost use Rattle.std.specs.Prelude.{◌≡◌, ℕ, ◌+◌, ◌-◌, List, OnOk, IfOk, IfErr};
-ghost use Rattle.racp_model.specs.Plan.{IsLeast, IsEnough};
-ghost use Rattle.racp_model.specs.Terms.{AreTermsOf, IsBefore, release_of, due_of};
+ghost use Rattle.std.specs.Prelude.{ℕ, ◌-◌, List, IfOk, IfErr};
+ghost use Rattle.racp_model.specs.Terms.{AreTermsOf, release_of, due_of};
 ghost use Rattle.racp_model.specs.Window.{IsRootWindow};
 ghost use Rattle.racp_candidates.specs.Box.{AreBoxQuestions};
-ghost use Rattle.racp_check.specs.Openings.{IsRoot};
 ghost use Rattle.racp_lexfix.specs.Answers.{IsAnswer, IsStoppedAt, IsPlanStop};
-ghost use Rattle.racp_lexfix.specs.Stages.{AreFloorsOfEnough, AreSharpFloorsAndRoofs, IsChosen, IsLeastOfEnough, IsStoppedInBox};
+ghost use Rattle.racp_lexfix.specs.Boxed.{IsCheapest, IsVectorBox};
+ghost use Rattle.racp_lexfix.specs.Stages.{AreFloorsOfEnough, IsChosen, IsLeastOfEnough, MayBeTold};
 
 use crate::answer::{Answer, PlanStop};
 use crate::bounds::floors_and_roofs;
@@ -50,109 +49,98 @@ pub fn plan<A: Asker<AnySeries>>(
         (A.answered asker.new - A.answered asker.old) (A.told asker.new))
         (A.may_stop asker.new) (A.may_want_thread asker.new)) }
 {
-    plan_and_keep(alloc, net, order, asker, &mut None)
+    let task = Task { alloc, net, order };
+    task.plan_and_keep(asker, &mut None)
 }
 
-/// The same, which also keeps the sharpened floors and the refuted pairs, once they are known.
-///
-/// # Errors
-///
-/// As with `plan`.
-pub(crate) fn plan_and_keep<A: Asker<AnySeries>>(
-    alloc: Global,
-    net: &Network,
-    order: &Order,
-    asker: &mut A,
-    kept: &mut Option<Sharp>,
-) -> Result<Answer, PlanStop>
-    requires named { A.about asker.old net.now }
-    requires terms { AreTermsOf net.now order.now }
-    requires floors { (floors : List ℕ) → AreFloorsOfEnough net.now order.now floors → A.may_hear_floors floors }
-    requires least { (least : ℕ) → IsLeastOfEnough net.now order.now least → A.may_hear_cost least }
-    ensures network { A.about asker.new net.now }
-    ensures answer { IfOk result (IsAnswer net.now order.now) }
-    ensures stop { IfErr result (IsPlanStop (IsStoppedAt net.now order.now
-        (A.answered asker.new - A.answered asker.old) (A.told asker.new))
-        (A.may_stop asker.new) (A.may_want_thread asker.new)) }
-{
-    match opening_of(alloc, net, order)? {
-        Opening::Root { critical, window } => {
-            plan_within(alloc, net, order, critical, &window, asker, kept)
+/// What a plan is made for: an order, which has an entry for each resource and each job of the network.
+#[derive(Clone, Copy)]
+pub(crate) struct Task<'a> {
+    pub(crate) alloc: Global,
+    pub(crate) net: &'a Network,
+    pub(crate) order: &'a Order,
+}
+
+impl Task<'_> {
+    /// The plan, or why there is none, as `plan` tells it. The sharpened floors and the refuted pairs are kept, once they
+    /// are known.
+    ///
+    /// # Errors
+    ///
+    /// As with `plan`.
+    pub(crate) fn plan_and_keep<A: Asker<AnySeries>>(
+        &self,
+        asker: &mut A,
+        kept: &mut Option<Sharp>,
+    ) -> Result<Answer, PlanStop>
+        requires named { A.about asker.old self.now.net.now }
+        requires terms { AreTermsOf self.now.net.now self.now.order.now }
+        requires heard { MayBeTold self.now.net.now self.now.order.now A.may_hear_floors A.may_hear_cost }
+        ensures network { A.about asker.new self.now.net.now }
+        ensures answer { IfOk result (IsAnswer self.now.net.now self.now.order.now) }
+        ensures stop { IfErr result (IsPlanStop (IsStoppedAt self.now.net.now self.now.order.now
+            (A.answered asker.new - A.answered asker.old) (A.told asker.new))
+            (A.may_stop asker.new) (A.may_want_thread asker.new)) }
+    {
+        let (net, order) = (self.net, self.order);
+        match opening_of(self.alloc, net, order)? {
+            Opening::Root { critical, window } => {
+                let Some((capacities, starts)) = self.chosen(&window, asker, kept)? else {
+                    return Ok(Answer::Ceiling);
+                };
+                let cost = cost_of(net, order, capacities.as_slice());
+                Ok(Answer::Plan(Plan {
+                    deadline: order.deadline,
+                    critical,
+                    cost,
+                    capacities,
+                    starts,
+                }))
+            }
+            Opening::TooLong { critical } => Ok(Answer::Impossible { longest: critical }),
+            Opening::TooLate { job } => Ok(Answer::Due { job }),
         }
-        Opening::TooLong { critical } => Ok(Answer::Impossible { longest: critical }),
-        Opening::TooLate { job } => Ok(Answer::Due { job }),
     }
-}
 
-/// The plan within the root window, of a project with this critical length, or that no capacities within the ceilings are
-/// enough.
-fn plan_within<A: Asker<AnySeries>>(
-    alloc: Global,
-    net: &Network,
-    order: &Order,
-    critical: u64,
-    root: &Window,
-    asker: &mut A,
-    kept: &mut Option<Sharp>,
-) -> Result<Answer, PlanStop>
-    requires named { A.about asker.old net.now }
-    requires terms { AreTermsOf net.now order.now }
-    requires root { IsRoot net.now order.now critical root.now }
-    requires floors { (floors : List ℕ) → AreFloorsOfEnough net.now order.now floors → A.may_hear_floors floors }
-    requires least { (least : ℕ) → IsLeastOfEnough net.now order.now least → A.may_hear_cost least }
-    ensures network { A.about asker.new net.now }
-    ensures answer { IfOk result (IsAnswer net.now order.now) }
-    ensures stop { IfErr result (IsPlanStop (IsStoppedAt net.now order.now
-        (A.answered asker.new - A.answered asker.old) (A.told asker.new))
-        (A.may_stop asker.new) (A.may_want_thread asker.new)) }
-{
-    let Some((capacities, starts)) = chosen(alloc, net, order, root, asker, kept)? else {
-        return Ok(Answer::Ceiling);
-    };
-    let cost = cost_of(net, order, capacities.as_slice());
-    Ok(Answer::Plan(Plan {
-        deadline: order.deadline,
-        critical,
-        cost,
-        capacities,
-        starts,
-    }))
-}
-
-/// The capacities and the starts of the plan, or none where no capacities are enough. The sharpened floors and the refuted
-/// pairs are kept, once they are known.
-fn chosen<A: Asker<AnySeries>>(
-    alloc: Global,
-    net: &Network,
-    order: &Order,
-    root: &Window,
-    asker: &mut A,
-    kept: &mut Option<Sharp>,
-) -> Result<Option<(Capacities, Starts)>, PlanStop>
-    requires named { A.about asker.old net.now }
-    requires terms { AreTermsOf net.now order.now }
-    requires root { IsRootWindow net.now (release_of order.now) (due_of order.now) root.now }
-    requires floors { (floors : List ℕ) → AreFloorsOfEnough net.now order.now floors → A.may_hear_floors floors }
-    requires least { (least : ℕ) → IsLeastOfEnough net.now order.now least → A.may_hear_cost least }
-    ensures network { A.about asker.new net.now }
-    ensures chosen { IfOk result (IsChosen net.now order.now) }
-    ensures stop { IfErr result (IsPlanStop (IsStoppedAt net.now order.now
-        (A.answered asker.new - A.answered asker.old) (A.told asker.new))
-        (A.may_stop asker.new) (A.may_want_thread asker.new)) }
-{
-    let Some((floors, roofs)) = floors_and_roofs(alloc, net, order, root, asker)? else {
-        return Ok(None);
-    };
-    let sharp = match sharpen(alloc, net, root, floors, &roofs, asker) {
-        Ok(sharp) => sharp,
-        Err((reached, stop)) => return Err(PlanStop::given_up(stop, reached)),
-    };
-    *kept = Some(copied(alloc, &sharp)?);
-    let capacities = cheapest(alloc, net, order, root, sharp, &roofs, asker)?;
-    asker.hear_cost(cost_of(net, order, capacities.as_slice()));
-    match least_starts(alloc, net, &capacities, root, asker) {
-        Ok(starts) => Ok(Some((capacities, starts))),
-        Err(stop) => Err(PlanStop::given_up(stop, capacities)),
+    /// The capacities and the starts of the plan within the root window, or none where no capacities are enough. The
+    /// sharpened floors and the refuted pairs are kept, once they are known.
+    fn chosen<A: Asker<AnySeries>>(
+        &self,
+        root: &Window,
+        asker: &mut A,
+        kept: &mut Option<Sharp>,
+    ) -> Result<Option<(Capacities, Starts)>, PlanStop>
+        requires named { A.about asker.old self.now.net.now }
+        requires terms { AreTermsOf self.now.net.now self.now.order.now }
+        requires root { IsRootWindow self.now.net.now (release_of self.now.order.now) (due_of self.now.order.now) root.now }
+        requires heard { MayBeTold self.now.net.now self.now.order.now A.may_hear_floors A.may_hear_cost }
+        ensures network { A.about asker.new self.now.net.now }
+        ensures chosen { IfOk result (IsChosen self.now.net.now self.now.order.now) }
+        ensures stop { IfErr result (IsPlanStop (IsStoppedAt self.now.net.now self.now.order.now
+            (A.answered asker.new - A.answered asker.old) (A.told asker.new))
+            (A.may_stop asker.new) (A.may_want_thread asker.new)) }
+    {
+        let (alloc, net) = (self.alloc, self.net);
+        let Some((floors, roofs)) = floors_and_roofs(self, root, asker)? else {
+            return Ok(None);
+        };
+        let sharp = match sharpen(alloc, net, root, floors, &roofs, asker) {
+            Ok(sharp) => sharp,
+            Err((reached, stop)) => return Err(PlanStop::given_up(stop, reached)),
+        };
+        *kept = Some(copied(alloc, &sharp)?);
+        let vectors = VectorBox {
+            task: *self,
+            root,
+            sharp,
+            roofs: &roofs,
+        };
+        let capacities = vectors.cheapest(asker)?;
+        asker.hear_cost(cost_of(net, self.order, capacities.as_slice()));
+        match least_starts(alloc, net, &capacities, root, asker) {
+            Ok(starts) => Ok(Some((capacities, starts))),
+            Err(stop) => Err(PlanStop::given_up(stop, capacities)),
+        }
     }
 }
 
@@ -164,63 +152,77 @@ fn copied(alloc: Global, sharp: &Sharp) -> Result<Sharp, AllocError> {
     })
 }
 
-/// The first capacities of all that are enough: asked for in their order where they are among few vectors, and else
-/// found by halves of their box.
-fn cheapest<A: Asker<AnySeries>>(
-    alloc: Global,
-    net: &Network,
-    order: &Order,
-    root: &Window,
+/// The capacity vectors among which the first that is enough is looked for: those from the sharpened floors of a task, by
+/// its root window, to the roofs, without the refuted pairs.
+#[derive(Drop)]
+pub(crate) struct VectorBox<'a> {
+    task: Task<'a>,
+    root: &'a Window,
     sharp: Sharp,
-    roofs: &Capacities,
-    asker: &mut A,
-) -> Result<Capacities, PlanStop>
-    requires named { A.about asker.old net.now }
-    requires terms { AreTermsOf net.now order.now }
-    requires root { IsRootWindow net.now (release_of order.now) (due_of order.now) root.now }
-    requires sharp { AreSharpFloorsAndRoofs net.now order.now root.now sharp roofs.now }
-    requires least { (least : ℕ) → IsLeastOfEnough net.now order.now least → A.may_hear_cost least }
-    ensures network { A.about asker.new net.now }
-    ensures least { IfOk result (IsLeast (IsBefore order.now) (IsEnough net.now order.now)) }
-    ensures answered { OnOk result (A.answered asker.new ≡ A.answered asker.old + 1) }
-    ensures stop { IfErr result (IsPlanStop (IsStoppedInBox net.now order.now sharp.floors (A.told asker.new))
-        (A.may_stop asker.new × (A.answered asker.new ≡ A.answered asker.old)) (A.may_want_thread asker.new)) }
-{
-    if is_small(&sharp.floors, roofs) {
-        return cheapest_in_order(alloc, net, order, root, sharp, roofs, asker);
-    }
-    cheapest_by_halves(alloc, net, order, root, sharp, roofs, asker)
+    roofs: &'a Capacities,
 }
 
-/// The first capacities of all that are enough: those of the first question of the box that is a yes. They are the
-/// peaks of the starts that were found, since these peaks are enough too, and no others that are stand before them.
-fn cheapest_in_order<A: Asker<AnySeries>>(
-    alloc: Global,
-    net: &Network,
-    order: &Order,
-    root: &Window,
-    sharp: Sharp,
-    roofs: &Capacities,
-    asker: &mut A,
-) -> Result<Capacities, PlanStop>
-    requires named { A.about asker.old net.now }
-    requires terms { AreTermsOf net.now order.now }
-    requires root { IsRootWindow net.now (release_of order.now) (due_of order.now) root.now }
-    requires sharp { AreSharpFloorsAndRoofs net.now order.now root.now sharp roofs.now }
-    ensures network { A.about asker.new net.now }
-    ensures least { IfOk result (IsLeast (IsBefore order.now) (IsEnough net.now order.now)) }
-    ensures answered { OnOk result (A.answered asker.new ≡ A.answered asker.old + 1) }
-    ensures stop { IfErr result (IsPlanStop (IsStoppedInBox net.now order.now sharp.floors (A.told asker.new))
-        (A.may_stop asker.new × (A.answered asker.new ≡ A.answered asker.old)) (A.may_want_thread asker.new)) }
-{
-    let series = vectors(alloc, net, order, root, &sharp, roofs)?;
-    let first = match asker.first(net, AnySeries::Vectors(series)) {
-        Ok(first) => first,
-        Err(stop) => return Err(PlanStop::stopped_at(stop, sharp.floors)),
-    };
-    match first {
-        First::Yes { starts, .. } => Ok(peaks(alloc, net, &starts)?),
-        First::None => unreachable!(),
+impl VectorBox<'_> {
+    /// The first capacities of all that are enough. Where there are few vectors, they are asked in their order. Else the
+    /// capacities are found by boxes of vectors below known ones, and asked for once more, by a series, for which an asker
+    /// keeps what serves the starts.
+    fn cheapest<A: Asker<AnySeries>>(self, asker: &mut A) -> Result<Capacities, PlanStop>
+        requires named { A.about asker.old self.task.net.now }
+        requires known { IsVectorBox self }
+        requires least { (least : ℕ) → IsLeastOfEnough self.task.net.now self.task.order.now least → A.may_hear_cost least }
+        ensures network { A.about asker.new self.entry.task.net.now }
+        ensures cheapest { IsCheapest self.entry (A.answered asker.old) (A.answered asker.new) (A.told asker.new)
+            (A.may_stop asker.new) (A.may_want_thread asker.new) result }
+    {
+        if is_small(&self.sharp.floors, self.roofs) {
+            return self.first_in_order(asker);
+        }
+        let Task { alloc, net, order } = self.task;
+        let (root, floors) = (self.root, &self.sharp.floors);
+        let first = match first_enough(alloc, net, order, root, floors, self.roofs, asker) {
+            Ok(first) => first,
+            Err(stop) => return Err(PlanStop::given_up(stop, self.sharp.floors)),
+        };
+        let series = One::new(alloc, &first, root)?;
+        match asker.first(net, AnySeries::One(series)) {
+            Ok(_) => Ok(first),
+            Err(stop) => Err(PlanStop::given_up(stop, first)),
+        }
+    }
+
+    /// The same, by the first question of the box that is a yes. The capacities are the peaks of the starts that were
+    /// found, since these peaks are enough too, and no others that are stand before them.
+    fn first_in_order<A: Asker<AnySeries>>(self, asker: &mut A) -> Result<Capacities, PlanStop>
+        requires named { A.about asker.old self.task.net.now }
+        requires known { IsVectorBox self }
+        ensures network { A.about asker.new self.entry.task.net.now }
+        ensures cheapest { IsCheapest self.entry (A.answered asker.old) (A.answered asker.new) (A.told asker.new)
+            (A.may_stop asker.new) (A.may_want_thread asker.new) result }
+    {
+        let Task { alloc, net, .. } = self.task;
+        let series = self.questions()?;
+        let first = match asker.first(net, AnySeries::Vectors(series)) {
+            Ok(first) => first,
+            Err(stop) => return Err(PlanStop::stopped_at(stop, self.sharp.floors)),
+        };
+        match first {
+            First::Yes { starts, .. } => Ok(peaks(alloc, net, &starts)?),
+            First::None => unreachable!(),
+        }
+    }
+
+    /// The questions of the box, in the order of vectors.
+    fn questions(&self) -> Result<Vectors, AllocError>
+        requires { IsVectorBox self.now }
+        ensures { IfOk result (AreBoxQuestions self.now.task.order.now self.now.sharp.floors self.now.roofs.now
+            self.now.sharp.pairs.items self.now.root.now) }
+    {
+        let Task { alloc, net, order } = self.task;
+        prove!(order.prices.len() == net.resource_count());
+        let floors = self.sharp.floors.copy()?;
+        let roofs = self.roofs.copy()?;
+        let pairs = self.sharp.pairs.to_vec(alloc)?;
+        Vectors::new(alloc, order, floors, roofs, pairs, self.root)
     }
 }
 
@@ -233,57 +235,4 @@ fn is_small(floors: &Capacities, roofs: &Capacities) -> bool {
         count = count.saturating_mul(units);
     }
     count <= FEW_VECTORS
-}
-
-/// The first capacities of all that are enough, found by boxes of vectors below known ones. They are asked for once
-/// more, by a series, for which an asker keeps what serves the starts.
-fn cheapest_by_halves<A: Asker<AnySeries>>(
-    alloc: Global,
-    net: &Network,
-    order: &Order,
-    root: &Window,
-    sharp: Sharp,
-    roofs: &Capacities,
-    asker: &mut A,
-) -> Result<Capacities, PlanStop>
-    requires named { A.about asker.old net.now }
-    requires terms { AreTermsOf net.now order.now }
-    requires root { IsRootWindow net.now (release_of order.now) (due_of order.now) root.now }
-    requires sharp { AreSharpFloorsAndRoofs net.now order.now root.now sharp roofs.now }
-    requires least { (least : ℕ) → IsLeastOfEnough net.now order.now least → A.may_hear_cost least }
-    ensures network { A.about asker.new net.now }
-    ensures least { IfOk result (IsLeast (IsBefore order.now) (IsEnough net.now order.now)) }
-    ensures answered { OnOk result (A.answered asker.new ≡ A.answered asker.old + 1) }
-    ensures stop { IfErr result (IsPlanStop (IsStoppedInBox net.now order.now sharp.floors (A.told asker.new))
-        (A.may_stop asker.new × (A.answered asker.new ≡ A.answered asker.old)) (A.may_want_thread asker.new)) }
-{
-    let first = match first_enough(alloc, net, order, root, &sharp.floors, roofs, asker) {
-        Ok(first) => first,
-        Err(stop) => return Err(PlanStop::given_up(stop, sharp.floors)),
-    };
-    let series = One::new(alloc, &first, root)?;
-    match asker.first(net, AnySeries::One(series)) {
-        Ok(_) => Ok(first),
-        Err(stop) => Err(PlanStop::given_up(stop, first)),
-    }
-}
-
-/// The questions of the box, in the order of vectors.
-fn vectors(
-    alloc: Global,
-    net: &Network,
-    order: &Order,
-    root: &Window,
-    sharp: &Sharp,
-    roofs: &Capacities,
-) -> Result<Vectors, AllocError>
-    requires terms { AreTermsOf net.now order.now }
-    requires sharp { AreSharpFloorsAndRoofs net.now order.now root.now sharp.now roofs.now }
-    ensures { IfOk result (AreBoxQuestions order.now sharp.now.floors roofs.now sharp.now.pairs.items root.now) }
-{
-    prove!(order.prices.len() == net.resource_count());
-    let floors = sharp.floors.copy()?;
-    let roofs = roofs.copy()?;
-    let pairs = sharp.pairs.to_vec(alloc)?;
-    Vectors::new(alloc, order, floors, roofs, pairs, root)
 }

@@ -15,7 +15,7 @@ use crate::answer::{Answer, PlanStop};
 use crate::crowd::{Crowd, Effort};
 use crate::lines::answer_lines;
 use crate::observer::{Observer, Pricing, Unheard};
-use crate::planning::plan;
+use crate::planning::{Task, plan};
 use racp_candidates::AnySeries;
 use racp_cutset::{Board, DEFAULT_MEMORY};
 use racp_desk::{Closed, DeskFault, Gate, run};
@@ -236,40 +236,33 @@ fn print_order(
     ensures { (text : List ℕ) → IsReading text (Ok net.now) → IsPrinting text order_text.now result }
 {
     let order = read_order(alloc, order_text, net.resource_count(), net.job_count())?;
-    Ok(print_plan(alloc, net, &order, mebibytes)?)
+    let order = &order;
+    let task = Task { alloc, net, order };
+    Ok(print_plan(&task, mebibytes)?)
 }
 
 /// The text of the plan of an order, or of why there is none, made on the calling thread.
-fn print_plan(
-    alloc: Global,
-    net: &Network,
-    order: &Order,
-    mebibytes: usize,
-) -> Result<Printed, PlanStop>
+fn print_plan(task: &Task, mebibytes: usize) -> Result<Printed, PlanStop>
     requires memory { mebibytes ≤ 1048576 }
-    requires terms { AreTermsOf net.now order.now }
-    ensures answer { IfOk result (λ printed. IsAnswerPrinted net.now order.now printed.text.items printed.status) }
+    requires terms { AreTermsOf task.now.net.now task.now.order.now }
+    ensures answer { IfOk result (λ printed. IsAnswerPrinted task.now.net.now task.now.order.now printed.text.items
+        printed.status) }
     ensures stop { IfErr result (λ stop. stop ≡ Memory) }
 {
-    let answer = plan_named::<Brand>(alloc, net, order, mebibytes)?;
-    Ok(print_answer(alloc, order, &answer)?)
+    let answer = plan_named::<Brand>(task, mebibytes)?;
+    Ok(print_answer(task.alloc, task.order, &answer)?)
 }
 
 /// The plan of an order, or why there is none, made on the calling thread. The network is the one that `N` names.
-fn plan_named<N: OfNetwork>(
-    alloc: Global,
-    net: &Network,
-    order: &Order,
-    mebibytes: usize,
-) -> Result<Answer, PlanStop>
-    requires named { net.now ≡ N.network }
+fn plan_named<N: OfNetwork>(task: &Task, mebibytes: usize) -> Result<Answer, PlanStop>
+    requires named { task.now.net.now ≡ N.network }
     requires memory { mebibytes ≤ 1048576 }
-    requires terms { AreTermsOf net.now order.now }
-    ensures answer { IfOk result (IsAnswer net.now order.now) }
+    requires terms { AreTermsOf task.now.net.now task.now.order.now }
+    ensures answer { IfOk result (IsAnswer task.now.net.now task.now.order.now) }
     ensures stop { IfErr result (λ stop. stop ≡ Memory) }
 {
-    let mut alone: Alone<N> = Alone::within(alloc, net, mebibytes)?;
-    plan(alloc, net, order, &mut alone)
+    let mut alone: Alone<N> = Alone::within(task.alloc, task.net, mebibytes)?;
+    plan(task.alloc, task.net, task.order, &mut alone)
 }
 
 /// The answer to the text of an order for a network, made by workers, and how much work they did.
@@ -286,78 +279,49 @@ fn print_order_by<G: Gate + Sync, P: Stop + Sync, O: Observer, R: Threads + Wait
     ensures { (text : List ℕ) → IsReading text (Ok net.now) → IsCrowdPrinting text order_text.now result }
 {
     let order = read_order(alloc, order_text, net.resource_count(), net.job_count())?;
-    Ok(print_plan_by(rt, alloc, net, &order, crew)?)
+    let order = &order;
+    let task = Task { alloc, net, order };
+    Ok(print_plan_by(rt, &task, crew)?)
 }
 
 /// The text of the plan of an order, or of why there is none, made by workers, and how much work they did.
 fn print_plan_by<G: Gate + Sync, P: Stop + Sync, O: Observer, R: Threads + Wait + Sync>(
     rt: &R,
-    alloc: Global,
-    net: &Network,
-    order: &Order,
+    task: &Task,
     crew: &Crew<'_, G, P, O>,
 ) -> Result<(Printed, Effort), PlanStop>
-    requires terms { AreTermsOf net.now order.now }
+    requires terms { AreTermsOf task.now.net.now task.now.order.now }
     requires workers { crew.now.workers ≤ 64 }
     requires turns { crew.now.turns ≤ 1000000000000 }
     requires memory { crew.now.memory ≤ 1048576 }
-    ensures answer { IfOk result (λ done. IsAnswerPrinted net.now order.now done.0.text.items done.0.status) }
-    ensures stop { IfErr result (IsCrowdStop net.now order.now) }
+    ensures answer { IfOk result (λ done. IsAnswerPrinted task.now.net.now task.now.order.now done.0.text.items
+        done.0.status) }
+    ensures stop { IfErr result (IsCrowdStop task.now.net.now task.now.order.now) }
 {
-    let (answer, effort) = plan_by::<Brand, G, P, O, R>(rt, alloc, net, order, crew)?;
-    Ok((print_answer(alloc, order, &answer)?, effort))
+    let (answer, effort) = plan_by::<Brand, G, P, O, R>(rt, task, crew)?;
+    Ok((print_answer(task.alloc, task.order, &answer)?, effort))
 }
 
-/// The plan of an order, or why there is none, made by workers, and how much work they did. The network is the one that
-/// `N` names.
+/// The plan of an order, or why there is none, made by workers, and how much work they did: by runs of a desk over one
+/// board of records. The network is the one that `N` names.
 fn plan_by<
     N: OfNetwork + Send + Sync,
     G: Gate + Sync,
     P: Stop + Sync,
     O: Observer,
     R: Threads + Wait + Sync,
->(
-    rt: &R,
-    alloc: Global,
-    net: &Network,
-    order: &Order,
-    crew: &Crew<'_, G, P, O>,
-) -> Result<(Answer, Effort), PlanStop>
-    requires named { net.now ≡ N.network }
-    requires terms { AreTermsOf net.now order.now }
+>(rt: &R, task: &Task, crew: &Crew<'_, G, P, O>) -> Result<(Answer, Effort), PlanStop>
+    requires named { task.now.net.now ≡ N.network }
+    requires terms { AreTermsOf task.now.net.now task.now.order.now }
     requires workers { crew.now.workers ≤ 64 }
     requires turns { crew.now.turns ≤ 1000000000000 }
     requires memory { crew.now.memory ≤ 1048576 }
-    ensures answer { IfOk result (λ done. IsAnswer net.now order.now done.0) }
-    ensures stop { IfErr result (IsCrowdStop net.now order.now) }
+    ensures answer { IfOk result (λ done. IsAnswer task.now.net.now task.now.order.now done.0) }
+    ensures stop { IfErr result (IsCrowdStop task.now.net.now task.now.order.now) }
 {
+    let (alloc, net, order) = (task.alloc, task.net, task.order);
     crew.observer.hear_deadline(order.deadline);
     let board: Board<N> = Board::within(alloc, net, crew.memory, crew.workers)?;
-    plan_over(rt, alloc, net, order, crew, &board)
-}
-
-/// The same, by runs of a desk over this board of records.
-fn plan_over<
-    N: OfNetwork + Send + Sync,
-    G: Gate + Sync,
-    P: Stop + Sync,
-    O: Observer,
-    R: Threads + Wait + Sync,
->(
-    rt: &R,
-    alloc: Global,
-    net: &Network,
-    order: &Order,
-    crew: &Crew<'_, G, P, O>,
-    board: &Board<N>,
-) -> Result<(Answer, Effort), PlanStop>
-    requires named { net.now ≡ N.network }
-    requires terms { AreTermsOf net.now order.now }
-    requires workers { crew.now.workers ≤ 64 }
-    requires turns { crew.now.turns ≤ 1000000000000 }
-    ensures answer { IfOk result (λ done. IsAnswer net.now order.now done.0) }
-    ensures stop { IfErr result (IsCrowdStop net.now order.now) }
-{
     let pricing = Pricing::new(net, order, crew.observer);
     let mut crowd: Crowd<N, P, Pricing<'_, O>, _> = Crowd::new(
         crew.workers,
@@ -376,13 +340,13 @@ fn plan_over<
                 crew.workers,
                 quantum,
                 turns,
-                board,
+                &board,
                 crew.gate,
                 crew.stop,
             )
         },
     );
-    plan_with(alloc, net, order, &mut crowd)
+    plan_with(task, &mut crowd)
 }
 
 /// The same, by an asker with workers that was told nothing yet.
@@ -391,19 +355,14 @@ fn plan_with<
     P: Stop,
     O: Observer + Drop,
     F: Fn(AnySeries, u64, u64) -> Result<Closed, DeskFault> + Drop,
->(
-    alloc: Global,
-    net: &Network,
-    order: &Order,
-    crowd: &mut Crowd<N, P, O, F>,
-) -> Result<(Answer, Effort), PlanStop>
-    requires named { net.now ≡ N.network }
-    requires terms { AreTermsOf net.now order.now }
+>(task: &Task, crowd: &mut Crowd<N, P, O, F>) -> Result<(Answer, Effort), PlanStop>
+    requires named { task.now.net.now ≡ N.network }
+    requires terms { AreTermsOf task.now.net.now task.now.order.now }
     requires run { RunsDesks N.network P.QUIET (F.pre crowd.old.run) (F.post crowd.old.run) }
-    ensures answer { IfOk result (λ done. IsAnswer net.now order.now done.0) }
-    ensures stop { IfErr result (IsCrowdStop net.now order.now) }
+    ensures answer { IfOk result (λ done. IsAnswer task.now.net.now task.now.order.now done.0) }
+    ensures stop { IfErr result (IsCrowdStop task.now.net.now task.now.order.now) }
 {
-    let answer = plan(alloc, net, order, crowd)?;
+    let answer = plan(task.alloc, task.net, task.order, crowd)?;
     let effort = crowd.effort();
     Ok((answer, effort))
 }

@@ -4,7 +4,6 @@ ghost use Rattle.std.specs.Prelude.{◌≡◌, ℕ, List, Ok, IfOk, IfErr, IfSom
 ghost use Rattle.racp_model.specs.Terms.{AreTermsOf, release_of, due_of};
 ghost use Rattle.racp_model.specs.Window.{IsRootWindow};
 ghost use Rattle.racp_sm.specs.Reading.{IsReading};
-ghost use Rattle.racp_prices.specs.Units.{AreMostUnits};
 ghost use Rattle.racp_trees.specs.Certificates.{IsCertificate};
 ghost use Rattle.racp_lexfix.specs.Answers.{IsAnswer};
 ghost use Rattle.racp_lexfix.specs.Proving.{IsAnswerProved, IsProofOf, IsProving, unproved_line};
@@ -13,13 +12,13 @@ ghost use Rattle.racp_lexfix.specs.declared.answer.PlanStop.TheVariants.{Memory}
 
 use crate::alone::Alone;
 use crate::answer::{Answer, PlanStop};
-use crate::planning::plan_and_keep;
+use crate::planning::Task;
 use crate::printed::{Printed, Refusal, print_answer};
 use racp_bounds::Sharp;
 use racp_check::{Opening, opening_of};
 use racp_model::{Capacities, Network, OfNetwork, Window};
 use racp_plan::Plan;
-use racp_prices::{Order, most_units, read_order};
+use racp_prices::{most_units, read_order};
 use racp_sm::read_sm;
 use racp_trees::certificate;
 use std::alloc::{AllocError, Global};
@@ -50,88 +49,75 @@ fn prove_order(alloc: Global, net: &Network, order_text: &[u8]) -> Result<Printe
     ensures { (text : List ℕ) → IsReading text (Ok net.now) → IsProving text order_text.now result }
 {
     let order = read_order(alloc, order_text, net.resource_count(), net.job_count())?;
-    Ok(prove_plan(alloc, net, &order)?)
+    let order = &order;
+    let task = Task { alloc, net, order };
+    Ok(prove_plan(&task)?)
 }
 
 /// A certificate for the plan of an order, or why there is none.
-fn prove_plan(alloc: Global, net: &Network, order: &Order) -> Result<Printed, PlanStop>
-    requires terms { AreTermsOf net.now order.now }
-    ensures proof { IfOk result (λ printed. IsAnswerProved net.now order.now printed.text.items printed.status) }
+fn prove_plan(task: &Task) -> Result<Printed, PlanStop>
+    requires terms { AreTermsOf task.now.net.now task.now.order.now }
+    ensures proof { IfOk result (λ printed. IsAnswerProved task.now.net.now task.now.order.now printed.text.items
+        printed.status) }
     ensures stop { IfErr result (λ stop. stop ≡ Memory) }
 {
     let mut sharp = None;
-    prove_and_keep(alloc, net, order, &mut sharp)
+    prove_and_keep(task, &mut sharp)
 }
 
 /// The same, which also keeps the sharpened floors, once they are known.
-fn prove_and_keep(
-    alloc: Global,
-    net: &Network,
-    order: &Order,
-    sharp: &mut Option<Sharp>,
-) -> Result<Printed, PlanStop>
-    requires terms { AreTermsOf net.now order.now }
-    ensures proof { IfOk result (λ printed. IsAnswerProved net.now order.now printed.text.items printed.status) }
+fn prove_and_keep(task: &Task, sharp: &mut Option<Sharp>) -> Result<Printed, PlanStop>
+    requires terms { AreTermsOf task.now.net.now task.now.order.now }
+    ensures proof { IfOk result (λ printed. IsAnswerProved task.now.net.now task.now.order.now printed.text.items
+        printed.status) }
     ensures stop { IfErr result (λ stop. stop ≡ Memory) }
 {
-    let answer = plan_with_floors::<Brand>(alloc, net, order, sharp)?;
-    print_proof(alloc, net, order, &answer, sharp)
+    let answer = plan_with_floors::<Brand>(task, sharp)?;
+    print_proof(task, &answer, sharp)
 }
 
 /// The plan of an order, or why there is none; the sharpened floors are kept where they were asked for. The network is
 /// the one that `N` names.
 fn plan_with_floors<N: OfNetwork>(
-    alloc: Global,
-    net: &Network,
-    order: &Order,
+    task: &Task,
     sharp: &mut Option<Sharp>,
 ) -> Result<Answer, PlanStop>
-    requires named { net.now ≡ N.network }
-    requires terms { AreTermsOf net.now order.now }
-    ensures answer { IfOk result (IsAnswer net.now order.now) }
+    requires named { task.now.net.now ≡ N.network }
+    requires terms { AreTermsOf task.now.net.now task.now.order.now }
+    ensures answer { IfOk result (IsAnswer task.now.net.now task.now.order.now) }
     ensures stop { IfErr result (λ stop. stop ≡ Memory) }
 {
-    let mut alone: Alone<N> = Alone::new(alloc, net)?;
-    plan_and_keep(alloc, net, order, &mut alone, sharp)
+    let mut alone: Alone<N> = Alone::new(task.alloc, task.net)?;
+    task.plan_and_keep(&mut alone, sharp)
 }
 
 /// The text and the status for an answer: a certificate for the plan, or why there is no plan.
-fn print_proof(
-    alloc: Global,
-    net: &Network,
-    order: &Order,
-    answer: &Answer,
-    sharp: &Option<Sharp>,
-) -> Result<Printed, PlanStop>
-    requires terms { AreTermsOf net.now order.now }
-    requires answer { IsAnswer net.now order.now answer.now }
-    ensures proof { IfOk result (λ printed. IsProofOf net.now order.now answer.now printed.text.items printed.status) }
+fn print_proof(task: &Task, answer: &Answer, sharp: &Option<Sharp>) -> Result<Printed, PlanStop>
+    requires terms { AreTermsOf task.now.net.now task.now.order.now }
+    requires answer { IsAnswer task.now.net.now task.now.order.now answer.now }
+    ensures proof { IfOk result (λ printed. IsProofOf task.now.net.now task.now.order.now answer.now printed.text.items
+        printed.status) }
     ensures stop { IfErr result (λ stop. stop ≡ Memory) }
 {
     match answer {
-        Answer::Plan(plan) => Ok(print_certificate(alloc, net, order, plan, sharp)?),
+        Answer::Plan(plan) => Ok(print_certificate(task, plan, sharp)?),
         _ => {
-            let printed = print_answer(alloc, order, answer)?;
+            let printed = print_answer(task.alloc, task.order, answer)?;
             Ok(printed)
         }
     }
 }
 
 /// A certificate for a plan, or that none was made, with its status.
-fn print_certificate(
-    alloc: Global,
-    net: &Network,
-    order: &Order,
-    plan: &Plan,
-    sharp: &Option<Sharp>,
-) -> Result<Printed, AllocError>
-    requires terms { AreTermsOf net.now order.now }
-    requires plan { IsAnswer net.now order.now (ThePlan plan.now) }
-    ensures { IfOk result (λ printed. IsProofOf net.now order.now (ThePlan plan.now) printed.text.items printed.status) }
+fn print_certificate(task: &Task, plan: &Plan, sharp: &Option<Sharp>) -> Result<Printed, AllocError>
+    requires terms { AreTermsOf task.now.net.now task.now.order.now }
+    requires plan { IsAnswer task.now.net.now task.now.order.now (ThePlan plan.now) }
+    ensures { IfOk result (λ printed. IsProofOf task.now.net.now task.now.order.now (ThePlan plan.now) printed.text.items
+        printed.status) }
 {
-    let Some(text) = certificate_of(alloc, net, order, plan.capacities.as_slice(), sharp)? else {
+    let Some(text) = certificate_of(task, plan.capacities.as_slice(), sharp)? else {
         return Ok(Printed {
-            text: b"unproved\n".to_vec(alloc)?,
+            text: b"unproved\n".to_vec(task.alloc)?,
             status: UNPROVED,
         });
     };
@@ -143,66 +129,39 @@ fn print_certificate(
 
 /// A certificate that no capacities before these are enough, or `None` where none was made.
 fn certificate_of(
-    alloc: Global,
-    net: &Network,
-    order: &Order,
+    task: &Task,
     capacities: &[u32],
     sharp: &Option<Sharp>,
 ) -> Result<Option<Vec<u8>>, AllocError>
-    requires terms { AreTermsOf net.now order.now }
-    requires capacities { length capacities.now ≡ net.now.resources }
-    ensures { IfOk result (λ text. IfSome text (λ text. IsCertificate net.now order.now capacities.now text.items)) }
+    requires terms { AreTermsOf task.now.net.now task.now.order.now }
+    requires capacities { length capacities.now ≡ task.now.net.now.resources }
+    ensures { IfOk result (λ text. IfSome text (λ text. IsCertificate task.now.net.now task.now.order.now capacities.now
+        text.items)) }
 {
-    let Opening::Root { window, .. } = opening_of(alloc, net, order)? else {
+    let Opening::Root { window, .. } = opening_of(task.alloc, task.net, task.order)? else {
         return Ok(None);
     };
-    certificate_within(alloc, net, order, &window, capacities, sharp)
+    certificate_within(task, &window, capacities, sharp)
 }
 
 /// The same, where there is a root window.
 fn certificate_within(
-    alloc: Global,
-    net: &Network,
-    order: &Order,
+    task: &Task,
     root: &Window,
     capacities: &[u32],
     sharp: &Option<Sharp>,
 ) -> Result<Option<Vec<u8>>, AllocError>
-    requires terms { AreTermsOf net.now order.now }
-    requires root { IsRootWindow net.now (release_of order.now) (due_of order.now) root.now }
-    requires capacities { length capacities.now ≡ net.now.resources }
-    ensures { IfOk result (λ text. IfSome text (λ text. IsCertificate net.now order.now capacities.now text.items)) }
+    requires terms { AreTermsOf task.now.net.now task.now.order.now }
+    requires root { IsRootWindow task.now.net.now (release_of task.now.order.now) (due_of task.now.order.now) root.now }
+    requires capacities { length capacities.now ≡ task.now.net.now.resources }
+    ensures { IfOk result (λ text. IfSome text (λ text. IsCertificate task.now.net.now task.now.order.now capacities.now
+        text.items)) }
 {
+    let (alloc, net, order) = (task.alloc, task.net, task.order);
     let roofs = most_units(alloc, net, order)?;
-    certificate_below(alloc, net, order, root, &roofs, capacities, sharp)
-}
-
-/// The same, with the most units of each resource.
-fn certificate_below(
-    alloc: Global,
-    net: &Network,
-    order: &Order,
-    root: &Window,
-    roofs: &Capacities,
-    capacities: &[u32],
-    sharp: &Option<Sharp>,
-) -> Result<Option<Vec<u8>>, AllocError>
-    requires terms { AreTermsOf net.now order.now }
-    requires root { IsRootWindow net.now (release_of order.now) (due_of order.now) root.now }
-    requires roofs { AreMostUnits net.now order.now roofs.now }
-    requires capacities { length capacities.now ≡ net.now.resources }
-    ensures { IfOk result (λ text. IfSome text (λ text. IsCertificate net.now order.now capacities.now text.items)) }
-{
-    let hints = hints_of(alloc, sharp, roofs)?;
-    certificate(
-        alloc,
-        net,
-        order,
-        root,
-        roofs.as_slice(),
-        capacities,
-        &hints,
-    )
+    let hints = hints_of(alloc, sharp, &roofs)?;
+    let roofs = roofs.as_slice();
+    certificate(alloc, net, order, root, roofs, capacities, &hints)
 }
 
 /// Capacities that are not enough, where the floors are sharpened: of each resource one unit less than its floor, and of
