@@ -200,38 +200,38 @@ fn was_ended(cause: Option<Cause>) -> bool
     }
 }
 
-/// A run about what `M` names.
-fn run_named<
-    N: OfNetwork + Send + Sync,
-    M: Names + Send + Sync,
-    S: Series + Send,
-    G: Gate + Sync,
-    P: Stop + Sync,
-    R: Threads + Wait + Sync,
->(rt: &R, job: Job<'_, N, G, P>, series: S, blank: Blank) -> Result<Closed, DeskFault>
-    requires formed { AreFormed N.network (S.questions series) }
-    requires series { S.questions series ≡ M.series }
-    requires turns { job.turns ≡ M.turns }
-    requires quiet { P.QUIET ≡ M.quiet }
-    requires ledger { blank.name ≡ M.name }
-    requires whole { blank.parts ≡ M.parts }
-    requires parts { blank.parts ≡ job.workers + 1 }
-    ensures { IfOk result (IsRunClosed N.network M.series M.turns M.quiet) }
-{
-    let (total, all) = blank.open::<M>();
-    let Ok(state) = State::new(job.alloc, job.net, series, total) else {
-        return Err(DeskFault::Memory);
-    };
-    let shared = Shared {
-        job,
-        hint: Hint::new(),
-        desk: Mutex::new(state),
-        idle: Condvar::new(),
-    };
-    let Ok(joined) = in_scope(rt, &shared, all) else {
-        return Err(DeskFault::Memory);
-    };
-    end(shared.desk.into_inner(), joined)
+impl<N: OfNetwork + Send + Sync, G: Gate + Sync, P: Stop + Sync> Job<'_, N, G, P> {
+    /// A run about what `M` names.
+    fn run_named<M: Names + Send + Sync, S: Series + Send, R: Threads + Wait + Sync>(
+        self,
+        rt: &R,
+        series: S,
+        blank: Blank,
+    ) -> Result<Closed, DeskFault>
+        requires formed { AreFormed N.network (S.questions series) }
+        requires series { S.questions series ≡ M.series }
+        requires turns { self.turns ≡ M.turns }
+        requires quiet { P.QUIET ≡ M.quiet }
+        requires ledger { blank.name ≡ M.name }
+        requires whole { blank.parts ≡ M.parts }
+        requires parts { blank.parts ≡ self.workers + 1 }
+        ensures { IfOk result (IsRunClosed N.network M.series M.turns M.quiet) }
+    {
+        let (total, all) = blank.open::<M>();
+        let Ok(state) = State::new(self.alloc, self.net, series, total) else {
+            return Err(DeskFault::Memory);
+        };
+        let shared = Shared {
+            job: self,
+            hint: Hint::new(),
+            desk: Mutex::new(state),
+            idle: Condvar::new(),
+        };
+        let Ok(joined) = in_scope(rt, &shared, all) else {
+            return Err(DeskFault::Memory);
+        };
+        end(shared.desk.into_inner(), joined)
+    }
 }
 
 /// Lets workers answer a series of questions about a network: the first yes, or that there is none, or, where they were
@@ -277,5 +277,5 @@ pub fn run<
         gate,
         stop,
     };
-    run_named::<N, Brand, S, G, P, R>(rt, job, series, blank)
+    job.run_named::<Brand, S, R>(rt, series, blank)
 }

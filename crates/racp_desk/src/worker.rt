@@ -135,22 +135,7 @@ fn give_up<N: OfNetwork, M: Names, S: Series>(
     Turn::Leave
 }
 
-/// Waits for a piece. `None` where there is nothing more to do.
-fn next_piece<'a, N: OfNetwork, M: Names, S: Series, G: Gate, P: Stop, R: Wait>(
-    rt: &R,
-    shared: &Shared<'a, N, M, S, G, P>,
-    seat: usize,
-    mine: &mut Share<M>,
-) -> Option<Piece<N>>
-    requires { 0 < mine.old.parts }
-    ensures formed { IfSome result (λ piece. IsFormed N.network piece.question) }
-    ensures parts { mine.new.parts ≡ mine.old.parts }
-{
-    let state = shared.desk.lock(rt);
-    piece_from(rt, shared, state, seat, mine)
-}
-
-/// The same, with the lock held to begin with.
+/// Waits for a piece, with the lock held to begin with. `None` where there is nothing more to do.
 fn piece_from<'a, 'b, N: OfNetwork, M: Names, S: Series, G: Gate, P: Stop, R: Wait>(
     rt: &R,
     shared: &'b Shared<'a, N, M, S, G, P>,
@@ -334,7 +319,8 @@ pub(crate) fn work<'a, N: OfNetwork, M: Names, S: Series, G: Gate, P: Stop, R: W
     let Job { alloc, board, .. } = &shared.job;
     let mut local: Local<N> = board.take_part(rt, *alloc);
     let count = local.kept_count();
-    if let Some(piece) = next_piece(rt, shared, seat, &mut mine) {
+    let state = shared.desk.lock(rt);
+    if let Some(piece) = piece_from(rt, shared, state, seat, &mut mine) {
         go_on(rt, shared, seat, piece, &mut local, &mut mine);
     }
     shared.idle.notify_all();
