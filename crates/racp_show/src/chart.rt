@@ -6,6 +6,7 @@ ghost use Rattle.racp_model.specs.Schedule.{EndsBy};
 ghost use Rattle.racp_show.specs.Charts.{AreJobRows, AreLevels, AreResourceRows, IsChart, IsJobRow, IsResourceRow};
 
 use crate::scale::{Bar, Scale};
+use crate::times::Times;
 use crate::usage::{busy_percent, greatest_usage};
 use racp_model::Network;
 use racp_plan::Plan;
@@ -65,7 +66,12 @@ pub fn chart_of(
     ensures { IfOk result (IsChart net.now plan.now deadline most) }
 {
     let scale = Scale::of(deadline, most);
-    let jobs = job_rows(alloc, net, plan.starts.as_slice(), deadline, &scale)?;
+    let times = Times {
+        net,
+        starts: plan.starts.as_slice(),
+        deadline,
+    };
+    let jobs = job_rows(alloc, &times, &scale)?;
     let resources = resource_rows(alloc, net, plan, deadline, &scale)?;
     Ok(Chart {
         scale,
@@ -75,33 +81,23 @@ pub fn chart_of(
 }
 
 /// A row for each job.
-fn job_rows(
-    alloc: Global,
-    net: &Network,
-    starts: &[u32],
-    deadline: u32,
-    scale: &Scale,
-) -> Result<Vec<JobRow>, AllocError>
-    requires starts { length starts.now ≡ length net.now.jobs }
-    requires ends { EndsBy net.now (λ _. deadline) starts.now }
-    ensures { IfOk result (λ rows. AreJobRows net.now starts.now scale.now rows.items) }
+fn job_rows(alloc: Global, times: &Times, scale: &Scale) -> Result<Vec<JobRow>, AllocError>
+    ensures { IfOk result (λ rows. AreJobRows times.now.net.now times.now.starts.now scale.now rows.items) }
 {
-    let mut rows = Vec::with_capacity(alloc, net.job_count())?;
-    for i in 0..net.job_count() {
-        rows.push(job_row(net, starts, deadline, scale, i))?;
+    let mut rows = Vec::with_capacity(alloc, times.net.job_count())?;
+    for i in 0..times.net.job_count() {
+        rows.push(job_row(times, scale, i))?;
     }
     Ok(rows)
 }
 
 /// The row of the job at place `i`.
-fn job_row(net: &Network, starts: &[u32], deadline: u32, scale: &Scale, i: usize) -> JobRow
-    requires job { i < length net.now.jobs }
-    requires starts { length starts.now ≡ length net.now.jobs }
-    requires ends { EndsBy net.now (λ _. deadline) starts.now }
-    ensures { IsJobRow net.now starts.now scale.now i result }
+fn job_row(times: &Times, scale: &Scale, i: usize) -> JobRow
+    requires { i < length times.now.net.now.jobs }
+    ensures { IsJobRow times.now.net.now times.now.starts.now scale.now i result }
 {
-    let start = starts[i];
-    let end = start + net.duration(i);
+    let start = times.start(i);
+    let end = times.end(i);
     let bar = scale.bar(start, end);
     JobRow { start, end, bar }
 }

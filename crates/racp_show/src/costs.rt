@@ -1,6 +1,6 @@
 //! What deadlines cost, as a picture.
 
-use crate::svg::{mark_of, push_head};
+use crate::svg::{MOST_MARKS, mark_of, push_head};
 use std::alloc::{AllocError, Global};
 
 /// A deadline from which on a plan costs so much.
@@ -26,9 +26,6 @@ const HEIGHT: u64 = 300;
 
 /// How high the picture is.
 const BOTTOM: u64 = 400;
-
-/// The most numbers of an axis behind the first.
-const MOST_MARKS: u64 = 12;
 
 /// What the deadlines of a picture are, and its greatest cost.
 #[derive(Clone, Copy)]

@@ -53,6 +53,7 @@ mod sheet;
 mod svg;
 mod table;
 mod text;
+mod times;
 mod usage;
 
 pub use chart::{Chart, JobRow, ResourceRow, chart_of};

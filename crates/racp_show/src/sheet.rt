@@ -2,12 +2,12 @@
 
 ghost use Rattle.std.specs.Prelude.{◌≡◌, ℕ, ◌<◌, IfOk, length};
 ghost use Rattle.racp_model.specs.Plan.{FitsTerms};
-ghost use Rattle.racp_model.specs.Schedule.{EndsBy};
 ghost use Rattle.racp_model.specs.Terms.{AreTermsOf};
 ghost use Rattle.racp_show.specs.Sheets.{AreJobEntries, AreResourceEntries, IsJobEntry, IsResourceEntry, IsSheet};
 
 use crate::names::Names;
 use crate::order::{deadline_of, owned_of, price_of};
+use crate::times::Times;
 use crate::usage::{Step, usage_steps};
 use racp_model::Network;
 use racp_plan::Plan;
@@ -78,7 +78,12 @@ pub fn sheet_of<'a>(
     ensures { IfOk result (IsSheet net.now order.now plan.now names.now) }
 {
     let deadline = deadline_of(order);
-    let jobs = job_entries(alloc, net, plan.starts.as_slice(), deadline, names)?;
+    let times = Times {
+        net,
+        starts: plan.starts.as_slice(),
+        deadline,
+    };
+    let jobs = job_entries(alloc, &times, names)?;
     let resources = resource_entries(alloc, net, order, plan, names)?;
     Ok(Sheet {
         deadline,
@@ -90,45 +95,31 @@ pub fn sheet_of<'a>(
 }
 
 /// An entry for each job.
-pub(crate) fn job_entries<'a>(
+fn job_entries<'a>(
     alloc: Global,
-    net: &Network,
-    starts: &[u32],
-    deadline: u32,
+    times: &Times,
     names: &'a Names,
 ) -> Result<Vec<JobEntry<'a>>, AllocError>
-    requires starts { length starts.now ≡ length net.now.jobs }
-    requires ends { EndsBy net.now (λ _. deadline) starts.now }
-    ensures { IfOk result (λ entries. AreJobEntries net.now starts.now names.now entries.items) }
+    ensures { IfOk result (λ entries. AreJobEntries times.now.net.now times.now.starts.now names.now entries.items) }
 {
-    let mut entries = Vec::with_capacity(alloc, net.job_count())?;
-    for i in 0..net.job_count() {
-        entries.push(job_entry(net, starts, deadline, names, i))?;
+    let mut entries = Vec::with_capacity(alloc, times.net.job_count())?;
+    for i in 0..times.net.job_count() {
+        entries.push(job_entry(times, names, i))?;
     }
     Ok(entries)
 }
 
 /// The entry of the job at place `i`.
-fn job_entry<'a>(
-    net: &Network,
-    starts: &[u32],
-    deadline: u32,
-    names: &'a Names,
-    i: usize,
-) -> JobEntry<'a>
-    requires job { i < length net.now.jobs }
-    requires starts { length starts.now ≡ length net.now.jobs }
-    requires ends { EndsBy net.now (λ _. deadline) starts.now }
-    ensures { IsJobEntry net.now starts.now names.now i result }
+fn job_entry<'a>(times: &Times, names: &'a Names, i: usize) -> JobEntry<'a>
+    requires { i < length times.now.net.now.jobs }
+    ensures { IsJobEntry times.now.net.now times.now.starts.now names.now i result }
 {
-    prove!(i < net.job_count());
-    let start = starts[i];
-    let end = start + net.duration(i);
+    prove!(i < times.net.job_count());
     JobEntry {
         job: i + 1,
         name: names.job(i),
-        start,
-        end,
+        start: times.start(i),
+        end: times.end(i),
     }
 }
 

@@ -37,8 +37,8 @@ const HEIGHT: u64 = 48;
 /// How high the line of a resource is.
 const STRIP: u64 = 66;
 
-/// The most numbers of the axis of times behind the first.
-const MOST_MARKS: u64 = 12;
+/// The most numbers of an axis behind the first.
+pub(crate) const MOST_MARKS: u64 = 12;
 
 /// A plan as a picture in SVG: a bar for each job, whose name is also a tooltip, and for each resource its usage as a
 /// stair, with the capacity as a dashed line. The axis of times has round numbers. The text grows with the jobs and the

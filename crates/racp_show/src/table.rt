@@ -3,11 +3,11 @@
 ghost use Rattle.std.specs.Prelude.{◌≡◌, ◌++◌, ◌∷◌, [], ◌<◌, IfOk, OnOk, length, map, decimal};
 ghost use Rattle.csv.specs.Writing.{default_writer, row_text};
 ghost use Rattle.racp_model.specs.Plan.{FitsTerms};
-ghost use Rattle.racp_model.specs.Schedule.{EndsBy};
 ghost use Rattle.racp_show.specs.Tables.{head_fields, job_fields, table_text};
 
 use crate::names::Names;
 use crate::order::deadline_of;
+use crate::times::Times;
 use csv::{Error, WriterBuilder};
 use racp_model::Network;
 use racp_plan::Plan;
@@ -31,30 +31,21 @@ pub fn csv_text(
     requires { FitsTerms net.now order.now plan.now.capacities plan.now.starts }
     ensures { IfOk result (λ text. text.items ≡ table_text net.now plan.now.starts names.now) }
 {
-    rows(
-        alloc,
+    let times = Times {
         net,
-        plan.starts.as_slice(),
-        deadline_of(order),
-        names,
-    )
+        starts: plan.starts.as_slice(),
+        deadline: deadline_of(order),
+    };
+    rows(alloc, &times, names)
 }
 
 /// The first row, and a row for each job.
-fn rows(
-    alloc: Global,
-    net: &Network,
-    starts: &[u32],
-    deadline: u32,
-    names: &Names,
-) -> Result<Vec<u8>, AllocError>
-    requires starts { length starts.now ≡ length net.now.jobs }
-    requires ends { EndsBy net.now (λ _. deadline) starts.now }
-    ensures { IfOk result (λ text. text.items ≡ table_text net.now starts.now names.now) }
+fn rows(alloc: Global, times: &Times, names: &Names) -> Result<Vec<u8>, AllocError>
+    ensures { IfOk result (λ text. text.items ≡ table_text times.now.net.now times.now.starts.now names.now) }
 {
     let mut text = head_row(alloc)?;
-    for i in 0..net.job_count() {
-        let row = job_row(alloc, net, starts, deadline, names, i)?;
+    for i in 0..times.net.job_count() {
+        let row = job_row(alloc, times, names, i)?;
         text.extend_from_slice(&row)?;
     }
     Ok(text)
@@ -68,23 +59,12 @@ fn head_row(alloc: Global) -> Result<Vec<u8>, AllocError>
 }
 
 /// The row of the job at place `i`.
-fn job_row(
-    alloc: Global,
-    net: &Network,
-    starts: &[u32],
-    deadline: u32,
-    names: &Names,
-    i: usize,
-) -> Result<Vec<u8>, AllocError>
-    requires job { i < length net.now.jobs }
-    requires starts { length starts.now ≡ length net.now.jobs }
-    requires ends { EndsBy net.now (λ _. deadline) starts.now }
-    ensures { IfOk result (λ row. row.items ≡ row_text default_writer (job_fields net.now starts.now names.now i)) }
+fn job_row(alloc: Global, times: &Times, names: &Names, i: usize) -> Result<Vec<u8>, AllocError>
+    requires { i < length times.now.net.now.jobs }
+    ensures { IfOk result (λ row. row.items ≡ row_text default_writer (job_fields times.now.net.now times.now.starts.now names.now i)) }
 {
-    prove!(i < net.job_count());
-    let start = starts[i];
-    let end = start + net.duration(i);
-    numbered_row(alloc, i + 1, names.at(i), start, end)
+    prove!(i < times.net.job_count());
+    numbered_row(alloc, i + 1, names.at(i), times.start(i), times.end(i))
 }
 
 /// The row of a job with this number.

@@ -6,5 +6,5 @@ use Rattle.racp_show.proofs.chart.job_rows.Given as goal
 abbrev pub invariant-loop-i : goal.invariant-loop-i
 invariant-loop-i l = record {
   places : length l.rows.items ≡ l.i;
-  each : (q : ℕ) (d : JobRow) → q < l.i → IsJobRow l.net l.starts l.scale q (slice_index_or l.rows.items q d);
+  each : (q : ℕ) (d : JobRow) → q < l.i → IsJobRow l.times.net.now l.times.starts.now l.scale q (slice_index_or l.rows.items q d);
 }
