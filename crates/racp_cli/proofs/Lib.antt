@@ -5,7 +5,6 @@ mod Answering
 mod Responding
 mod Checking
 mod Planning
-mod Certifying
 mod Statuses
 mod Telling
 mod Ending

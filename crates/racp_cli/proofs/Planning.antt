@@ -1,13 +1,18 @@
 -- From what planning prints or refuses to an answer to the texts.
-use Rattle.std.proofs.Common.{ℕ, List, length, Ok, Err, refl, sym, inl, inr}
+use Rattle.std.proofs.Common.{◌≡◌, ◌⊎◌, ℕ, List, length, Ok, Err, refl, sym, subst, inl, inr}
 use Rattle.racp_model.specs.Project.{Project}
 use Rattle.racp_sm.specs.Reading.{IsReading, IsReadingOrMemory}
 use Rattle.racp_sm.specs.Faults.{SmFault}
 use Rattle.racp_prices.specs.Orders.{IsOrderOrMemory}
 use Rattle.racp_prices.specs.declared.fault.OrderFault.{OrderFault}
+use Rattle.racp_lexfix.specs.Printing.{IsRefusal}
+use Rattle.racp_lexfix.specs.declared.answer.PlanStop.{PlanStop}
+use Rattle.racp_lexfix.specs.declared.answer.PlanStop.TheVariants.{Memory}
+use Rattle.racp_lexfix.specs.declared.printed.Refusal.{Refusal}
+use Rattle.racp_lexfix.specs.declared.printed.Refusal.TheVariants.{Sm, Order, Stop}
 use Rattle.racp_cli.specs.Texts.{memory_line}
-use Rattle.racp_cli.specs.Responses.{IsNetworkRefused, IsOrderRefused}
-use Rattle.racp_cli.specs.Plans.{IsNetworkLine, IsOrderLine, IsPlanAnswer}
+use Rattle.racp_cli.specs.Responses.{IsNetworkRefused, IsOrderRefused, IsRefusedLine}
+use Rattle.racp_cli.specs.Plans.{IsNetworkLine, IsOrderLine, IsMemoryLine, IsPlanAnswer}
 use Rattle.racp_cli.proofs.Answering.{right_refusal}
 
 -- the line of a network text that is refused
@@ -20,15 +25,12 @@ pub order_line : (net order : List ℕ) (network : Project) (fault : OrderFault)
 order_line net order network fault status text reading (inl right) (other, with_status, with_text) = (network, fault, reading, right, sym with_status, sym with_text)
 order_line net order network fault status text reading (inr (utf8, memory)) (other, with_status, with_text) = absurd (other memory)
 
--- the answer to a network text that is refused
-pub plan_network_refused : (net order : List ℕ) (fault : SmFault) (status : ℕ) (text : List ℕ) → IsReadingOrMemory net (Err fault) → IsNetworkRefused fault status text →
-    IsPlanAnswer net order status text
-plan_network_refused net order fault status text reading refused = inr (inl (network_line net fault status text reading refused))
-
--- the answer to an order text that is refused
-pub plan_order_refused : (net order : List ℕ) (network : Project) (fault : OrderFault) (status : ℕ) (text : List ℕ) → IsReading net (Ok network) →
-    IsOrderOrMemory network.resources (length network.jobs) order (Err fault) → IsOrderRefused fault status text → IsPlanAnswer net order status text
-plan_order_refused net order network fault status text reading right refused = inr (inr (inl (order_line net order network fault status text reading right refused)))
+-- the line where there is no answer: which text is refused; for on one thread planning ends early only where memory runs out
+pub line_refused : (net order : List ℕ) (refusal : Refusal) (status : ℕ) (text : List ℕ) → IsRefusal (λ stop. stop ≡ Memory) net order refusal → IsRefusedLine refusal status text →
+    IsNetworkLine net status text ⊎ (IsOrderLine net order status text ⊎ IsMemoryLine status text)
+line_refused net order (Sm fault) status text reading refused = inl (network_line net fault status text reading refused)
+line_refused net order (Order fault) status text right refused = inr (inl (order_line net order right.0 fault status text right.1 right.2 refused))
+line_refused net order (Stop stop) status text is refused = absurd (subst (λ (s : PlanStop). IsRefusedLine (Stop s) status text) is refused)
 
 -- the answer where memory ran out
 pub plan_memory : (net order : List ℕ) → IsPlanAnswer net order 6 memory_line

@@ -3,17 +3,15 @@
 ghost use Rattle.std.specs.Prelude.{ℕ, ◌≤◌, List, IfOk};
 ghost use Rattle.racp_lexfix.specs.Printing.{IsCrowdPrinting};
 ghost use Rattle.racp_cli.specs.Crowds.{IsCrowdAnswer, IsCrowdRun, IsEffortOf};
-ghost use Rattle.racp_cli.specs.Responses.{IsMade, IsRefusedLine};
+ghost use Rattle.racp_cli.specs.Responses.{IsMade};
 
 use crate::fault::StreamFault;
-use crate::lines::stopped_line;
-use crate::refusal::{network_refused, order_refused};
+use crate::refusal::refused;
 use crate::respond::respond;
-use crate::status::{STOPPED, STREAM_FAILED};
 use crate::streams::read_whole;
 use racp_cutset::DEFAULT_MEMORY;
 use racp_desk::Gate;
-use racp_lexfix::{Crew, Effort, Observer, PlanStop, Printed, Refusal, Unheard, plan_crowd_by};
+use racp_lexfix::{Crew, Effort, Observer, Printed, Refusal, Unheard, plan_crowd_by};
 use racp_search::Stop;
 use std::alloc::{AllocError, Global};
 use std::io::{Read, Write};
@@ -56,11 +54,10 @@ pub fn crowd_over<
         (W.contents out.old) (W.contents out.new) result }
     ensures effort { IfOk result (λ done. IsEffortOf done.0 done.1) }
 {
-    let memory = DEFAULT_MEMORY;
     let crew = Crew {
         workers,
         turns,
-        memory,
+        memory: DEFAULT_MEMORY,
         gate,
         stop,
         observer: &Unheard,
@@ -118,20 +115,5 @@ fn answer(
     match planned {
         Ok((printed, effort)) => (Ok((printed.status, printed.text)), Some(effort)),
         Err(refusal) => (refused(alloc, refusal), None),
-    }
-}
-
-/// The status and the line where there is no answer.
-fn refused(alloc: Global, refusal: Refusal) -> Result<(u8, Vec<u8>), AllocError>
-    ensures { IfOk result (λ line. IsRefusedLine refusal line.0 line.1.items) }
-{
-    match refusal {
-        Refusal::Sm(fault) => network_refused(alloc, fault),
-        Refusal::Order(fault) => order_refused(alloc, fault),
-        Refusal::Stop(PlanStop::Stopped { not_before }) => {
-            Ok((STOPPED, stopped_line(alloc, not_before.as_slice())?))
-        }
-        Refusal::Stop(PlanStop::Memory) => Err(AllocError),
-        Refusal::Stop(PlanStop::NoThread) => { Ok((STREAM_FAILED, b"no thread\n".to_vec(alloc)?)) }
     }
 }

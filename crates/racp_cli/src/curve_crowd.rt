@@ -1,7 +1,8 @@
 //! `curve` by workers: what each deadline up to that of an order costs, by plans that are made on threads of their own.
 
-ghost use Rattle.std.specs.Prelude.{◌≡◌, ◌≤◌, IfOk};
-ghost use Rattle.racp_model.specs.Terms.{AreTermsOf};
+ghost use Rattle.std.specs.Prelude.{◌≡◌, ◌≤◌, IfErr, IfOk, ⊤};
+ghost use Rattle.racp_model.specs.Project.{Project};
+ghost use Rattle.racp_curve.specs.Curves.{IsCurveAnswer as IsAnswerOfCurve, IsCurveStop};
 ghost use Rattle.racp_cli.specs.CurveAnswers.{IsCurveCrowdAnswer, IsCurveCrowdRun, IsToldByCrowd, stopped_text};
 ghost use Rattle.racp_cli.specs.Responses.{IsEndedText};
 
@@ -12,10 +13,9 @@ use crate::respond::respond;
 use crate::status::{STOPPED, STREAM_FAILED};
 use crate::streams::read_whole;
 use crate::texts::read_texts;
-use racp_curve::{CurveStop, Step, curve_crowd, step_lines};
+use racp_curve::{CurveAnswer, CurveStop, Step, curve_crowd, step_lines};
 use racp_desk::Gate;
 use racp_lexfix::{Crew, PlanStop, Unheard};
-use racp_model::Network;
 use racp_prices::Order;
 use racp_search::Stop;
 use std::alloc::{AllocError, Global};
@@ -75,27 +75,26 @@ fn answer<G: Gate + Sync, P: Stop + Sync, R: Threads + Wait + Sync>(
     ensures { IfOk result (λ answer. IsCurveCrowdAnswer is_drawn net.now order.now answer.0 answer.1.items) }
 {
     match read_texts(alloc, net, order) {
-        Ok((net, order)) => told(rt, alloc, &net, &order, is_drawn, crew),
+        Ok((net, order)) => {
+            let curve = curve_crowd(rt, alloc, &net, &order, crew);
+            told(alloc, &order, curve, is_drawn)
+        }
         Err(refused) => refused,
     }
 }
 
-/// The status and the text of the curve, or of the reason why there is no plan, or why the workers ended early.
-fn told<G: Gate + Sync, P: Stop + Sync, R: Threads + Wait + Sync>(
-    rt: &R,
+/// The status and the text of a curve for these terms, or of the reason why there is no plan, or why the workers ended early.
+fn told(
     alloc: Global,
-    net: &Network,
     order: &Order,
+    curve: Result<CurveAnswer, CurveStop>,
     is_drawn: bool,
-    crew: Crew<'_, G, P, Unheard>,
 ) -> Result<(u8, Vec<u8>), AllocError>
-    requires workers { crew.workers ≤ 64 }
-    requires turns { crew.turns ≤ 1000000000000 }
-    requires memory { crew.memory ≤ 1048576 }
-    requires terms { AreTermsOf net.now order.now }
-    ensures { IfOk result (λ answer. IsToldByCrowd is_drawn net.now order.now answer.0 answer.1.items) }
+    ensures { (network : Project) → IfOk curve (IsAnswerOfCurve network order.now) →
+        IfErr curve (λ end. IsCurveStop network order.now ⊤ ⊤ end.steps.items end.stop) →
+        IfOk result (λ answer. IsToldByCrowd is_drawn network order.now answer.0 answer.1.items) }
 {
-    match curve_crowd(rt, alloc, net, order, crew) {
+    match curve {
         Ok(answer) => curve_answer(alloc, order, answer, is_drawn),
         Err(CurveStop { steps, stop }) => ended_answer(alloc, &steps, stop, is_drawn),
     }

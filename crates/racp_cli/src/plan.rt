@@ -5,11 +5,11 @@ ghost use Rattle.racp_cli.specs.Plans.{IsPlanAnswer};
 ghost use Rattle.racp_cli.specs.Streams.{IsPlanRun};
 
 use crate::fault::StreamFault;
-use crate::refusal::{network_refused, order_refused};
+use crate::refusal::refused;
 use crate::respond::respond;
 use crate::streams::read_whole;
 use racp_cutset::DEFAULT_MEMORY;
-use racp_lexfix::{Refusal, plan_alone_within};
+use racp_lexfix::plan_alone_within;
 use std::alloc::{AllocError, Global};
 use std::io::{Read, Write};
 
@@ -70,9 +70,6 @@ fn answer(
 {
     match plan_alone_within(alloc, net, order, mebibytes) {
         Ok(printed) => Ok((printed.status, printed.text)),
-        Err(Refusal::Sm(fault)) => network_refused(alloc, fault),
-        Err(Refusal::Order(fault)) => order_refused(alloc, fault),
-        // Planning on one thread ends early only where memory runs out.
-        Err(Refusal::Stop(_)) => Err(AllocError),
+        Err(refusal) => refused(alloc, refusal),
     }
 }

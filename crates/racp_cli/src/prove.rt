@@ -4,10 +4,10 @@ ghost use Rattle.std.specs.Prelude.{IfOk};
 ghost use Rattle.racp_cli.specs.Proofs.{IsProofAnswer, IsProofRun};
 
 use crate::fault::StreamFault;
-use crate::refusal::{network_refused, order_refused};
+use crate::refusal::refused;
 use crate::respond::respond;
 use crate::streams::read_whole;
-use racp_lexfix::{Refusal, prove_alone};
+use racp_lexfix::prove_alone;
 use std::alloc::{AllocError, Global};
 use std::io::{Read, Write};
 
@@ -42,9 +42,6 @@ fn answer(alloc: Global, net: &[u8], order: &[u8]) -> Result<(u8, Vec<u8>), Allo
 {
     match prove_alone(alloc, net, order) {
         Ok(printed) => Ok((printed.status, printed.text)),
-        Err(Refusal::Sm(fault)) => network_refused(alloc, fault),
-        Err(Refusal::Order(fault)) => order_refused(alloc, fault),
-        // Planning on one thread ends early only where memory runs out.
-        Err(Refusal::Stop(_)) => Err(AllocError),
+        Err(refusal) => refused(alloc, refusal),
     }
 }

@@ -1,7 +1,6 @@
-use Rattle.std.proofs.Common.{[], ◌∷◌, IfOk}
+use Rattle.std.proofs.Common.{[], ◌∷◌, IfOk, inr, refl}
 use Rattle.racp_cli.specs.Proofs.{IsProofAnswer}
 use Rattle.racp_cli.specs.Streams.{Reader, AreInputs, ToTwo}
-use Rattle.racp_cli.proofs.Certifying.{proof_memory}
 use Rattle.racp_cli.proofs.Responding.{answered_as, made_right, run_answered}
 use Rattle.racp_cli.proofs.prove.prove_over.Goals as goal
 
@@ -14,4 +13,4 @@ returns g c =
     let are : AreInputs (first ∷ (second ∷ [])) (net ∷ (order ∷ [])) = (c.in_ok-net.ensures, (c.in_ok-order.ensures, tt)) in
     let made : IfOk c.answer.result (λ answer. IsProofAnswer net order answer.0 answer.1.items) = rw (← c.deref.ensures.value, ← c.deref-2.ensures.value) c.answer.ensures in
     run_answered (ToTwo IsProofAnswer) (first ∷ (second ∷ [])) (net ∷ (order ∷ [])) _ _ c.respond.result are
-    (answered_as _ (IsProofAnswer net order) _ _ c.respond.result (made_right (IsProofAnswer net order) c.answer.result made (proof_memory net order)) c.respond.ensures)
+    (answered_as _ (IsProofAnswer net order) _ _ c.respond.result (made_right (IsProofAnswer net order) c.answer.result made (inr (inr (inr (refl, refl))))) c.respond.ensures)

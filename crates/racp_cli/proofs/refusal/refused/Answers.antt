@@ -1,7 +1,7 @@
 use Rattle.std.proofs.Common.{◌≡◌, refl, rules}
 use Rattle.racp_plan.specs.Texts.{line}
 use Rattle.racp_cli.specs.Texts.{no_thread_line}
-use Rattle.racp_cli.proofs.crowd.refused.Goals as goal
+use Rattle.racp_cli.proofs.refusal.refused.Goals as goal
 
 pub returns-in_ok-to_vec-in-Stop-NoThread : goal.returns-in_ok-to_vec-in-Stop-NoThread
 unfolding no_thread_line line
