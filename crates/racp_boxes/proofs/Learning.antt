@@ -1,6 +1,5 @@
 -- What is known after a question.
 use Rattle.std.proofs.Common.{◌≡◌, ℕ, ◌<◌, ◌≤◌, List, [], ◌∷◌, ◌++◌, length, slice_index, Contains, Option, inl, inr, arith, sym, subst, ◌∙◌}
-use Rattle.std.proofs.lemmas.List.Elements.{Contains-push_cases}
 use Rattle.racp_model.specs.Project.{Project}
 use Rattle.racp_model.specs.Schedule.{ArePeaks}
 use Rattle.racp_model.specs.Terms.{cost, IsBefore}
@@ -12,7 +11,7 @@ use Rattle.racp_questions.specs.declared.asker.Probe.TheVariants.{Yes, No}
 use Rattle.racp_model.proofs.lemmas.Costs.{before_trans}
 use Rattle.racp_model.proofs.lemmas.Usage.{fits-peaks, peaks-below}
 use Rattle.racp_boxes.specs.Enough.{IsAtMost}
-use Rattle.racp_boxes.specs.Searched.{IsBetterKnown, IsEnough, IsKnown, IsLearnt, IsRefutedBy, IsSubject}
+use Rattle.racp_boxes.specs.Searched.{AreKeptWith, IsBetterKnown, IsEnough, IsKnown, IsLearnt, IsRefutedBy, IsSubject}
 use Rattle.racp_boxes.specs.declared.known.Known.{Known}
 use Rattle.racp_boxes.specs.declared.subject.Subject.{Subject}
 use Rattle.racp_boxes.proofs.lemmas.AtMost.{at_most-before, at_most-not_after}
@@ -43,19 +42,19 @@ module _ (s : Subject) (t : IsSubject s) (old : Known) (h : IsKnown s old) where
   known-same = record { known = h; no_later = λ vector before. before }
 
   -- a vector more with which nothing fits
-  pub known-kept : (units : List ℕ) (new : Known) → length units ≡ s.net.now.resources → IsNo s.net.now units s.root.now → new.best ≡ old.best → new.cost ≡ old.cost → new.refuted.items ≡ old.refuted.items ++ units ∷ [] →
+  pub known-kept : (units : List ℕ) (new : Known) → length units ≡ s.net.now.resources → IsNo s.net.now units s.root.now → new.best ≡ old.best → new.cost ≡ old.cost → AreKeptWith old.refuted.items units new.refuted.items →
       IsBetterKnown s old new
-  known-kept units new places is_no best cost_is refuted = record {
+  known-kept units new places is_no best cost_is kept = record {
     known = record {
       enough = subst (IsEnough s) (sym best) h.enough;
       priced = subst (λ (b : List ℕ). new.cost ≡ cost s.order.now b) (sym best) (cost_is ∙ h.priced);
-      places = λ other in_new. elim (Contains-push_cases old.refuted.items units other (subst (λ (xs : List (List ℕ)). Contains xs other) refuted in_new)) [
+      places = λ other in_new. elim (kept other in_new) [
         | inl old_one ↦ h.places other old_one
-        | inr new_one ↦ subst (λ (x : List ℕ). length x ≡ s.net.now.resources) new_one places
+        | inr new_one ↦ subst (λ (x : List ℕ). length x ≡ s.net.now.resources) (sym new_one) places
       ];
-      refuted = λ other in_new. elim (Contains-push_cases old.refuted.items units other (subst (λ (xs : List (List ℕ)). Contains xs other) refuted in_new)) [
+      refuted = λ other in_new. elim (kept other in_new) [
         | inl old_one ↦ h.refuted other old_one
-        | inr new_one ↦ subst (λ (x : List ℕ). IsNo s.net.now x s.root.now) new_one is_no
+        | inr new_one ↦ subst (λ (x : List ℕ). IsNo s.net.now x s.root.now) (sym new_one) is_no
       ];
     };
     no_later = λ vector before. subst (IsBefore s.order.now vector) best before;

@@ -46,6 +46,10 @@ abbrev pub IsRefutedBy : List (List ℕ) → List ℕ → Type 0
 IsRefutedBy refuted units =
     (other : List ℕ) × Contains refuted other × ((k : ℕ) → k < length units → slice_index units k ≤ slice_index other k)
 
+-- vectors after one more was kept: each is one of the old ones, or this one
+abbrev pub AreKeptWith : (old : List (List ℕ)) → List ℕ → (new : List (List ℕ)) → Type 0
+AreKeptWith old units new = (other : List ℕ) → Contains new other → Contains old other ⊎ (other ≡ units)
+
 -- a vector is the best one now where it stands before the old one, and nothing else changes
 pub record IsLearnt (terms : Terms) (old : Known) (units : List ℕ) (new : Known) : Type 0 where
   pub best : ((new.best ≡ units) × IsBefore terms units old.best) ⊎

@@ -1,12 +1,12 @@
 //! What is known of capacities, and what asking tells.
 
-ghost use Rattle.std.specs.Prelude.{◌≡◌, ◌↔◌, ℕ, ◌<◌, ◌≤◌, List, [], ◌∷◌, ◌++◌, IsTrue, IfOk, IfErr, OnOk, Contains, length, slice_index};
+ghost use Rattle.std.specs.Prelude.{◌≡◌, ◌↔◌, ℕ, ◌<◌, ◌≤◌, List, [], IsTrue, IfOk, IfErr, OnOk, Contains, length, slice_index};
 ghost use Rattle.racp_model.specs.Formed.{HasBounds};
 ghost use Rattle.racp_model.specs.Terms.{AreTermsOf, IsBefore, cost};
 ghost use Rattle.racp_questions.specs.FirstYes.{IsProbed, IsProbeStop};
 ghost use Rattle.racp_candidates.specs.Questions.{question_of};
 ghost use Rattle.racp_boxes.specs.Enough.{IsAtMost};
-ghost use Rattle.racp_boxes.specs.Searched.{IsKnown, IsBetterKnown, IsLearnt, IsRefutedBy, IsSubject, IsTold, SaysRefuted};
+ghost use Rattle.racp_boxes.specs.Searched.{AreKeptWith, IsKnown, IsBetterKnown, IsLearnt, IsRefutedBy, IsSubject, IsTold, SaysRefuted};
 
 use crate::subject::Subject;
 use racp_candidates::AnySeries;
@@ -15,6 +15,9 @@ use racp_prices::{Order, cost_of};
 use racp_questions::{AskStop, Asker, Probe};
 use std::alloc::{AllocError, Global};
 use std::cmp::Ordering;
+
+/// How many vectors with which nothing fits are kept at most: each question goes through all of them.
+const MOST_REFUTED: usize = 128;
 
 /// The best vector that is known to be enough, what it costs, and vectors with which nothing fits.
 #[derive(Drop)]
@@ -91,12 +94,15 @@ impl Known {
         false
     }
 
-    /// Keeps a vector with which nothing fits.
+    /// Keeps a vector with which nothing fits. Where as many are kept as there may be, these are forgotten.
     fn keep(&mut self, units: Capacities) -> Result<(), AllocError>
         ensures best { self.new.best ≡ self.old.best }
         ensures cost { self.new.cost ≡ self.old.cost }
-        ensures refuted { OnOk result (self.new.refuted.items ≡ self.old.refuted.items ++ units ∷ []) }
+        ensures refuted { OnOk result (AreKeptWith self.old.refuted.items units self.new.refuted.items) }
     {
+        if self.refuted.len() >= MOST_REFUTED {
+            self.refuted.clear();
+        }
         self.refuted.push(units)?;
         Ok(())
     }

@@ -29,7 +29,7 @@
 //! ```
 //!
 //! So four questions are asked for the first of twelve vectors, where asking in order takes eight. A vector that is at
-//! most a refuted one is not asked for. A question about a box of more than one vector ends after 64,000 nodes: where
+//! most a refuted one is not asked for; of the refuted ones up to 128 are kept. A question about a box of more than one vector ends after 64,000 nodes: where
 //! that is not enough, nothing is learnt, and the halves are searched. Demeulemeester (1995), too, searches capacities by
 //! scheduling problems with given ones, from vectors that are not enough on to dearer ones.
 //!
