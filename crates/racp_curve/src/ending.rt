@@ -8,7 +8,6 @@ ghost use Rattle.racp_model.specs.Formed.{HasBounds};
 ghost use Rattle.racp_questions.specs.FirstYes.{IsProbed};
 ghost use Rattle.racp_candidates.specs.Questions.{question_of};
 ghost use Rattle.racp_lexfix.specs.Answers.{IsPlanStop};
-ghost use Rattle.racp_lexfix.specs.Stages.{given_up};
 ghost use Rattle.racp_curve.specs.Curves.{order_by};
 ghost use Rattle.racp_curve.specs.Following.{IsShortest, IsSooner};
 
@@ -18,7 +17,7 @@ use racp_candidates::AnySeries;
 use racp_cpm::last_end;
 use racp_lexfix::PlanStop;
 use racp_model::{Capacities, Network, Question, Starts, Window};
-use racp_questions::{AskStop, Asker, Probe};
+use racp_questions::{Asker, Probe};
 
 /// Lowers a time by which some starts that fit these capacities end, on the terms of the order, to the least such time: they are
 /// enough for that deadline, and for none before it. Where it ends early, they are enough for the deadline that it came to.
@@ -96,18 +95,7 @@ fn ask<A: Asker<AnySeries>>(
     };
     match asker.probe(net, question, None) {
         Ok(probe) => Ok(probe),
-        Err(stop) => Err(stopped(stop, not_before)),
-    }
-}
-
-/// Why no more is known where an asker gives up, with capacities to tell.
-fn stopped(stop: AskStop, not_before: Capacities) -> PlanStop
-    ensures { result ≡ given_up stop not_before }
-{
-    match stop {
-        AskStop::Stopped { .. } => PlanStop::Stopped { not_before },
-        AskStop::Memory => PlanStop::Memory,
-        AskStop::NoThread => PlanStop::NoThread,
+        Err(stop) => Err(PlanStop::given_up(stop, not_before)),
     }
 }
 

@@ -1,5 +1,5 @@
 -- What a run of a desk tells an asker.
-use Rattle.std.proofs.Common.{◌≡◌, ◌⊎◌, inl, inr, ℕ, ◌+◌, ◌<◌, ◌≤◌, Bool, true, false, List, [], ◌∷◌, length, Option, Some, None, Result, Ok, Err, IfOk, IfErr, refl, sym, subst, arith}
+use Rattle.std.proofs.Common.{◌≡◌, ◌⊎◌, inl, inr, ℕ, zero, suc, ◌+◌, ◌<◌, ◌≤◌, Bool, true, false, List, [], ◌∷◌, length, Option, Some, None, Result, Ok, Err, IfOk, IfErr, refl, sym, subst, arith}
 use Rattle.std.proofs.lemmas.Bool.{false≢true}
 use Rattle.std.specs.Prelude.{◌↔◌, ⊤, IsTrue}
 use Rattle.racp_model.specs.Project.{Project}
@@ -75,8 +75,9 @@ probed_by p question most left quiet log (FirstOutcome index starts) is_over kno
     let first : index ≡ 0 = (let low = known.0.0 in omega (arith, low)) in
     subst (λ (i : ℕ). Answers p (question_at (question ∷ []) i).capacities (question_at (question ∷ []) i).window starts) first known.1
 probed_by p question most left quiet log NoYes is_over known over = known 0 (omega arith)
-probed_by p question most left quiet log (Open index) true known over = tt
-probed_by p question most left quiet log (Open index) false known over = λ none. absurd (false≢true (over.1 (inl none)))
+probed_by p question most left quiet log (Open (suc index)) is_over known over = known 0 (omega arith)
+probed_by p question most left quiet log (Open zero) true known over = tt
+probed_by p question most left quiet log (Open zero) false known over = λ none. absurd (false≢true (over.1 (inl none)))
 
 pub probe_right : (p n : Project) (question : Question) (questions : List Question) (most : Option ℕ) (turns left : ℕ) (quiet : Bool) (closed : Closed) (is_over : Bool) → p ≡ n →
     questions ≡ question ∷ [] → IsRunClosed n questions turns quiet closed → (IsTrue is_over ↔ IsOver most left quiet closed.log.items) → IfOk (probe_by closed.outcome is_over) (IsProbed p question most)
@@ -98,9 +99,10 @@ probe_ends : (n : Project) (questions : List Question) (most : Option ℕ) (turn
     (IsTrue is_over ↔ IsOver most left quiet closed.log.items) → told ≡ None → IfErr (probe_by outcome is_over) (IsProbeStop told ((left ≡ 0) ⊎ (quiet ≡ false)) ⊤)
 probe_ends n questions most turns before left quiet closed (FirstOutcome index starts) is_over told h sum all since over untold = tt
 probe_ends n questions most turns before left quiet closed NoYes is_over told h sum all since over untold = tt
-probe_ends n questions most turns before left quiet closed (Open index) true told h sum all since over untold =
-    (over_ending n questions most turns before left quiet closed (Open index) h sum all since tt (over.0 refl), untold)
-probe_ends n questions most turns before left quiet closed (Open index) false told h sum all since over untold = tt
+probe_ends n questions most turns before left quiet closed (Open (suc index)) is_over told h sum all since over untold = tt
+probe_ends n questions most turns before left quiet closed (Open zero) true told h sum all since over untold =
+    (over_ending n questions most turns before left quiet closed (Open zero) h sum all since tt (over.0 refl), untold)
+probe_ends n questions most turns before left quiet closed (Open zero) false told h sum all since over untold = tt
 
 pub probe_stop_right : (n : Project) (questions : List Question) (most : Option ℕ) (turns before left : ℕ) (quiet : Bool) (closed : Closed) (is_over : Bool) (told : Option (List ℕ)) →
     IsRunClosed n questions turns quiet closed → left + closed.pieces ≡ before → (most ≡ None → turns ≡ before) → (IsTrue is_over ↔ IsOver most left quiet closed.log.items) →

@@ -1,5 +1,5 @@
 -- What an asker with workers is handed, and what it answers.
-use Rattle.std.specs.Prelude.{◌≡◌, ◌⊎◌, ℕ, ◌≤◌, Bool, true, false, List, Option, None, Result, Ok, Err, IfOk, Contains, ⊤}
+use Rattle.std.specs.Prelude.{◌≡◌, ◌⊎◌, ℕ, zero, suc, ◌≤◌, Bool, true, false, List, Option, None, Result, Ok, Err, IfOk, Contains, ⊤}
 use Rattle.racp_model.specs.Project.{Project}
 use Rattle.racp_model.specs.Formed.{AreFormed}
 use Rattle.racp_questions.specs.declared.asker.First.{First}
@@ -20,13 +20,14 @@ use Rattle.racp_desk.specs.declared.state.Closed.{Closed}
 use Rattle.racp_desk.specs.Closing.{IsRunClosed}
 
 -- a call runs desks about a project, with such a stop: it may be called with each series of questions of the project's
--- form, and what it answers is the end of a run about that series with so many nodes in a turn and so many turns
-pub record RunsDesks (p : Project) (quiet : Bool) (pre : AnySeries → ℕ → ℕ → Type 0)
-    (post : AnySeries → ℕ → ℕ → Result Closed DeskFault → Type 0) : Type 0 where
-  pub may_run : (series : AnySeries) (quantum turns : ℕ) → AreFormed p (any_questions series) → quantum ≤ 1000000 →
-      turns ≤ 1000000000000 → pre series quantum turns
-  pub closes : (series : AnySeries) (quantum turns : ℕ) (result : Result Closed DeskFault) →
-      post series quantum turns result → IfOk result (IsRunClosed p (any_questions series) turns quiet)
+-- form, and what it answers is the end of a run about that series by so many workers, with so many nodes in a turn and so
+-- many turns
+pub record RunsDesks (p : Project) (quiet : Bool) (pre : AnySeries → ℕ → ℕ → ℕ → Type 0)
+    (post : AnySeries → ℕ → ℕ → ℕ → Result Closed DeskFault → Type 0) : Type 0 where
+  pub may_run : (series : AnySeries) (workers quantum turns : ℕ) → AreFormed p (any_questions series) → workers ≤ 64 →
+      quantum ≤ 1000000 → turns ≤ 1000000000000 → pre series workers quantum turns
+  pub closes : (series : AnySeries) (workers quantum turns : ℕ) (result : Result Closed DeskFault) →
+      post series workers quantum turns result → IfOk result (IsRunClosed p (any_questions series) turns quiet)
 
 -- memory was refused, or a worker could not be started
 abbrev pub IsFault : AskStop → Type 0
@@ -57,9 +58,11 @@ IsAnsweredBy closed told (Err NoThread) = ⊥
 abbrev pub IsOver : Option ℕ → ℕ → Bool → List Entry → Type 0
 IsOver most left quiet log = (most ≡ None) ⊎ ((left ≡ 0) ⊎ ((quiet ≡ false) × Contains log (Halted Stop)))
 
--- what a run about one question tells of it; where that is open, and no further run is to come, the asker stops
+-- what a run about one question tells of it; where the first place that is open is behind the question, it is a no; where
+-- the question is open, and no further run is to come, the asker stops
 abbrev pub probe_by : Outcome → (is_over : Bool) → Result Probe AskStop
 probe_by (FirstOutcome index starts) is_over = Ok (ProbedYes starts)
 probe_by NoYes is_over = Ok ProbedNo
-probe_by (Open index) true = Err (Stopped None)
-probe_by (Open index) false = Ok ProbedOpen
+probe_by (Open (suc index)) is_over = Ok ProbedNo
+probe_by (Open zero) true = Err (Stopped None)
+probe_by (Open zero) false = Ok ProbedOpen

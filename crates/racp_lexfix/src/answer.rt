@@ -58,7 +58,7 @@ impl From<AllocError> for PlanStop {
 
 impl PlanStop {
     /// Why planning ends where an asker gives up, with capacities before which none are enough.
-    pub(crate) fn given_up(stop: AskStop, not_before: Capacities) -> Self
+    pub fn given_up(stop: AskStop, not_before: Capacities) -> Self
         ensures { result ≡ given_up stop not_before }
     {
         match stop {

@@ -1,7 +1,9 @@
 //! An asker that runs a desk of workers for each series.
 
-ghost use Rattle.std.specs.Prelude.{◌≡◌, ◌↔◌, ◌+◌, ◌*◌, ◌/◌, ◌≤◌, None, min, Contains, OnOk, OnErr, IfOk, IfErr, IfSome, IsTrue};
-ghost use Rattle.racp_model.specs.Formed.{AreFormed};
+ghost use Rattle.std.specs.Prelude.{◌≡◌, ◌↔◌, ◌⊎◌, ⊤, false, ◌+◌, ◌*◌, ◌/◌, ◌≤◌, None, min, Contains, OnOk, OnErr, IfOk, IfErr, IfSome, IsTrue};
+ghost use Rattle.racp_model.specs.Formed.{AreFormed, IsFormed};
+ghost use Rattle.racp_questions.specs.FirstYes.{IsProbed, IsProbeStop};
+ghost use Rattle.racp_questions.specs.declared.asker.Probe.TheVariants.{Open};
 ghost use Rattle.racp_candidates.specs.AnySeries.{any_questions};
 ghost use Rattle.racp_desk.specs.Closing.{IsRunClosed};
 ghost use Rattle.racp_desk.specs.declared.log.Cause.TheVariants.{Stop};
@@ -18,8 +20,15 @@ use racp_search::Stop;
 use std::alloc::AllocError;
 use std::marker::PhantomData;
 
-/// How many nodes of a piece a worker searches in one turn, where there are others to which its records are of use.
+/// How many nodes of a piece a worker searches in one turn at most, where there are others to which its records are of
+/// use.
 const SHARED_QUANTUM: u64 = 200;
+
+/// How many nodes of a piece a worker searches in one turn on average, where there are others that wait for its windows.
+const SHARED_TURN: u64 = 32;
+
+/// How many nodes of a question one worker searches before the others are started: many questions take no more.
+const GLIMPSE: u64 = 16;
 
 /// How many nodes of a piece a worker searches in one turn where it is the only one.
 const LONE_QUANTUM: u64 = 1000000;
@@ -42,11 +51,11 @@ pub struct Crowd<
     N: OfNetwork,
     P: Stop,
     O: Observer + Drop,
-    F: Fn(AnySeries, u64, u64) -> Result<Closed, DeskFault> + Drop,
+    F: Fn(AnySeries, usize, u64, u64) -> Result<Closed, DeskFault> + Drop,
 > {
     run: F,
     observer: O,
-    workers: u64,
+    workers: usize,
     turns: u64,
     left: u64,
     pieces: u64,
@@ -64,7 +73,7 @@ impl<
     N: OfNetwork,
     P: Stop,
     O: Observer + Drop,
-    F: Fn(AnySeries, u64, u64) -> Result<Closed, DeskFault> + Drop,
+    F: Fn(AnySeries, usize, u64, u64) -> Result<Closed, DeskFault> + Drop,
 > Crowd<N, P, O, F> {
     /// An asker with so many turns, which runs a desk of so many workers by this call.
     pub fn new(workers: usize, turns: u64, observer: O, run: F) -> Self
@@ -77,7 +86,7 @@ impl<
         Crowd {
             run,
             observer,
-            workers: workers as u64,
+            workers,
             turns,
             left: turns,
             pieces: 0,
@@ -105,9 +114,16 @@ impl<
         }
     }
 
-    /// Runs a desk about a series with so many nodes of a piece in a turn and so many of the turns that are left, and
-    /// counts its work.
-    fn closed(&mut self, series: AnySeries, quantum: u64, turns: u64) -> Result<Closed, AskStop>
+    /// Runs a desk of so many workers about a series with so many nodes of a piece in a turn and so many of the turns that
+    /// are left, and counts its work.
+    fn closed(
+        &mut self,
+        series: AnySeries,
+        workers: usize,
+        quantum: u64,
+        turns: u64,
+    ) -> Result<Closed, AskStop>
+        requires workers { workers ≤ 64 }
         requires quantum { quantum ≤ 1000000 }
         requires turns { turns ≤ self.old.left }
         requires formed { AreFormed N.network (any_questions series) }
@@ -120,7 +136,7 @@ impl<
         ensures nodes { IfOk result (λ closed. self.new.nodes ≡ self.old.nodes + closed.nodes) }
         ensures err { IfErr result IsFault }
     {
-        let closed = match (self.run)(series, quantum, turns) {
+        let closed = match (self.run)(series, workers, quantum, turns) {
             Ok(closed) => closed,
             Err(DeskFault::Memory) => return Err(AskStop::Memory),
             Err(DeskFault::NoThread) => return Err(AskStop::NoThread),
@@ -143,6 +159,52 @@ impl<
         self.left -= pieces;
         self.pieces += pieces;
         self.nodes += nodes;
+    }
+
+    /// What a run of so many workers about a question tells, whose nodes may have a bound.
+    fn probe_with(
+        &mut self,
+        question: Question,
+        workers: usize,
+        most: Option<u64>,
+    ) -> Result<Probe, AskStop>
+        requires workers { workers ≤ 64 }
+        requires formed { IsFormed N.network question }
+        requires run { RunsDesks N.network P.QUIET (F.pre self.old.run) (F.post self.old.run) }
+        requires untold { self.old.told ≡ None }
+        ensures run { self.new.run ≡ self.old.run }
+        ensures answered { self.new.answered ≡ self.old.answered }
+        ensures told { self.new.told ≡ None }
+        ensures probed { IfOk result (IsProbed N.network question most) }
+        ensures stop { IfErr result (IsProbeStop (self.new.told)
+            ((self.new.left ≡ 0) ⊎ (P.QUIET ≡ false)) ⊤) }
+    {
+        let quantum = quantum_for(workers, most);
+        let turns = turns_for(workers, quantum, most, self.left);
+        let series = One::of(question);
+        let closed = self.closed(AnySeries::One(series), workers, quantum, turns)?;
+        let Closed { outcome, log, .. } = closed;
+        let is_over = self.is_over(most, &log);
+        probe_of(outcome, is_over)
+    }
+
+    /// What one worker tells of a question, over few nodes; where that is nothing, what all of them tell.
+    fn probe_shared(&mut self, question: Question, most: Option<u64>) -> Result<Probe, AskStop>
+        requires formed { IsFormed N.network question }
+        requires run { RunsDesks N.network P.QUIET (F.pre self.old.run) (F.post self.old.run) }
+        requires untold { self.old.told ≡ None }
+        ensures run { self.new.run ≡ self.old.run }
+        ensures answered { self.new.answered ≡ self.old.answered }
+        ensures told { self.new.told ≡ None }
+        ensures probed { IfOk result (IsProbed N.network question most) }
+        ensures stop { IfErr result (IsProbeStop (self.new.told)
+            ((self.new.left ≡ 0) ⊎ (P.QUIET ≡ false)) ⊤) }
+    {
+        let glimpse = self.probe_with(copied(&question)?, 1, Some(glimpse_of(most)))?;
+        if is_open(&glimpse) {
+            return self.probe_with(question, self.workers, most);
+        }
+        Ok(glimpse)
     }
 
     /// Answers a series by the run about it. Where that is open, it keeps what was reached.
@@ -181,7 +243,7 @@ impl<
 }
 
 /// How many nodes of a piece one of so many workers searches in a turn, where the nodes of the question may have a bound.
-fn quantum_for(workers: u64, most: Option<u64>) -> u64
+fn quantum_for(workers: usize, most: Option<u64>) -> u64
     ensures some { 1 ≤ result }
     ensures most { result ≤ 1000000 }
 {
@@ -196,17 +258,43 @@ fn quantum_for(workers: u64, most: Option<u64>) -> u64
     }
 }
 
-/// How many turns of so many workers, each over at most `quantum` nodes of a piece, the search of a question may take
-/// whose nodes have this bound for each worker, of those that are left.
-fn turns_for(workers: u64, quantum: u64, most: Option<u64>, left: u64) -> u64
+/// How many turns of so many workers the search of a question may take whose nodes have this bound, of those that are
+/// left. A worker searches at most `quantum` nodes of a piece in a turn, and fewer where others wait for its windows.
+fn turns_for(workers: usize, quantum: u64, most: Option<u64>, left: u64) -> u64
     requires { 1 ≤ quantum }
     ensures most { result ≤ left }
     ensures all { most ≡ None → result ≡ left }
 {
+    let nodes_in_turn = if workers > 1 { SHARED_TURN } else { quantum };
     match most {
-        Some(nodes) => nodes.div_ceil(quantum).saturating_mul(workers).min(left),
+        Some(nodes) => nodes.div_ceil(nodes_in_turn).min(left),
         None => left,
     }
+}
+
+/// How many nodes of a question, whose nodes may have a bound, one worker searches before the others are started.
+fn glimpse_of(most: Option<u64>) -> u64 {
+    match most {
+        Some(nodes) => nodes.min(GLIMPSE),
+        None => GLIMPSE,
+    }
+}
+
+/// Whether nothing is known of a question.
+fn is_open(probe: &Probe) -> bool
+    ensures { IsTrue result ↔ probe.now ≡ Open }
+{
+    matches!(probe, Probe::Open)
+}
+
+/// A copy of a question.
+fn copied(question: &Question) -> Result<Question, AllocError>
+    ensures { IfOk result (λ copy. copy ≡ question.now) }
+{
+    Ok(Question {
+        capacities: question.capacities.copy()?,
+        window: question.window.copy()?,
+    })
 }
 
 /// Whether the desk was halted since a stop was asked for.
@@ -227,15 +315,18 @@ fn copy_of(reached: &Option<Capacities>) -> Result<Option<Capacities>, AllocErro
     }
 }
 
-/// What the run about a question tells of it.
+/// What the run about a question tells of it. Where the run is open behind the question, that is a no: the turns were
+/// used up before the end of the series was seen.
 fn probe_of(outcome: Outcome, is_over: bool) -> Result<Probe, AskStop>
     ensures { result ≡ probe_by outcome is_over }
 {
     match outcome {
         Outcome::First { index: _, starts } => Ok(Probe::Yes(starts)),
         Outcome::NoYes => Ok(Probe::No),
-        Outcome::Open { first_open: _ } => {
-            if is_over {
+        Outcome::Open { first_open } => {
+            if first_open > 0 {
+                Ok(Probe::No)
+            } else if is_over {
                 Err(AskStop::Stopped { reached: None })
             } else {
                 Ok(Probe::Open)
@@ -248,7 +339,7 @@ impl<
     N: OfNetwork,
     P: Stop,
     O: Observer + Drop,
-    F: Fn(AnySeries, u64, u64) -> Result<Closed, DeskFault> + Drop,
+    F: Fn(AnySeries, usize, u64, u64) -> Result<Closed, DeskFault> + Drop,
 > Asker<AnySeries> for Crowd<N, P, O, F> {
     ghost use Rattle.std.specs.Prelude.{◌≡◌, ◌⊎◌, ⊤, false};
     ghost use Rattle.racp_lexfix.specs.Crowds.{RunsDesks};
@@ -269,7 +360,8 @@ impl<
         if left == 0 {
             return Err(AskStop::Stopped { reached: None });
         }
-        let closed = self.closed(series, quantum_for(self.workers, None), left)?;
+        let quantum = quantum_for(self.workers, None);
+        let closed = self.closed(series, self.workers, quantum, left)?;
         self.answer(closed)
     }
 
@@ -283,13 +375,10 @@ impl<
         if self.left == 0 {
             return Err(AskStop::Stopped { reached: None });
         }
-        let quantum = quantum_for(self.workers, most);
-        let turns = turns_for(self.workers, quantum, most, self.left);
-        let series = One::of(question);
-        let closed = self.closed(AnySeries::One(series), quantum, turns)?;
-        let Closed { outcome, log, .. } = closed;
-        let is_over = self.is_over(most, &log);
-        probe_of(outcome, is_over)
+        if self.workers > 1 {
+            return self.probe_shared(question, most);
+        }
+        self.probe_with(question, 1, most)
     }
 
     fn hear_floors(&self, floors: &Capacities) {

@@ -327,22 +327,13 @@ fn plan_by<
         crew.workers,
         crew.turns,
         pricing,
-        |series: AnySeries, quantum: u64, turns: u64| -> Result<Closed, DeskFault>
+        |series: AnySeries, workers: usize, quantum: u64, turns: u64| -> Result<Closed, DeskFault>
             requires { (net.now ≡ N.network) × AreFormed net.now (any_questions series) ×
-                (crew.now.workers ≤ 64) × (quantum ≤ 1000000) × (turns ≤ 1000000000000) }
+                (workers ≤ 64) × (quantum ≤ 1000000) × (turns ≤ 1000000000000) }
             ensures { IfOk result (IsRunClosed net.entry.now (any_questions series) turns P.QUIET) }
         {
             run(
-                rt,
-                alloc,
-                net,
-                series,
-                crew.workers,
-                quantum,
-                turns,
-                &board,
-                crew.gate,
-                crew.stop,
+                rt, alloc, net, series, workers, quantum, turns, &board, crew.gate, crew.stop,
             )
         },
     );
@@ -354,7 +345,7 @@ fn plan_with<
     N: OfNetwork,
     P: Stop,
     O: Observer + Drop,
-    F: Fn(AnySeries, u64, u64) -> Result<Closed, DeskFault> + Drop,
+    F: Fn(AnySeries, usize, u64, u64) -> Result<Closed, DeskFault> + Drop,
 >(task: &Task, crowd: &mut Crowd<N, P, O, F>) -> Result<(Answer, Effort), PlanStop>
     requires named { task.now.net.now ≡ N.network }
     requires terms { AreTermsOf task.now.net.now task.now.order.now }

@@ -59,13 +59,13 @@ fn probed<N: OfNetwork + Send + Sync, P: Stop + Sync, R: Threads + Wait + Sync>(
         2,
         turns,
         Unheard,
-        |series: AnySeries, quantum: u64, turns: u64| -> Result<Closed, DeskFault>
+        |series: AnySeries, workers: usize, quantum: u64, turns: u64| -> Result<Closed, DeskFault>
             requires { (net.now ≡ N.network) × AreFormed net.now (any_questions series) ×
-                (quantum ≤ 1000000) × (turns ≤ 1000000000000) }
+                (workers ≤ 64) × (quantum ≤ 1000000) × (turns ≤ 1000000000000) }
             ensures { IfOk result (IsRunClosed net.entry.now (any_questions series) turns P.QUIET) }
         {
             run(
-                rt, alloc, net, series, 2, quantum, turns, &board, &Open, stop,
+                rt, alloc, net, series, workers, quantum, turns, &board, &Open, stop,
             )
         },
     );
