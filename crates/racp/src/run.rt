@@ -157,8 +157,7 @@ fn plan<R: Clock + Files + Print + Eprint + AllocGlobal + Threads + Wait + Sync>
 }
 
 /// Writes the plan for a network and an order that are read there, or why there is none: made by workers where there is a
-/// crew, and else on one thread. With an answer by workers, the work that was done goes to standard error where that is
-/// asked for, and until then how far planning has come.
+/// crew, and else on one thread.
 pub(crate) fn plan_of<
     R: Clock + Files + Print + Eprint + AllocGlobal + Threads + Wait + Sync,
     N: Read,
@@ -166,9 +165,21 @@ pub(crate) fn plan_of<
 >(rt: &R, net: &mut N, order: &mut O, making: Making) -> Result<u8, StreamFault>
     ensures { IfOk result IsStatusOfAnswer }
 {
-    let Some(crew) = making.crew else {
-        return plan_alone(rt, net, order, making.memory);
-    };
+    match making.crew {
+        Some(crew) => plan_by(rt, net, order, crew, making),
+        None => plan_alone(rt, net, order, making.memory),
+    }
+}
+
+/// The same, made by the workers of a crew. With an answer, the work that was done goes to standard error where that is
+/// asked for, and until then how far planning has come.
+fn plan_by<
+    R: Clock + Files + Print + Eprint + AllocGlobal + Threads + Wait + Sync,
+    N: Read,
+    O: Read,
+>(rt: &R, net: &mut N, order: &mut O, crew: Crew, making: Making) -> Result<u8, StreamFault>
+    ensures { IfOk result IsStatusOfAnswer }
+{
     let progress = match progress_of(rt.alloc(), crew.progress, making.on_terminal) {
         Ok(progress) => progress,
         Err(_) => return Err(StreamFault::Memory),
