@@ -62,6 +62,7 @@
 mod book;
 mod gate;
 pub mod laws;
+mod leads;
 mod log;
 mod running;
 mod state;

@@ -5,6 +5,7 @@ ghost use Rattle.racp_model.specs.Formed.{AreFormed};
 ghost use Rattle.racp_desk.specs.Closing.{IsRunClosed, IsEnding};
 
 use crate::gate::Gate;
+use crate::leads::Leads;
 use crate::log::Cause;
 use crate::state::{Closed, Names, State};
 use crate::watch::Hint;
@@ -222,6 +223,7 @@ impl<N: OfNetwork + Send + Sync, G: Gate + Sync, P: Stop + Sync> Job<'_, N, G, P
             return Err(DeskFault::Memory);
         };
         let shared = Shared {
+            leads: Leads::new(self.alloc),
             job: self,
             hint: Hint::new(),
             desk: Mutex::new(state),

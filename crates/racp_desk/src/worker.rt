@@ -3,9 +3,10 @@
 ghost use Rattle.std.specs.Prelude.{◌≡◌, ◌<◌, ◌≤◌, IfSome};
 ghost use Rattle.racp_model.specs.Formed.{IsFormed};
 ghost use Rattle.racp_desk.specs.Desk.{IsIn};
-ghost use Rattle.racp_desk.specs.Turns.{IsFormedTurn};
+ghost use Rattle.racp_desk.specs.Turns.{IsFormedTurn, IsFormedHeld};
 
 use crate::gate::Gate;
+use crate::leads::Leads;
 use crate::log::Cause;
 use crate::state::{Names, State};
 use crate::watch::{Hint, UserOrHint, Watch};
@@ -13,7 +14,7 @@ use racp_core::{Merged, Reply};
 use racp_cutset::{Board, Local};
 use racp_model::{Network, OfNetwork};
 use racp_questions::Series;
-use racp_search::{Finding, OpenSearch, Piece, Stop, explore_further};
+use racp_search::{Finding, OpenSearch, Piece, Rest, Stop, pursue};
 use std::alloc::Global;
 use std::sync::ledger::Share;
 use std::sync::{Condvar, Mutex, MutexGuard, Wait};
@@ -41,6 +42,7 @@ pub(crate) struct Job<'a, N: OfNetwork, G: Gate, P: Stop> {
 pub(crate) struct Shared<'a, N: OfNetwork, M: Names, S: Series, G: Gate, P: Stop> {
     pub(crate) job: Job<'a, N, G, P>,
     pub(crate) hint: Hint,
+    pub(crate) leads: Leads<N>,
     pub(crate) desk: Mutex<State<N, M, S>>,
     pub(crate) idle: Condvar,
     pub(crate) ghost turns_is: { job.turns ≡ M.turns },
@@ -58,18 +60,19 @@ pub(crate) struct Spent<M: Names> {
 pub(crate) enum Turn<P> {
     /// Search this piece.
     Search(P),
-    /// Wait until something has changed.
+    /// Help another worker, or wait until something has changed.
     Wait,
     /// Leave.
     Leave,
 }
 
-/// What the worker at a seat is to do next. It takes a piece while a turn is left; where none is and the answer is not
-/// known, it halts the desk.
+/// What the worker at a seat is to do next. It takes a piece while a turn is left; where none is, no piece is out and
+/// the answer is not known, it halts the desk.
 fn next_turn<N: OfNetwork, M: Names, S: Series>(
     state: &mut State<N, M, S>,
     workers: usize,
     turns: u64,
+    is_out: bool,
     seat: usize,
     mine: &mut Share<M>,
 ) -> Turn<Piece<N>>
@@ -80,9 +83,13 @@ fn next_turn<N: OfNetwork, M: Names, S: Series>(
     ensures parts { mine.new.parts ≡ mine.old.parts }
 {
     if state.pieces() >= turns {
-        if !state.is_settled() {
-            state.halt(Cause::Turns, mine);
+        if state.is_settled() {
+            return Turn::Leave;
         }
+        if is_out {
+            return Turn::Wait;
+        }
+        state.halt(Cause::Turns, mine);
         return Turn::Leave;
     }
     match state.take(seat, mine) {
@@ -135,31 +142,43 @@ fn give_up<N: OfNetwork, M: Names, S: Series>(
     Turn::Leave
 }
 
-/// Waits for a piece, with the lock held to begin with. `None` where there is nothing more to do.
-fn piece_from<'a, 'b, N: OfNetwork, M: Names, S: Series, G: Gate, P: Stop, R: Wait>(
+/// What a worker searches.
+pub(crate) enum Held<P> {
+    /// A piece of its own.
+    Own(P),
+    /// The double of a piece that another worker has.
+    Double(P),
+}
+
+/// Waits for a piece or a double of one, with the lock held to begin with. `None` where there is nothing more to do.
+fn work_from<'a, 'b, N: OfNetwork, M: Names, S: Series, G: Gate, P: Stop, R: Wait>(
     rt: &R,
     shared: &'b Shared<'a, N, M, S, G, P>,
     state: MutexGuard<'b, State<N, M, S>>,
     seat: usize,
     mine: &mut Share<M>,
-) -> Option<Piece<N>>
+) -> Option<Held<Piece<N>>>
     requires { 0 < mine.old.parts }
-    ensures formed { IfSome result (λ piece. IsFormed N.network piece.question) }
+    ensures formed { IfSome result (IsFormedHeld N.network) }
     ensures parts { mine.new.parts ≡ mine.old.parts }
 {
     let mut state = state;
+    let Job { workers, turns, .. } = &shared.job;
     for _round in rt.forever() {
-        match next_turn(
-            &mut *state,
-            shared.job.workers,
-            shared.job.turns,
-            seat,
-            mine,
-        ) {
-            Turn::Search(piece) => return Some(piece),
+        let is_out = shared.leads.has_before(rt, shared.hint.least());
+        match next_turn(&mut *state, *workers, *turns, is_out, seat, mine) {
+            Turn::Search(piece) => {
+                if *workers > 1 {
+                    shared.leads.post(rt, &piece);
+                    shared.idle.notify_all();
+                }
+                return Some(Held::Own(piece));
+            }
             Turn::Leave => return None,
             Turn::Wait => {
-                shared.hint.want();
+                if let Some(piece) = shared.leads.double(rt, shared.hint.least()) {
+                    return Some(Held::Double(piece));
+                }
                 state = shared.idle.wait(rt, state);
             }
         }
@@ -167,7 +186,10 @@ fn piece_from<'a, 'b, N: OfNetwork, M: Names, S: Series, G: Gate, P: Stop, R: Wa
     unreachable!()
 }
 
-/// A finding, whether the user has asked to stop, and the search that was left.
+/// How many nodes a worker searches between two looks at what others did, and before its records go to the board.
+const SLICE: u64 = 100;
+
+/// A finding, whether the user has asked to stop, and the search that can be gone on with.
 struct Searched<N: OfNetwork> {
     finding: Finding<N>,
     by_user: bool,
@@ -175,29 +197,86 @@ struct Searched<N: OfNetwork> {
     ghost nodes_few: { finding.nodes ≤ 1000000 },
 }
 
-/// Searches a piece, until the user asks to stop, a yes of an earlier question was merged, or another worker waits. It
-/// goes on with the search that was left before, where that is of the piece.
-fn search<'a, N: OfNetwork, M: Names, S: Series, G: Gate, P: Stop>(
+/// Searches a piece of its own, or a double, until it is decided, by this worker or another one, its quantum is spent,
+/// the user asks to stop, or a yes of this question or an earlier one was merged. It goes on with the search before, where
+/// that is of the same question. The user's stop is asked for a piece of its own alone.
+fn search<'a, N: OfNetwork, M: Names, S: Series, G: Gate, P: Stop, R: Wait>(
+    rt: &R,
     shared: &Shared<'a, N, M, S, G, P>,
+    seat: usize,
     piece: Piece<N>,
+    is_own: bool,
     local: &mut Local<N>,
     before: Option<OpenSearch<N>>,
 ) -> Searched<N>
     requires { IsFormed N.network piece.question }
 {
     let job = &shared.job;
+    let quantum = job.quantum;
+    let user = if is_own { Some(job.stop) } else { None };
     let watch = Watch {
-        reasons: UserOrHint::new(job.stop, &shared.hint, piece.index()),
+        reasons: UserOrHint::new(user, &shared.hint, piece.index()),
     };
-    let quantum = Some(job.quantum);
-    let (finding, left) = explore_further(
-        job.alloc, job.net, piece, quantum, job.board, local, &watch, before,
-    );
-    let by_user = watch.reasons.by_user();
-    Searched {
-        finding,
-        by_user,
-        left,
+    let order = if is_own { 0 } else { seat.saturating_add(1) };
+    let mut seen = shared.leads.changes();
+    let mut nodes = 0;
+    let mut piece = piece;
+    let mut before = before;
+    for _round in rt.forever() {
+        let most = slice_of(job.workers, quantum - nodes);
+        let (finding, left) = pursue(
+            job.alloc, job.net, piece, before, order, nodes, most, job.board, local, &watch,
+        );
+        if job.workers > 1 {
+            publish(rt, job.board, local);
+        }
+        let searched = finding.nodes() - nodes;
+        nodes = finding.nodes();
+        if searched < most
+            || nodes >= quantum
+            || is_decided(&finding)
+            || !is_still_out(rt, &shared.leads, finding.piece().number(), &mut seen)
+        {
+            let by_user = watch.reasons.by_user();
+            return Searched {
+                finding,
+                by_user,
+                left,
+            };
+        }
+        piece = finding.into_piece();
+        before = left;
+    }
+    unreachable!()
+}
+
+/// How many nodes are searched next of so many that are left.
+fn slice_of(workers: usize, left: u64) -> u64
+    ensures { result ≤ left }
+{
+    if workers > 1 { SLICE.min(left) } else { left }
+}
+
+/// Whether the piece of this number is still out, where something has changed since it was seen.
+fn is_still_out<N: OfNetwork, R: Wait>(
+    rt: &R,
+    leads: &Leads<N>,
+    number: u64,
+    seen: &mut u64,
+) -> bool {
+    let changes = leads.changes();
+    if changes == *seen {
+        return true;
+    }
+    *seen = changes;
+    leads.has(rt, number)
+}
+
+/// Whether a finding decides its question: starts are found, or nothing is left.
+fn is_decided<N: OfNetwork>(finding: &Finding<N>) -> bool {
+    match finding.rest() {
+        Rest::Whole => false,
+        Rest::Windows(windows) => windows.is_empty(),
     }
 }
 
@@ -226,8 +305,7 @@ fn put_away<'a, N: OfNetwork, M: Names, S: Series, G: Gate, P: Stop, R: Wait>(
     shared.job.board.give_part(rt, local);
 }
 
-/// Hands a finding in, tells all that wait, and takes the next piece before any of them does, if it can: so a worker
-/// goes on with the search that it left.
+/// Hands a finding in, tells all that wait, and takes what to search next before any of them does, if it can.
 fn hand_in<'a, N: OfNetwork, M: Names, S: Series, G: Gate, P: Stop, R: Wait>(
     rt: &R,
     shared: &Shared<'a, N, M, S, G, P>,
@@ -235,20 +313,43 @@ fn hand_in<'a, N: OfNetwork, M: Names, S: Series, G: Gate, P: Stop, R: Wait>(
     by_user: bool,
     seat: usize,
     mine: &mut Share<M>,
-) -> Option<Piece<N>>
+) -> Option<Held<Piece<N>>>
     requires parts { 0 < mine.old.parts }
     requires nodes { finding.nodes ≤ 1000000 }
-    ensures formed { IfSome result (λ piece. IsFormed N.network piece.question) }
+    ensures formed { IfSome result (IsFormedHeld N.network) }
     ensures parts { mine.new.parts ≡ mine.old.parts }
 {
-    let index = finding.piece().index();
+    let (index, number) = (finding.piece().index(), finding.piece().number());
     let found = finding.found().is_some();
     let mut state = shared.desk.lock(rt);
     if take_in::<N, M, S, P>(&mut *state, finding, by_user, mine) && found {
         shared.hint.note(index);
     }
+    shared.leads.withdraw(rt, number);
     shared.idle.notify_all();
-    piece_from(rt, shared, state, seat, mine)
+    work_from(rt, shared, state, seat, mine)
+}
+
+/// Drops what was found of a double that is not decided, and takes what to search next. Where memory was refused, it
+/// halts the desk.
+fn give_over<'a, N: OfNetwork, M: Names, S: Series, G: Gate, P: Stop, R: Wait>(
+    rt: &R,
+    shared: &Shared<'a, N, M, S, G, P>,
+    finding: Finding<N>,
+    seat: usize,
+    mine: &mut Share<M>,
+) -> Option<Held<Piece<N>>>
+    requires parts { 0 < mine.old.parts }
+    ensures formed { IfSome result (IsFormedHeld N.network) }
+    ensures parts { mine.new.parts ≡ mine.old.parts }
+{
+    let short = finding.short();
+    let _ = finding.into_found();
+    let mut state = shared.desk.lock(rt);
+    if short {
+        state.halt(Cause::Fault, mine);
+    }
+    work_from(rt, shared, state, seat, mine)
 }
 
 /// Takes a finding in, and halts the desk where memory was refused or the user has asked to stop. Answers whether it
@@ -320,42 +421,50 @@ pub(crate) fn work<'a, N: OfNetwork, M: Names, S: Series, G: Gate, P: Stop, R: W
     let mut local: Local<N> = board.take_part(rt, *alloc);
     let count = local.kept_count();
     let state = shared.desk.lock(rt);
-    if let Some(piece) = piece_from(rt, shared, state, seat, &mut mine) {
-        go_on(rt, shared, seat, piece, &mut local, &mut mine);
+    if let Some(work) = work_from(rt, shared, state, seat, &mut mine) {
+        go_on(rt, shared, seat, work, &mut local, &mut mine);
     }
     shared.idle.notify_all();
     put_away(rt, shared, local, count);
     bring_back(mine)
 }
 
-/// Searches a piece and those that come after it, until there is nothing more to do.
+/// Searches a piece or a double and those that come after it, until there is nothing more to do.
 fn go_on<'a, N: OfNetwork, M: Names, S: Series, G: Gate, P: Stop, R: Wait>(
     rt: &R,
     shared: &Shared<'a, N, M, S, G, P>,
     seat: usize,
-    piece: Piece<N>,
+    work: Held<Piece<N>>,
     local: &mut Local<N>,
     mine: &mut Share<M>,
 )
     requires parts { 0 < mine.old.parts }
-    requires formed { IsFormed N.network piece.question }
+    requires formed { IsFormedHeld N.network work }
     ensures { mine.new.parts ≡ mine.old.parts }
 {
     let mut before = None;
-    let mut piece = piece;
+    let mut work = work;
     for _round in rt.forever() {
-        shared.job.gate.enter(seat, piece.number());
+        let (piece, is_own) = match work {
+            Held::Own(piece) => {
+                shared.job.gate.enter(seat, piece.number());
+                (piece, true)
+            }
+            Held::Double(piece) => (piece, false),
+        };
         let Searched {
             finding,
             by_user,
             left,
-        } = search(shared, piece, local, before);
-        if shared.job.workers > 1 {
-            publish(rt, shared.job.board, local);
-        }
+        } = search(rt, shared, seat, piece, is_own, local, before);
         before = left;
-        match hand_in(rt, shared, finding, by_user, seat, mine) {
-            Some(next) => piece = next,
+        let next = if is_own || is_decided(&finding) {
+            hand_in(rt, shared, finding, by_user, seat, mine)
+        } else {
+            give_over(rt, shared, finding, seat, mine)
+        };
+        match next {
+            Some(next) => work = next,
             None => return,
         }
     }

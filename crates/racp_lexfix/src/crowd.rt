@@ -20,18 +20,11 @@ use racp_search::Stop;
 use std::alloc::AllocError;
 use std::marker::PhantomData;
 
-/// How many nodes of a piece a worker searches in one turn at most, where there are others to which its records are of
-/// use.
-const SHARED_QUANTUM: u64 = 200;
-
-/// How many nodes of a piece a worker searches in one turn on average, where there are others that wait for its windows.
-const SHARED_TURN: u64 = 32;
-
 /// How many nodes of a question one worker searches before the others are started: many questions take no more.
 const GLIMPSE: u64 = 16;
 
-/// How many nodes of a piece a worker searches in one turn where it is the only one.
-const LONE_QUANTUM: u64 = 1000000;
+/// How many nodes of a piece a worker searches in one turn at most.
+const QUANTUM: u64 = 1000000;
 
 /// How much work was done.
 #[derive(Clone, Copy)]
@@ -179,8 +172,8 @@ impl<
         ensures stop { IfErr result (IsProbeStop (self.new.told)
             ((self.new.left ≡ 0) ⊎ (P.QUIET ≡ false)) ⊤) }
     {
-        let quantum = quantum_for(workers, most);
-        let turns = turns_for(workers, quantum, most, self.left);
+        let quantum = quantum_for(most);
+        let turns = turns_for(quantum, most, self.left);
         let series = One::of(question);
         let closed = self.closed(AnySeries::One(series), workers, quantum, turns)?;
         let Closed { outcome, log, .. } = closed;
@@ -242,32 +235,26 @@ impl<
     }
 }
 
-/// How many nodes of a piece one of so many workers searches in a turn, where the nodes of the question may have a bound.
-fn quantum_for(workers: usize, most: Option<u64>) -> u64
+/// How many nodes of a piece a worker searches in a turn, where the nodes of the question may have a bound.
+fn quantum_for(most: Option<u64>) -> u64
     ensures some { 1 ≤ result }
     ensures most { result ≤ 1000000 }
 {
-    let quantum = if workers > 1 {
-        SHARED_QUANTUM
-    } else {
-        LONE_QUANTUM
-    };
     match most {
-        Some(nodes) => nodes.clamp(1, quantum),
-        None => quantum,
+        Some(nodes) => nodes.clamp(1, QUANTUM),
+        None => QUANTUM,
     }
 }
 
-/// How many turns of so many workers the search of a question may take whose nodes have this bound, of those that are
-/// left. A worker searches at most `quantum` nodes of a piece in a turn, and fewer where others wait for its windows.
-fn turns_for(workers: usize, quantum: u64, most: Option<u64>, left: u64) -> u64
+/// How many turns of `quantum` nodes the search of a question may take whose nodes have this bound, of those that are
+/// left.
+fn turns_for(quantum: u64, most: Option<u64>, left: u64) -> u64
     requires { 1 ≤ quantum }
     ensures most { result ≤ left }
     ensures all { most ≡ None → result ≡ left }
 {
-    let nodes_in_turn = if workers > 1 { SHARED_TURN } else { quantum };
     match most {
-        Some(nodes) => nodes.div_ceil(nodes_in_turn).min(left),
+        Some(nodes) => nodes.div_ceil(quantum).min(left),
         None => left,
     }
 }
@@ -360,7 +347,7 @@ impl<
         if left == 0 {
             return Err(AskStop::Stopped { reached: None });
         }
-        let quantum = quantum_for(self.workers, None);
+        let quantum = quantum_for(None);
         let closed = self.closed(series, self.workers, quantum, left)?;
         self.answer(closed)
     }

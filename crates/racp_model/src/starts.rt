@@ -24,17 +24,17 @@ impl Starts {
         Starts { items }
     }
 
-    /// The starts as a slice.
-    pub fn as_slice(&self) -> &[u32]
-        ensures { result.now ≡ self.now }
-    {
-        &self.items
-    }
-
     /// Gives the vector back. Takes no memory.
     pub fn into_vec(self) -> Vec<u32>
         ensures { result.items ≡ self }
     {
         self.items
+    }
+
+    /// The starts as a slice.
+    pub fn as_slice(&self) -> &[u32]
+        ensures { result.now ≡ self.now }
+    {
+        &self.items
     }
 }

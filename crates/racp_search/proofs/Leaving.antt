@@ -1,4 +1,4 @@
--- What is left of a stack when a search is left: windows of a frame, and that in which the search can be gone on with.
+-- What is left of a stack when a search is left: windows of frames, and the one in front.
 use Rattle.std.proofs.Common.{◌≡◌, ◌≢◌, inl, inr, ◌∙◌, ℕ, ◌<◌, List, [], ◌∷◌, ◌++◌, length, map, Contains, arith, refl, sym, subst, ap, true, ◌==◌}
 use Rattle.std.specs.Prelude.{remove, slice_index_or}
 use Rattle.std.proofs.lemmas.Bool.{eqb-true}
@@ -10,7 +10,7 @@ use Rattle.racp_model.proofs.lemmas.Relations.{member_cases, member_first, membe
 use Rattle.racp_search.specs.DepthFirst.{SearchFrame, Part, LiesInPart, PartsCover, parts_of, front_of, last_window, AreOpenFrames, AreBelow, AreInside, IsBelow, IsBeneath, IsPartOf, IsHigher, IsSearchingNext, IsRestOfFrame}
 use Rattle.racp_search.specs.DepthFirst.Part.{all_of}
 use Rattle.racp_search.specs.Steps.{HasFirst, IsFrontWindow, IsLeft}
-use Rattle.racp_search.proofs.Stacks.{part-of_part, part-of_itself, below-whole, beneath-part, inside-sum}
+use Rattle.racp_search.proofs.Stacks.{part-of_part, below-whole, inside-sum}
 
 -- a window of the list is a part of the list
 pub in_map : (ws : List Bounds) (w : Bounds) → Contains ws w → Contains (map all_of ws) (all_of w)
@@ -169,30 +169,6 @@ module _ (p : Project) (capacities : List ℕ) (whole next : Bounds) where
       last-there : (xs : List Bounds) → xs ++ w ∷ [] ≡ [] → ⊥
       last-there [] none = cc none
       last-there (x ∷ xs) none = cc none
-
-  -- the search can be gone on with in the window in front
-  pub left-state : (from : ℕ) (start frames : List SearchFrame) (rest : List Bounds) (w : Bounds) → IsFrontWindow frames next w → IsSearchingNext p capacities whole start next from → IsLeaving frames rest → IsSearchingNext p capacities w frames next from
-  left-state from start frames rest w e h l =
-      let inside : AreInside p w frames = own-inside frames e l.inside in
-      let beneath : IsBeneath p w frames next = own-beneath frames e l.beneath in
-      record {
-        state = record {
-          covers = subst (λ (xs : List Part). PartsCover p capacities (all_of w) xs) (sym (front-is frames w e)) (λ starts lies fits. (all_of w, member_first (all_of w) [] (all_of w) refl, lies));
-          inside = inside;
-          frames = l.opened;
-        };
-        part = beneath-part p w frames next inside beneath;
-        beneath = beneath;
-        quiet = h.quiet;
-      }
-    where
-      own-inside : (fs : List SearchFrame) → IsFrontWindow fs next w → AreInside p whole fs → AreInside p w fs
-      own-inside [] same i = tt
-      own-inside (f ∷ fs) same i = (subst (λ (x : Bounds). IsPartOf p x f.node.window) (sym same) (part-of_itself p f.node.window i.0.bounds), i.1)
-
-      own-beneath : (fs : List SearchFrame) → IsFrontWindow fs next w → IsBeneath p whole fs next → IsBeneath p w fs next
-      own-beneath [] same b = subst (λ (x : Bounds). IsPartOf p x next) (sym same) (part-of_itself p next b.bounds)
-      own-beneath (f ∷ fs) same b = b
 
 -- where there are frames, and their nodes are of some capacities, so is the first one's
 pub first-there : (p : Project) (capacities : List ℕ) (frames : List SearchFrame) (next : List Part) → 0 < length frames → AreOpenFrames p capacities frames next → HasFirst capacities frames

@@ -62,6 +62,11 @@ IsEndOf p capacities window Nothing ended =
 IsEndOf p capacities window (Left next stopped) ended =
     (ended.found ≡ None) × IsLeft p capacities window next.window ended.rest.items × (ended.stopped ≡ stopped)
 
+-- how a search ended, where it did; else it can be gone on with
+abbrev pub IsEndOrOpen : Project → List ℕ → Bounds → Option Ended → Type 0
+IsEndOrOpen p capacities window (Some ended) = IsFoundOrLeft p capacities window ended.found ended.rest.items
+IsEndOrOpen p capacities window None = Unit {0}
+
 -- one that came to none, for want of memory, does not end
 abbrev pub IsFinished : Project → List ℕ → Bounds → Result Halt AllocError → Ended → Type 0
 IsFinished p capacities window (Ok halt) ended = IsEndOf p capacities window halt ended

@@ -5,7 +5,6 @@ use Rattle.racp_model.specs.Window.{Bounds, Answers}
 use Rattle.racp_cutset.specs.Covering.{SearchNode}
 use Rattle.racp_cutset.specs.Kept.{Kept, IsKeptOrDropped}
 use Rattle.racp_search.specs.Truth.{IsRestOf}
-use Rattle.racp_model.specs.declared.question.Question.{Question}
 use Rattle.racp_search.specs.declared.depth_first.Next.{Next}
 use Rattle.racp_search.specs.declared.depth_first.Step.{Step}
 use Rattle.racp_search.specs.declared.depth_first.Step.TheVariants.{Further, Found, Nothing}
@@ -78,17 +77,6 @@ pub record IsFirstLeft (p : Project) (capacities : List ℕ) (old new : List Sea
   pub taken : old ≡ frame ∷ new
   pub gathered : new_rest ≡ old_rest ++ more
   pub left : IsRestOfFrame p capacities frame more
-
--- a search can be gone on with in the window in front
-abbrev pub IsOpenBehind : Project → List ℕ → List SearchFrame → Bounds → ℕ → Type 0
-IsOpenBehind p capacities frames next from =
-    (window : Bounds) → IsFrontWindow frames next window → IsSearchingNext p capacities window frames next from
-
--- the question of the window in front
-pub record IsFrontQuestion (capacities : List ℕ) (frames : List SearchFrame) (next : Bounds)
-    (question : Question) : Type 0 where
-  pub same : question.capacities ≡ capacities
-  pub front : IsFrontWindow frames next question.window
 
 -- some record was kept, or none
 pub record IsKeptSomeOrDropped (first : ℕ) (old new : Kept) : Type 0 where

@@ -3,8 +3,8 @@ ghost use Rattle.racp_search.specs.declared.depth_first.Halt.TheVariants.{Left};
 ghost use Rattle.racp_model.specs.Window.{IsNo};
 ghost use Rattle.racp_cutset.specs.Kept.{StayKept, front};
 ghost use Rattle.racp_search.specs.DepthFirst.{IsSearching, IsSearchingNext};
-ghost use Rattle.racp_search.specs.Ends.{IsEnd, IsEndOf, IsFinished, IsHalt, IsHaltOf, IsSpent};
-ghost use Rattle.racp_search.specs.Steps.{HasFirst, IsEntered, IsFirstLeft, IsFrontQuestion, IsFrontWindow, IsLeft, IsNextAnswer, IsKeptSomeOrDropped, IsOpenBehind, IsStep};
+ghost use Rattle.racp_search.specs.Ends.{IsEnd, IsEndOf, IsEndOrOpen, IsFinished, IsHalt, IsHaltOf, IsSpent};
+ghost use Rattle.racp_search.specs.Steps.{HasFirst, IsEntered, IsFirstLeft, IsFrontWindow, IsLeft, IsNextAnswer, IsKeptSomeOrDropped, IsStep};
 
 use crate::ended::Ended;
 use crate::frame::{Frame, expand};
@@ -23,12 +23,10 @@ use std::marker::Model;
 const ENOUGH_WINDOWS: usize = 8;
 
 /// Searches a question's window by depth, until starts are found, nothing is left, as many nodes were entered as the
-/// quantum allows, or the search is stopped; it can then be gone on with, in one of the windows that are left. Goes on
-/// with the open search where it is that of the question. Counts the nodes.
+/// quantum allows, or the search is stopped. Counts the nodes.
 pub(crate) fn search<N: OfNetwork, S: Stop>(
     alloc: Global,
     subject: &Subject<N>,
-    opened: &mut Option<OpenSearch<N>>,
     quantum: Option<u64>,
     nodes: &mut u64,
     local: &mut Local<N>,
@@ -41,9 +39,39 @@ pub(crate) fn search<N: OfNetwork, S: Stop>(
     ensures nodes { IfSome quantum (λ most. nodes.new ≤ most) }
     ensures kept { StayKept local.old local.new }
 {
-    let (mut stack, next) = OpenSearch::start(alloc, subject, opened.take())?.into_stack();
+    let (_, mut stack, next) = OpenSearch::new(alloc, subject, 0)?.into_parts();
     let halt = stack.go_on(subject, next, quantum, nodes, local, stop);
-    stack.finish(alloc, subject, halt, opened)
+    stack.finish(alloc, subject, halt)
+}
+
+/// The same over at most so many nodes, in this order, without leaving windows: where it comes to a halt before
+/// its end, which is `None`, it can be gone on with. Goes on with the open search where it is that of the question.
+pub(crate) fn search_further<N: OfNetwork, S: Stop>(
+    alloc: Global,
+    subject: &Subject<N>,
+    opened: &mut Option<OpenSearch<N>>,
+    order: usize,
+    most: u64,
+    nodes: &mut u64,
+    local: &mut Local<N>,
+    stop: &S,
+) -> Result<Option<Ended>, AllocError>
+    requires most { 1 ≤ most }
+    requires nodes { nodes.old ≡ 0 }
+    ensures end { IfOk result (IsEndOrOpen N.network subject.now.capacities subject.now.window) }
+    ensures nodes { nodes.new ≤ most }
+    ensures kept { StayKept local.old local.new }
+{
+    let open = OpenSearch::start(alloc, subject, order, opened.take())?;
+    let (question, mut stack, next) = open.into_parts();
+    match stack.go_on(subject, next, Some(most), nodes, local, stop)? {
+        Halt::Found(starts) => Ok(Some(Ended::found(alloc, starts))),
+        Halt::Nothing => Ok(Some(Ended::nothing(alloc))),
+        Halt::Left(next, _) => {
+            keep(opened, OpenSearch::of(question, stack, next));
+            Ok(None)
+        }
+    }
 }
 
 /// Whether as many nodes were entered as the quantum allows.
@@ -124,34 +152,39 @@ impl<N: OfNetwork> Model for OpenSearch<N> {
 }
 
 impl<N: OfNetwork> OpenSearch<N> {
-    /// The search before where it is that of the question, or else a new one.
-    fn start(alloc: Global, subject: &Subject<N>, before: Option<Self>) -> Result<Self, AllocError>
+    /// The search before where it is that of the question, or else a new one in this order.
+    fn start(
+        alloc: Global,
+        subject: &Subject<N>,
+        order: usize,
+        before: Option<Self>,
+    ) -> Result<Self, AllocError>
         ensures { IfOk result (λ start. start ≡ subject.now) }
     {
         match before {
-            Some(before) => before.or_new(alloc, subject),
-            None => OpenSearch::new(alloc, subject),
+            Some(before) => before.or_new(alloc, subject, order),
+            None => OpenSearch::new(alloc, subject, order),
         }
     }
 
-    /// The search of a whole question, of which no node was entered.
-    fn new(alloc: Global, subject: &Subject<N>) -> Result<Self, AllocError>
+    /// The search of a whole question in this order, of which no node was entered.
+    fn new(alloc: Global, subject: &Subject<N>, order: usize) -> Result<Self, AllocError>
         ensures { IfOk result (λ start. start ≡ subject.now) }
     {
         let window = subject.whole().copy()?;
         let question = subject.question_copy()?;
-        let stack = Stack::new(alloc, subject.network());
+        let stack = Stack::new(alloc, subject.network(), order);
         Ok(OpenSearch::of(question, stack, Next { window, from: 0 }))
     }
 
     /// The search itself where it is that of the question, or else a new one.
-    fn or_new(self, alloc: Global, subject: &Subject<N>) -> Result<Self, AllocError>
+    fn or_new(self, alloc: Global, subject: &Subject<N>, order: usize) -> Result<Self, AllocError>
         ensures { IfOk result (λ start. start ≡ subject.now) }
     {
         if self.is_of(subject.question()) {
             return Ok(self);
         }
-        OpenSearch::new(alloc, subject)
+        OpenSearch::new(alloc, subject, order)
     }
 
     /// The search of a question with this stack, and this window to be searched next.
@@ -177,28 +210,29 @@ impl<N: OfNetwork> OpenSearch<N> {
             && own.window.upper() == question.window.upper()
     }
 
-    /// The stack, and the window that is searched next.
-    fn into_stack(self) -> (Stack<N>, Next)
-        ensures { IsSearchingNext N.network self.capacities self.window
-            result.0.frames.items result.1.window result.1.from }
+    /// The question, the stack, and the window that is searched next.
+    fn into_parts(self) -> (Question, Stack<N>, Next)
+        ensures question { result.0 ≡ self }
+        ensures state { IsSearchingNext N.network self.capacities self.window
+            result.1.frames.items result.2.window result.2.from }
     {
         let OpenSearch {
-            question: _,
+            question,
             stack,
             next,
         } = self;
-        (stack, next)
+        (question, stack, next)
     }
 }
 
 impl<N: OfNetwork> Stack<N> {
-    /// A stack without frames. Takes no memory.
-    fn new(alloc: Global, net: &Network) -> Self
+    /// A stack without frames, for a search in this order. Takes no memory.
+    fn new(alloc: Global, net: &Network, order: usize) -> Self
         ensures { result.frames.items ≡ [] }
     {
         Stack {
             frames: Vec::new(alloc),
-            workspace: Workspace::new(alloc, net),
+            workspace: Workspace::new(alloc, net, order),
         }
     }
 
@@ -240,13 +274,12 @@ impl<N: OfNetwork> Stack<N> {
         }
     }
 
-    /// How a search ended that came to a halt. One that was left can be gone on with (`opened`).
+    /// How a search ended that came to a halt.
     fn finish(
         self,
         alloc: Global,
         subject: &Subject<N>,
         halt: Result<Halt, AllocError>,
-        opened: &mut Option<OpenSearch<N>>,
     ) -> Result<Ended, AllocError>
         requires { IfOk halt (IsHaltOf N.network subject.now.capacities subject.now.window self.frames.items) }
         ensures { IfOk result (IsFinished N.network subject.now.capacities subject.now.window halt) }
@@ -254,7 +287,7 @@ impl<N: OfNetwork> Stack<N> {
         match halt {
             Ok(Halt::Found(starts)) => Ok(Ended::found(alloc, starts)),
             Ok(Halt::Nothing) => Ok(Ended::nothing(alloc)),
-            Ok(Halt::Left(next, stopped)) => self.leave(alloc, subject, next, stopped, opened),
+            Ok(Halt::Left(next, stopped)) => self.leave(alloc, subject, next, stopped),
             Err(error) => Err(error),
         }
     }
@@ -345,43 +378,22 @@ impl<N: OfNetwork> Stack<N> {
         Ok(None)
     }
 
-    /// Leaves a search, which can then be gone on with (`opened`).
+    /// Leaves a search: answers the windows that are left of the first frames, of as many as make enough, and the window of
+    /// the frame behind those, or the one that is searched next.
     fn leave(
-        mut self,
+        self,
         alloc: Global,
         subject: &Subject<N>,
         next: Next,
         stopped: bool,
-        opened: &mut Option<OpenSearch<N>>,
     ) -> Result<Ended, AllocError>
         requires { IsSearchingNext N.network subject.now.capacities subject.now.window
             self.frames.items next.window next.from }
         ensures { IfOk result (IsEndOf N.network subject.now.capacities subject.now.window (Left next stopped)) }
     {
-        let LeftOver { rest, question } = self.left_over(alloc, subject, &next)?;
-        keep(opened, OpenSearch::of(question, self, next));
+        let mut stack = self;
+        let rest = stack.gather(alloc, subject, &next)?;
         Ok(Ended::left(rest, stopped))
-    }
-
-    /// What is left of a search: the windows that are left of the first frames, of as many as make enough, and the window
-    /// of the frame behind those, or the one to be searched next; in that the search can be gone on with. The first frames
-    /// are dropped.
-    fn left_over(
-        &mut self,
-        alloc: Global,
-        subject: &Subject<N>,
-        next: &Next,
-    ) -> Result<LeftOver, AllocError>
-        requires { IsSearchingNext N.network subject.now.capacities subject.now.window
-            self.old.frames.items next.now.window next.now.from }
-        ensures left { IfOk result (λ left.
-            IsLeft N.network subject.now.capacities subject.now.window next.now.window left.rest.items) }
-        ensures question { IfOk result (λ left. IsSearchingNext N.network left.question.capacities left.question.window
-            self.new.frames.items next.now.window next.now.from) }
-    {
-        let rest = self.gather(alloc, subject, next)?;
-        let question = front_question(&self.frames, next, subject)?;
-        Ok(LeftOver { rest, question })
     }
 
     /// The windows that are left. The frames of which some are left are taken out.
@@ -393,10 +405,8 @@ impl<N: OfNetwork> Stack<N> {
     ) -> Result<Vec<Window>, AllocError>
         requires { IsSearchingNext N.network subject.now.capacities subject.now.window
             self.old.frames.items next.now.window next.now.from }
-        ensures left { IfOk result (λ rest.
+        ensures { IfOk result (λ rest.
             IsLeft N.network subject.now.capacities subject.now.window next.now.window rest.items) }
-        ensures behind { IfOk result (λ _.
-            IsOpenBehind N.network subject.now.capacities self.new.frames.items next.now.window next.now.from) }
     {
         let mut rest: Vec<Window> = Vec::new(alloc);
         while rest.len() < ENOUGH_WINDOWS && !self.frames.is_empty() {
@@ -477,24 +487,4 @@ fn front_window<N: OfNetwork>(frames: &Vec<Frame<N>>, next: &Next) -> Result<Win
         Some(frame) => frame.window().copy(),
         None => next.window.copy(),
     }
-}
-
-/// What is left of a search: its windows, and the question of the last of them.
-#[derive(Drop)]
-struct LeftOver {
-    rest: Vec<Window>,
-    question: Question,
-}
-
-/// The question of the window of the first frame, or, where there is none, of the one that is searched next.
-fn front_question<N: OfNetwork>(
-    frames: &Vec<Frame<N>>,
-    next: &Next,
-    subject: &Subject<N>,
-) -> Result<Question, AllocError>
-    ensures { IfOk result (IsFrontQuestion subject.now.capacities frames.now.items next.now.window) }
-{
-    let window = front_window(frames, next)?;
-    let capacities = subject.capacities().copy()?;
-    Ok(Question { capacities, window })
 }

@@ -1,10 +1,10 @@
-ghost use Rattle.std.specs.Prelude.{◌≡◌, IsTrue, IsFalse, IfOk};
+ghost use Rattle.std.specs.Prelude.{◌≡◌, ◌+◌, ◌≤◌, IsTrue, IsFalse, IfOk};
 ghost use Rattle.racp_model.specs.Formed.{IsFormed};
 ghost use Rattle.racp_cutset.specs.Kept.{StayKept};
 ghost use Rattle.racp_search.specs.Truth.{IsExplored, IsDecision};
 ghost use Rattle.racp_search.specs.Ends.{AllowsNone};
 
-use crate::depth_first::{OpenSearch, search};
+use crate::depth_first::{OpenSearch, search, search_further};
 use crate::finding::Finding;
 use crate::piece::Piece;
 use crate::stop::{Never, Stop};
@@ -37,44 +37,63 @@ pub fn explore<N: OfNetwork, S: Stop>(
     ensures quiet { IsTrue S.QUIET → IsFalse result.stopped }
     ensures kept { StayKept local.old local.new }
 {
-    explore_further(alloc, net, piece, quantum, board, local, stop, None).0
+    if allows_none(quantum) {
+        return Finding::whole(piece, 0, false);
+    }
+    let mut nodes = 0;
+    let subject = Subject::new(net, piece.question(), board);
+    let end = search(alloc, &subject, quantum, &mut nodes, local, stop);
+    Finding::after(piece, end, nodes)
 }
 
-/// Searches a piece as `explore` does, and answers beside the finding the search that was left, in the last window of
-/// the rest. A search that was left before is gone on with, where it is that of the piece's question; else the piece is
-/// searched from the start.
-pub fn explore_further<N: OfNetwork, S: Stop>(
+/// Searches a piece over at most so many nodes, behind as many as were `spent` on it before, in an order of its own:
+/// order 0 is that of `explore`, and each other one is as if drawn by lot. Of threads that search one question in
+/// different orders, each passes over what the others have refuted. Answers beside the finding the search itself, where
+/// it can be gone on with; the finding then leaves the whole piece. A search before is gone on with where it is that of
+/// the piece's question; else the piece is searched from the start. Records are kept and dropped as by `explore`.
+pub fn pursue<N: OfNetwork, S: Stop>(
     alloc: Global,
     net: &Network,
     piece: Piece<N>,
-    quantum: Option<u64>,
+    before: Option<OpenSearch<N>>,
+    order: usize,
+    spent: u64,
+    most: u64,
     board: &Board<N>,
     local: &mut Local<N>,
     stop: &S,
-    before: Option<OpenSearch<N>>,
 ) -> (Finding<N>, Option<OpenSearch<N>>)
     requires named { net.now ≡ N.network }
     requires formed { IsFormed net.now piece.question }
-    ensures explored { IsExplored N.network piece quantum result.0 }
-    ensures quiet { IsTrue S.QUIET → IsFalse result.0.stopped }
+    requires few { spent + most ≤ 1000000 }
+    ensures own { result.0.piece ≡ piece }
+    ensures least { spent ≤ result.0.nodes }
+    ensures most { result.0.nodes ≤ spent + most }
     ensures kept { StayKept local.old local.new }
 {
-    if allows_none(quantum) {
-        return (Finding::whole(piece, 0, false), None);
+    if most == 0 {
+        return (Finding::whole(piece, spent, false), before);
     }
     let mut opened = before;
     let mut nodes = 0;
     let subject = Subject::new(net, piece.question(), board);
-    let end = search(
+    let end = search_further(
         alloc,
         &subject,
         &mut opened,
-        quantum,
+        order,
+        most,
         &mut nodes,
         local,
         stop,
     );
-    (Finding::after(piece, end, nodes), opened)
+    let nodes = spent + nodes;
+    let finding = match end {
+        Ok(Some(ended)) => Finding::after(piece, Ok(ended), nodes),
+        Ok(None) => Finding::whole(piece, nodes, false),
+        Err(_) => Finding::whole(piece, nodes, true),
+    };
+    (finding, opened)
 }
 
 /// Whether the quantum allows no node.
@@ -129,6 +148,6 @@ fn search_all<N: OfNetwork>(
     ensures { IfOk result (IsDecision N.network subject.now.capacities subject.now.window) }
 {
     let mut nodes = 0;
-    let ended = search(alloc, subject, &mut None, None, &mut nodes, local, &Never)?;
+    let ended = search(alloc, subject, None, &mut nodes, local, &Never)?;
     Ok(ended.into_found())
 }

@@ -61,7 +61,7 @@ mod subject;
 mod workspace;
 
 pub use depth_first::OpenSearch;
-pub use entry_points::{decide, explore, explore_further};
+pub use entry_points::{decide, explore, pursue};
 pub use finding::{Finding, Rest};
 pub use piece::{Collector, Piece};
 pub use stop::{Never, Stop};

@@ -1,5 +1,5 @@
 use Rattle.std.proofs.Common.{ap, length, arith}
-use Rattle.racp_search.proofs.Leaving.{no-frames, none-there, leaving-next, leaving-end, left-state}
+use Rattle.racp_search.proofs.Leaving.{no-frames, none-there, leaving-next, leaving-end}
 use Rattle.racp_search.proofs.depth_first.Stack.gather.Goals as goal
 use Rattle.racp_search.proofs.depth_first.Stack.gather.Goals.{then-loop-self-test+else-not-is_empty, else-loop-self-test}
 
@@ -9,14 +9,11 @@ loop-self-preserved g c =
     leaving-next g.N.OfNetwork.network c.args.subject.now.capacities c.args.subject.now.window c.args.next.now.window c.loop-self.self.frames.items c.leave_first.new.self.frames.items left.frame c.loop-self.rest.items left.more c.leave_first.new.rest.items
     left.taken left.gathered c.loop-self.invariant left.left
 
-pub returns-clause-left : goal.returns-clause-left
-returns-clause-left g c =
+pub returns : goal.returns
+returns g c =
     leaving-end g.N.OfNetwork.network c.args.subject.now.capacities c.args.subject.now.window c.args.next.now.window c.loop-self.self.frames.items c.loop-self.rest.items c.push.new.self.items c.in_ok-window.window c.in_ok-window.ensures
     (elim c.loop-self-test.branch [
       | then-loop-self-test+else-not-is_empty w ↦ λ none. no-frames c.loop-self.self.frames.items (omega (arith, c.loop-self.self.frames.ok.0, none-there _ w.if-not-is_empty.ensures))
       | else-loop-self-test w ↦ λ none. absurd (omega (arith, c.loop-self.rest.ok.0, ap length none, w.loop-self-test.false))
     ])
     c.in_ok-push.ensures.items c.loop-self.invariant
-
-pub returns-clause-behind : goal.returns-clause-behind
-returns-clause-behind g c = λ w front. left-state g.N.OfNetwork.network c.args.subject.now.capacities c.args.subject.now.window c.args.next.now.window c.args.next.now.from c.args.self.now.frames.items c.loop-self.self.frames.items c.loop-self.rest.items w front c.requires c.loop-self.invariant
