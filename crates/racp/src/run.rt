@@ -194,7 +194,7 @@ fn plan_by<
         stop: &limit,
         observer: &listener,
     };
-    let (status, effort) = crowd_over_by(rt, rt.alloc(), net, order, &mut io::writer(rt), workers)?;
+    let (status, effort) = crowd_over_by(rt, rt.alloc(), workers, net, order, &mut io::writer(rt))?;
     if let (true, Some(effort)) = (crew.stats, effort) {
         let _ = rt.eprintln(format_args!("stats pieces {} nodes {}", effort.pieces, effort.nodes));
     }

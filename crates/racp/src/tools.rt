@@ -6,7 +6,7 @@ ghost use Rattle.racp.specs.Statuses.{IsStatusOfTool};
 use crate::failure::{Failure, OptionFault};
 use crate::run::open;
 use racp_cli::{
-    Asked, DONE, Form, Look, StreamFault, Time, curve_crowd_over, curve_over, order_over, show_over,
+    Asked, DONE, Look, StreamFault, Time, curve_crowd_over, curve_over, order_over, show_over,
 };
 use racp_desk::Open;
 use racp_explain::{explanation, subject_list};
@@ -73,7 +73,7 @@ fn show<R: Files + Print + AllocGlobal>(
 {
     let how = Look {
         width: look.width as usize,
-        form: form_of(look.form),
+        form: look.form,
     };
     match look.names {
         Some(path) => {
@@ -108,17 +108,6 @@ fn show_named<R: Files + Print + AllocGlobal, M: Read>(
         how,
         &mut io::writer(rt),
     )
-}
-
-/// What is to be written of a plan.
-fn form_of(form: racp_words::Form) -> Form {
-    match form {
-        racp_words::Form::Text => Form::Text,
-        racp_words::Form::Ascii => Form::Ascii,
-        racp_words::Form::Svg => Form::Svg,
-        racp_words::Form::Json => Form::Json,
-        racp_words::Form::Csv => Form::Csv,
-    }
 }
 
 /// Writes what each deadline up to that of the order in these files costs.
@@ -165,11 +154,11 @@ fn curve_by<R: Files + Print + AllocGlobal + Threads + Wait + Sync>(
     curve_crowd_over(
         rt,
         rt.alloc(),
+        crew,
         &mut net,
         &mut order,
         is_drawn,
         &mut io::writer(rt),
-        crew,
     )
 }
 

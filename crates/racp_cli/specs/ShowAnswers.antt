@@ -10,8 +10,8 @@ use Rattle.racp_cli.specs.Checks.{AreRead, HasRightHead, IsCheck, check_status, 
 use Rattle.racp_cli.specs.Streams.{Reader, IsRun, ToFour}
 use Rattle.racp_cli.specs.declared.check_fault.CheckFault.{CheckFault}
 use Rattle.racp_cli.specs.declared.fault.StreamFault.{StreamFault}
-use Rattle.racp_cli.specs.declared.show.Form.{Form}
-use Rattle.racp_cli.specs.declared.show.Form.TheVariants.{Text, Ascii, Svg, Json, Csv}
+use Rattle.racp_show.specs.declared.form.Form.{Form}
+use Rattle.racp_show.specs.declared.form.Form.TheVariants.{Text, Ascii, Svg, Json, Csv}
 use Rattle.racp_cli.specs.declared.show.Look.{Look}
 
 -- what is written of a plan: as CSV its table; nothing is said here of the other forms, whose values racp_show speaks of

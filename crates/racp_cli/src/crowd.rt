@@ -62,7 +62,7 @@ pub fn crowd_over<
         stop,
         observer: &Unheard,
     };
-    crowd_over_by(rt, alloc, net, order, out, crew)
+    crowd_over_by(rt, alloc, crew, net, order, out)
 }
 
 /// The same, by such workers; the records of `crowd_over` take at most 1,024 mebibytes.
@@ -71,20 +71,20 @@ pub fn crowd_over<
 ///
 /// As with `crowd_over`.
 pub fn crowd_over_by<
-    N: Read,
-    O: Read,
-    W: Write,
+    R: Threads + Wait + Sync,
     G: Gate + Sync,
     P: Stop + Sync,
     B: Observer,
-    R: Threads + Wait + Sync,
+    N: Read,
+    O: Read,
+    W: Write,
 >(
     rt: &R,
     alloc: Global,
+    crew: Crew<'_, G, P, B>,
     net: &mut N,
     order: &mut O,
     out: &mut W,
-    crew: Crew<'_, G, P, B>,
 ) -> Result<(u8, Option<Effort>), StreamFault>
     requires workers { crew.workers ≤ 64 }
     requires turns { crew.turns ≤ 1000000000000 }

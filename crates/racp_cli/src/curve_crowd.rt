@@ -33,20 +33,20 @@ use std::thread::Threads;
 ///
 /// As with `curve_over`.
 pub fn curve_crowd_over<
+    R: Threads + Wait + Sync,
+    G: Gate + Sync,
+    P: Stop + Sync,
     N: Read,
     O: Read,
     W: Write,
-    G: Gate + Sync,
-    P: Stop + Sync,
-    R: Threads + Wait + Sync,
 >(
     rt: &R,
     alloc: Global,
+    crew: Crew<'_, G, P, Unheard>,
     net: &mut N,
     order: &mut O,
     is_drawn: bool,
     out: &mut W,
-    crew: Crew<'_, G, P, Unheard>,
 ) -> Result<u8, StreamFault>
     requires workers { crew.workers ≤ 64 }
     requires turns { crew.turns ≤ 1000000000000 }

@@ -77,6 +77,6 @@ pub use fault::StreamFault;
 pub use order::{Asked, Time, order_over};
 pub use plan::{run_over, run_over_within};
 pub use prove::prove_over;
-pub use show::{Form, Look, show_over};
+pub use show::{Look, show_over};
 pub use status::{CHECK_FAILED, DONE, IMPOSSIBLE, OUT_OF_MEMORY, REFUSED, STOPPED, STREAM_FAILED};
 pub use verify::verify_over;

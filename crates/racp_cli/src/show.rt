@@ -13,24 +13,9 @@ use crate::streams::read_whole;
 use racp_model::Network;
 use racp_plan::Plan;
 use racp_prices::Order;
-use racp_show::{Names, chart_text, csv_text, json_text, svg_text};
+use racp_show::{Form, Names, chart_text, csv_text, json_text, sheet_of, svg_text};
 use std::alloc::{AllocError, Global};
 use std::io::{Read, Write};
-
-/// What is written of a plan.
-#[derive(Clone, Copy)]
-pub enum Form {
-    /// A chart of blocks.
-    Text,
-    /// A chart of characters that every terminal has.
-    Ascii,
-    /// A picture for a browser.
-    Svg,
-    /// A value for programs.
-    Json,
-    /// A table for programs.
-    Csv,
-}
 
 /// How a plan is shown.
 #[derive(Clone, Copy)]
@@ -131,8 +116,11 @@ fn picture(
     let text = match look.form {
         Form::Text => chart_text(alloc, net, order, plan, names, look.width, false)?,
         Form::Ascii => chart_text(alloc, net, order, plan, names, look.width, true)?,
-        Form::Svg => svg_text(alloc, net, order, plan, names)?,
-        Form::Json => json_text(alloc, net, order, plan, names)?,
+        Form::Svg => {
+            let sheet = sheet_of(alloc, net, order, plan, names)?;
+            svg_text(alloc, net, names, &sheet)?
+        }
+        Form::Json => json_text(alloc, &sheet_of(alloc, net, order, plan, names)?)?,
         Form::Csv => return csv_text(alloc, net, order, plan, names),
     };
     Ok(text.into_bytes())

@@ -28,16 +28,22 @@
 //!
 //! A worker's turn: it takes a piece; where no window is open, fewer than two
 //! questions a worker are undecided, the series has not ended and no yes is known, it asks the next question and takes
-//! once more; else it waits until something has changed. With a piece it lets the lock go, enters the gate, searches as
-//! many nodes as the quantum allows, with the records of the board and its own, shares the records that it made (where
-//! it is not alone, and the board has room), takes the lock, hands the finding in, and takes the next piece. Where that
-//! is the window in which its search was left, it goes on with that search as it stands. It leaves where the answer is
+//! once more; else it helps another worker, or waits until something has changed. With a piece it lets the lock go, enters
+//! the gate, searches as many nodes as the quantum allows, with the records of the board and its own, takes the lock, hands
+//! the finding in, and takes the next piece. Where it is not alone, it shares the records that it made each 100 nodes, while
+//! the board has room. It leaves where the answer is
 //! known or the desk is halted. It halts the desk where the user has asked to stop, where as many pieces were taken as
-//! there are turns, and where memory was refused. What it kept of its own goes to the board when it leaves, for the
-//! workers of the next run; where each question was a no, what it kept in this run is forgotten. Two hints stand beside
-//! the lock. One tells the least place of a yes that came in, so that a search of a later question, which is of no use,
-//! is left at its next node. The other tells that a worker waits, so that one of the others soon leaves its search, and
-//! with it windows for all.
+//! there are turns and none is out, and where memory was refused. What it kept of its own goes to the board when it leaves,
+//! for the workers of the next run; where each question was a no, what it kept in this run is forgotten. A hint stands beside
+//! the lock: the least place of a yes that came in, so that a search of the same or a later question, which is of no use,
+//! is left at its next node.
+//!
+//! A worker helps with a double of a piece that is out, of the least question of which there is one: it searches the child
+//! windows of each node in an order of its own, as if drawn by lot, and so begins elsewhere than the worker that has the
+//! piece. What either refutes becomes a record, and the other passes over it where it comes to it; so they part the
+//! windows between them, and none has to be left for another. Solvers that share what they learn and search in
+//! different orders go this way (Hamadi, Jabbour and Sais 2009, for satisfiability). Whoever decides the double
+//! first hands in the finding of the piece, which the other sees within 100 nodes; its own is then stale.
 //!
 //! A `State` is what lies under the lock: the collector, the `Book` of its log, and the total of a ledger. Each of its
 //! five calls is a step of the collector with at most one entry, and adds that entry to the share of who calls. All

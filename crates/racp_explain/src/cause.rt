@@ -377,7 +377,7 @@ fn of_fault(
     } else {
         match check_plan(net, order, plan) {
             Ok(()) => Ok(()),
-            Err(fault) => push_fault(&mut text, net, order, name, plan, fault),
+            Err(fault) => push_fault(&mut text, name, fault, plan, net, order),
         }
     };
     pushed?;
@@ -400,11 +400,11 @@ fn push_head(
 /// Adds what is wrong with a plan with this fault.
 fn push_fault(
     text: &mut String,
+    name: &str,
+    fault: PlanFault,
+    plan: &Plan,
     net: &Network,
     order: &Order,
-    name: &str,
-    plan: &Plan,
-    fault: PlanFault,
 ) -> Result<(), AllocError>
     requires terms { AreTermsOf net.now order.now }
     requires capacities { length plan.now.capacities ≡ net.now.resources }

@@ -181,25 +181,6 @@ impl<
         probe_of(outcome, is_over)
     }
 
-    /// What one worker tells of a question, over few nodes; where that is nothing, what all of them tell.
-    fn probe_shared(&mut self, question: Question, most: Option<u64>) -> Result<Probe, AskStop>
-        requires formed { IsFormed N.network question }
-        requires run { RunsDesks N.network P.QUIET (F.pre self.old.run) (F.post self.old.run) }
-        requires untold { self.old.told ≡ None }
-        ensures run { self.new.run ≡ self.old.run }
-        ensures answered { self.new.answered ≡ self.old.answered }
-        ensures told { self.new.told ≡ None }
-        ensures probed { IfOk result (IsProbed N.network question most) }
-        ensures stop { IfErr result (IsProbeStop (self.new.told)
-            ((self.new.left ≡ 0) ⊎ (P.QUIET ≡ false)) ⊤) }
-    {
-        let glimpse = self.probe_with(copied(&question)?, 1, Some(glimpse_of(most)))?;
-        if is_open(&glimpse) {
-            return self.probe_with(question, self.workers, most);
-        }
-        Ok(glimpse)
-    }
-
     /// Answers a series by the run about it. Where that is open, it keeps what was reached.
     fn answer(&mut self, closed: Closed) -> Result<First, AskStop>
         ensures run { self.new.run ≡ self.old.run }
@@ -362,10 +343,14 @@ impl<
         if self.left == 0 {
             return Err(AskStop::Stopped { reached: None });
         }
-        if self.workers > 1 {
-            return self.probe_shared(question, most);
+        if self.workers <= 1 {
+            return self.probe_with(question, 1, most);
         }
-        self.probe_with(question, 1, most)
+        let glimpse = self.probe_with(copied(&question)?, 1, Some(glimpse_of(most)))?;
+        if is_open(&glimpse) {
+            return self.probe_with(question, self.workers, most);
+        }
+        Ok(glimpse)
     }
 
     fn hear_floors(&self, floors: &Capacities) {

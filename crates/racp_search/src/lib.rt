@@ -34,8 +34,10 @@
 //! last. A frame with none of these left is refuted: then, and at no other time, its node becomes a record. A search
 //! that ends early leaves of its first frames their child windows; or, where at least as many as there are jobs are
 //! still to be made, for each active job the window in which it alone is put off. It leaves as many frames so as make a
-//! few windows, and beside these the window of the next frame: all else that is left lies in it, and `explore_further`
-//! can go on there with the frames as they are (`OpenSearch`). A search ends in any case: the place of a
+//! few windows, and beside these the window of the next frame, in which all else that is left lies. `pursue` leaves no
+//! windows: it searches some nodes further, and answers the search itself where it is not at its end (`OpenSearch`). It can
+//! search child windows in another order than by slack, so that several threads search one question, and each passes
+//! over what the others have refuted. A search ends in any case: the place of a
 //! frame's last alternative in lexicographic order rises, and each child window has a greater sum of lower bounds than
 //! its parent, at most 10,000,000 for each job where there is a conflict. Rows and lists are used again, so a node
 //! takes memory only where its path is the longest so far, or where it becomes a record.

@@ -43,6 +43,7 @@
 mod cells;
 mod chart;
 mod costs;
+mod form;
 mod json;
 mod label;
 pub mod laws;
@@ -58,6 +59,7 @@ mod usage;
 
 pub use chart::{Chart, JobRow, ResourceRow, chart_of};
 pub use costs::{Corner, costs_svg};
+pub use form::Form;
 pub use json::json_text;
 pub use names::Names;
 pub use scale::{Bar, Scale};

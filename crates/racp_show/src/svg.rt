@@ -1,15 +1,9 @@
 //! A plan as a picture.
 
-ghost use Rattle.std.specs.Prelude.{◌≡◌, length};
-ghost use Rattle.racp_model.specs.Plan.{FitsTerms};
-ghost use Rattle.racp_model.specs.Terms.{AreTermsOf};
-
 use crate::label::labels;
 use crate::names::Names;
-use crate::sheet::{JobEntry, ResourceEntry, Sheet, sheet_of};
+use crate::sheet::{JobEntry, ResourceEntry, Sheet};
 use racp_model::Network;
-use racp_plan::Plan;
-use racp_prices::Order;
 use std::alloc::{AllocError, Global};
 use std::fmt;
 
@@ -40,9 +34,9 @@ const STRIP: u64 = 66;
 /// The most numbers of an axis behind the first.
 pub(crate) const MOST_MARKS: u64 = 12;
 
-/// A plan as a picture in SVG: a bar for each job, whose name is also a tooltip, and for each resource its usage as a
-/// stair, with the capacity as a dashed line. The axis of times has round numbers. The text grows with the jobs and the
-/// resources, and not with the deadline. The plan fits the order, as `check_plan` of racp_check tells.
+/// The sheet of a plan as a picture in SVG: a bar for each job, whose name is also a tooltip, and for each resource its
+/// usage as a stair, with the capacity as a dashed line. The axis of times has round numbers. The text grows with the
+/// jobs and the resources, and not with the deadline.
 ///
 /// # Errors
 ///
@@ -50,17 +44,11 @@ pub(crate) const MOST_MARKS: u64 = 12;
 pub fn svg_text(
     alloc: Global,
     net: &Network,
-    order: &Order,
-    plan: &Plan,
     names: &Names,
-) -> Result<String, AllocError>
-    requires terms { AreTermsOf net.now order.now }
-    requires capacities { length plan.now.capacities ≡ net.now.resources }
-    requires fits { FitsTerms net.now order.now plan.now.capacities plan.now.starts }
-{
-    let sheet = sheet_of(alloc, net, order, plan, names)?;
+    sheet: &Sheet<'_>,
+) -> Result<String, AllocError> {
     let labels = labels(alloc, net, names, LABEL)?;
-    picture(alloc, &sheet, &labels)
+    picture(alloc, sheet, &labels)
 }
 
 /// The picture of a sheet, with labels for its jobs and then its resources.

@@ -3,8 +3,8 @@ use Rattle.std.specs.Prelude.{◌≡◌, ◌≢◌, ◌||◌, List, Option, Some
 use Rattle.std.specs.Prelude.{is_some, option_map}
 use Rattle.clap.specs.Words.{App, Row, Text, first_of, new_app, new_rule, with_rule}
 use Rattle.racp_words.specs.Rules.{AreOrderFiles, ArePlanFiles, IsNumberOf, file_rule, flag_rule, is_set, number_rule, of_plan, of_workers, path_at, text_rule}
-use Rattle.racp_words.specs.declared.request.Form.{Form}
-use Rattle.racp_words.specs.declared.request.Form.TheVariants.{Text as Blocks, Ascii, Svg, Json, Csv}
+use Rattle.racp_show.specs.declared.form.Form.{Form}
+use Rattle.racp_show.specs.declared.form.Form.TheVariants.{Text as Blocks, Ascii, Svg, Json, Csv}
 use Rattle.racp_words.specs.declared.request.Look.{Look}
 use Rattle.racp_words.specs.declared.request.Terms.{Terms}
 use Rattle.racp_words.specs.declared.request.Tool.{Tool}

@@ -11,10 +11,11 @@ use crate::commands::{
     MOST_MEBIBYTES, MOST_SECONDS, MOST_TURNS, MOST_WIDTH, MOST_WORKERS, command,
 };
 use crate::request::{
-    Crew, Form, Look, Memory, OrderFiles, PlanFiles, ProofFiles, Request, Source, Task, Terms,
-    Tool, Workers,
+    Crew, Look, Memory, OrderFiles, PlanFiles, ProofFiles, Request, Source, Task, Terms, Tool,
+    Workers,
 };
 use clap::{ArgMatches, Error};
+use racp_show::Form;
 use std::alloc::Global;
 
 /// How many mebibytes records are given where no option says so.

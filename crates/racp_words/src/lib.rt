@@ -53,6 +53,6 @@ mod request;
 
 pub use command_line::asked;
 pub use request::{
-    Crew, Form, Look, Memory, OrderFiles, PlanFiles, ProofFiles, Request, Source, Task, Terms,
-    Tool, Workers,
+    Crew, Look, Memory, OrderFiles, PlanFiles, ProofFiles, Request, Source, Task, Terms, Tool,
+    Workers,
 };

@@ -2,6 +2,8 @@
 
 ghost use Rattle.std.specs.Prelude.{◌≤◌};
 
+use racp_show::Form;
+
 /// What the command line asks for, and how.
 pub struct Task<'a> {
     /// What it asks for.
@@ -50,21 +52,6 @@ pub struct Look<'a> {
     /// What is written.
     pub form: Form,
     pub ghost width_few: { width ≤ 1000 },
-}
-
-/// What is written of a plan that is shown.
-#[derive(Clone, Copy)]
-pub enum Form {
-    /// A chart of blocks.
-    Text,
-    /// A chart of characters that every terminal has.
-    Ascii,
-    /// A picture for a browser.
-    Svg,
-    /// A value for programs.
-    Json,
-    /// A table for programs.
-    Csv,
 }
 
 /// The words for the terms of an order.
