@@ -41,10 +41,10 @@ pub(crate) trait Reasons {
     fn ask(&self) -> bool;
 }
 
-/// The user's stop, where it is asked, and a yes at this place or before it that was merged.
+/// The user's stop, and a yes at this place or before it that was merged.
 #[derive(Drop)]
 pub(crate) struct UserOrHint<'a, P: Stop> {
-    user: Option<&'a P>,
+    user: &'a P,
     hint: &'a Hint,
     index: u64,
     by_user: Cell<bool>,
@@ -52,7 +52,7 @@ pub(crate) struct UserOrHint<'a, P: Stop> {
 
 impl<'a, P: Stop> UserOrHint<'a, P> {
     /// Nobody has asked to stop yet.
-    pub(crate) fn new(user: Option<&'a P>, hint: &'a Hint, index: u64) -> Self {
+    pub(crate) fn new(user: &'a P, hint: &'a Hint, index: u64) -> Self {
         UserOrHint {
             user,
             hint,
@@ -65,19 +65,11 @@ impl<'a, P: Stop> UserOrHint<'a, P> {
     pub(crate) fn by_user(&self) -> bool {
         self.by_user.get()
     }
-
-    /// Whether the user asks to stop now.
-    fn is_asked(&self) -> bool {
-        match self.user {
-            Some(user) => user.asked(),
-            None => false,
-        }
-    }
 }
 
 impl<'a, P: Stop> Reasons for UserOrHint<'a, P> {
     fn ask(&self) -> bool {
-        if self.is_asked() {
+        if self.user.asked() {
             self.by_user.set(true);
             return true;
         }

@@ -199,7 +199,7 @@ struct Searched<N: OfNetwork> {
 
 /// Searches a piece of its own, or a double, until it is decided, by this worker or another one, its quantum is spent,
 /// the user asks to stop, or a yes of this question or an earlier one was merged. It goes on with the search before, where
-/// that is of the same question. The user's stop is asked for a piece of its own alone.
+/// that is of the same question.
 fn search<'a, N: OfNetwork, M: Names, S: Series, G: Gate, P: Stop, R: Wait>(
     rt: &R,
     shared: &Shared<'a, N, M, S, G, P>,
@@ -213,9 +213,8 @@ fn search<'a, N: OfNetwork, M: Names, S: Series, G: Gate, P: Stop, R: Wait>(
 {
     let job = &shared.job;
     let quantum = job.quantum;
-    let user = if is_own { Some(job.stop) } else { None };
     let watch = Watch {
-        reasons: UserOrHint::new(user, &shared.hint, piece.index()),
+        reasons: UserOrHint::new(job.stop, &shared.hint, piece.index()),
     };
     let order = if is_own { 0 } else { seat.saturating_add(1) };
     let mut seen = shared.leads.changes();
@@ -330,12 +329,13 @@ fn hand_in<'a, N: OfNetwork, M: Names, S: Series, G: Gate, P: Stop, R: Wait>(
     work_from(rt, shared, state, seat, mine)
 }
 
-/// Drops what was found of a double that is not decided, and takes what to search next. Where memory was refused, it
-/// halts the desk.
+/// Drops what was found of a double that is not decided, and takes what to search next. Where memory was refused or the
+/// user has asked to stop, it halts the desk.
 fn give_over<'a, N: OfNetwork, M: Names, S: Series, G: Gate, P: Stop, R: Wait>(
     rt: &R,
     shared: &Shared<'a, N, M, S, G, P>,
     finding: Finding<N>,
+    by_user: bool,
     seat: usize,
     mine: &mut Share<M>,
 ) -> Option<Held<Piece<N>>>
@@ -348,6 +348,8 @@ fn give_over<'a, N: OfNetwork, M: Names, S: Series, G: Gate, P: Stop, R: Wait>(
     let mut state = shared.desk.lock(rt);
     if short {
         state.halt(Cause::Fault, mine);
+    } else if by_user && !P::QUIET {
+        state.halt(Cause::Stop, mine);
     }
     work_from(rt, shared, state, seat, mine)
 }
@@ -461,7 +463,7 @@ fn go_on<'a, N: OfNetwork, M: Names, S: Series, G: Gate, P: Stop, R: Wait>(
         let next = if is_own || is_decided(&finding) {
             hand_in(rt, shared, finding, by_user, seat, mine)
         } else {
-            give_over(rt, shared, finding, seat, mine)
+            give_over(rt, shared, finding, by_user, seat, mine)
         };
         match next {
             Some(next) => work = next,

@@ -31,7 +31,7 @@ const QUANTUM: u64 = 1000000;
 pub struct Effort {
     /// How many pieces were taken.
     pub pieces: u64,
-    /// How many nodes were searched.
+    /// How many nodes were searched for what came in of them.
     pub nodes: u64,
 }
 
