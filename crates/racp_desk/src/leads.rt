@@ -25,33 +25,31 @@ impl<N: OfNetwork> Lead<N> {
     /// What a double of the piece takes.
     fn of(piece: &Piece<N>) -> Result<Self, AllocError>
         requires { IsFormed N.network piece.now.question }
+        ensures number { IfOk result (λ lead. lead.number ≡ piece.now.number) }
+        ensures seat { IfOk result (λ lead. lead.seat ≡ piece.now.seat) }
+        ensures index { IfOk result (λ lead. lead.index ≡ piece.now.index) }
+        ensures question { IfOk result (λ lead. lead.question ≡ piece.now.question) }
     {
         Ok(Lead {
             number: piece.number(),
             seat: piece.seat(),
             index: piece.index(),
-            question: copied(piece.question())?,
+            question: piece.question().copy()?,
             of: PhantomData,
         })
     }
 
     /// A double: a piece with the same number, seat, place and question. What is found of it is true of the piece.
     fn double(&self) -> Result<Piece<N>, AllocError>
-        ensures { IfOk result (λ piece. IsFormed N.network piece.question) }
+        ensures number { IfOk result (λ piece. piece.number ≡ self.now.number) }
+        ensures seat { IfOk result (λ piece. piece.seat ≡ self.now.seat) }
+        ensures index { IfOk result (λ piece. piece.index ≡ self.now.index) }
+        ensures question { IfOk result (λ piece. piece.question ≡ self.now.question) }
+        ensures formed { IfOk result (λ piece. IsFormed N.network piece.question) }
     {
-        let question = copied(&self.question)?;
+        let question = self.question.copy()?;
         Ok(Piece::new(self.number, self.seat, self.index, question))
     }
-}
-
-/// A copy of a question.
-fn copied(question: &Question) -> Result<Question, AllocError>
-    ensures { IfOk result (λ copy. copy ≡ question.now) }
-{
-    Ok(Question {
-        capacities: question.capacities.copy()?,
-        window: question.window.copy()?,
-    })
 }
 
 /// The pieces that are out, as far as there was room to note them.

@@ -39,7 +39,7 @@
 //! is left at its next node.
 //!
 //! A worker helps with a double of a piece that is out, of the least question of which there is one: it searches the child
-//! windows of each node in an order of its own, as if drawn by lot, and so begins elsewhere than the worker that has the
+//! windows of each node in a pseudo-random order of its own, and so begins elsewhere than the worker that has the
 //! piece. What either refutes becomes a record, and the other passes over it where it comes to it; so they part the
 //! windows between them, and none has to be left for another. Solvers that share what they learn and search in
 //! different orders go this way (Hamadi, Jabbour and Sais 2009, for satisfiability). Whoever decides the double

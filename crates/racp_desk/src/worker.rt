@@ -14,7 +14,7 @@ use racp_core::{Merged, Reply};
 use racp_cutset::{Board, Local};
 use racp_model::{Network, OfNetwork};
 use racp_questions::Series;
-use racp_search::{Finding, OpenSearch, Piece, Rest, Stop, pursue};
+use racp_search::{Course, Finding, Piece, Rest, Stop, pursue};
 use std::alloc::Global;
 use std::sync::ledger::Share;
 use std::sync::{Condvar, Mutex, MutexGuard, Wait};
@@ -189,25 +189,21 @@ fn work_from<'a, 'b, N: OfNetwork, M: Names, S: Series, G: Gate, P: Stop, R: Wai
 /// How many nodes a worker searches between two looks at what others did, and before its records go to the board.
 const SLICE: u64 = 100;
 
-/// A finding, whether the user has asked to stop, and the search that can be gone on with.
+/// A finding, and whether the user has asked to stop.
 struct Searched<N: OfNetwork> {
     finding: Finding<N>,
     by_user: bool,
-    left: Option<OpenSearch<N>>,
     ghost nodes_few: { finding.nodes ≤ 1000000 },
 }
 
-/// Searches a piece of its own, or a double, until it is decided, by this worker or another one, its quantum is spent,
-/// the user asks to stop, or a yes of this question or an earlier one was merged. It goes on with the search before, where
-/// that is of the same question.
+/// Searches a piece or a double until it is decided, by this worker or another one, its quantum is spent, memory is
+/// refused, the user asks to stop, or a yes of this question or an earlier one was merged.
 fn search<'a, N: OfNetwork, M: Names, S: Series, G: Gate, P: Stop, R: Wait>(
     rt: &R,
     shared: &Shared<'a, N, M, S, G, P>,
-    seat: usize,
     piece: Piece<N>,
-    is_own: bool,
+    course: &mut Course<N>,
     local: &mut Local<N>,
-    before: Option<OpenSearch<N>>,
 ) -> Searched<N>
     requires { IsFormed N.network piece.question }
 {
@@ -216,35 +212,28 @@ fn search<'a, N: OfNetwork, M: Names, S: Series, G: Gate, P: Stop, R: Wait>(
     let watch = Watch {
         reasons: UserOrHint::new(job.stop, &shared.hint, piece.index()),
     };
-    let order = if is_own { 0 } else { seat.saturating_add(1) };
     let mut seen = shared.leads.changes();
     let mut nodes = 0;
     let mut piece = piece;
-    let mut before = before;
     for _round in rt.forever() {
         let most = slice_of(job.workers, quantum - nodes);
-        let (finding, left) = pursue(
-            job.alloc, job.net, piece, before, order, nodes, most, job.board, local, &watch,
+        let finding = pursue(
+            job.alloc, job.net, piece, course, nodes, most, job.board, local, &watch,
         );
         if job.workers > 1 {
             publish(rt, job.board, local);
         }
-        let searched = finding.nodes() - nodes;
         nodes = finding.nodes();
-        if searched < most
+        if finding.short()
+            || finding.stopped()
             || nodes >= quantum
             || is_decided(&finding)
             || !is_still_out(rt, &shared.leads, finding.piece().number(), &mut seen)
         {
             let by_user = watch.reasons.by_user();
-            return Searched {
-                finding,
-                by_user,
-                left,
-            };
+            return Searched { finding, by_user };
         }
         piece = finding.into_piece();
-        before = left;
     }
     unreachable!()
 }
@@ -334,10 +323,10 @@ fn hand_in<'a, N: OfNetwork, M: Names, S: Series, G: Gate, P: Stop, R: Wait>(
 fn give_over<'a, N: OfNetwork, M: Names, S: Series, G: Gate, P: Stop, R: Wait>(
     rt: &R,
     shared: &Shared<'a, N, M, S, G, P>,
-    finding: Finding<N>,
-    by_user: bool,
     seat: usize,
     mine: &mut Share<M>,
+    finding: Finding<N>,
+    by_user: bool,
 ) -> Option<Held<Piece<N>>>
     requires parts { 0 < mine.old.parts }
     ensures formed { IfSome result (IsFormedHeld N.network) }
@@ -444,7 +433,7 @@ fn go_on<'a, N: OfNetwork, M: Names, S: Series, G: Gate, P: Stop, R: Wait>(
     requires formed { IsFormedHeld N.network work }
     ensures { mine.new.parts ≡ mine.old.parts }
 {
-    let mut before = None;
+    let mut course = Course::new();
     let mut work = work;
     for _round in rt.forever() {
         let (piece, is_own) = match work {
@@ -454,16 +443,12 @@ fn go_on<'a, N: OfNetwork, M: Names, S: Series, G: Gate, P: Stop, R: Wait>(
             }
             Held::Double(piece) => (piece, false),
         };
-        let Searched {
-            finding,
-            by_user,
-            left,
-        } = search(rt, shared, seat, piece, is_own, local, before);
-        before = left;
+        course.turn_to(order_at(seat, is_own));
+        let Searched { finding, by_user } = search(rt, shared, piece, &mut course, local);
         let next = if is_own || is_decided(&finding) {
             hand_in(rt, shared, finding, by_user, seat, mine)
         } else {
-            give_over(rt, shared, finding, by_user, seat, mine)
+            give_over(rt, shared, seat, mine, finding, by_user)
         };
         match next {
             Some(next) => work = next,
@@ -471,6 +456,12 @@ fn go_on<'a, N: OfNetwork, M: Names, S: Series, G: Gate, P: Stop, R: Wait>(
         }
     }
     unreachable!()
+}
+
+/// The order in which the worker at a seat searches a piece: that of a search on one thread for one of its own, and for a
+/// double an order that no other seat has.
+fn order_at(seat: usize, is_own: bool) -> usize {
+    if is_own { 0 } else { seat.saturating_add(1) }
 }
 
 /// Brings a share back.

@@ -255,16 +255,6 @@ fn is_open(probe: &Probe) -> bool
     matches!(probe, Probe::Open)
 }
 
-/// A copy of a question.
-fn copied(question: &Question) -> Result<Question, AllocError>
-    ensures { IfOk result (λ copy. copy ≡ question.now) }
-{
-    Ok(Question {
-        capacities: question.capacities.copy()?,
-        window: question.window.copy()?,
-    })
-}
-
 /// Whether the desk was halted since a stop was asked for.
 fn was_stopped(log: &[Entry]) -> bool
     ensures { IsTrue result ↔ Contains log.now (Halted Stop) }
@@ -346,7 +336,7 @@ impl<
         if self.workers <= 1 {
             return self.probe_with(question, 1, most);
         }
-        let glimpse = self.probe_with(copied(&question)?, 1, Some(glimpse_of(most)))?;
+        let glimpse = self.probe_with(question.copy()?, 1, Some(glimpse_of(most)))?;
         if is_open(&glimpse) {
             return self.probe_with(question, self.workers, most);
         }

@@ -1,5 +1,8 @@
+ghost use Rattle.std.specs.Prelude.{◌≡◌, IfOk};
+
 use crate::capacities::Capacities;
 use crate::window::Window;
+use std::alloc::AllocError;
 
 /// Do some starts in the window keep precedence and the capacities?
 #[derive(Clone, Drop)]
@@ -8,4 +11,19 @@ pub struct Question {
     pub capacities: Capacities,
     /// The bounds on the starts.
     pub window: Window,
+}
+
+impl Question {
+    /// The same question once more. `Clone` does the same, but does not promise that it is the same.
+    ///
+    /// # Errors
+    ///
+    /// Memory was refused.
+    pub fn copy(&self) -> Result<Question, AllocError>
+        ensures { IfOk result (λ copy. copy ≡ self.now) }
+    {
+        let capacities = self.capacities.copy()?;
+        let window = self.window.copy()?;
+        Ok(Question { capacities, window })
+    }
 }

@@ -59,6 +59,7 @@ impl Window {
     {
         (self.lower, self.upper)
     }
+
     /// The same window once more. `Clone` does the same, but does not promise that it is the same.
     ///
     /// # Errors

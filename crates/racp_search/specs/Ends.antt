@@ -1,5 +1,5 @@
 -- Contracts of private functions: how a search by depth ends.
-use Rattle.std.specs.Prelude.{◌≡◌, ◌≢◌, ◌↔◌, ℕ, ◌<◌, ◌≤◌, List, [], Bool, false, IsTrue, IsFalse, Option, Some, None, Result, Ok, Err, Contains}
+use Rattle.std.specs.Prelude.{◌≡◌, ◌≢◌, ◌↔◌, ℕ, ◌<◌, ◌≤◌, List, [], Bool, true, false, IsTrue, IsFalse, Option, Some, None, Result, Ok, Err, Contains}
 use Rattle.std.specs.declared.alloc.AllocError.{AllocError}
 use Rattle.racp_model.specs.Project.{Project}
 use Rattle.racp_model.specs.Window.{Bounds, Answers}
@@ -9,6 +9,8 @@ use Rattle.racp_search.specs.Steps.{IsLeft}
 use Rattle.racp_search.specs.declared.depth_first.Next.{Next}
 use Rattle.racp_search.specs.declared.depth_first.Halt.{Halt}
 use Rattle.racp_search.specs.declared.depth_first.Halt.TheVariants.{Found, Nothing, Left}
+use Rattle.racp_search.specs.declared.depth_first.Progress.{Progress}
+use Rattle.racp_search.specs.declared.depth_first.Progress.TheVariants.{Decided, Open}
 use Rattle.racp_search.specs.declared.finding.Rest.TheVariants.{Whole, Windows}
 use Rattle.racp_search.specs.declared.ended.Ended.{Ended}
 
@@ -62,10 +64,22 @@ IsEndOf p capacities window Nothing ended =
 IsEndOf p capacities window (Left next stopped) ended =
     (ended.found ≡ None) × IsLeft p capacities window next.window ended.rest.items × (ended.stopped ≡ stopped)
 
--- how a search ended, where it did; else it can be gone on with
-abbrev pub IsEndOrOpen : Project → List ℕ → Bounds → Option Ended → Type 0
-IsEndOrOpen p capacities window (Some ended) = IsFoundOrLeft p capacities window ended.found ended.rest.items
-IsEndOrOpen p capacities window None = Unit {0}
+-- a search that decided its window, after some nodes
+pub record IsDecided (p : Project) (capacities : List ℕ) (window : Bounds) (nodes : ℕ) (ended : Ended) : Type 0 where
+  pub is_true : IsFoundOrLeft p capacities window ended.found ended.rest.items
+  pub all : ended.rest.items ≡ []
+  pub unstopped : ended.stopped ≡ false
+  pub searched : 0 < nodes
+
+-- a search that can be gone on with was stopped, or entered as many nodes as it may
+pub record IsHalfway (most nodes : ℕ) (quiet stopped : Bool) : Type 0 where
+  pub spent : IsFalse stopped → nodes ≡ most
+  pub told : IsTrue quiet → IsFalse stopped
+
+-- how far a search came over at most so many nodes
+abbrev pub IsProgress : Project → List ℕ → Bounds → ℕ → ℕ → Bool → Progress → Type 0
+IsProgress p capacities window most nodes quiet (Decided ended) = IsDecided p capacities window nodes ended
+IsProgress p capacities window most nodes quiet (Open stopped) = IsHalfway most nodes quiet stopped
 
 -- one that came to none, for want of memory, does not end
 abbrev pub IsFinished : Project → List ℕ → Bounds → Result Halt AllocError → Ended → Type 0
@@ -84,15 +98,26 @@ finding_after piece ended nodes =
       short = false;
     }
 
--- a finding that leaves the whole window of the piece
-abbrev pub unsearched : SearchPiece → ℕ → Bool → SearchFinding
-unsearched piece nodes short = record {
+-- findings that leave the whole window of the piece: of a search that was stopped, or searched as many nodes as it may
+abbrev pub undecided : SearchPiece → ℕ → Bool → SearchFinding
+undecided piece nodes stopped = record {
+  piece = piece;
+  rest = Whole;
+  found = None;
+  nodes = nodes;
+  stopped = stopped;
+  short = false;
+}
+
+-- and of one to which memory was refused
+abbrev pub short_of : SearchPiece → ℕ → SearchFinding
+short_of piece nodes = record {
   piece = piece;
   rest = Whole;
   found = None;
   nodes = nodes;
   stopped = false;
-  short = short;
+  short = true;
 }
 
 -- whether the quantum allows no node

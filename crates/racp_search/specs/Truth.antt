@@ -1,5 +1,5 @@
 -- What a search of a piece of a question found, and when that is true.
-use Rattle.std.specs.Prelude.{◌≡◌, ◌≢◌, ℕ, ◌<◌, ◌≤◌, Bool, IsTrue, IsFalse, List, [], ◌∷◌, Option, Some, None, IfSome, Contains}
+use Rattle.std.specs.Prelude.{◌≡◌, ◌≢◌, ℕ, ◌+◌, ◌<◌, ◌≤◌, Bool, IsTrue, IsFalse, List, [], ◌∷◌, Option, Some, None, IfSome, Contains}
 use Rattle.racp_model.specs.Project.{Project}
 use Rattle.racp_model.specs.Window.{Bounds, Answers, IsNo, WindowsCover, IsInside}
 use Rattle.racp_model.specs.Formed.{HasBounds}
@@ -70,6 +70,19 @@ pub record IsExplored (p : Project) (piece : SearchPiece) (quantum : Option ℕ)
   -- once a node was searched, each window that is left has a greater sum of lower bounds than the piece's
   pub higher : IsFalse finding.short → 0 < finding.nodes →
       (part : Bounds) → Contains (left_windows finding) part → lower_sum p piece.question.window < lower_sum p part
+
+-- what a search of a piece tells that goes on behind the nodes that were spent on it, over at most so many more
+pub record IsPursued (piece : SearchPiece) (spent most : ℕ) (finding : SearchFinding) : Type 0 where
+  -- it is of the piece
+  pub own : finding.piece ≡ piece
+  -- it searched at most as many nodes more as it may, and at least one, unless it may search none or was kept from it
+  pub least : spent ≤ finding.nodes
+  pub few : finding.nodes ≤ spent + most
+  pub searched : 0 < most → IsFalse finding.stopped → IsFalse finding.short → spent < finding.nodes
+  -- windows are left only where memory was refused, it was stopped, or as many nodes were searched as it may; it is then
+  -- the window of the piece
+  pub all : IsFalse finding.stopped → IsFalse finding.short → left_windows finding ≢ [] → finding.nodes ≡ spent + most
+  pub whole : left_windows finding ≢ [] → finding.rest ≡ Whole
 
 -- what is decided of a question: starts that answer it, or that nothing does
 abbrev pub IsDecision : Project → List ℕ → Bounds → Option (List ℕ) → Type 0

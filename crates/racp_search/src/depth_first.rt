@@ -3,9 +3,10 @@ ghost use Rattle.racp_search.specs.declared.depth_first.Halt.TheVariants.{Left};
 ghost use Rattle.racp_model.specs.Window.{IsNo};
 ghost use Rattle.racp_cutset.specs.Kept.{StayKept, front};
 ghost use Rattle.racp_search.specs.DepthFirst.{IsSearching, IsSearchingNext};
-ghost use Rattle.racp_search.specs.Ends.{IsEnd, IsEndOf, IsEndOrOpen, IsFinished, IsHalt, IsHaltOf, IsSpent};
+ghost use Rattle.racp_search.specs.Ends.{IsEnd, IsEndOf, IsFinished, IsHalt, IsHaltOf, IsProgress, IsSpent};
 ghost use Rattle.racp_search.specs.Steps.{HasFirst, IsEntered, IsFirstLeft, IsFrontWindow, IsLeft, IsNextAnswer, IsKeptSomeOrDropped, IsStep};
 
+use crate::course::Course;
 use crate::ended::Ended;
 use crate::frame::{Frame, expand};
 use crate::glance::{Glance, look_at};
@@ -44,32 +45,31 @@ pub(crate) fn search<N: OfNetwork, S: Stop>(
     stack.finish(alloc, subject, halt)
 }
 
-/// The same over at most so many nodes, in this order, without leaving windows: where it comes to a halt before
-/// its end, which is `None`, it can be gone on with. Goes on with the open search where it is that of the question.
+/// The same over at most so many nodes, without leaving windows. Goes on with the search that the course has open, where
+/// that is of the question, and leaves it one that can be gone on with.
 pub(crate) fn search_further<N: OfNetwork, S: Stop>(
     alloc: Global,
     subject: &Subject<N>,
-    opened: &mut Option<OpenSearch<N>>,
-    order: usize,
+    course: &mut Course<N>,
     most: u64,
     nodes: &mut u64,
     local: &mut Local<N>,
     stop: &S,
-) -> Result<Option<Ended>, AllocError>
+) -> Result<Progress, AllocError>
     requires most { 1 ≤ most }
     requires nodes { nodes.old ≡ 0 }
-    ensures end { IfOk result (IsEndOrOpen N.network subject.now.capacities subject.now.window) }
+    ensures progress { IfOk result (IsProgress N.network subject.now.capacities subject.now.window most nodes.new S.QUIET) }
     ensures nodes { nodes.new ≤ most }
     ensures kept { StayKept local.old local.new }
 {
-    let open = OpenSearch::start(alloc, subject, order, opened.take())?;
+    let open = course.start(alloc, subject)?;
     let (question, mut stack, next) = open.into_parts();
     match stack.go_on(subject, next, Some(most), nodes, local, stop)? {
-        Halt::Found(starts) => Ok(Some(Ended::found(alloc, starts))),
-        Halt::Nothing => Ok(Some(Ended::nothing(alloc))),
-        Halt::Left(next, _) => {
-            keep(opened, OpenSearch::of(question, stack, next));
-            Ok(None)
+        Halt::Found(starts) => Ok(Progress::Decided(Ended::found(alloc, starts))),
+        Halt::Nothing => Ok(Progress::Decided(Ended::nothing(alloc))),
+        Halt::Left(next, stopped) => {
+            course.keep(OpenSearch::of(question, stack, next));
+            Ok(Progress::Open(stopped))
         }
     }
 }
@@ -122,6 +122,15 @@ enum Halt {
     Left(Next, bool),
 }
 
+/// How far a search came.
+#[derive(Drop)]
+pub(crate) enum Progress {
+    /// To its end.
+    Decided(Ended),
+    /// To a halt before it, since it was stopped or since as many nodes were entered as it may. It can be gone on with.
+    Open(bool),
+}
+
 /// The frames on the way to the window that is searched next, the first node first, and the memory that is used again
 /// from node to node.
 #[derive(Drop)]
@@ -133,7 +142,7 @@ struct Stack<N: OfNetwork> {
 /// A search that can be gone on with: its question, the frames on the way to the window that is searched next, and that
 /// window. Contracts see the question.
 #[derive(Drop)]
-pub struct OpenSearch<N: OfNetwork> {
+pub(crate) struct OpenSearch<N: OfNetwork> {
     question: Question,
     stack: Stack<N>,
     next: Next,
@@ -152,33 +161,23 @@ impl<N: OfNetwork> Model for OpenSearch<N> {
 }
 
 impl<N: OfNetwork> OpenSearch<N> {
-    /// The search before where it is that of the question, or else a new one in this order.
-    fn start(
-        alloc: Global,
-        subject: &Subject<N>,
-        order: usize,
-        before: Option<Self>,
-    ) -> Result<Self, AllocError>
-        ensures { IfOk result (λ start. start ≡ subject.now) }
-    {
-        match before {
-            Some(before) => before.or_new(alloc, subject, order),
-            None => OpenSearch::new(alloc, subject, order),
-        }
-    }
-
     /// The search of a whole question in this order, of which no node was entered.
-    fn new(alloc: Global, subject: &Subject<N>, order: usize) -> Result<Self, AllocError>
+    pub(crate) fn new(alloc: Global, subject: &Subject<N>, order: usize) -> Result<Self, AllocError>
         ensures { IfOk result (λ start. start ≡ subject.now) }
     {
         let window = subject.whole().copy()?;
-        let question = subject.question_copy()?;
+        let question = subject.question().copy()?;
         let stack = Stack::new(alloc, subject.network(), order);
         Ok(OpenSearch::of(question, stack, Next { window, from: 0 }))
     }
 
-    /// The search itself where it is that of the question, or else a new one.
-    fn or_new(self, alloc: Global, subject: &Subject<N>, order: usize) -> Result<Self, AllocError>
+    /// The search itself where it is that of the question, or else a new one in this order.
+    pub(crate) fn or_new(
+        self,
+        alloc: Global,
+        subject: &Subject<N>,
+        order: usize,
+    ) -> Result<Self, AllocError>
         ensures { IfOk result (λ start. start ≡ subject.now) }
     {
         if self.is_of(subject.question()) {
@@ -452,13 +451,6 @@ fn record_frame<N: OfNetwork>(
     spare.give_row(lower.into_vec());
     spare.give_row(early.into_vec());
     spare.give_row(ends);
-}
-
-/// Keeps a search that can be gone on with.
-fn keep<N: OfNetwork>(opened: &mut Option<OpenSearch<N>>, search: OpenSearch<N>)
-    ensures { opened.new ≡ Some search }
-{
-    *opened = Some(search);
 }
 
 /// Puts windows behind others.

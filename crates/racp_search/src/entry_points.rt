@@ -1,10 +1,11 @@
 ghost use Rattle.std.specs.Prelude.{◌≡◌, ◌+◌, ◌≤◌, IsTrue, IsFalse, IfOk};
 ghost use Rattle.racp_model.specs.Formed.{IsFormed};
 ghost use Rattle.racp_cutset.specs.Kept.{StayKept};
-ghost use Rattle.racp_search.specs.Truth.{IsExplored, IsDecision};
+ghost use Rattle.racp_search.specs.Truth.{IsExplored, IsDecision, IsPursued};
 ghost use Rattle.racp_search.specs.Ends.{AllowsNone};
 
-use crate::depth_first::{OpenSearch, search, search_further};
+use crate::course::Course;
+use crate::depth_first::{Progress, search, search_further};
 use crate::finding::Finding;
 use crate::piece::Piece;
 use crate::stop::{Never, Stop};
@@ -46,54 +47,41 @@ pub fn explore<N: OfNetwork, S: Stop>(
     Finding::after(piece, end, nodes)
 }
 
-/// Searches a piece over at most so many nodes, behind as many as were `spent` on it before, in an order of its own:
-/// order 0 is that of `explore`, and each other one is as if drawn by lot. Of threads that search one question in
-/// different orders, each passes over what the others have refuted. Answers beside the finding the search itself, where
-/// it can be gone on with; the finding then leaves the whole piece. A search before is gone on with where it is that of
-/// the piece's question; else the piece is searched from the start. Records are kept and dropped as by `explore`.
+/// Searches a piece over at most so many nodes, behind as many as were `spent` on it before, and leaves no windows: where
+/// the piece is not decided, the finding leaves the whole of it, and the course has the search open. A search that the
+/// course has open is gone on with where it is that of the piece's question; else the piece is searched from its start, in
+/// the order of the course. Of threads that search one question in different orders, each passes over what the others have
+/// refuted. Records are kept and dropped as by `explore`, and the stop is asked as there.
 pub fn pursue<N: OfNetwork, S: Stop>(
     alloc: Global,
     net: &Network,
     piece: Piece<N>,
-    before: Option<OpenSearch<N>>,
-    order: usize,
+    course: &mut Course<N>,
     spent: u64,
     most: u64,
     board: &Board<N>,
     local: &mut Local<N>,
     stop: &S,
-) -> (Finding<N>, Option<OpenSearch<N>>)
+) -> Finding<N>
     requires named { net.now ≡ N.network }
     requires formed { IsFormed net.now piece.question }
     requires few { spent + most ≤ 1000000 }
-    ensures own { result.0.piece ≡ piece }
-    ensures least { spent ≤ result.0.nodes }
-    ensures most { result.0.nodes ≤ spent + most }
+    ensures pursued { IsPursued piece spent most result }
+    ensures quiet { IsTrue S.QUIET → IsFalse result.stopped }
     ensures kept { StayKept local.old local.new }
 {
     if most == 0 {
-        return (Finding::whole(piece, spent, false), before);
+        return Finding::whole(piece, spent, false);
     }
-    let mut opened = before;
     let mut nodes = 0;
     let subject = Subject::new(net, piece.question(), board);
-    let end = search_further(
-        alloc,
-        &subject,
-        &mut opened,
-        order,
-        most,
-        &mut nodes,
-        local,
-        stop,
-    );
+    let progress = search_further(alloc, &subject, course, most, &mut nodes, local, stop);
     let nodes = spent + nodes;
-    let finding = match end {
-        Ok(Some(ended)) => Finding::after(piece, Ok(ended), nodes),
-        Ok(None) => Finding::whole(piece, nodes, false),
-        Err(_) => Finding::whole(piece, nodes, true),
-    };
-    (finding, opened)
+    match progress {
+        Ok(Progress::Decided(ended)) => Finding::after(piece, Ok(ended), nodes),
+        Ok(Progress::Open(stopped)) => Finding::whole(piece, nodes, stopped),
+        Err(_) => Finding::short_of(piece, nodes),
+    }
 }
 
 /// Whether the quantum allows no node.

@@ -1,7 +1,7 @@
 ghost use Rattle.std.specs.Prelude.{◌≡◌, IfOk, IfErr, option_copied, true};
 ghost use Rattle.racp_model.specs.Formed.{HasBounds};
 ghost use Rattle.racp_search.specs.Truth.{IsFoundOrLeft, IsTrueFinding};
-ghost use Rattle.racp_search.specs.Ends.{finding_after, unsearched};
+ghost use Rattle.racp_search.specs.Ends.{finding_after, short_of, undecided};
 
 use crate::ended::Ended;
 use crate::piece::Piece;
@@ -57,7 +57,7 @@ impl<N: OfNetwork> Finding<N> {
             IsFoundOrLeft N.network piece.question.capacities piece.question.window ended.found ended.rest.items) }
         requires bounds { HasBounds N.network piece.question.window }
         ensures ok { IfOk end (λ ended. result ≡ finding_after piece ended nodes) }
-        ensures err { IfErr end (λ _. result ≡ unsearched piece nodes true) }
+        ensures err { IfErr end (λ _. result ≡ short_of piece nodes) }
     {
         match end {
             Ok(ended) => Finding {
@@ -69,14 +69,31 @@ impl<N: OfNetwork> Finding<N> {
                 short: false,
                 of: PhantomData,
             },
-            Err(_) => Finding::whole(piece, nodes, true),
+            Err(_) => Finding::short_of(piece, nodes),
         }
     }
 
-    /// Nothing found, and the whole window of the piece left. Takes no memory.
-    pub(crate) fn whole(piece: Piece<N>, nodes: u64, short: bool) -> Self
+    /// Nothing found, and the whole window of the piece left: since the search was stopped, or since it searched as many
+    /// nodes as it may. Takes no memory.
+    pub(crate) fn whole(piece: Piece<N>, nodes: u64, stopped: bool) -> Self
         requires { HasBounds N.network piece.question.window }
-        ensures { result ≡ unsearched piece nodes short }
+        ensures { result ≡ undecided piece nodes stopped }
+    {
+        Finding {
+            piece,
+            rest: Rest::Whole,
+            found: None,
+            nodes,
+            stopped,
+            short: false,
+            of: PhantomData,
+        }
+    }
+
+    /// The same, since memory was refused.
+    pub(crate) fn short_of(piece: Piece<N>, nodes: u64) -> Self
+        requires { HasBounds N.network piece.question.window }
+        ensures { result ≡ short_of piece nodes }
     {
         Finding {
             piece,
@@ -84,7 +101,7 @@ impl<N: OfNetwork> Finding<N> {
             found: None,
             nodes,
             stopped: false,
-            short,
+            short: true,
             of: PhantomData,
         }
     }

@@ -35,9 +35,9 @@
 //! that ends early leaves of its first frames their child windows; or, where at least as many as there are jobs are
 //! still to be made, for each active job the window in which it alone is put off. It leaves as many frames so as make a
 //! few windows, and beside these the window of the next frame, in which all else that is left lies. `pursue` leaves no
-//! windows: it searches some nodes further, and answers the search itself where it is not at its end (`OpenSearch`). It can
-//! search child windows in another order than by slack, so that several threads search one question, and each passes
-//! over what the others have refuted. A search ends in any case: the place of a
+//! windows: it searches some nodes further, and where the search is not at its end then, a `Course` has it open for the
+//! next call. It can search child windows in another order than by slack, so that several threads search one question,
+//! and each passes over what the others have refuted. A search ends in any case: the place of a
 //! frame's last alternative in lexicographic order rises, and each child window has a greater sum of lower bounds than
 //! its parent, at most 10,000,000 for each job where there is a conflict. Rows and lists are used again, so a node
 //! takes memory only where its path is the longest so far, or where it becomes a record.
@@ -45,12 +45,15 @@
 //! Proved: `decide` answers starts in the window that fit, or `None` exactly where there are none. A finding of
 //! `explore` is true: the found starts answer, or what answers lies in a window of the rest, each inside the piece's
 //! window. Once a node was searched, and memory was not refused, each of these has a greater sum of lower bounds.
-//! Without a quantum, a stop and lack of memory nothing is left. The type keeps that truth, whoever holds the finding.
+//! Without a quantum, a stop and lack of memory nothing is left. A finding of `pursue` is true and decides the piece, or
+//! leaves the whole of it: where it was not stopped and memory was not refused, only behind as many nodes as it may search.
+//! The type keeps that truth, whoever holds the finding.
 //! Tested alone: that the stop is asked, that records are looked for and made, and that memory is not refused without
 //! need. In which order windows are searched, and how many, is not promised.
 #![tactic(auto)]
 
 mod child;
+mod course;
 mod depth_first;
 mod ended;
 mod entry_points;
@@ -62,7 +65,7 @@ mod stop;
 mod subject;
 mod workspace;
 
-pub use depth_first::OpenSearch;
+pub use course::Course;
 pub use entry_points::{decide, explore, pursue};
 pub use finding::{Finding, Rest};
 pub use piece::{Collector, Piece};

@@ -1,10 +1,9 @@
-ghost use Rattle.std.specs.Prelude.{◌≡◌, IfOk, length};
+ghost use Rattle.std.specs.Prelude.{◌≡◌};
 ghost use Rattle.racp_model.specs.Formed.{HasBounds, IsFormed};
 ghost use Rattle.racp_model.specs.Project.{IsSound};
 
 use racp_cutset::Board;
 use racp_model::{Capacities, Network, OfNetwork, Question, Window};
-use std::alloc::AllocError;
 use std::marker::Model;
 
 /// What a search is about: a question of the network that `N` names, and the records that all threads share. Contracts
@@ -58,16 +57,6 @@ impl<'a, N: OfNetwork> Subject<'a, N> {
         ensures { result.now ≡ self.now }
     {
         self.question
-    }
-
-    /// The same question once more.
-    pub(crate) fn question_copy(&self) -> Result<Question, AllocError>
-        ensures capacities { IfOk result (λ copy. copy.capacities ≡ self.now.capacities) }
-        ensures window { IfOk result (λ copy. copy.window ≡ self.now.window) }
-    {
-        let capacities = self.question.capacities.copy()?;
-        let window = self.question.window.copy()?;
-        Ok(Question { capacities, window })
     }
 
     /// How many units there are of each resource.

@@ -36,17 +36,17 @@ impl Workspace {
     }
 }
 
-/// The order in which child windows are searched: by their slack, or at random.
+/// The order in which child windows are searched.
 #[derive(Clone, Copy)]
 pub(crate) enum ChildOrder {
     /// By their slack.
     BySlack,
-    /// At random: the number from which the next one is made.
+    /// By pseudo-random numbers: the one from which the next is made.
     Shuffled(u64),
 }
 
 impl ChildOrder {
-    /// The order of this number: by slack for 0, else at random.
+    /// The order of this number: by slack for 0, else pseudo-random.
     pub(crate) fn of(order: usize) -> Self {
         if order == 0 {
             return ChildOrder::BySlack;

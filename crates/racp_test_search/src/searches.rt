@@ -1,6 +1,7 @@
 //! Searches of small questions, whole and in parts.
 
-ghost use Rattle.std.specs.Prelude.{◌≡◌, IfOk, length};
+ghost use Rattle.std.specs.Prelude.{◌≡◌, ◌≤◌, IfOk, length};
+ghost use Rattle.racp_model.specs.Formed.{IsFormed};
 
 use racp_cutset::{Board, Local};
 use racp_model::{NetFault, Network, OfNetwork, Question, Starts, Window};
@@ -8,7 +9,9 @@ use racp_reference::decide_by_definition;
 use racp_samples::{
     Random, SampleFault, chained, crossed, network, parallel, question, random_network, root_window,
 };
-use racp_search::{Collector, Finding, Never, Piece, Rest, Stop, decide, explore};
+use racp_search::{
+    Collector, Course, Finding, Never, Piece, Rest, Stop, decide, explore, pursue,
+};
 use std::alloc::{AllocError, Global};
 use std::cell::Cell;
 use std::marker::Brand;
@@ -391,4 +394,87 @@ fn is_the_piece(again: &Again) -> bool {
         && again.question.capacities.as_slice() == [1].as_slice()
         && window.lower() == [0, 1, 0, 1, 0, 1].as_slice()
         && window.upper() == [3; 6].as_slice()
+}
+
+/// What a search shows that goes on by so many nodes at a time, up to 100: whether starts were found, after how many nodes,
+/// and how often it was called.
+#[derive(Drop)]
+struct Pursued {
+    found: bool,
+    nodes: u64,
+    calls: u64,
+}
+
+impl Collector for Pursued {}
+
+/// A search in an order that goes on by so many nodes at a time; `None` where 100 times are not enough.
+fn pursued<N: OfNetwork>(
+    alloc: Global,
+    net: &Network,
+    asked: Question,
+    order: usize,
+    most: u64,
+) -> Result<Option<Pursued>, AllocError>
+    requires named { net.now ≡ N.network }
+    requires formed { IsFormed net.now asked }
+    requires few { most ≤ 100 }
+{
+    let board: Board<N> = Board::new(alloc, net)?;
+    let mut local: Local<N> = Local::new(alloc, net);
+    let mut course: Course<N> = Course::new();
+    course.turn_to(order);
+    let mut piece: Piece<N> = Piece::new(0, 0, 0, asked);
+    let mut nodes = 0;
+    for call in 0..100 {
+        let finding = pursue(
+            alloc, net, piece, &mut course, nodes, most, &board, &mut local, &Never,
+        );
+        nodes = finding.nodes();
+        let found = finding.found().is_some();
+        let is_decided = matches!(finding.rest(), Rest::Windows(_));
+        piece = finding.into_piece();
+        if is_decided {
+            let _ = piece.into_question::<Pursued>();
+            return Ok(Some(Pursued {
+                found,
+                nodes,
+                calls: call + 1,
+            }));
+        }
+    }
+    let _ = piece.into_question::<Pursued>();
+    Ok(None)
+}
+
+/// Whether a search of the equal jobs, each of which starts at this time at the latest, goes on as it is to: by so many
+/// nodes at a time it takes as many calls as they are parts of its nodes, and it finds what a search in one part finds.
+fn goes_on(
+    alloc: Global,
+    net: &Network,
+    latest: u32,
+    order: usize,
+    most: u64,
+) -> Result<bool, SampleFault>
+    requires { most ≤ 100 }
+{
+    let whole = searched(alloc, net, &[2], (&[0; 6], &[latest; 6]), End::Nodes(u64::MAX))?;
+    let asked = question(alloc, net, &[2], &[0; 6], &[latest; 6])?;
+    let Some(parts) = pursued::<Brand>(alloc, net, asked, order, most)? else {
+        return Ok(false);
+    };
+    Ok(parts.found == whole.found.is_some()
+        && parts.calls == parts.nodes.div_ceil(most.max(1))
+        && (order > 0 || parts.nodes == whole.nodes))
+}
+
+#[test]
+fn goes_on_where_it_came_to_a_halt(rt: HostRuntime) -> Result<(), SampleFault> {
+    let alloc = rt.alloc();
+    let net = equal(alloc)?;
+    for order in 0..3 {
+        for (latest, most) in [(3, 1), (3, 4), (4, 1), (4, 4)] {
+            assert!(rt; goes_on(alloc, &net, latest, order, most)?, "{order} {latest} {most}");
+        }
+    }
+    Ok(())
 }
