@@ -218,7 +218,7 @@ fn search<'a, N: OfNetwork, M: Names, S: Series, G: Gate, P: Stop, R: Wait>(
     for _round in rt.forever() {
         let most = slice_of(job.workers, quantum - nodes);
         let finding = pursue(
-            job.alloc, job.net, piece, course, nodes, most, job.board, local, &watch,
+            job.alloc, job.net, piece, nodes, most, job.board, local, course, &watch,
         );
         if job.workers > 1 {
             publish(rt, job.board, local);

@@ -56,11 +56,11 @@ pub fn pursue<N: OfNetwork, S: Stop>(
     alloc: Global,
     net: &Network,
     piece: Piece<N>,
-    course: &mut Course<N>,
     spent: u64,
     most: u64,
     board: &Board<N>,
     local: &mut Local<N>,
+    course: &mut Course<N>,
     stop: &S,
 ) -> Finding<N>
     requires named { net.now ≡ N.network }

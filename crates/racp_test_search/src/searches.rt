@@ -427,7 +427,7 @@ fn pursued<N: OfNetwork>(
     let mut nodes = 0;
     for call in 0..100 {
         let finding = pursue(
-            alloc, net, piece, &mut course, nodes, most, &board, &mut local, &Never,
+            alloc, net, piece, nodes, most, &board, &mut local, &mut course, &Never,
         );
         nodes = finding.nodes();
         let found = finding.found().is_some();
