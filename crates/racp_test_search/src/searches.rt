@@ -9,9 +9,7 @@ use racp_reference::decide_by_definition;
 use racp_samples::{
     Random, SampleFault, chained, crossed, network, parallel, question, random_network, root_window,
 };
-use racp_search::{
-    Collector, Course, Finding, Never, Piece, Rest, Stop, decide, explore, pursue,
-};
+use racp_search::{Collector, Course, Finding, Never, Piece, Rest, Stop, decide, explore, pursue};
 use std::alloc::{AllocError, Global};
 use std::cell::Cell;
 use std::marker::Brand;
@@ -408,7 +406,7 @@ struct Pursued {
 impl Collector for Pursued {}
 
 /// A search in an order that goes on by so many nodes at a time; `None` where 100 times are not enough.
-fn pursued<N: OfNetwork>(
+fn searched_in_parts<N: OfNetwork>(
     alloc: Global,
     net: &Network,
     asked: Question,
@@ -427,7 +425,15 @@ fn pursued<N: OfNetwork>(
     let mut nodes = 0;
     for call in 0..100 {
         let finding = pursue(
-            alloc, net, piece, nodes, most, &board, &mut local, &mut course, &Never,
+            alloc,
+            net,
+            piece,
+            nodes,
+            most,
+            &board,
+            &mut local,
+            &mut course,
+            &Never,
         );
         nodes = finding.nodes();
         let found = finding.found().is_some();
@@ -457,14 +463,22 @@ fn goes_on(
 ) -> Result<bool, SampleFault>
     requires { most ≤ 100 }
 {
-    let whole = searched(alloc, net, &[2], (&[0; 6], &[latest; 6]), End::Nodes(u64::MAX))?;
+    let whole = searched(
+        alloc,
+        net,
+        &[2],
+        (&[0; 6], &[latest; 6]),
+        End::Nodes(u64::MAX),
+    )?;
     let asked = question(alloc, net, &[2], &[0; 6], &[latest; 6])?;
-    let Some(parts) = pursued::<Brand>(alloc, net, asked, order, most)? else {
+    let Some(parts) = searched_in_parts::<Brand>(alloc, net, asked, order, most)? else {
         return Ok(false);
     };
-    Ok(parts.found == whole.found.is_some()
-        && parts.calls == parts.nodes.div_ceil(most.max(1))
-        && (order > 0 || parts.nodes == whole.nodes))
+    Ok(
+        parts.found == whole.found.is_some()
+            && parts.calls == parts.nodes.div_ceil(most.max(1))
+            && (order > 0 || parts.nodes == whole.nodes),
+    )
 }
 
 #[test]
@@ -473,7 +487,10 @@ fn goes_on_where_it_came_to_a_halt(rt: HostRuntime) -> Result<(), SampleFault> {
     let net = equal(alloc)?;
     for order in 0..3 {
         for (latest, most) in [(3, 1), (3, 4), (4, 1), (4, 4)] {
-            assert!(rt; goes_on(alloc, &net, latest, order, most)?, "{order} {latest} {most}");
+            assert!(rt;
+                goes_on(alloc, &net, latest, order, most)?,
+                "{order} {latest} {most}"
+            );
         }
     }
     Ok(())
