@@ -3,6 +3,7 @@ use Rattle.std.specs.Prelude.{◌≡◌, ◌≢◌, ◌↔◌, ℕ, ◌<◌, ◌
 use Rattle.std.specs.declared.alloc.AllocError.{AllocError}
 use Rattle.racp_model.specs.Project.{Project}
 use Rattle.racp_model.specs.Window.{Bounds, Answers}
+use Rattle.racp_model.specs.declared.question.Question.{Question}
 use Rattle.racp_search.specs.Truth.{SearchPiece, SearchFinding, IsFoundOrLeft}
 use Rattle.racp_search.specs.DepthFirst.{SearchFrame, IsHigher, IsSearching, IsSearchingNext}
 use Rattle.racp_search.specs.Steps.{IsLeft}
@@ -80,6 +81,12 @@ pub record IsHalfway (most nodes : ℕ) (quiet stopped : Bool) : Type 0 where
 abbrev pub IsProgress : Project → List ℕ → Bounds → ℕ → ℕ → Bool → Progress → Type 0
 IsProgress p capacities window most nodes quiet (Decided ended) = IsDecided p capacities window nodes ended
 IsProgress p capacities window most nodes quiet (Open stopped) = IsHalfway most nodes quiet stopped
+
+-- the question of the search that can be gone on with behind it
+abbrev pub begun_after : Question → Result Progress AllocError → Option Question
+begun_after question (Ok (Open stopped)) = Some question
+begun_after question (Ok (Decided ended)) = None
+begun_after question (Err error) = None
 
 -- one that came to none, for want of memory, does not end
 abbrev pub IsFinished : Project → List ℕ → Bounds → Result Halt AllocError → Ended → Type 0

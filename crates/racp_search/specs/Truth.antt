@@ -84,6 +84,16 @@ pub record IsPursued (piece : SearchPiece) (spent most : ℕ) (finding : SearchF
   pub all : IsFalse finding.stopped → IsFalse finding.short → left_windows finding ≢ [] → finding.nodes ≡ spent + most
   pub whole : left_windows finding ≢ [] → finding.rest ≡ Whole
 
+-- what a thread goes on with: the order in which it searches child windows, and the question of the search that it has open
+pub record SearchCourse : Type 0 where
+  pub order : ℕ
+  pub begun : Option Question
+
+-- what such a search of a piece leaves to go on with: in the same order, the search of the piece, where that is not decided
+pub record IsOnCourse (piece : SearchPiece) (most : ℕ) (finding : SearchFinding) (before after : SearchCourse) : Type 0 where
+  pub order : after.order ≡ before.order
+  pub begun : 0 < most → IsFalse finding.short → left_windows finding ≢ [] → after.begun ≡ Some piece.question
+
 -- what is decided of a question: starts that answer it, or that nothing does
 abbrev pub IsDecision : Project → List ℕ → Bounds → Option (List ℕ) → Type 0
 IsDecision p capacities window (Some starts) = Answers p capacities window starts

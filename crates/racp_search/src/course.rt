@@ -1,29 +1,42 @@
-ghost use Rattle.std.specs.Prelude.{◌≡◌, IfOk};
+ghost use Rattle.std.specs.Prelude.{◌≡◌, IfOk, None, Some};
 
 use crate::depth_first::OpenSearch;
 use crate::subject::Subject;
 use racp_model::OfNetwork;
 use std::alloc::{AllocError, Global};
+use std::marker::Model;
 
 /// What a thread goes on with from one call of `pursue` to the next: the order in which it searches child windows, and the
-/// search that it has open.
+/// search that it has open. Contracts see a `SearchCourse`: the order, and the question of the open search.
 #[derive(Drop)]
 pub struct Course<N: OfNetwork> {
     order: usize,
-    open: Option<OpenSearch<N>>,
+    begun: Option<OpenSearch<N>>,
+}
+
+impl<N: OfNetwork> Model for Course<N> {
+    ghost use Rattle.racp_search.specs.Truth.{SearchCourse};
+
+    ghost Value = { SearchCourse };
+
+    ghost view = { λ course. record { order = course.order; begun = course.begun } };
 }
 
 impl<N: OfNetwork> Course<N> {
     /// The order of `explore`, and no search open. Takes no memory.
-    pub fn new() -> Self {
+    pub fn new() -> Self
+        ensures { result ≡ record { order = 0; begun = None } }
+    {
         Course {
             order: 0,
-            open: None,
+            begun: None,
         }
     }
 
     /// Searches that begin from now on are in this order: 0 is that of `explore`, and each other one is pseudo-random.
-    pub fn turn_to(&mut self, order: usize) {
+    pub fn turn_to(&mut self, order: usize)
+        ensures { self.new ≡ record { order = order; begun = self.old.begun } }
+    {
         self.order = order;
     }
 
@@ -33,16 +46,19 @@ impl<N: OfNetwork> Course<N> {
         alloc: Global,
         subject: &Subject<N>,
     ) -> Result<OpenSearch<N>, AllocError>
-        ensures { IfOk result (λ start. start ≡ subject.now) }
+        ensures start { IfOk result (λ start. start ≡ subject.now) }
+        ensures course { self.new ≡ record { order = self.old.order; begun = None } }
     {
-        match self.open.take() {
+        match self.begun.take() {
             Some(before) => before.or_new(alloc, subject, self.order),
             None => OpenSearch::new(alloc, subject, self.order),
         }
     }
 
     /// Keeps a search open.
-    pub(crate) fn keep(&mut self, search: OpenSearch<N>) {
-        self.open = Some(search);
+    pub(crate) fn keep(&mut self, search: OpenSearch<N>)
+        ensures { self.new ≡ record { order = self.old.order; begun = Some search } }
+    {
+        self.begun = Some(search);
     }
 }

@@ -3,7 +3,7 @@ ghost use Rattle.racp_search.specs.declared.depth_first.Halt.TheVariants.{Left};
 ghost use Rattle.racp_model.specs.Window.{IsNo};
 ghost use Rattle.racp_cutset.specs.Kept.{StayKept, front};
 ghost use Rattle.racp_search.specs.DepthFirst.{IsSearching, IsSearchingNext};
-ghost use Rattle.racp_search.specs.Ends.{IsEnd, IsEndOf, IsFinished, IsHalt, IsHaltOf, IsProgress, IsSpent};
+ghost use Rattle.racp_search.specs.Ends.{IsEnd, IsEndOf, IsFinished, IsHalt, IsHaltOf, IsProgress, IsSpent, begun_after};
 ghost use Rattle.racp_search.specs.Steps.{HasFirst, IsEntered, IsFirstLeft, IsFrontWindow, IsLeft, IsNextAnswer, IsKeptSomeOrDropped, IsStep};
 
 use crate::course::Course;
@@ -60,6 +60,7 @@ pub(crate) fn search_further<N: OfNetwork, S: Stop>(
     requires nodes { nodes.old ≡ 0 }
     ensures progress { IfOk result (IsProgress N.network subject.now.capacities subject.now.window most nodes.new S.QUIET) }
     ensures nodes { nodes.new ≤ most }
+    ensures course { course.new ≡ record { order = course.old.order; begun = begun_after subject.now result } }
     ensures kept { StayKept local.old local.new }
 {
     let open = course.start(alloc, subject)?;

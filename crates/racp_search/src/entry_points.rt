@@ -1,7 +1,7 @@
 ghost use Rattle.std.specs.Prelude.{◌≡◌, ◌+◌, ◌≤◌, IsTrue, IsFalse, IfOk};
 ghost use Rattle.racp_model.specs.Formed.{IsFormed};
 ghost use Rattle.racp_cutset.specs.Kept.{StayKept};
-ghost use Rattle.racp_search.specs.Truth.{IsExplored, IsDecision, IsPursued};
+ghost use Rattle.racp_search.specs.Truth.{IsExplored, IsDecision, IsOnCourse, IsPursued};
 ghost use Rattle.racp_search.specs.Ends.{AllowsNone};
 
 use crate::course::Course;
@@ -67,6 +67,7 @@ pub fn pursue<N: OfNetwork, S: Stop>(
     requires formed { IsFormed net.now piece.question }
     requires few { spent + most ≤ 1000000 }
     ensures pursued { IsPursued piece spent most result }
+    ensures course { IsOnCourse piece most result course.old course.new }
     ensures quiet { IsTrue S.QUIET → IsFalse result.stopped }
     ensures kept { StayKept local.old local.new }
 {
