@@ -4,21 +4,24 @@ use racp_model::Network;
 use racp_samples::texts::{CHAINED, CROSSED, PARALLEL};
 use racp_sm::read_sm;
 use std::alloc::{AllocError, Global};
-use std::test::Fail;
 
 /// A text, the duration and the requests of each job, and the pairs of jobs.
-type Sample = (&'static [u8], &'static [u32], &'static [(u32, u32)]);
+struct Sample {
+    text: &'static [u8],
+    jobs: &'static [u32],
+    arcs: &'static [(u32, u32)],
+}
 
 const SAMPLES: &[Sample] = &[
-    (
-        PARALLEL,
-        &[0, 0, 3, 2, 2, 1, 2, 1, 0, 0],
-        &[(1, 2), (1, 3), (1, 4), (2, 5), (3, 5), (4, 5)],
-    ),
-    (
-        CROSSED,
-        &[0, 0, 0, 1, 1, 0, 1, 1, 0, 1, 0, 1, 1, 0, 1, 0, 0, 0],
-        &[
+    Sample {
+        text: PARALLEL,
+        jobs: &[0, 0, 3, 2, 2, 1, 2, 1, 0, 0],
+        arcs: &[(1, 2), (1, 3), (1, 4), (2, 5), (3, 5), (4, 5)],
+    },
+    Sample {
+        text: CROSSED,
+        jobs: &[0, 0, 0, 1, 1, 0, 1, 1, 0, 1, 0, 1, 1, 0, 1, 0, 0, 0],
+        arcs: &[
             (1, 2),
             (1, 3),
             (2, 4),
@@ -28,12 +31,12 @@ const SAMPLES: &[Sample] = &[
             (4, 6),
             (5, 6),
         ],
-    ),
-    (
-        CHAINED,
-        &[0, 0, 4, 1, 1, 1, 3, 2, 4, 1, 0, 0],
-        &[(1, 2), (1, 3), (2, 6), (3, 4), (4, 5), (5, 6)],
-    ),
+    },
+    Sample {
+        text: CHAINED,
+        jobs: &[0, 0, 4, 1, 1, 1, 3, 2, 4, 1, 0, 0],
+        arcs: &[(1, 2), (1, 3), (2, 6), (3, 4), (4, 5), (5, 6)],
+    },
 ];
 
 /// The duration and the requests of each job in turn.
@@ -48,12 +51,20 @@ fn numbers(alloc: Global, net: &Network) -> Result<Vec<u32>, AllocError> {
     Ok(numbers)
 }
 
+/// Whether the text of a sample is read as its numbers.
+fn is_read(alloc: Global, sample: &Sample) -> bool {
+    let Ok(net) = read_sm(alloc, sample.text) else {
+        return false;
+    };
+    let Ok(jobs) = numbers(alloc, &net) else {
+        return false;
+    };
+    jobs.as_slice() == sample.jobs && net.arcs() == sample.arcs
+}
+
 #[test]
-fn are_read_number_by_number(rt: HostRuntime) -> Result<(), Fail> {
-    for &(text, jobs, arcs) in SAMPLES {
-        let net = read_sm(rt.alloc(), text)?;
-        assert_eq!(rt; numbers(rt.alloc(), &net)?.as_slice(), jobs);
-        assert_eq!(rt; net.arcs(), arcs);
+fn are_read_number_by_number(rt: HostRuntime) {
+    for sample in SAMPLES {
+        assert!(rt; is_read(rt.alloc(), sample));
     }
-    Ok(())
 }

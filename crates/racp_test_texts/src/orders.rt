@@ -1,71 +1,117 @@
 //! What order texts are read as, and what capacities cost on the terms of an order.
 
+use racp_model::Network;
 use racp_prices::{Order, OrderFault, cost_of, read_order};
-use racp_samples::{SampleFault, crossed};
-use std::alloc::{AllocError, Global};
-use std::test::Fail;
+use racp_samples::crossed;
+use std::alloc::Global;
 
 /// An order with all keys.
 const WHOLE: &str =
     "version = 2\ndeadline = 8\nprices = [10]\nowned = [2]\nceiling = [4]\nrelease = [0, 1, 0, 0, 0]\ndue = [9, 8, 7, 8, 8]\n";
 
-/// Texts, and the numbers of the orders that they are, for one resource and five jobs: the deadline, the price, how many units
-/// are owned, the release times, the due times, and the ceiling, where there is one.
-const ORDERS: &[(&str, &[u32])] = &[
-    (
-        "deadline = 4\nprices = [10]\n",
-        &[4, 10, 0, 0, 0, 0, 0, 0, 4, 4, 4, 4, 4],
-    ),
-    (
-        "deadline = 4\r\nprices = [10]\r\n",
-        &[4, 10, 0, 0, 0, 0, 0, 0, 4, 4, 4, 4, 4],
-    ),
-    (
-        "prices=[10,] # a unit\n\n\"deadline\" = +4",
-        &[4, 10, 0, 0, 0, 0, 0, 0, 4, 4, 4, 4, 4],
-    ),
-    (
-        "version = 2\ndeadline = 4\nprices = [10]",
-        &[4, 10, 0, 0, 0, 0, 0, 0, 4, 4, 4, 4, 4],
-    ),
-    ("deadline = 0\nprices = [0]", &[0; 13]),
-    (
-        "deadline = 0x10\nprices = [\n  0b11\n]",
-        &[16, 3, 0, 0, 0, 0, 0, 0, 16, 16, 16, 16, 16],
-    ),
-    (
-        "deadline = 10_000_000\nprices = [1_000_000]",
-        &[
-            10_000_000, 1_000_000, 0, 0, 0, 0, 0, 0, 10_000_000, 10_000_000, 10_000_000,
-            10_000_000, 10_000_000,
-        ],
-    ),
-    (WHOLE, &[8, 10, 2, 0, 1, 0, 0, 0, 8, 8, 7, 8, 8, 4]),
+/// A text, and the order that it is for one resource and five jobs.
+struct Sample {
+    text: &'static str,
+    deadline: u32,
+    prices: &'static [u32],
+    owned: &'static [u32],
+    ceilings: Option<&'static [u32]>,
+    release: &'static [u32],
+    due: &'static [u32],
+}
+
+/// An order that names the deadline and the prices alone.
+const SHORT: Sample = Sample {
+    text: "deadline = 4\nprices = [10]\n",
+    deadline: 4,
+    prices: &[10],
+    owned: &[0],
+    ceilings: None,
+    release: &[0; 5],
+    due: &[4; 5],
+};
+
+const SAMPLES: &[Sample] = &[
+    SHORT,
+    Sample {
+        text: "deadline = 4\r\nprices = [10]\r\n",
+        ..SHORT
+    },
+    Sample {
+        text: "prices=[10,] # a unit\n\n\"deadline\" = +4",
+        ..SHORT
+    },
+    Sample {
+        text: "version = 2\ndeadline = 4\nprices = [10]",
+        ..SHORT
+    },
+    Sample {
+        text: "deadline = 0\nprices = [0]",
+        deadline: 0,
+        prices: &[0],
+        due: &[0; 5],
+        ..SHORT
+    },
+    Sample {
+        text: "deadline = 0x10\nprices = [\n  0b11\n]",
+        deadline: 16,
+        prices: &[3],
+        due: &[16; 5],
+        ..SHORT
+    },
+    Sample {
+        text: "deadline = 10_000_000\nprices = [1_000_000]",
+        deadline: 10_000_000,
+        prices: &[1_000_000],
+        due: &[10_000_000; 5],
+        ..SHORT
+    },
+    Sample {
+        text: WHOLE,
+        deadline: 8,
+        prices: &[10],
+        owned: &[2],
+        ceilings: Some(&[4]),
+        release: &[0, 1, 0, 0, 0],
+        due: &[8, 8, 7, 8, 8],
+    },
 ];
 
-/// The numbers of an order in turn.
-fn numbers(alloc: Global, order: &Order) -> Result<Vec<u32>, AllocError> {
-    let mut numbers = [order.deadline].to_vec(alloc)?;
-    for list in [&order.prices, &order.owned, &order.release, &order.due] {
-        numbers.extend_from_slice(list)?;
+/// Whether an order has the numbers of a sample.
+fn has_numbers(order: &Order, sample: &Sample) -> bool {
+    order.deadline == sample.deadline
+        && order.prices.as_slice() == sample.prices
+        && order.owned.as_slice() == sample.owned
+        && has_ceilings(order, sample)
+        && order.release.as_slice() == sample.release
+        && order.due.as_slice() == sample.due
+}
+
+fn has_ceilings(order: &Order, sample: &Sample) -> bool {
+    match (&order.ceilings, sample.ceilings) {
+        (Some(ceilings), Some(wanted)) => ceilings.as_slice() == wanted,
+        (None, None) => true,
+        _ => false,
     }
-    if let Some(ceilings) = &order.ceilings {
-        numbers.extend_from_slice(ceilings)?;
+}
+
+/// Whether the text of a sample is read as its numbers.
+fn is_read(alloc: Global, sample: &Sample) -> bool {
+    match read_order(alloc, sample.text.as_bytes(), 1, 5) {
+        Ok(order) => has_numbers(&order, sample),
+        Err(_) => false,
     }
-    Ok(numbers)
 }
 
 #[test]
-fn are_read_number_by_number(rt: HostRuntime) -> Result<(), Fail> {
-    for &(text, want) in ORDERS {
-        let order = read_order(rt.alloc(), text.as_bytes(), 1, 5)?;
-        assert_eq!(rt; numbers(rt.alloc(), &order)?.as_slice(), want, "{text}");
+fn are_read_number_by_number(rt: HostRuntime) {
+    for sample in SAMPLES {
+        assert!(rt; is_read(rt.alloc(), sample), "{}", sample.text);
     }
-    Ok(())
 }
 
 /// The lengths of the beginnings that are orders: they end with a line, or right before a line feed, from the prices on.
-const CUTS: [usize; 10] = [38, 39, 50, 51, 64, 65, 90, 91, 112, 113];
+const CUTS: &[usize] = &[38, 39, 50, 51, 64, 65, 90, 91, 112, 113];
 
 /// Whether so many bytes of an order are an order, or no TOML, or lack a key.
 fn is_order(alloc: Global, length: usize) -> Option<bool> {
@@ -79,29 +125,64 @@ fn is_order(alloc: Global, length: usize) -> Option<bool> {
 #[test]
 fn are_refused_where_they_are_cut(rt: HostRuntime) {
     for length in 0..=WHOLE.len() {
-        assert_eq!(rt;
-            is_order(rt.alloc(), length),
-            Some(CUTS.contains(&length)),
-            "{length}"
-        );
+        let wanted = Some(CUTS.contains(&length));
+        assert!(rt; is_order(rt.alloc(), length) == wanted, "{length}");
     }
 }
 
-/// What these capacities of two resources cost, at the prices 3 and 5, where four units of the second are owned.
-fn cost(alloc: Global, capacities: &[u32; 2]) -> Result<u64, Fail> {
-    let net = crossed(alloc)?;
-    let text = b"version = 2\ndeadline = 9\nprices = [3, 5]\nowned = [0, 4]";
-    let order = read_order(alloc, text, 2, 6)?;
-    if !order.is_for(&net) || net.resource_count() != 2 {
-        return Err(Fail::from(SampleFault::NoSample));
+/// An order with the prices 3 and 5, where four units of the second resource are owned.
+const OWNED: &[u8] = b"version = 2\ndeadline = 9\nprices = [3, 5]\nowned = [0, 4]";
+
+/// Capacities of two resources, and what they cost.
+struct Cost {
+    capacities: &'static [u32],
+    cost: u64,
+}
+
+const COSTS: &[Cost] = &[
+    Cost {
+        capacities: &[2, 3],
+        cost: 6,
+    },
+    Cost {
+        capacities: &[2, 7],
+        cost: 21,
+    },
+    Cost {
+        capacities: &[0, 4],
+        cost: 0,
+    },
+];
+
+/// Whether capacities cost so much.
+fn is_cost(net: &Network, order: &Order, wanted: &Cost) -> bool {
+    order.is_for(net)
+        && wanted.capacities.len() == net.resource_count()
+        && cost_of(net, order, wanted.capacities) == wanted.cost
+}
+
+/// Whether each of the capacities costs on the terms of the order what it is to cost.
+fn are_costs(net: &Network, order: &Order) -> bool {
+    for wanted in COSTS {
+        if !is_cost(net, order, wanted) {
+            return false;
+        }
     }
-    Ok(cost_of(&net, &order, capacities))
+    true
+}
+
+/// The same, of the six jobs with two resources.
+fn are_costs_of_six_jobs(alloc: Global) -> bool {
+    let Ok(net) = crossed(alloc) else {
+        return false;
+    };
+    match read_order(alloc, OWNED, 2, 6) {
+        Ok(order) => are_costs(&net, &order),
+        Err(_) => false,
+    }
 }
 
 #[test]
-fn tell_what_capacities_cost(rt: HostRuntime) -> Result<(), Fail> {
-    for (capacities, want) in [([2, 3], 6), ([2, 7], 21), ([0, 4], 0)] {
-        assert_eq!(rt; cost(rt.alloc(), &capacities)?, want);
-    }
-    Ok(())
+fn tell_what_capacities_cost(rt: HostRuntime) {
+    assert!(rt; are_costs_of_six_jobs(rt.alloc()));
 }
