@@ -1,5 +1,6 @@
 pub mod lemmas
 mod Cutting
 mod Learning
+mod Foreseeing
 mod Halves
 mod Cheapest

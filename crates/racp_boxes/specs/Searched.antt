@@ -76,6 +76,10 @@ pub record IsSpan (s : Subject) (span : Span) : Type 0 where
   pub bounds : IsAtMost s.net.now span.low span.high
   pub within : IsAtMost s.net.now span.high s.roofs.now
 
+-- boxes of such vectors
+abbrev pub AreSpans : Subject → List Span → Type 0
+AreSpans s spans = (span : Span) → Contains spans span → IsSpan s span
+
 -- no vector of a box, with which some starts fit, stands before the best one
 abbrev pub HasNoneBefore : Subject → Span → List ℕ → Type 0
 HasNoneBefore s span best = (vector : List ℕ) → IsBetween span.low span.high vector →

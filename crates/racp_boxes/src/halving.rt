@@ -1,24 +1,28 @@
 //! The search of a box by halves.
 
-ghost use Rattle.std.specs.Prelude.{◌≡◌, ℕ, ◌<◌, ◌≤◌, None, IfOk, IfErr, length, slice_index};
-ghost use Rattle.racp_model.specs.Formed.{HasBounds};
+ghost use Rattle.std.specs.Prelude.{◌≡◌, ℕ, ◌<◌, ◌≤◌, [], ◌∷◌, ◌++◌, None, IfOk, IfErr, IfSome, length, slice_index};
+ghost use Rattle.racp_model.specs.Formed.{HasBounds, IsFormed};
 ghost use Rattle.racp_model.specs.Plan.{IsLeast};
 ghost use Rattle.racp_model.specs.Terms.{AreTermsOf, IsBefore};
 ghost use Rattle.racp_questions.specs.FirstYes.{IsProbeStop};
 ghost use Rattle.racp_boxes.specs.Enough.{AreFloorsOf, IsEnoughWithin, IsLeastCost};
-ghost use Rattle.racp_boxes.specs.Searched.{AreHalved, CostAtLeast, HasAllBelow, IsKnown, IsSearched, IsSpan, IsSubject, IsWidest};
+ghost use Rattle.racp_boxes.specs.Searched.{AreHalved, AreSpans, CostAtLeast, HasAllBelow, IsKnown, IsSearched, IsSpan, IsSubject, IsWidest};
 
 use crate::cut::cut;
 use crate::known::Known;
 use crate::subject::Subject;
 use racp_candidates::AnySeries;
-use racp_model::{Capacities, Network, Window};
+use racp_model::{Capacities, Network, Question, Window};
 use racp_prices::{Order, cost_of};
 use racp_questions::{AskStop, Asker};
 use std::alloc::{AllocError, Global};
+use std::collections::VecDeque;
 
 /// How many nodes a question about a box of more than one vector may take.
 const MOST_NODES: u64 = 64000;
+
+/// How many boxes the asker is told that come next.
+const MOST_FORESEEN: usize = 3;
 
 /// The first vector, by cost and then lexicographically, of those that are within the roofs and with which some starts
 /// in the window fit. All of these are at or above the floors, and the roofs are one of them. Resources stand by place,
@@ -58,7 +62,16 @@ pub fn first_enough<A: Asker<AnySeries>>(
         root,
         roofs,
     };
-    search(alloc, &subject, &mut known, whole, u64::MAX, asker)?;
+    let mut pending = Vec::new(alloc);
+    search(
+        alloc,
+        &subject,
+        &mut known,
+        whole,
+        &mut pending,
+        u64::MAX,
+        asker,
+    )?;
     Ok(known.best)
 }
 
@@ -69,6 +82,18 @@ struct Span {
     high: Capacities,
 }
 
+impl Span {
+    /// A copy.
+    fn copy(&self) -> Result<Self, AllocError>
+        ensures { IfOk result (λ copy. copy ≡ self.now) }
+    {
+        Ok(Span {
+            low: self.low.copy()?,
+            high: self.high.copy()?,
+        })
+    }
+}
+
 /// Searches a box of vectors: what is then known as the best vector is none that another one of the box, with which
 /// some starts fit, stands before. All vectors within the roofs with which some starts fit and that cost less than `rest`
 /// are in the box. The asker is told what they cost at least.
@@ -77,6 +102,7 @@ fn search<A: Asker<AnySeries>>(
     subject: &Subject,
     known: &mut Known,
     span: Span,
+    pending: &mut Vec<Span>,
     rest: u64,
     asker: &mut A,
 ) -> Result<(), AskStop>
@@ -84,10 +110,12 @@ fn search<A: Asker<AnySeries>>(
     requires subject { IsSubject subject.now }
     requires span { IsSpan subject.now span }
     requires known { IsKnown subject.now known.old }
+    requires pending { AreSpans subject.now pending.old.items }
     requires rest { HasAllBelow subject.now span rest }
     requires heard { (least : ℕ) → CostAtLeast subject.now least → A.may_hear_cost least }
     ensures network { A.about asker.new subject.now.net.now }
     ensures searched { IfOk result (λ _. IsSearched subject.now span known.old known.new) }
+    ensures pending { IfOk result (λ _. AreSpans subject.now pending.new.items) }
     ensures answered { A.answered asker.new ≡ A.answered asker.old }
     ensures stop { IfErr result (IsProbeStop (A.told asker.new) (A.may_stop asker.new) (A.may_want_thread asker.new)) }
 {
@@ -99,6 +127,7 @@ fn search<A: Asker<AnySeries>>(
     };
     let lane = widest(order, &low, &high);
     let most = most_nodes(lane);
+    foresee(alloc, subject, known, pending, asker)?;
     let told = known.ask(alloc, subject, &high, most, asker)?;
     if told.is_refuted() {
         return Ok(());
@@ -109,9 +138,71 @@ fn search<A: Asker<AnySeries>>(
     let (below, above) = halved(low, high, k)?;
     let other = cost_of(net, order, above.low.as_slice());
     let rest_of_below = rest.min(known.cost).min(other);
-    search(alloc, subject, known, below, rest_of_below, asker)?;
+    push_copy(pending, &above)?;
+    search(alloc, subject, known, below, pending, rest_of_below, asker)?;
+    let _ = pending.pop();
     let rest_of_above = rest.min(known.cost);
-    search(alloc, subject, known, above, rest_of_above, asker)
+    search(alloc, subject, known, above, pending, rest_of_above, asker)
+}
+
+/// Puts a copy of a box behind others.
+fn push_copy(pending: &mut Vec<Span>, span: &Span) -> Result<(), AllocError>
+    ensures { IfOk result (λ _. pending.new.items ≡ pending.old.items ++ span.now ∷ []) }
+{
+    pending.push(span.copy()?)?;
+    Ok(())
+}
+
+/// Tells the asker what is asked for next as long as each box is refuted: the high vectors of the last boxes that are
+/// pending, as they would be cut now.
+fn foresee<A: Asker<AnySeries>>(
+    alloc: Global,
+    subject: &Subject,
+    known: &Known,
+    pending: &Vec<Span>,
+    asker: &mut A,
+) -> Result<(), AllocError>
+    requires named { A.about asker.old subject.now.net.now }
+    requires subject { IsSubject subject.now }
+    requires known { IsKnown subject.now known.now }
+    requires pending { AreSpans subject.now pending.now.items }
+    ensures network { A.about asker.new subject.now.net.now }
+    ensures answered { A.answered asker.new ≡ A.answered asker.old }
+{
+    let mut ahead = VecDeque::new(alloc);
+    for back in 0..pending.len().min(MOST_FORESEEN) {
+        let span = &pending[pending.len() - 1 - back];
+        if let Some(question) = question_about(alloc, subject, known, span)? {
+            ahead.push_back(question)?;
+        }
+    }
+    asker.foresee(subject.net, ahead);
+    Ok(())
+}
+
+/// The question about a box, as it would be asked now: the high vector, cut. `None` where it would not be asked.
+fn question_about(
+    alloc: Global,
+    subject: &Subject,
+    known: &Known,
+    span: &Span,
+) -> Result<Option<Question>, AllocError>
+    requires subject { IsSubject subject.now }
+    requires known { IsKnown subject.now known.now }
+    requires span { IsSpan subject.now span.now }
+    ensures { IfOk result (λ question. IfSome question (IsFormed subject.now.net.now)) }
+{
+    let (net, order) = (subject.net, subject.order);
+    let Some(high) = cut(alloc, net, order, known, &span.low, &span.high)? else {
+        return Ok(None);
+    };
+    if known.refutes(&high) {
+        return Ok(None);
+    }
+    Ok(Some(Question {
+        capacities: high,
+        window: subject.root.copy()?,
+    }))
 }
 
 /// The two halves of a box along the resource at place `k`: that with fewer units, and the other one.

@@ -81,7 +81,7 @@ impl Known {
     }
 
     /// Whether the vector is at most a refuted one.
-    fn refutes(&self, units: &Capacities) -> bool
+    pub(crate) fn refutes(&self, units: &Capacities) -> bool
         requires { (other : List ℕ) → Contains self.now.refuted.items other → length other ≡ length units.now }
         ensures { IsTrue result → IsRefutedBy self.now.refuted.items units.now }
     {

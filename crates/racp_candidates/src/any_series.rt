@@ -1,3 +1,4 @@
+use crate::listed::Listed;
 use crate::one::One;
 use crate::singles::Singles;
 use crate::start_values::Starts1;
@@ -15,6 +16,8 @@ pub enum AnySeries {
     Singles(Singles),
     /// One question.
     One(One),
+    /// Listed questions.
+    Listed(Listed),
     /// The starts of one job.
     Starts1(Starts1),
 }
@@ -29,6 +32,7 @@ impl Series for AnySeries {
             AnySeries::Vectors(series) => series.next(),
             AnySeries::Singles(series) => series.next(),
             AnySeries::One(series) => series.next(),
+            AnySeries::Listed(series) => series.next(),
             AnySeries::Starts1(series) => series.next(),
         }
     }

@@ -8,7 +8,7 @@
 //! questions, given one by one (racp_questions). By the first yes of a series a planner learns the least number of
 //! units of a resource (`Singles`), the cheapest capacities (`Vectors`), the least start of a job (`Starts1`), or
 //! whether one question is a yes (`One`). A planner asks one asker about all of these, so it hands each over as an
-//! `AnySeries`.
+//! `AnySeries`; an asker that also searches the questions that come next makes a `Listed` of them.
 //!
 //! The box has the capacity vectors between floors and roofs that are, of each refuted pair, above the floor of one of
 //! the two resources. `Vectors` asks them in the order of vectors: by cost, of which owned units have none, and at
@@ -42,6 +42,7 @@ mod copies;
 mod entry;
 mod frontier;
 pub mod laws;
+mod listed;
 mod one;
 mod pairs;
 mod singles;
@@ -49,6 +50,7 @@ mod start_values;
 mod vectors;
 
 pub use any_series::AnySeries;
+pub use listed::Listed;
 pub use one::One;
 pub use racp_questions::{AskStop, Asker, First, Series};
 pub use singles::Singles;

@@ -1,13 +1,11 @@
 -- What a run of a desk tells an asker.
-use Rattle.std.proofs.Common.{◌≡◌, ◌⊎◌, inl, inr, ℕ, zero, suc, ◌+◌, ◌<◌, ◌≤◌, Bool, true, false, List, [], ◌∷◌, length, Option, Some, None, Result, Ok, Err, IfOk, IfErr, refl, sym, subst, arith}
+use Rattle.std.proofs.Common.{◌≡◌, ◌⊎◌, inl, inr, ℕ, zero, suc, ◌+◌, ◌≤◌, Bool, true, false, List, ◌∷◌, length, Option, None, Result, Ok, Err, IfOk, IfErr, refl, sym, subst, arith}
 use Rattle.std.proofs.lemmas.Bool.{false≢true}
 use Rattle.std.specs.Prelude.{◌↔◌, ⊤, IsTrue}
 use Rattle.racp_model.specs.Project.{Project}
-use Rattle.racp_model.specs.Window.{Answers}
 use Rattle.racp_model.specs.declared.question.Question.{Question}
-use Rattle.racp_questions.specs.FirstYes.{question_at, IsFirst, IsStop, IsReached, IsProbed, IsProbeStop}
+use Rattle.racp_questions.specs.FirstYes.{IsFirst, IsStop, IsReached, IsProbed, IsProbeStop}
 use Rattle.racp_questions.specs.declared.asker.First.{First}
-use Rattle.racp_questions.specs.declared.asker.Probe.{Probe}
 use Rattle.racp_questions.specs.declared.asker.AskStop.{AskStop}
 use Rattle.racp_questions.specs.declared.asker.AskStop.TheVariants.{Stopped, Memory, NoThread}
 use Rattle.racp_core.specs.Replies.{IsOutcomeKnown}
@@ -67,23 +65,22 @@ stop_right p n questions turns left quiet closed told (Err (Stopped reached)) sa
 stop_right p n questions turns left quiet closed told (Err Memory) same h sum is = (tt, tt)
 stop_right p n questions turns left quiet closed told (Err NoThread) same h sum is = absurd is
 
--- what a run about one question tells of it
-probed_by : (p : Project) (question : Question) (most : Option ℕ) (left : ℕ) (quiet : Bool) (log : List Entry) (outcome : Outcome) (is_over : Bool) → IsOutcomeKnown p (question ∷ []) outcome →
+-- what a run about a question and about those behind it tells of it
+probed_by : (p : Project) (question : Question) (behind : List Question) (most : Option ℕ) (left : ℕ) (quiet : Bool) (log : List Entry) (outcome : Outcome) (is_over : Bool) → IsOutcomeKnown p (question ∷ behind) outcome →
     (IsTrue is_over ↔ IsOver most left quiet log) →
     IfOk (probe_by outcome is_over) (IsProbed p question most)
-probed_by p question most left quiet log (FirstOutcome index starts) is_over known over =
-    let first : index ≡ 0 = (let low = known.0.0 in omega (arith, low)) in
-    subst (λ (i : ℕ). Answers p (question_at (question ∷ []) i).capacities (question_at (question ∷ []) i).window starts) first known.1
-probed_by p question most left quiet log NoYes is_over known over = known 0 (omega arith)
-probed_by p question most left quiet log (Open (suc index)) is_over known over = known 0 (omega arith)
-probed_by p question most left quiet log (Open zero) true known over = tt
-probed_by p question most left quiet log (Open zero) false known over = λ none. absurd (false≢true (over.1 (inl none)))
+probed_by p question behind most left quiet log (FirstOutcome zero starts) is_over known over = known.1
+probed_by p question behind most left quiet log (FirstOutcome (suc index) starts) is_over known over = known.0.2 0 (omega arith)
+probed_by p question behind most left quiet log NoYes is_over known over = known 0 (omega arith)
+probed_by p question behind most left quiet log (Open (suc index)) is_over known over = known 0 (omega arith)
+probed_by p question behind most left quiet log (Open zero) true known over = tt
+probed_by p question behind most left quiet log (Open zero) false known over = λ none. absurd (false≢true (over.1 (inl none)))
 
-pub probe_right : (p n : Project) (question : Question) (questions : List Question) (most : Option ℕ) (turns left : ℕ) (quiet : Bool) (closed : Closed) (is_over : Bool) → p ≡ n →
-    questions ≡ question ∷ [] → IsRunClosed n questions turns quiet closed → (IsTrue is_over ↔ IsOver most left quiet closed.log.items) → IfOk (probe_by closed.outcome is_over) (IsProbed p question most)
-probe_right p n question questions most turns left quiet closed is_over same one h over =
-    let known : IsOutcomeKnown n (question ∷ []) closed.outcome = subst (λ (qs : List Question). IsOutcomeKnown n qs closed.outcome) one h.closed_is.known in
-    probed_by p question most left quiet closed.log.items closed.outcome is_over (subst (λ (q : Project). IsOutcomeKnown q (question ∷ []) closed.outcome) (sym same) known) over
+pub probe_right : (p n : Project) (question : Question) (behind questions : List Question) (most : Option ℕ) (turns left : ℕ) (quiet : Bool) (closed : Closed) (is_over : Bool) → p ≡ n →
+    questions ≡ question ∷ behind → IsRunClosed n questions turns quiet closed → (IsTrue is_over ↔ IsOver most left quiet closed.log.items) → IfOk (probe_by closed.outcome is_over) (IsProbed p question most)
+probe_right p n question behind questions most turns left quiet closed is_over same listed h over =
+    let known : IsOutcomeKnown n (question ∷ behind) closed.outcome = subst (λ (qs : List Question). IsOutcomeKnown n qs closed.outcome) listed h.closed_is.known in
+    probed_by p question behind most left quiet closed.log.items closed.outcome is_over (subst (λ (q : Project). IsOutcomeKnown q (question ∷ behind) closed.outcome) (sym same) known) over
 
 over_ending : (n : Project) (questions : List Question) (most : Option ℕ) (turns before left : ℕ) (quiet : Bool) (closed : Closed) (outcome : Outcome) →
     IsRunClosed n questions turns quiet closed → left + closed.pieces ≡ before → (most ≡ None → turns ≡ before) → IsOpenFor (tally closed.log.items) outcome → IsLeftOpen outcome →
@@ -97,7 +94,8 @@ over_ending n questions most turns before left quiet closed outcome h sum all si
 probe_ends : (n : Project) (questions : List Question) (most : Option ℕ) (turns before left : ℕ) (quiet : Bool) (closed : Closed) (outcome : Outcome) (is_over : Bool)
     (told : Option (List ℕ)) → IsRunClosed n questions turns quiet closed → left + closed.pieces ≡ before → (most ≡ None → turns ≡ before) → IsOpenFor (tally closed.log.items) outcome →
     (IsTrue is_over ↔ IsOver most left quiet closed.log.items) → told ≡ None → IfErr (probe_by outcome is_over) (IsProbeStop told ((left ≡ 0) ⊎ (quiet ≡ false)) ⊤)
-probe_ends n questions most turns before left quiet closed (FirstOutcome index starts) is_over told h sum all since over untold = tt
+probe_ends n questions most turns before left quiet closed (FirstOutcome zero starts) is_over told h sum all since over untold = tt
+probe_ends n questions most turns before left quiet closed (FirstOutcome (suc index) starts) is_over told h sum all since over untold = tt
 probe_ends n questions most turns before left quiet closed NoYes is_over told h sum all since over untold = tt
 probe_ends n questions most turns before left quiet closed (Open (suc index)) is_over told h sum all since over untold = tt
 probe_ends n questions most turns before left quiet closed (Open zero) true told h sum all since over untold =

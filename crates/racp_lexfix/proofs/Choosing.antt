@@ -1,6 +1,5 @@
 -- From the questions of the box to the capacities of the plan.
-use Rattle.std.proofs.Common.{◌≡◌, ◌∙◌, ℕ, ◌-◌, ◌*◌, ◌<◌, ◌≤◌, List, length, slice_index, inl, inr, Option, Some, None, Contains, refl, sym, ap, subst, arith}
-use Rattle.std.proofs.Math.Nat.{mul-le-mul_left}
+use Rattle.std.proofs.Common.{◌≡◌, ◌∙◌, ℕ, ◌<◌, ◌≤◌, List, length, slice_index, inl, inr, Option, Some, None, Contains, refl, sym, ap, subst, arith}
 use Rattle.std.proofs.lemmas.Bool.{cases_lt}
 use Rattle.std.proofs.lemmas.List.{get_or_read}
 use Rattle.std.proofs.lemmas.List.Elements.{Contains-get_or}
@@ -10,9 +9,8 @@ use Rattle.racp_model.specs.Terms.{Terms, AreTermsOf, release_of, due_of, cost, 
 use Rattle.racp_model.specs.Plan.{IsLeast, IsEnough}
 use Rattle.racp_model.specs.Window.{Bounds, Answers, IsYes, IsRootWindow}
 use Rattle.racp_model.specs.declared.question.Question.{Question}
-use Rattle.racp_model.proofs.lemmas.Sums.{sum_below-mono}
-use Rattle.racp_model.proofs.lemmas.Orders.{HasFirstPlace, first_from_lex, lower-same}
-use Rattle.racp_model.proofs.lemmas.Costs.{before_cases, before_trans, before_apart, cheaper-before, lesser-before}
+use Rattle.racp_model.proofs.lemmas.Orders.{lower-same}
+use Rattle.racp_model.proofs.lemmas.Costs.{before_trans, before_apart, cheaper-before, lesser-before}
 use Rattle.racp_model.proofs.lemmas.Usage.{fits-peaks, peaks-below}
 use Rattle.racp_model.proofs.lemmas.Cuts.{cut, cut-at, cut_places, cut_admitting, cut_before}
 use Rattle.racp_cpm.proofs.lemmas.Rooted.{answers-fit}

@@ -1,14 +1,14 @@
 -- The first capacities that are enough, by halves of their box.
-use Rattle.std.proofs.Common.{◌≡◌, ◌∙◌, ℕ, ◌<◌, ◌≤◌, List, [], ◌∷◌, length, slice_index, Option, Some, None, IfSome, refl, sym, ap, subst, arith}
+use Rattle.std.proofs.Common.{◌≡◌, ◌∙◌, ℕ, List, [], ◌∷◌, length, Option, Some, None, IfSome, sym, ap, subst, arith}
 use Rattle.racp_model.specs.Project.{Project}
 use Rattle.racp_model.specs.Terms.{Terms, AreTermsOf, release_of, due_of, IsBefore}
 use Rattle.racp_model.specs.Plan.{IsLeast, IsEnough}
-use Rattle.racp_model.specs.Window.{Bounds, IsYes, IsRootWindow}
+use Rattle.racp_model.specs.Window.{Bounds, IsRootWindow}
 use Rattle.racp_model.specs.declared.question.Question.{Question}
 use Rattle.racp_model.proofs.lemmas.Cuts.{cut, cut_places}
 use Rattle.racp_bounds.specs.declared.sharp.Sharp.{Sharp}
 use Rattle.racp_bounds.proofs.lemmas.Sharpened.{admitting_above_sharpened, admitting_yes, all_sharpened}
-use Rattle.racp_boxes.specs.Enough.{AreFloorsOf, IsAtMost, IsEnoughWithin}
+use Rattle.racp_boxes.specs.Enough.{AreFloorsOf, IsEnoughWithin}
 use Rattle.racp_boxes.proofs.lemmas.AtMost.{at_most-before}
 use Rattle.racp_candidates.specs.Questions.{question_of}
 use Rattle.racp_questions.specs.declared.asker.AskStop.{AskStop}

@@ -58,10 +58,12 @@ IsAnsweredBy closed told (Err NoThread) = ⊥
 abbrev pub IsOver : Option ℕ → ℕ → Bool → List Entry → Type 0
 IsOver most left quiet log = (most ≡ None) ⊎ ((left ≡ 0) ⊎ ((quiet ≡ false) × Contains log (Halted Stop)))
 
--- what a run about one question tells of it; where the first place that is open is behind the question, it is a no; where
+-- what a run about a question and about those behind it tells of it; where the first yes, or the first place that is open,
+-- is behind the question, it is a no; where
 -- the question is open, and no further run is to come, the asker stops
 abbrev pub probe_by : Outcome → (is_over : Bool) → Result Probe AskStop
-probe_by (FirstOutcome index starts) is_over = Ok (ProbedYes starts)
+probe_by (FirstOutcome zero starts) is_over = Ok (ProbedYes starts)
+probe_by (FirstOutcome (suc index) starts) is_over = Ok ProbedNo
 probe_by NoYes is_over = Ok ProbedNo
 probe_by (Open (suc index)) is_over = Ok ProbedNo
 probe_by (Open zero) true = Err (Stopped None)

@@ -1,6 +1,7 @@
 //! An asker that runs a desk of workers for each series.
 
-ghost use Rattle.std.specs.Prelude.{◌≡◌, ◌↔◌, ◌⊎◌, ⊤, false, ◌+◌, ◌*◌, ◌/◌, ◌≤◌, None, min, Contains, OnOk, OnErr, IfOk, IfErr, IfSome, IsTrue};
+ghost use Rattle.std.specs.Prelude.{◌≡◌, ◌↔◌, ◌⊎◌, ⊤, false, ◌+◌, ◌*◌, ◌/◌, ◌≤◌, ◌∷◌, None, min, Contains, OnOk, OnErr, IfOk, IfErr, IfSome, IsTrue};
+ghost use Rattle.std.specs.Option.{ForSome};
 ghost use Rattle.racp_model.specs.Formed.{AreFormed, IsFormed};
 ghost use Rattle.racp_questions.specs.FirstYes.{IsProbed, IsProbeStop};
 ghost use Rattle.racp_questions.specs.declared.asker.Probe.TheVariants.{Open};
@@ -11,13 +12,14 @@ ghost use Rattle.racp_desk.specs.declared.log.Entry.TheVariants.{Halted};
 ghost use Rattle.racp_lexfix.specs.Crowds.{IsAnsweredBy, IsFault, IsOver, RunsDesks, probe_by};
 
 use crate::observer::Observer;
-use racp_candidates::{AnySeries, One};
+use racp_candidates::{AnySeries, Listed, One};
 use racp_core::Outcome;
 use racp_desk::{Cause, Closed, DeskFault, Entry};
 use racp_model::{Capacities, Network, OfNetwork, Question};
 use racp_questions::{AskStop, Asker, First, Probe};
 use racp_search::Stop;
 use std::alloc::AllocError;
+use std::collections::VecDeque;
 use std::marker::PhantomData;
 
 /// How many nodes of a question one worker searches before the others are started: many questions take no more.
@@ -38,7 +40,8 @@ pub struct Effort {
 /// Answers series of questions about the network that `N` names, each by a run of a desk, and counts the turns over all
 /// of them: a turn is a piece that is taken. It is handed a call that runs a desk about a series with so many turns and
 /// a stop `P`. It stops only where no turn is left, or where its stop is not quiet. What it is told of planning it tells an
-/// observer.
+/// observer. Several workers that search a question with a bound on its nodes also search those that come next: what they
+/// refute of these is a record, by which such a question takes one node when it is asked.
 #[derive(Drop)]
 pub struct Crowd<
     N: OfNetwork,
@@ -55,11 +58,13 @@ pub struct Crowd<
     nodes: u64,
     answered: u64,
     told: Option<Capacities>,
+    ahead: Option<VecDeque<Question>>,
     of: PhantomData<(N, P)>,
     ghost workers_few: { workers ≤ 64 },
     ghost turns_few: { turns ≤ 1000000000000 },
     ghost counted: { left + pieces ≡ turns },
     ghost nodes_few: { nodes ≤ 1000000 * pieces },
+    ghost ahead_formed: { ForSome ahead (λ list. AreFormed N.network list.items) },
 }
 
 impl<
@@ -86,6 +91,7 @@ impl<
             nodes: 0,
             answered: 0,
             told: None,
+            ahead: None,
             of: PhantomData,
         }
     }
@@ -173,9 +179,37 @@ impl<
             ((self.new.left ≡ 0) ⊎ (P.QUIET ≡ false)) ⊤) }
     {
         let quantum = quantum_for(most);
-        let turns = turns_for(quantum, most, self.left);
+        let turns = turns_for(quantum, most, 1, self.left);
         let series = One::of(question);
         let closed = self.closed(AnySeries::One(series), workers, quantum, turns)?;
+        let Closed { outcome, log, .. } = closed;
+        let is_over = self.is_over(most, &log);
+        probe_of(outcome, is_over)
+    }
+
+    /// What a run of all workers about a question, whose nodes may have a bound, and about those behind it tells of the first.
+    fn probe_ahead(
+        &mut self,
+        question: Question,
+        ahead: VecDeque<Question>,
+        most: Option<u64>,
+    ) -> Result<Probe, AskStop>
+        requires formed { IsFormed N.network question }
+        requires ahead { AreFormed N.network ahead.items }
+        requires run { RunsDesks N.network P.QUIET (F.pre self.old.run) (F.post self.old.run) }
+        requires untold { self.old.told ≡ None }
+        ensures run { self.new.run ≡ self.old.run }
+        ensures answered { self.new.answered ≡ self.old.answered }
+        ensures told { self.new.told ≡ None }
+        ensures probed { IfOk result (IsProbed N.network question most) }
+        ensures stop { IfErr result (IsProbeStop (self.new.told)
+            ((self.new.left ≡ 0) ⊎ (P.QUIET ≡ false)) ⊤) }
+    {
+        let questions = listed(question, ahead)?;
+        let quantum = quantum_for(most);
+        let turns = turns_for(quantum, most, questions.len() as u64, self.left);
+        let series = Listed::of(questions);
+        let closed = self.closed(AnySeries::Listed(series), self.workers, quantum, turns)?;
         let Closed { outcome, log, .. } = closed;
         let is_over = self.is_over(most, &log);
         probe_of(outcome, is_over)
@@ -227,15 +261,15 @@ fn quantum_for(most: Option<u64>) -> u64
     }
 }
 
-/// How many turns of `quantum` nodes the search of a question may take whose nodes have this bound, of those that are
-/// left.
-fn turns_for(quantum: u64, most: Option<u64>, left: u64) -> u64
+/// How many turns of `quantum` nodes the search of so many questions may take whose nodes have this bound, of those that
+/// are left.
+fn turns_for(quantum: u64, most: Option<u64>, questions: u64, left: u64) -> u64
     requires { 1 ≤ quantum }
     ensures most { result ≤ left }
     ensures all { most ≡ None → result ≡ left }
 {
     match most {
-        Some(nodes) => nodes.div_ceil(quantum).min(left),
+        Some(nodes) => nodes.div_ceil(quantum).saturating_mul(questions).min(left),
         None => left,
     }
 }
@@ -263,6 +297,15 @@ fn was_stopped(log: &[Entry]) -> bool
         .any(|entry| matches!(entry, Entry::Halted(Cause::Stop)))
 }
 
+/// A question, and those behind it.
+fn listed(question: Question, ahead: VecDeque<Question>) -> Result<VecDeque<Question>, AllocError>
+    ensures { IfOk result (λ list. list.items ≡ question ∷ ahead.items) }
+{
+    let mut list = ahead;
+    list.push_front(question)?;
+    Ok(list)
+}
+
 /// A copy of what was reached.
 fn copy_of(reached: &Option<Capacities>) -> Result<Option<Capacities>, AllocError>
     ensures { IfOk result (λ copy. copy ≡ reached.now) }
@@ -273,13 +316,19 @@ fn copy_of(reached: &Option<Capacities>) -> Result<Option<Capacities>, AllocErro
     }
 }
 
-/// What the run about a question tells of it. Where the run is open behind the question, that is a no: the turns were
-/// used up before the end of the series was seen.
+/// What the run about a question, and about those behind it, tells of it. Where the first yes or the first place that is
+/// open is behind the question, that is a no.
 fn probe_of(outcome: Outcome, is_over: bool) -> Result<Probe, AskStop>
     ensures { result ≡ probe_by outcome is_over }
 {
     match outcome {
-        Outcome::First { index: _, starts } => Ok(Probe::Yes(starts)),
+        Outcome::First { index, starts } => {
+            if index > 0 {
+                Ok(Probe::No)
+            } else {
+                Ok(Probe::Yes(starts))
+            }
+        }
         Outcome::NoYes => Ok(Probe::No),
         Outcome::Open { first_open } => {
             if first_open > 0 {
@@ -333,14 +382,22 @@ impl<
         if self.left == 0 {
             return Err(AskStop::Stopped { reached: None });
         }
+        let ahead = self.ahead.take();
         if self.workers <= 1 {
             return self.probe_with(question, 1, most);
         }
         let glimpse = self.probe_with(question.copy()?, 1, Some(glimpse_of(most)))?;
-        if is_open(&glimpse) {
-            return self.probe_with(question, self.workers, most);
+        if !is_open(&glimpse) {
+            return Ok(glimpse);
         }
-        Ok(glimpse)
+        match ahead {
+            Some(ahead) if most.is_some() => self.probe_ahead(question, ahead, most),
+            _ => self.probe_with(question, self.workers, most),
+        }
+    }
+
+    fn foresee(&mut self, _net: &Network, ahead: VecDeque<Question>) {
+        self.ahead = Some(ahead);
     }
 
     fn hear_floors(&self, floors: &Capacities) {

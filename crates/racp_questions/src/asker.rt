@@ -1,6 +1,7 @@
 use crate::series::Series;
 use racp_model::{Capacities, Network, Question, Starts};
 use std::alloc::AllocError;
+use std::collections::VecDeque;
 use thiserror::Error;
 
 /// The first yes of a series.
@@ -110,6 +111,15 @@ pub trait Asker<S: Series> {
         ensures probed { IfOk result (IsProbed net.now question most) }
         ensures answered { answered self.new ≡ answered self.old }
         ensures stop { IfErr result (IsProbeStop (told self.new) (may_stop self.new) (may_want_thread self.new)) };
+
+    /// Is told which questions come next as long as each that is asked before is a no, the first one first. It may search
+    /// them beside the next question that it is asked. What it makes of them changes no answer.
+    fn foresee(&mut self, _net: &Network, _ahead: VecDeque<Question>)
+        requires named { about self.old _net.now }
+        requires formed { AreFormed _net.now _ahead.items }
+        ensures network { about self.new _net.now }
+        ensures answered { answered self.new ≡ answered self.old }
+    {}
 
     /// Is told floors that planning has come to.
     fn hear_floors(&self, _floors: &Capacities)

@@ -26,7 +26,8 @@
 //! first yes, with starts that answer it, or that each question is a no. It says how many series it has answered, what
 //! it told when it last stopped, and for which reasons it may give up; memory may always run out. Of a single question
 //! `probe` tells starts that answer it, or that it is a no; or nothing, where the search was given a bound and reached
-//! it.
+//! it. By `foresee` it is told which questions come next as long as each is a no, so that it can have them searched at
+//! the same time; no answer changes by that.
 //!
 //! Proved: in `laws`, a list of questions has at most one first yes. There is no code to prove but the traits' and that
 //! a refusal of memory is `AskStop::Memory`; what implementors promise is proved where they stand.

@@ -1,8 +1,9 @@
 use Rattle.std.proofs.Common.{◌≡◌, None, min, arith, rules}
 use Rattle.racp_model.specs.Terms.{cost}
 use Rattle.std.proofs.lemmas.Result.{IfOk-weaker}
-use Rattle.racp_boxes.specs.Searched.{HasAllBelow, IsSearched}
+use Rattle.racp_boxes.specs.Searched.{AreSpans, HasAllBelow, IsSearched}
 use Rattle.racp_boxes.proofs.Cheapest.{above-has_all, below-has_all, told-least}
+use Rattle.racp_boxes.proofs.Foreseeing.{spans-popped, spans-pushed}
 use Rattle.racp_boxes.proofs.Halves.{AreHalves, cut_some, enough_not_before, halved-halves, refuted_no, searched-both, searched-one, searched-refuted, widest_none, widest_some}
 use Rattle.racp_boxes.proofs.halving.+search.Goals as goal
 
@@ -37,6 +38,8 @@ search-requires g t c κs within =
     let has : HasAllBelow s c.in_ok-below.below c.min-rest_of_below.result =
     below-has_all s c.requires.subject c.args.span c.requires.span c.args.rest c.requires.rest c.ask.new.self known (c.in_ok-below.below, c.in_ok-below.above) are c.min-rest_of_below.result
     (omega (arith, then, first)) (omega (arith, then, first)) (omega (arith, then, other)) in
+    let pending : AreSpans s c.push_copy.new.pending.items =
+    spans-pushed s c.args.pending.now.items c.push_copy.new.pending.items c.in_ok-below.above c.requires.pending are.above c.in_ok-push_copy.ensures in
     search rules
 
 pub search-requires-2 : goal.search-requires-2
@@ -51,6 +54,8 @@ search-requires-2 g t c κs within =
     let has : HasAllBelow s c.in_ok-below.above c.min-rest_of_above.result =
     above-has_all s c.requires.subject c.args.span c.requires.span c.args.rest c.requires.rest c.ask.new.self known (c.in_ok-below.below, c.in_ok-below.above) are c.search.new.known c.min-rest_of_above.result
     c.in_ok-search.ensures.searched (omega (arith, c.min-rest_of_above.ensures)) (omega (arith, c.min-rest_of_above.ensures)) in
+    let pending : AreSpans s c.pop.new.self.items =
+    spans-popped s c.search.new.pending.items c.pop.new.self.items c.pop.result c.in_ok-search.ensures.pending c.pop.ensures.items in
     search rules
 
 pub returns-clause-searched : goal.returns-clause-searched

@@ -1,4 +1,4 @@
-use Rattle.std.proofs.Common.{◌≡◌, ◌≤◌}
+use Rattle.std.proofs.Common.{◌≤◌}
 use Rattle.racp_lexfix.specs.Fixing.{IsFixedBefore}
 use Rattle.racp_lexfix.proofs.starts.least_starts.Given as goal
 

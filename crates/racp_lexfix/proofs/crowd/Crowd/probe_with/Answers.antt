@@ -1,4 +1,4 @@
-use Rattle.std.proofs.Common.{◌≡◌, ◌⊎◌, ◌∙◌, false, IfOk, IfErr, Result, List, refl, subst, sym}
+use Rattle.std.proofs.Common.{◌≡◌, ◌⊎◌, ◌∙◌, [], false, IfOk, IfErr, Result, List, refl, subst, sym}
 use Rattle.std.specs.Prelude.{◌↔◌, ⊤, IsTrue}
 use Rattle.racp_questions.specs.FirstYes.{IsProbed, IsProbeStop}
 use Rattle.racp_questions.specs.declared.asker.Probe.{Probe}
@@ -13,7 +13,7 @@ returns-clause-probed g c =
     let over : IsTrue c.is_over-is_over.result ↔ IsOver c.args.most c.closed.new.self.left g.P.Stop.QUIET c.in_ok-closed.closed.log.items =
     subst (λ (log : List Entry). IsTrue c.is_over-is_over.result ↔ IsOver c.args.most c.closed.new.self.left g.P.Stop.QUIET log) c.deref.ensures.value c.is_over-is_over.ensures in
     subst (λ (r : Result Probe AskStop). IfOk r (IsProbed g.N.OfNetwork.network c.args.question c.args.most)) (sym c.probe_of.ensures)
-    (probe_right g.N.OfNetwork.network g.N.OfNetwork.network c.args.question c.of-series.result c.args.most c.turns_for-turns.result c.closed.new.self.left g.P.Stop.QUIET c.in_ok-closed.closed c.is_over-is_over.result refl
+    (probe_right g.N.OfNetwork.network g.N.OfNetwork.network c.args.question [] c.of-series.result c.args.most c.turns_for-turns.result c.closed.new.self.left g.P.Stop.QUIET c.in_ok-closed.closed c.is_over-is_over.result refl
     c.of-series.ensures c.in_ok-closed.ensures.closed over)
 
 pub returns-clause-stop : goal.returns-clause-stop

@@ -2,7 +2,7 @@ use Rattle.std.proofs.Common.{◌≡◌, ◌∙◌, arith, subst, sym}
 use Rattle.racp_lexfix.specs.Answers.{IsPlanStop}
 use Rattle.racp_lexfix.specs.Stages.{IsStoppedInBox}
 use Rattle.racp_lexfix.specs.declared.answer.PlanStop.{PlanStop}
-use Rattle.racp_lexfix.proofs.Halving.{first_stopped, halves_stopped, roofs_enough, sharp_floors, within_least}
+use Rattle.racp_lexfix.proofs.Halving.{first_stopped, halves_stopped, sharp_floors, within_least}
 use Rattle.racp_lexfix.proofs.Telling.{within_cost}
 use Rattle.racp_lexfix.proofs.planning.VectorBox.cheapest.Goals as goal
 
