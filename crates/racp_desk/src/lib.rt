@@ -34,7 +34,8 @@
 //! the board has room. It leaves where the answer is
 //! known or the desk is halted. It halts the desk where the user has asked to stop, where as many pieces were taken as
 //! there are turns and none is out, and where memory was refused. What it kept of its own goes to the board when it leaves,
-//! for the workers of the next run; where each question was a no, what it kept in this run is forgotten. A hint stands beside
+//! for the workers of the next run; where each question was a no, what it kept in this run is forgotten, and a worker that is
+//! alone forgets what it kept of a question once that is a no. A hint stands beside
 //! the lock: the least place of a yes that came in, so that a search of the same or a later question, which is of no use,
 //! is left at its next node.
 //!

@@ -268,6 +268,11 @@ fn is_decided<N: OfNetwork>(finding: &Finding<N>) -> bool {
     }
 }
 
+/// Whether a finding refutes its question: nothing is left, and no starts are found.
+fn is_refuted<N: OfNetwork>(finding: &Finding<N>) -> bool {
+    finding.found().is_none() && is_decided(finding)
+}
+
 /// Shares the records that the worker kept, while the board has room.
 fn publish<N: OfNetwork, R: Wait>(rt: &R, board: &Board<N>, local: &mut Local<N>) {
     while !board.is_full() {
@@ -420,7 +425,8 @@ pub(crate) fn work<'a, N: OfNetwork, M: Names, S: Series, G: Gate, P: Stop, R: W
     bring_back(mine)
 }
 
-/// Searches a piece or a double and those that come after it, until there is nothing more to do.
+/// Searches a piece or a double and those that come after it, until there is nothing more to do. A worker that is alone
+/// forgets what it kept of a question once that is a no, as a search on one thread does.
 fn go_on<'a, N: OfNetwork, M: Names, S: Series, G: Gate, P: Stop, R: Wait>(
     rt: &R,
     shared: &Shared<'a, N, M, S, G, P>,
@@ -433,6 +439,7 @@ fn go_on<'a, N: OfNetwork, M: Names, S: Series, G: Gate, P: Stop, R: Wait>(
     requires formed { IsFormedHeld N.network work }
     ensures { mine.new.parts ≡ mine.old.parts }
 {
+    let kept = local.kept_count();
     let mut course = Course::new();
     let mut work = work;
     for _round in rt.forever() {
@@ -445,6 +452,9 @@ fn go_on<'a, N: OfNetwork, M: Names, S: Series, G: Gate, P: Stop, R: Wait>(
         };
         course.turn_to(order_at(seat, is_own));
         let Searched { finding, by_user } = search(rt, shared, piece, &mut course, local);
+        if shared.job.workers < 2 && is_refuted(&finding) {
+            local.forget_behind(kept);
+        }
         let next = if is_own || is_decided(&finding) {
             hand_in(rt, shared, finding, by_user, seat, mine)
         } else {

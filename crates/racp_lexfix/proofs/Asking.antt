@@ -1,7 +1,10 @@
 -- What a run of a desk tells an asker.
-use Rattle.std.proofs.Common.{◌≡◌, ◌⊎◌, inl, inr, ℕ, zero, suc, ◌+◌, ◌≤◌, Bool, true, false, List, ◌∷◌, length, Option, None, Result, Ok, Err, IfOk, IfErr, refl, sym, subst, arith}
+use Rattle.std.proofs.Common.{◌≡◌, ◌⊎◌, inl, inr, ℕ, zero, suc, ◌+◌, ◌≤◌, Bool, true, false, List, [], ◌∷◌, length, Option, Some, None, Result, Ok, Err, IfOk, IfErr, refl, sym, subst, arith}
 use Rattle.std.proofs.lemmas.Bool.{false≢true}
-use Rattle.std.specs.Prelude.{◌↔◌, ⊤, IsTrue}
+use Rattle.std.proofs.lemmas.List.Elements.{Contains-append_cases, Contains-push_cases}
+use Rattle.std.specs.Option.{ForSome}
+use Rattle.std.specs.Prelude.{◌↔◌, ⊤, Contains, IsTrue, option_map}
+use Rattle.racp_model.specs.Formed.{AreFormed, IsFormed}
 use Rattle.racp_model.specs.Project.{Project}
 use Rattle.racp_model.specs.declared.question.Question.{Question}
 use Rattle.racp_questions.specs.FirstYes.{IsFirst, IsStop, IsReached, IsProbed, IsProbeStop}
@@ -17,7 +20,7 @@ use Rattle.racp_desk.specs.declared.state.Closed.{Closed}
 use Rattle.racp_desk.specs.Log.{tally}
 use Rattle.racp_desk.specs.Closing.{IsRunClosed, IsOpenFor, IsEnding}
 use Rattle.racp_desk.proofs.lemmas.Legal.{HasCause, IsWithin, legal_within}
-use Rattle.racp_lexfix.specs.Crowds.{IsFirstBy, IsLeftOpen, IsAnsweredBy, IsOver, probe_by}
+use Rattle.racp_lexfix.specs.Crowds.{IsFirstBy, IsLeftOpen, IsAnsweredBy, IsOver, behind, probe_by}
 
 -- what is known of the log of a run
 within : (p : Project) (questions : List Question) (turns : ℕ) (quiet : Bool) (closed : Closed) → IsRunClosed p questions turns quiet closed → IsWithin turns quiet (tally closed.log.items)
@@ -107,3 +110,19 @@ pub probe_stop_right : (n : Project) (questions : List Question) (most : Option 
     told ≡ None → IfErr (probe_by closed.outcome is_over) (IsProbeStop told ((left ≡ 0) ⊎ (quiet ≡ false)) ⊤)
 probe_stop_right n questions most turns before left quiet closed is_over told h sum all over untold =
     probe_ends n questions most turns before left quiet closed closed.outcome is_over told h sum all h.open_for over untold
+
+-- a question and those behind it are of the project's form
+formed_cons : (p : Project) (question : Question) (behind : List Question) → IsFormed p question → AreFormed p behind → AreFormed p (question ∷ behind)
+formed_cons p question behind formed all other h =
+    elim (Contains-append_cases (question ∷ []) behind other h) [
+      | inl first ↦ subst (IsFormed p) (is_first first) formed
+      | inr later ↦ all other later
+    ]
+  where
+    is_first : Contains (question ∷ []) other → question ≡ other
+    is_first first = elim (Contains-push_cases [] question other first) [ inl none ↦ absurd (omega (arith, none.1)) | inr same ↦ same ]
+
+pub formed_with : {T : Type 0} → (p : Project) (question : Question) (ahead : Option T) (items : T → List Question) → IsFormed p question → ForSome ahead (λ list. AreFormed p (items list)) →
+    AreFormed p (question ∷ behind (option_map items ahead))
+formed_with p question (Some list) items formed all = formed_cons p question (items list) formed (all list refl)
+formed_with p question None items formed all = formed_cons p question [] formed (λ other none. absurd (omega (arith, none.1)))

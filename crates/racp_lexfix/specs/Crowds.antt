@@ -1,7 +1,8 @@
 -- What an asker with workers is handed, and what it answers.
-use Rattle.std.specs.Prelude.{◌≡◌, ◌⊎◌, ℕ, zero, suc, ◌≤◌, Bool, true, false, List, Option, None, Result, Ok, Err, IfOk, Contains, ⊤}
+use Rattle.std.specs.Prelude.{◌≡◌, ◌⊎◌, ℕ, zero, suc, ◌≤◌, Bool, true, false, List, [], Option, Some, None, Result, Ok, Err, IfOk, Contains, ⊤}
 use Rattle.racp_model.specs.Project.{Project}
 use Rattle.racp_model.specs.Formed.{AreFormed}
+use Rattle.racp_model.specs.declared.question.Question.{Question}
 use Rattle.racp_questions.specs.declared.asker.First.{First}
 use Rattle.racp_questions.specs.declared.asker.First.TheVariants.{Yes, None as NoneIs}
 use Rattle.racp_questions.specs.declared.asker.Probe.{Probe}
@@ -57,6 +58,11 @@ IsAnsweredBy closed told (Err NoThread) = ⊥
 -- no further run is to come after one that left its question open: it had all turns, no turn is left, or it was stopped
 abbrev pub IsOver : Option ℕ → ℕ → Bool → List Entry → Type 0
 IsOver most left quiet log = (most ≡ None) ⊎ ((left ≡ 0) ⊎ ((quiet ≡ false) × Contains log (Halted Stop)))
+
+-- the questions behind another: those of a list, or none where there is no list
+abbrev pub behind : Option (List Question) → List Question
+behind (Some questions) = questions
+behind None = []
 
 -- what a run about a question and about those behind it tells of it; where the first yes, or the first place that is open,
 -- is behind the question, it is a no; where

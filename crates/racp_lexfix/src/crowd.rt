@@ -1,6 +1,6 @@
 //! An asker that runs a desk of workers for each series.
 
-ghost use Rattle.std.specs.Prelude.{◌≡◌, ◌↔◌, ◌⊎◌, ⊤, false, ◌+◌, ◌*◌, ◌/◌, ◌≤◌, ◌∷◌, None, min, Contains, OnOk, OnErr, IfOk, IfErr, IfSome, IsTrue};
+ghost use Rattle.std.specs.Prelude.{◌≡◌, ◌↔◌, ◌⊎◌, ⊤, false, ◌+◌, ◌*◌, ◌/◌, ◌≤◌, ◌∷◌, None, min, Contains, OnOk, OnErr, IfOk, IfErr, IfSome, IsTrue, option_map};
 ghost use Rattle.std.specs.Option.{ForSome};
 ghost use Rattle.racp_model.specs.Formed.{AreFormed, IsFormed};
 ghost use Rattle.racp_questions.specs.FirstYes.{IsProbed, IsProbeStop};
@@ -9,7 +9,7 @@ ghost use Rattle.racp_candidates.specs.AnySeries.{any_questions};
 ghost use Rattle.racp_desk.specs.Closing.{IsRunClosed};
 ghost use Rattle.racp_desk.specs.declared.log.Cause.TheVariants.{Stop};
 ghost use Rattle.racp_desk.specs.declared.log.Entry.TheVariants.{Halted};
-ghost use Rattle.racp_lexfix.specs.Crowds.{IsAnsweredBy, IsFault, IsOver, RunsDesks, probe_by};
+ghost use Rattle.racp_lexfix.specs.Crowds.{IsAnsweredBy, IsFault, IsOver, RunsDesks, behind, probe_by};
 
 use crate::observer::Observer;
 use racp_candidates::{AnySeries, Listed, One};
@@ -160,15 +160,18 @@ impl<
         self.nodes += nodes;
     }
 
-    /// What a run of so many workers about a question tells, whose nodes may have a bound.
+    /// What a run of so many workers about a question, whose nodes may have a bound, and about those behind it tells of the
+    /// first.
     fn probe_with(
         &mut self,
         question: Question,
+        ahead: Option<VecDeque<Question>>,
         workers: usize,
         most: Option<u64>,
     ) -> Result<Probe, AskStop>
         requires workers { workers ≤ 64 }
         requires formed { IsFormed N.network question }
+        requires ahead { ForSome ahead (λ list. AreFormed N.network list.items) }
         requires run { RunsDesks N.network P.QUIET (F.pre self.old.run) (F.post self.old.run) }
         requires untold { self.old.told ≡ None }
         ensures run { self.new.run ≡ self.old.run }
@@ -179,37 +182,9 @@ impl<
             ((self.new.left ≡ 0) ⊎ (P.QUIET ≡ false)) ⊤) }
     {
         let quantum = quantum_for(most);
-        let turns = turns_for(quantum, most, 1, self.left);
-        let series = One::of(question);
-        let closed = self.closed(AnySeries::One(series), workers, quantum, turns)?;
-        let Closed { outcome, log, .. } = closed;
-        let is_over = self.is_over(most, &log);
-        probe_of(outcome, is_over)
-    }
-
-    /// What a run of all workers about a question, whose nodes may have a bound, and about those behind it tells of the first.
-    fn probe_ahead(
-        &mut self,
-        question: Question,
-        ahead: VecDeque<Question>,
-        most: Option<u64>,
-    ) -> Result<Probe, AskStop>
-        requires formed { IsFormed N.network question }
-        requires ahead { AreFormed N.network ahead.items }
-        requires run { RunsDesks N.network P.QUIET (F.pre self.old.run) (F.post self.old.run) }
-        requires untold { self.old.told ≡ None }
-        ensures run { self.new.run ≡ self.old.run }
-        ensures answered { self.new.answered ≡ self.old.answered }
-        ensures told { self.new.told ≡ None }
-        ensures probed { IfOk result (IsProbed N.network question most) }
-        ensures stop { IfErr result (IsProbeStop (self.new.told)
-            ((self.new.left ≡ 0) ⊎ (P.QUIET ≡ false)) ⊤) }
-    {
-        let questions = listed(question, ahead)?;
-        let quantum = quantum_for(most);
-        let turns = turns_for(quantum, most, questions.len() as u64, self.left);
-        let series = Listed::of(questions);
-        let closed = self.closed(AnySeries::Listed(series), self.workers, quantum, turns)?;
+        let turns = turns_for(quantum, most, count_with(&ahead), self.left);
+        let series = series_of(question, ahead)?;
+        let closed = self.closed(series, workers, quantum, turns)?;
         let Closed { outcome, log, .. } = closed;
         let is_over = self.is_over(most, &log);
         probe_of(outcome, is_over)
@@ -297,13 +272,26 @@ fn was_stopped(log: &[Entry]) -> bool
         .any(|entry| matches!(entry, Entry::Halted(Cause::Stop)))
 }
 
-/// A question, and those behind it.
-fn listed(question: Question, ahead: VecDeque<Question>) -> Result<VecDeque<Question>, AllocError>
-    ensures { IfOk result (λ list. list.items ≡ question ∷ ahead.items) }
+/// How many questions there are with one before those that may be behind it.
+fn count_with(ahead: &Option<VecDeque<Question>>) -> u64 {
+    match ahead {
+        Some(list) => (list.len() as u64).saturating_add(1),
+        None => 1,
+    }
+}
+
+/// The series of a question and of those that may be behind it.
+fn series_of(question: Question, ahead: Option<VecDeque<Question>>) -> Result<AnySeries, AllocError>
+    ensures { IfOk result (λ series. any_questions series ≡ question ∷ behind (option_map (λ list. list.items) ahead)) }
 {
-    let mut list = ahead;
-    list.push_front(question)?;
-    Ok(list)
+    match ahead {
+        Some(list) => {
+            let mut list = list;
+            list.push_front(question)?;
+            Ok(AnySeries::Listed(Listed::of(list)))
+        }
+        None => Ok(AnySeries::One(One::of(question))),
+    }
 }
 
 /// A copy of what was reached.
@@ -384,15 +372,16 @@ impl<
         }
         let ahead = self.ahead.take();
         if self.workers <= 1 {
-            return self.probe_with(question, 1, most);
+            return self.probe_with(question, None, 1, most);
         }
-        let glimpse = self.probe_with(question.copy()?, 1, Some(glimpse_of(most)))?;
+        let glimpse = self.probe_with(question.copy()?, None, 1, Some(glimpse_of(most)))?;
         if !is_open(&glimpse) {
             return Ok(glimpse);
         }
-        match ahead {
-            Some(ahead) if most.is_some() => self.probe_ahead(question, ahead, most),
-            _ => self.probe_with(question, self.workers, most),
+        // Without a bound on its nodes a question behind could take any time.
+        match most {
+            Some(_) => self.probe_with(question, ahead, self.workers, most),
+            None => self.probe_with(question, None, self.workers, most),
         }
     }
 
