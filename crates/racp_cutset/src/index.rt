@@ -4,6 +4,7 @@ ghost use Rattle.std.specs.Prelude.{◌<◌, ◌≤◌, IfSome};
 
 use crate::board::Board;
 use crate::nogood::Nogood;
+use crate::outline::Outline;
 use racp_model::OfNetwork;
 use std::alloc::Global;
 use std::collections::HashMap;
@@ -18,11 +19,18 @@ pub(crate) enum Place {
     Kept(usize),
 }
 
+/// A place, and the outline of the record that was put there.
+#[derive(Clone, Copy)]
+pub(crate) struct Entry {
+    pub(crate) place: Place,
+    pub(crate) outline: Outline,
+}
+
 /// The places of records by the hash of their started jobs. Places may be out of date, so what stands there is tested.
 #[derive(Drop)]
 pub(crate) struct Index {
     alloc: Global,
-    places: HashMap<u64, Vec<Place>>,
+    entries: HashMap<u64, Vec<Entry>>,
     /// Where kept records stand that have given way: further ones are kept there.
     free: Vec<usize>,
 }
@@ -32,52 +40,51 @@ impl Index {
     pub(crate) fn new(alloc: Global) -> Self {
         Index {
             alloc,
-            places: HashMap::new(alloc),
+            entries: HashMap::new(alloc),
             free: Vec::new(alloc),
         }
     }
 
-    /// The places with a hash, the oldest first.
-    pub(crate) fn places(&self, key: u64) -> Option<&Vec<Place>> {
-        self.places.get(&key)
+    /// The entries with a hash, the oldest first.
+    pub(crate) fn entries(&self, key: u64) -> Option<&Vec<Entry>> {
+        self.entries.get(&key)
     }
 
-    /// Enters a place by the hash of the started jobs of what stands there. Of too many places with this hash the
-    /// oldest gives way.
-    pub(crate) fn enter(&mut self, key: u64, place: Place) {
-        if let Some(places) = self.places.get_mut(&key) {
-            if MOST_PLACES <= places.len() {
-                let oldest = places.remove(0);
-                give_way(&mut self.free, oldest);
+    /// Enters a record that stands at a place. Of too many entries with its hash the oldest gives way.
+    pub(crate) fn enter(&mut self, key: u64, entry: Entry) {
+        if let Some(entries) = self.entries.get_mut(&key) {
+            if MOST_PLACES <= entries.len() {
+                let oldest = entries.remove(0);
+                give_way(&mut self.free, oldest.place);
             }
-            let _ = places.push(place);
+            let _ = entries.push(entry);
             return;
         }
-        let mut places = Vec::new(self.alloc);
-        if places.push(place).is_ok() {
-            let _ = self.places.insert(key, places);
+        let mut entries = Vec::new(self.alloc);
+        if entries.push(entry).is_ok() {
+            let _ = self.entries.insert(key, entries);
         }
     }
 
     /// The places of kept records that a record covers give way.
     pub(crate) fn forget_kept<N: OfNetwork>(&mut self, kept: &Vec<Nogood<N>>, nogood: &Nogood<N>) {
-        if let Some(places) = self.places.get_mut(&nogood.key()) {
+        if let Some(entries) = self.entries.get_mut(&nogood.key()) {
             let before = self.free.len();
-            for place in places.iter() {
-                if is_kept_covered(kept, nogood, *place) {
-                    give_way(&mut self.free, *place);
+            for entry in entries.iter() {
+                if is_kept_covered(kept, nogood, entry) {
+                    give_way(&mut self.free, entry.place);
                 }
             }
             if before < self.free.len() {
-                places.retain(|place| !is_kept_covered(kept, nogood, *place));
+                entries.retain(|entry| !is_kept_covered(kept, nogood, entry));
             }
         }
     }
 
     /// Forgets the places of the board's records that a record covers.
     pub(crate) fn forget_written<N: OfNetwork>(&mut self, board: &Board<N>, nogood: &Nogood<N>) {
-        if let Some(places) = self.places.get_mut(&nogood.key()) {
-            places.retain(|place| !is_written_covered(board, nogood, *place));
+        if let Some(entries) = self.entries.get_mut(&nogood.key()) {
+            entries.retain(|entry| !is_written_covered(board, nogood, entry));
         }
     }
 
@@ -100,10 +107,10 @@ impl Index {
 
     /// Forgets a place, and the hash where it was the last with it.
     pub(crate) fn forget(&mut self, key: u64, place: Place) {
-        if let Some(places) = self.places.get_mut(&key) {
-            places.retain(|other| *other != place);
-            if places.is_empty() {
-                let _ = self.places.remove(&key);
+        if let Some(entries) = self.entries.get_mut(&key) {
+            entries.retain(|entry| entry.place != place);
+            if entries.is_empty() {
+                let _ = self.entries.remove(&key);
             }
         }
     }
@@ -116,9 +123,13 @@ fn give_way(free: &mut Vec<usize>, place: Place) {
     }
 }
 
-/// Whether a kept record stands at the place that the record covers.
-fn is_kept_covered<N: OfNetwork>(kept: &Vec<Nogood<N>>, nogood: &Nogood<N>, place: Place) -> bool {
-    let Place::Kept(i) = place else {
+/// Whether a kept record stands at an entry's place that the record covers.
+fn is_kept_covered<N: OfNetwork>(
+    kept: &Vec<Nogood<N>>,
+    nogood: &Nogood<N>,
+    entry: &Entry,
+) -> bool {
+    let Place::Kept(i) = entry.place else {
         return false;
     };
     match kept.get(i) {
@@ -127,11 +138,18 @@ fn is_kept_covered<N: OfNetwork>(kept: &Vec<Nogood<N>>, nogood: &Nogood<N>, plac
     }
 }
 
-/// Whether a record of the board stands at the place that the record covers.
-fn is_written_covered<N: OfNetwork>(board: &Board<N>, nogood: &Nogood<N>, place: Place) -> bool {
-    let Place::Board(i) = place else {
+/// Whether a record of the board stands at an entry's place that the record covers.
+fn is_written_covered<N: OfNetwork>(
+    board: &Board<N>,
+    nogood: &Nogood<N>,
+    entry: &Entry,
+) -> bool {
+    let Place::Board(i) = entry.place else {
         return false;
     };
+    if !nogood.outline().may_cover(&entry.outline) {
+        return false;
+    }
     match board.record(i) {
         Some(other) => nogood.covers_record(other),
         None => false,

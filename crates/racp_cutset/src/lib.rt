@@ -61,6 +61,7 @@ pub mod laws;
 mod local;
 mod node;
 mod nogood;
+mod outline;
 mod rows;
 mod shares;
 

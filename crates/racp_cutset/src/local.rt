@@ -4,9 +4,10 @@ ghost use Rattle.racp_cutset.specs.Covering.{Covers};
 ghost use Rattle.racp_cutset.specs.Kept.{IsAppendedOrDropped, IsKeptOrDropped, IsLastTaken, front, most_records};
 
 use crate::board::Board;
-use crate::index::{Index, Place};
+use crate::index::{Entry, Index, Place};
 use crate::node::Node;
 use crate::nogood::Nogood;
+use crate::outline::Outline;
 use crate::shares::{DEFAULT_MEMORY, most_records};
 use racp_model::{Network, OfNetwork};
 use std::alloc::Global;
@@ -131,8 +132,9 @@ impl<N: OfNetwork> Local<N> {
         ensures { self.new ≡ record { records = slice_set self.old.records place nogood; most = self.old.most } }
     {
         let key = nogood.key();
+        let entry = entry_of(&nogood, Place::Kept(place));
         self.kept[place] = nogood;
-        self.index.enter(key, Place::Kept(place));
+        self.index.enter(key, entry);
     }
 
     /// Keeps a record behind the others, or drops it where there is no room.
@@ -143,9 +145,9 @@ impl<N: OfNetwork> Local<N> {
             return;
         }
         let key = nogood.key();
-        let place = self.kept.len();
+        let entry = entry_of(&nogood, Place::Kept(self.kept.len()));
         if self.kept.push(nogood).is_ok() {
-            self.index.enter(key, Place::Kept(place));
+            self.index.enter(key, entry);
         }
     }
 
@@ -194,7 +196,7 @@ impl<N: OfNetwork> Local<N> {
     pub(crate) fn read(&mut self, board: &Board<N>)
         ensures { self.new ≡ self.old }
     {
-        self.reading = read_from(self.reading, &mut self.index, board, &self.kept);
+        self.reading = read_from(self.reading, &mut self.index, board);
     }
 
     /// A record that covers the node, of those that the index has.
@@ -202,9 +204,10 @@ impl<N: OfNetwork> Local<N> {
         ensures covers { IfSome result (λ found. Covers N.network found.now node.now) }
         ensures refutes { IfSome result (λ _. IsNo N.network node.now.capacities node.now.window) }
     {
-        let places = self.index.places(node.key())?;
-        for place in places.iter().rev() {
-            if let Some(found) = self.at(board, *place) {
+        let entries = self.index.entries(node.key())?;
+        let outline = Outline::of(node.time(), node.question().capacities.as_slice());
+        for entry in entries.iter().rev() {
+            if let Some(found) = self.at(board, entry, &outline) {
                 if found.covers(node) {
                     return Some(found);
                 }
@@ -225,12 +228,28 @@ impl<N: OfNetwork> Local<N> {
         self.look(board, node)
     }
 
-    /// What stands at a place now.
-    fn at<'a>(&'a self, board: &'a Board<N>, place: Place) -> Option<&'a Nogood<N>> {
-        match place {
+    /// What stands at an entry's place now, where its outline tells that it may cover what has the other one.
+    fn at<'a>(
+        &'a self,
+        board: &'a Board<N>,
+        entry: &Entry,
+        outline: &Outline,
+    ) -> Option<&'a Nogood<N>> {
+        if !entry.outline.may_cover(outline) {
+            return None;
+        }
+        match entry.place {
             Place::Board(i) => board.record(i),
             Place::Kept(i) => self.kept.get(i),
         }
+    }
+}
+
+/// The entry of a record that stands at a place.
+fn entry_of<N: OfNetwork>(nogood: &Nogood<N>, place: Place) -> Entry {
+    Entry {
+        place,
+        outline: nogood.outline(),
     }
 }
 
@@ -240,7 +259,6 @@ fn read_from<N: OfNetwork>(
     reading: Reading,
     index: &mut Index,
     board: &Board<N>,
-    kept: &Vec<Nogood<N>>,
 ) -> Reading {
     let mut read = reading;
     let unread = board.count().saturating_sub(read.records);
@@ -253,9 +271,8 @@ fn read_from<N: OfNetwork>(
         .saturating_add(EMPTY_PLACES);
     for i in read.next..end {
         if let Some(nogood) = board.record(i) {
-            index.forget_kept(kept, nogood);
             index.forget_written(board, nogood);
-            index.enter(nogood.key(), Place::Board(i));
+            index.enter(nogood.key(), entry_of(nogood, Place::Board(i)));
             read = Reading {
                 next: i + 1,
                 records: read.records.saturating_add(1),

@@ -6,6 +6,7 @@ ghost use Rattle.racp_cutset.specs.Records.{settled, Told};
 ghost use Rattle.racp_cutset.specs.Told.{told_once};
 
 use crate::node::Node;
+use crate::outline::Outline;
 use crate::rows::{is_at_least, is_sooner_row};
 use racp_delay::JobSet;
 use racp_model::{Capacities, OfNetwork, Question, Starts};
@@ -80,6 +81,11 @@ impl<N: OfNetwork> Nogood<N> {
     /// A hash of the started jobs: equal for records with the same started jobs.
     pub(crate) fn key(&self) -> u64 {
         self.key
+    }
+
+    /// Its outline in the index.
+    pub(crate) fn outline(&self) -> Outline {
+        Outline::of(self.time, self.capacities.as_slice())
     }
 
     /// Whether the record covers a node; then the node's question is a no. Takes no memory.
