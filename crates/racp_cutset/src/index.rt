@@ -10,7 +10,7 @@ use std::alloc::Global;
 use std::collections::HashMap;
 
 /// How many records with the same started jobs are looked at; where there are more, the oldest give way.
-const MOST_PLACES: usize = 16;
+const MOST_PLACES: usize = 32;
 
 /// Where a record stands: on the board, or among those that the thread keeps, by place from 0.
 #[derive(Clone, Copy, PartialEq)]
@@ -68,23 +68,25 @@ impl Index {
 
     /// The places of kept records that a record covers give way.
     pub(crate) fn forget_kept<N: OfNetwork>(&mut self, kept: &Vec<Nogood<N>>, nogood: &Nogood<N>) {
+        let outline = nogood.outline();
         if let Some(entries) = self.entries.get_mut(&nogood.key()) {
             let before = self.free.len();
             for entry in entries.iter() {
-                if is_kept_covered(kept, nogood, entry) {
+                if is_kept_covered(kept, nogood, &outline, entry) {
                     give_way(&mut self.free, entry.place);
                 }
             }
             if before < self.free.len() {
-                entries.retain(|entry| !is_kept_covered(kept, nogood, entry));
+                entries.retain(|entry| !is_kept_covered(kept, nogood, &outline, entry));
             }
         }
     }
 
     /// Forgets the places of the board's records that a record covers.
     pub(crate) fn forget_written<N: OfNetwork>(&mut self, board: &Board<N>, nogood: &Nogood<N>) {
+        let outline = nogood.outline();
         if let Some(entries) = self.entries.get_mut(&nogood.key()) {
-            entries.retain(|entry| !is_written_covered(board, nogood, entry));
+            entries.retain(|entry| !is_written_covered(board, nogood, &outline, entry));
         }
     }
 
@@ -123,31 +125,36 @@ fn give_way(free: &mut Vec<usize>, place: Place) {
     }
 }
 
-/// Whether a kept record stands at an entry's place that the record covers.
+/// Whether a kept record stands at an entry's place that the record, of this outline, covers.
 fn is_kept_covered<N: OfNetwork>(
     kept: &Vec<Nogood<N>>,
     nogood: &Nogood<N>,
+    outline: &Outline,
     entry: &Entry,
 ) -> bool {
     let Place::Kept(i) = entry.place else {
         return false;
     };
+    if !outline.may_cover(&entry.outline) {
+        return false;
+    }
     match kept.get(i) {
         Some(other) => nogood.covers_record(other),
         None => false,
     }
 }
 
-/// Whether a record of the board stands at an entry's place that the record covers.
+/// Whether a record of the board stands at an entry's place that the record, of this outline, covers.
 fn is_written_covered<N: OfNetwork>(
     board: &Board<N>,
     nogood: &Nogood<N>,
+    outline: &Outline,
     entry: &Entry,
 ) -> bool {
     let Place::Board(i) = entry.place else {
         return false;
     };
-    if !nogood.outline().may_cover(&entry.outline) {
+    if !outline.may_cover(&entry.outline) {
         return false;
     }
     match board.record(i) {

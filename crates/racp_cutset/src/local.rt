@@ -255,11 +255,7 @@ fn entry_of<N: OfNetwork>(nogood: &Nogood<N>, place: Place) -> Entry {
 
 /// Enters the records of the board that were not read, and answers how far it has been read. Places that are empty are
 /// read past where a record stands behind them.
-fn read_from<N: OfNetwork>(
-    reading: Reading,
-    index: &mut Index,
-    board: &Board<N>,
-) -> Reading {
+fn read_from<N: OfNetwork>(reading: Reading, index: &mut Index, board: &Board<N>) -> Reading {
     let mut read = reading;
     let unread = board.count().saturating_sub(read.records);
     if unread == 0 {

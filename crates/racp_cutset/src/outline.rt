@@ -25,6 +25,10 @@ impl Outline {
     /// Whether a record with this outline may cover what has the other one: its time is no later, and no sum is below the
     /// other.
     pub(crate) fn may_cover(&self, other: &Outline) -> bool {
-        self.time <= other.time && (0..SUMS).all(|j| other.sums[j] <= self.sums[j])
+        let mut may = self.time <= other.time;
+        for j in 0..SUMS {
+            may &= other.sums[j] <= self.sums[j];
+        }
+        may
     }
 }
