@@ -34,9 +34,11 @@
 //! A thread that ends gives its `Local` to the board (`give_part`), and one that begins takes such a one (`take_part`),
 //! and so need not read the whole board again.
 //! What the index leads to is tested by `covers` before it is answered. A place of the board stays empty where the push
-//! to it was refused; reading goes on past it. The index keeps at most the 16 newest places for one hash, and none of a
-//! record that a newer one covers. A kept record that it keeps no more gives its place in `Local` to a further one, but
-//! for the first ones, of which whoever keeps a record says how many stay. `Local` keeps no more records than it was
+//! to it was refused; reading goes on past it. The index keeps at most the 32 newest places for one hash, each with an
+//! outline of its record, by which most records that do not cover a node are passed over without a look at them. A
+//! further record takes the place there of those that it covers: one that the thread makes of kept ones, one that is
+//! read of those on the board. A kept record that the index keeps no more gives its place in `Local` to a further one,
+//! but for the first ones, of which whoever keeps a record says how many stay. `Local` keeps no more records than it was
 //! made for: where a further one would take the last of the room, the oldest that is not among the first ones gives its
 //! place; `forget_behind` drops all but the first ones.
 //!
@@ -49,10 +51,11 @@
 //! Proved: whoever makes a record shows that its question is a no, and the type keeps that; so each record on a board
 //! is true, whoever wrote it. `covers` is true exactly where the covering relation holds, and then the node's question
 //! is a no. What `find` finds covers the node. A `Local` keeps at most as many records as it was made for. A further
-//! one comes behind them, or takes the place of one that is not among the first ones, and no other changes; `forget_behind` leaves exactly
-//! the first ones. In `laws`: why covering keeps a yes, step by step. Not proved: which records are found or give way, so
-//! a body that never finds one would do; that records are found is tested. `push`, `take_part` and `give_part` of `Board`
-//! may wait for another thread, and are the only functions of which it is not claimed that they return.
+//! one comes behind them, or takes the place of one that is not among the first ones, and no other changes;
+//! `forget_behind` leaves exactly the first ones. An outline tells of each record that covers a node that it may. In
+//! `laws`: why covering keeps a yes, step by step. Not proved: which records are found or give way, so a body that never
+//! finds one would do; that records are found is tested. `push`, `take_part` and `give_part` of `Board` may wait for
+//! another thread, and are the only functions of which it is not claimed that they return.
 #![tactic(auto)]
 
 mod board;

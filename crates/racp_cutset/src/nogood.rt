@@ -2,6 +2,7 @@ ghost use Rattle.std.specs.Prelude.{◌≡◌, ◌↔◌, ◌≤◌, IsTrue};
 ghost use Rattle.racp_model.specs.Project.{IsSound};
 ghost use Rattle.racp_model.specs.Window.{IsNo};
 ghost use Rattle.racp_cutset.specs.Covering.{SearchNode, IsNode, Covers, HasCapacitiesOf, HasUpperOf, HasCutsetOf, EndsNoLater, MayStartAsEarly, FitsBeforeTime, IsRefutedNode};
+ghost use Rattle.racp_cutset.specs.Outlines.{IsOutline};
 ghost use Rattle.racp_cutset.specs.Records.{settled, Told};
 ghost use Rattle.racp_cutset.specs.Told.{told_once};
 
@@ -84,7 +85,9 @@ impl<N: OfNetwork> Nogood<N> {
     }
 
     /// Its outline in the index.
-    pub(crate) fn outline(&self) -> Outline {
+    pub(crate) fn outline(&self) -> Outline
+        ensures { IsOutline self.now.time self.now.capacities result }
+    {
         Outline::of(self.time, self.capacities.as_slice())
     }
 

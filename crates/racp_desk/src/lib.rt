@@ -31,13 +31,12 @@
 //! once more; else it helps another worker, or waits until something has changed. With a piece it lets the lock go, enters
 //! the gate, searches as many nodes as the quantum allows, with the records of the board and its own, takes the lock, hands
 //! the finding in, and takes the next piece. Where it is not alone, it shares the records that it made each 100 nodes, while
-//! the board has room. It leaves where the answer is
-//! known or the desk is halted. It halts the desk where the user has asked to stop, where as many pieces were taken as
-//! there are turns and none is out, and where memory was refused. What it kept of its own goes to the board when it leaves,
-//! for the workers of the next run; where each question was a no, what it kept in this run is forgotten, and a worker that is
-//! alone forgets what it kept of a question once that is a no. A hint stands beside
-//! the lock: the least place of a yes that came in, so that a search of the same or a later question, which is of no use,
-//! is left at its next node.
+//! the board has room. It leaves where the answer is known or the desk is halted. It halts the desk where the user has asked
+//! to stop, where as many pieces were taken as there are turns and none is out, and where memory was refused. What it kept
+//! of its own goes to the board when it leaves, for the workers of the next run; where each question was a no, what it kept
+//! in this run is forgotten, and a worker that is alone forgets what it kept of a question once that is a no. A hint stands
+//! beside the lock: the least place of a yes that came in, so that a search of the same or a later question, which is of no
+//! use, is left at its next node.
 //!
 //! A worker helps with a double of a piece that is out, of the least question of which there is one: it searches the child
 //! windows of each node in a pseudo-random order of its own, and so begins elsewhere than the worker that has the

@@ -65,8 +65,7 @@ behind (Some questions) = questions
 behind None = []
 
 -- what a run about a question and about those behind it tells of it; where the first yes, or the first place that is open,
--- is behind the question, it is a no; where
--- the question is open, and no further run is to come, the asker stops
+-- is behind the question, it is a no; where the question is open, and no further run is to come, the asker stops
 abbrev pub probe_by : Outcome → (is_over : Bool) → Result Probe AskStop
 probe_by (FirstOutcome zero starts) is_over = Ok (ProbedYes starts)
 probe_by (FirstOutcome (suc index) starts) is_over = Ok ProbedNo

@@ -285,8 +285,7 @@ fn series_of(question: Question, ahead: Option<VecDeque<Question>>) -> Result<An
     ensures { IfOk result (λ series. any_questions series ≡ question ∷ behind (option_map (λ list. list.items) ahead)) }
 {
     match ahead {
-        Some(list) => {
-            let mut list = list;
+        Some(mut list) => {
             list.push_front(question)?;
             Ok(AnySeries::Listed(Listed::of(list)))
         }
