@@ -5,11 +5,11 @@ ghost use Rattle.racp_model.specs.Formed.{HasBounds, IsFormed};
 ghost use Rattle.racp_model.specs.Plan.{IsLeast};
 ghost use Rattle.racp_model.specs.Terms.{AreTermsOf, IsBefore};
 ghost use Rattle.racp_questions.specs.FirstYes.{IsProbeStop};
-ghost use Rattle.racp_boxes.specs.Enough.{AreFloorsOf, IsEnoughWithin, IsLeastCost};
-ghost use Rattle.racp_boxes.specs.Searched.{AreHalved, AreSpans, CostAtLeast, HasAllBelow, IsKnown, IsSearched, IsSpan, IsSubject, IsWidest};
+ghost use Rattle.racp_boxes.specs.Enough.{AreFloorsOf, IsAtMost, IsEnoughWithin, IsLeastCost};
+ghost use Rattle.racp_boxes.specs.Searched.{AreHalved, AreSpans, CostAtLeast, HasAllBelow, IsBetterKnown, IsKnown, IsSearched, IsSpan, IsSubject, IsTold, IsWidest};
 
 use crate::cut::cut;
-use crate::known::Known;
+use crate::known::{Known, Told};
 use crate::subject::Subject;
 use racp_candidates::AnySeries;
 use racp_model::{Capacities, Network, Question, Window};
@@ -21,8 +21,14 @@ use std::collections::VecDeque;
 /// How many nodes a question about a box of more than one vector may take.
 const MOST_NODES: u64 = 64000;
 
-/// How many boxes the asker is told that come next.
-const MOST_FORESEEN: usize = 3;
+/// How many nodes a question takes at most before the asker is told what comes next: to find that out takes as long.
+const FEW_NODES: u64 = 256;
+
+/// How many questions the asker is told that come next.
+const MOST_FORESEEN: usize = 7;
+
+/// How often a box is halved at most to find what is asked of it first.
+const MOST_HALVINGS: usize = 64;
 
 /// The first vector, by cost and then lexicographically, of those that are within the roofs and with which some starts
 /// in the window fit. All of these are at or above the floors, and the roofs are one of them. Resources stand by place,
@@ -127,8 +133,7 @@ fn search<A: Asker<AnySeries>>(
     };
     let lane = widest(order, &low, &high);
     let most = most_nodes(lane);
-    foresee(alloc, subject, known, pending, asker)?;
-    let told = known.ask(alloc, subject, &high, most, asker)?;
+    let told = ask_about(alloc, subject, known, pending, &high, most, asker)?;
     if told.is_refuted() {
         return Ok(());
     }
@@ -145,6 +150,39 @@ fn search<A: Asker<AnySeries>>(
     search(alloc, subject, known, above, pending, rest_of_above, asker)
 }
 
+/// Asks for a vector, over a few nodes at first. Where that is open the asker is told what is asked for next, and asked
+/// for the vector with its own bound on the nodes.
+fn ask_about<A: Asker<AnySeries>>(
+    alloc: Global,
+    subject: &Subject,
+    known: &mut Known,
+    pending: &Vec<Span>,
+    units: &Capacities,
+    most: Option<u64>,
+    asker: &mut A,
+) -> Result<Told, AskStop>
+    requires named { A.about asker.old subject.now.net.now }
+    requires subject { IsSubject subject.now }
+    requires units { length units.now ≡ subject.now.net.now.resources }
+    requires within { IsAtMost subject.now.net.now units.now subject.now.roofs.now }
+    requires known { IsKnown subject.now known.old }
+    requires pending { AreSpans subject.now pending.now.items }
+    ensures network { A.about asker.new subject.now.net.now }
+    ensures better { IfOk result (λ _. IsBetterKnown subject.now known.old known.new) }
+    ensures told { IfOk result (IsTold subject.now units.now most known.new.best) }
+    ensures answered { A.answered asker.new ≡ A.answered asker.old }
+    ensures stop { IfErr result (IsProbeStop (A.told asker.new) (A.may_stop asker.new) (A.may_want_thread asker.new)) }
+{
+    match known.ask(alloc, subject, units, Some(FEW_NODES), asker)? {
+        Told::Enough => Ok(Told::Enough),
+        Told::Refuted => Ok(Told::Refuted),
+        Told::Open => {
+            foresee(alloc, subject, known, pending, asker)?;
+            known.ask(alloc, subject, units, most, asker)
+        }
+    }
+}
+
 /// Puts a copy of a box behind others.
 fn push_copy(pending: &mut Vec<Span>, span: &Span) -> Result<(), AllocError>
     ensures { IfOk result (λ _. pending.new.items ≡ pending.old.items ++ span.now ∷ []) }
@@ -153,8 +191,8 @@ fn push_copy(pending: &mut Vec<Span>, span: &Span) -> Result<(), AllocError>
     Ok(())
 }
 
-/// Tells the asker what is asked for next as long as each box is refuted: the high vectors of the last boxes that are
-/// pending, as they would be cut now.
+/// Tells the asker what is asked for next as long as each box is refuted: what is asked of the last boxes that are pending
+/// first, as they would be cut now.
 fn foresee<A: Asker<AnySeries>>(
     alloc: Global,
     subject: &Subject,
@@ -172,7 +210,7 @@ fn foresee<A: Asker<AnySeries>>(
     let mut ahead = VecDeque::new(alloc);
     for back in 0..pending.len().min(MOST_FORESEEN) {
         let span = &pending[pending.len() - 1 - back];
-        if let Some(question) = question_about(alloc, subject, known, span)? {
+        if let Some(question) = first_question(alloc, subject, known, span)? {
             ahead.push_back(question)?;
         }
     }
@@ -180,8 +218,9 @@ fn foresee<A: Asker<AnySeries>>(
     Ok(())
 }
 
-/// The question about a box, as it would be asked now: the high vector, cut. `None` where it would not be asked.
-fn question_about(
+/// What is asked of a box first, as it would be cut now. Where its high vector is known to be enough, that is what is asked
+/// of its half with fewer units. `None` where nothing is asked, or none was found within so many halvings.
+fn first_question(
     alloc: Global,
     subject: &Subject,
     known: &Known,
@@ -192,15 +231,48 @@ fn question_about(
     requires span { IsSpan subject.now span.now }
     ensures { IfOk result (λ question. IfSome question (IsFormed subject.now.net.now)) }
 {
-    let (net, order) = (subject.net, subject.order);
-    let Some(high) = cut(alloc, net, order, known, &span.low, &span.high)? else {
-        return Ok(None);
-    };
-    if known.refutes(&high) {
+    let mut part = span.copy()?;
+    for _halving in 0..MOST_HALVINGS {
+        let Some(high) = cut(
+            alloc,
+            subject.net,
+            subject.order,
+            known,
+            &part.low,
+            &part.high,
+        )?
+        else {
+            return Ok(None);
+        };
+        if !known.is_enough(&high) {
+            return question_unless_refuted(subject, known, high);
+        }
+        let Some(k) = widest(subject.order, &part.low, &high) else {
+            return Ok(None);
+        };
+        let Span { low, high: _ } = part;
+        let (below, _) = halved(low, high, k)?;
+        part = below;
+    }
+    Ok(None)
+}
+
+/// The question about a vector, unless it is at most a refuted one.
+fn question_unless_refuted(
+    subject: &Subject,
+    known: &Known,
+    units: Capacities,
+) -> Result<Option<Question>, AllocError>
+    requires subject { IsSubject subject.now }
+    requires known { IsKnown subject.now known.now }
+    requires units { length units ≡ subject.now.net.now.resources }
+    ensures { IfOk result (λ question. IfSome question (IsFormed subject.now.net.now)) }
+{
+    if known.refutes(&units) {
         return Ok(None);
     }
     Ok(Some(Question {
-        capacities: high,
+        capacities: units,
         window: subject.root.copy()?,
     }))
 }

@@ -94,6 +94,15 @@ impl Known {
         false
     }
 
+    /// Whether a vector is known to be enough: the best one is at most it.
+    pub(crate) fn is_enough(&self, units: &Capacities) -> bool
+        requires { length units.now ≡ length self.now.best }
+        ensures { IsTrue result ↔ ((k : ℕ) → k < length self.now.best →
+            slice_index self.now.best k ≤ slice_index units.now k) }
+    {
+        is_at_most(self.best.as_slice(), units.as_slice())
+    }
+
     /// Keeps a vector with which nothing fits. Where as many are kept as there may be, these are forgotten.
     fn keep(&mut self, units: Capacities) -> Result<(), AllocError>
         ensures best { self.new.best ≡ self.old.best }
@@ -145,7 +154,7 @@ impl Known {
         if self.refutes(units) {
             return Ok(Told::Refuted);
         }
-        if is_at_most(self.best.as_slice(), units.as_slice()) {
+        if self.is_enough(units) {
             return Ok(Told::Enough);
         }
         match probe(subject.net, subject.root, units, most, asker)? {

@@ -30,10 +30,11 @@
 //!
 //! So four questions are asked for the first of twelve vectors, where asking in order takes eight. A vector that is at
 //! most a refuted one is not asked for; of the refuted ones up to 128 are kept. A question about a box of more than one
-//! vector ends after 64,000 nodes: where that is not enough, nothing is learnt, and the halves are searched. Before each
-//! question the asker is told which three boxes come next as long as each is refuted, for workers that have nothing else to
-//! do. Demeulemeester (1995), too, searches capacities by scheduling problems with given ones, from vectors that are not
-//! enough on to dearer ones.
+//! vector ends after 64,000 nodes: where that is not enough, nothing is learnt, and the halves are searched. Where 256 nodes
+//! leave a question open, the asker is told what is asked of the next boxes, up to seven, as long as each is refuted, for
+//! workers that have nothing else to do; of a box whose high vector is known to be enough that is what is asked of its half
+//! with fewer units. Demeulemeester (1995), too, searches capacities by scheduling problems with given ones, from vectors
+//! that are not enough on to dearer ones.
 //!
 //! Proved: the answer is the first, by cost and then lexicographically, of all vectors within the roofs with which some
 //! starts in the window fit, whatever is not known of questions that ended early. Not proved: how many questions are

@@ -6,8 +6,8 @@ use Rattle.racp_boxes.proofs.halving.foresee.Goals as goal
 pub loop-back-init : goal.loop-back-init
 loop-back-init g c = formed-empty c.args.subject.now.net.now c.new-ahead.result.items c.new-ahead.result.items c.new-ahead.ensures.items
 
-pub question_about-requires-clause-span : goal.question_about-requires-clause-span
-question_about-requires-clause-span g c =
+pub first_question-requires-clause-span : goal.first_question-requires-clause-span
+first_question-requires-clause-span g c =
     c.requires.pending c.index-span.result.now
     (c.len-in-loop-back.result - 1 - c.loop-back.back, omega (arith, c.len-in-loop-back.ensures, c.len.ensures, c.min-back-end.ensures, c.loop-back-test.true), sym c.index-span.ensures)
 

@@ -1,4 +1,4 @@
-use Rattle.std.proofs.Common.{◌≡◌}
+use Rattle.std.proofs.Common.{◌≡◌, refl}
 use Rattle.racp_model.specs.Window.{IsNo}
 use Rattle.racp_candidates.specs.Questions.{question_of}
 use Rattle.racp_boxes.proofs.Learning.{known-refutes, known-enough, known-kept, known-learnt, learnt-enough, told_no, told_yes}
@@ -8,10 +8,10 @@ pub returns-then-refutes-clause-told : goal.returns-then-refutes-clause-told
 returns-then-refutes-clause-told g c =
     known-refutes c.args.subject.now c.requires.subject c.args.self.now c.requires.known c.args.units.now c.requires.units (c.refutes.ensures c.if-refutes.true)
 
-pub returns-then-is_at_most-clause-told : goal.returns-then-is_at_most-clause-told
-returns-then-is_at_most-clause-told g c =
-    known-enough c.args.subject.now c.requires.subject c.args.self.now c.requires.known c.args.units.now c.as_slice.result.now c.as_slice-2.result.now c.as_slice.ensures c.as_slice-2.ensures c.requires.units
-    (c.is_at_most.ensures.0 c.if-is_at_most.true)
+pub returns-then-is_enough-clause-told : goal.returns-then-is_enough-clause-told
+returns-then-is_enough-clause-told g c =
+    known-enough c.args.subject.now c.requires.subject c.args.self.now c.requires.known c.args.units.now c.args.self.now.best c.args.units.now refl refl c.requires.units
+    (c.is_enough.ensures.0 c.if-is_enough.true)
 
 pub returns-in_ok-keep-in-No-clause-better : goal.returns-in_ok-keep-in-No-clause-better
 returns-in_ok-keep-in-No-clause-better g c =
