@@ -83,6 +83,10 @@ pub record IsPursued (piece : SearchPiece) (spent most : ℕ) (finding : SearchF
   -- the window of the piece
   pub all : IsFalse finding.stopped → IsFalse finding.short → left_windows finding ≢ [] → finding.nodes ≡ spent + most
   pub whole : left_windows finding ≢ [] → finding.rest ≡ Whole
+  -- where memory was refused, the window of the piece is left and nothing is found
+  pub short : IsTrue finding.short → (finding.rest ≡ Whole) × (finding.found ≡ None)
+  -- a search that was stopped found nothing and leaves something
+  pub stopped : IsTrue finding.stopped → (finding.found ≡ None) × (left_windows finding ≢ [])
 
 -- what a thread goes on with: the order in which it searches child windows, and the question of the search that it has open
 pub record SearchCourse : Type 0 where

@@ -21,8 +21,8 @@ use std::marker::Brand;
 /// node.
 ///
 /// A node that a record of the board or of `local` covers is skipped. A node is kept in `local`, behind the records
-/// that are there, once all of its window has been refuted; where no further one can be kept, those of this search are
-/// dropped. Where memory is refused the finding is short and leaves the whole window of the piece.
+/// that are there, once all of its window has been refuted; where there is no room for a further one, one of this search
+/// gives way. Where memory is refused the finding is short and leaves the whole window of the piece.
 pub fn explore<N: OfNetwork, S: Stop>(
     alloc: Global,
     net: &Network,

@@ -129,7 +129,8 @@ impl<N: OfNetwork> Finding<N> {
         self.found.as_ref()
     }
 
-    /// How many nodes were searched: windows whose early starts were computed. Stays at the greatest `u64` once there.
+    /// How many nodes were searched: windows that were looked at, also those that are refuted at once. Stays at the greatest
+    /// `u64` once there.
     pub fn nodes(&self) -> u64
         ensures { result ≡ self.now.nodes }
     {

@@ -5,7 +5,7 @@ ghost use Rattle.std.specs.Prelude.{◌≡◌, [], IfOk};
 use crate::child::Child;
 use racp_cutset::Node;
 use racp_delay::{Alternative, DelayingAlternatives};
-use racp_model::{Network, OfNetwork, Starts, Window};
+use racp_model::{Network, OfNetwork, Window};
 use racp_timetable::Scratch;
 use std::alloc::{AllocError, Global};
 
@@ -104,16 +104,6 @@ impl Spare {
         row.clear();
         row.extend_from_slice(numbers)?;
         Ok(row)
-    }
-
-    /// A window with the same bounds.
-    pub(crate) fn window_of(&mut self, window: &Window) -> Result<Window, AllocError>
-        ensures lower { IfOk result (λ copy. copy.lower ≡ window.now.lower) }
-        ensures upper { IfOk result (λ copy. copy.upper ≡ window.now.upper) }
-    {
-        let lower = Starts::new(self.row_of(window.lower())?);
-        let upper = Starts::new(self.row_of(window.upper())?);
-        Ok(Window::new(lower, upper))
     }
 
     /// A list without child windows.
