@@ -2,7 +2,6 @@
 
 ghost use Rattle.std.specs.Prelude.{◌≡◌, ◌↔◌, ◌<◌, length, Some, None, IsTrue, true};
 ghost use Rattle.racp_model.specs.Formed.{AreFormed};
-ghost use Rattle.racp_questions.specs.FirstYes.{question_at};
 ghost use Rattle.racp_core.specs.Machine.{fresh, all_questions, is_before, undecided_count, IsAsking, IsSettled};
 ghost use Rattle.racp_core.specs.Truth.{IsSoundState};
 ghost use Rattle.racp_core.specs.Runs.{Step, Halt};
@@ -118,15 +117,6 @@ impl<N: OfNetwork, S: Series> Core<N, S> {
         ensures { IsTrue result ↔ IsAsking self.now }
     {
         !self.halted && self.least.is_none() && !self.ended
-    }
-
-    /// The question at a place, from 0, which was asked. Takes no memory.
-    pub fn question(&self, index: usize) -> &Question
-        requires { index < length self.now.asked }
-        ensures { result.now ≡ question_at (all_questions self.now) index }
-    {
-        let row = &self.rows[index];
-        row.question()
     }
 
     /// Whether the answer is known: a yes before which each question is a no, or that no question of the series is a yes.

@@ -33,9 +33,9 @@
 //! the first yes of stage 4 is not told by the asker: it is the peaks of the starts that were found, since these peaks
 //! are enough too, and none that are stand before it. `Crowd` is an asker with workers: for each series it runs a desk
 //! (racp_desk), by a call that it is handed, and counts over all series the turns, of which a desk takes one for each
-//! piece. A question with a bound on its nodes has as many turns as these are pieces of 32 nodes, which is how many a piece
-//! has on average; where one worker works, it has one piece. A question by itself is looked at by one worker first, over 16
-//! nodes, before threads are started for the others. An `Observer` is told how far planning has come.
+//! piece. A question with a bound on its nodes has one turn, and so has each of those that come next, or as many as its
+//! nodes make pieces of 1,000,000. A question by itself is looked at by one worker first, over 16 nodes, before threads are
+//! started for the others. An `Observer` is told how far planning has come.
 //!
 //! `plan_alone(alloc, net_bytes, order_text)` answers the text of examples/b3.plan for the texts of b.sm and b3.toml,
 //! with the status 0; for a.sm and a2.toml it answers `impossible critical 3 deadline 2` with the status 3. `plan_crowd`
