@@ -26,7 +26,7 @@ const NOT_TOML: Topic = Topic {
 is there twice, or a number is beyond 64 bits.",
     command: READ,
     file: "deadline: 4\nprices = [10]\n",
-    cure: "Write lines as 'deadline = 4' and 'prices = [10]'; --explain names the line and the column.",
+    cure: "Write lines as 'deadline = 4' and 'prices = [10]'; --explain names the line.",
 };
 
 const MISSING: Topic = Topic {

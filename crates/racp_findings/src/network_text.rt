@@ -1,9 +1,10 @@
 //! What is wrong with a network text.
 
 use crate::THERE;
-use crate::head::{head_number, line_like};
+use crate::head::{head_number, is_in_head, line_like};
 use crate::line_of::{
-    body_of, count_words, first_word, is_blank, is_line_feed, line_at, push_shown,
+    body_of, count_words, first_word, is_line_feed, is_space, line_at, push_quoted, push_shown,
+    without_return,
 };
 use crate::ring::ring_of;
 use racp_sm::{SmFault, SmFaultKind};
@@ -204,26 +205,45 @@ fn push_jobs(text: &mut String, jobs: &[u64]) -> Result<(), AllocError> {
 fn push_bad_number(text: &mut String, body: &[u8], number: usize) -> Result<(), AllocError> {
     write!(text, "a whole number, of decimal digits alone{THERE}")?;
     let line = line_at(body, number);
-    push_word(text, line.and_then(no_number))?;
+    push_word(text, no_number(line, is_in_head(body, number)))?;
     push_shown(text, line)
 }
 
 /// Adds a word of a line, where there is one, and what stands before its line.
 fn push_word(text: &mut String, word: Option<&[u8]>) -> Result<(), AllocError> {
-    if word.is_some() {
-        push_shown(text, word)?;
-        text.push_str(" in ")?;
+    match word {
+        Some(word) => {
+            push_quoted(text, word)?;
+            text.push_str(" in ")
+        }
+        None => Ok(()),
     }
-    Ok(())
 }
 
-/// The first word of a line, or of what stands behind its colon, that is no number.
-fn no_number(line: &[u8]) -> Option<&[u8]> {
-    let numbers = match racp_text::cut_at(line, b':') {
-        Some((_, numbers)) => numbers,
-        None => line,
-    };
-    for word in numbers.split(is_blank) {
+/// The word of a line that is no number: in the head the first one behind the colon, and else the first such word.
+fn no_number(line: Option<&[u8]>, is_of_head: bool) -> Option<&[u8]> {
+    let line = without_return(line?);
+    if is_of_head {
+        let (_, value) = racp_text::cut_at(line, b':')?;
+        word_of(value)
+    } else {
+        word_without_number(line)
+    }
+}
+
+/// The first word of a line, between blanks and tabs.
+fn word_of(line: &[u8]) -> Option<&[u8]> {
+    for word in line.split(is_space) {
+        if !word.is_empty() {
+            return Some(word);
+        }
+    }
+    None
+}
+
+/// The first word of a line, between blanks and tabs, that is no number.
+fn word_without_number(line: &[u8]) -> Option<&[u8]> {
+    for word in line.split(is_space) {
         if !word.is_empty() && racp_text::number(word).is_none() {
             return Some(word);
         }

@@ -1,7 +1,7 @@
 //! What is wrong with an order.
 
 use crate::THERE;
-use crate::line_of::{is_line_feed, line_at, push_shown};
+use crate::line_of::{is_line_feed, line_at, push_quoted, push_shown};
 use racp_prices::OrderFault;
 use std::alloc::{AllocError, Global};
 use toml::{Table, Value};
@@ -112,10 +112,17 @@ fn push_missing(text: &mut String, table: &Table) -> Result<(), AllocError> {
     } else {
         "prices"
     };
+    write!(text, "the key {key}{THERE}no such key")?;
     match key_like(table, key) {
-        Some(other) => write!(text, "the key {key}{THERE}no such key, but the key {other}"),
-        None => write!(text, "the key {key}{THERE}no such key"),
+        Some(other) => push_key(text, ", but the key ", other),
+        None => Ok(()),
     }
+}
+
+/// Adds these words and a key of an order.
+fn push_key(text: &mut String, words: &str, key: &str) -> Result<(), AllocError> {
+    text.push_str(words)?;
+    push_quoted(text, key.as_bytes())
 }
 
 /// The first key that is like this one.
@@ -140,9 +147,10 @@ fn is_like(other: &str, key: &str) -> bool {
 fn push_unknown(text: &mut String, table: &Table) -> Result<(), AllocError> {
     let has_version = table.get("version").is_some();
     text.push_str(known_keys(has_version))?;
+    text.push_str(THERE)?;
     match unknown_key(table, has_version) {
-        Some(key) => write!(text, "{THERE}the key {key}"),
-        None => write!(text, "{THERE}the key"),
+        Some(key) => push_key(text, "the key ", key),
+        None => text.push_str("the key"),
     }
 }
 

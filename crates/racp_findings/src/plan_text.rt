@@ -1,7 +1,7 @@
 //! What is wrong with a plan text.
 
 use crate::THERE;
-use crate::line_of::{line_at, push_shown};
+use crate::line_of::push_with_end;
 use racp_model::Network;
 use racp_plan::{TextFault, TextFaultKind};
 use std::alloc::AllocError;
@@ -23,7 +23,7 @@ pub fn push_text_finding(
     push_form(text, fault.line, net.resource_count(), net.job_count())?;
     text.push_str(limit_of(fault))?;
     text.push_str(THERE)?;
-    push_shown(text, line_at(bytes, fault.line))
+    push_with_end(text, bytes, fault.line)
 }
 
 /// What else a line has to have, by its fault.

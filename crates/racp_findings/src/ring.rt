@@ -1,5 +1,6 @@
 //! Jobs that wait for each other.
 
+use crate::head::is_precedence_title;
 use crate::line_of::{first_word, is_blank, is_line_feed};
 use racp_text::number;
 use std::alloc::{AllocError, Global};
@@ -12,10 +13,7 @@ const MOST_JOBS: u64 = 512;
 pub(crate) fn ring_of(alloc: Global, body: &[u8], jobs: u64) -> Result<Vec<u64>, AllocError> {
     let jobs = jobs.min(MOST_JOBS) as usize;
     let pairs = pairs_of(alloc, body)?;
-    let mut waits = vec![in alloc; true; jobs.saturating_add(1)]?;
-    for _round in 0..jobs {
-        settle(&mut waits, &pairs);
-    }
+    let waits = waiting(alloc, &pairs, jobs)?;
     walk(alloc, &waits, &pairs, jobs)
 }
 
@@ -40,7 +38,7 @@ fn push_pairs(pairs: &mut Vec<(u64, u64)>, body: &[u8]) -> Result<(), AllocError
 
 /// Whether a line is not the title of the precedence part.
 fn is_before(line: &&[u8]) -> bool {
-    first_word(line) != b"PRECEDENCE".as_slice()
+    !is_precedence_title(line)
 }
 
 /// Whether a line ends the precedence part.
@@ -96,16 +94,50 @@ impl Row {
     }
 }
 
-/// Notes which jobs wait for none that waits.
-fn settle(waits: &mut [bool], pairs: &[(u64, u64)]) {
-    for job in 1..waits.len() {
-        if before(waits, pairs, job as u64).is_none() {
-            waits[job] = false;
+/// Which jobs wait for one that waits, by their numbers: those that are left when, round by round, the jobs that wait for
+/// none are let go, up to a round that lets go of none.
+fn waiting(alloc: Global, pairs: &[(u64, u64)], jobs: usize) -> Result<Vec<bool>, AllocError> {
+    let mut waits = vec![in alloc; true; jobs.saturating_add(1)]?;
+    for _round in 0..jobs {
+        let held = held_jobs(alloc, &waits, pairs)?;
+        if !let_go(&mut waits, &held) {
+            return Ok(waits);
         }
+    }
+    Ok(waits)
+}
+
+/// Which jobs are held: those with a job before them that waits.
+fn held_jobs(alloc: Global, waits: &[bool], pairs: &[(u64, u64)]) -> Result<Vec<bool>, AllocError> {
+    let mut held = vec![in alloc; false; waits.len()]?;
+    for &(before, after) in pairs {
+        if is_waiting(waits, before) {
+            hold(&mut held, after as usize);
+        }
+    }
+    Ok(held)
+}
+
+/// Notes that a job is held.
+fn hold(held: &mut [bool], job: usize) {
+    if job < held.len() {
+        held[job] = true;
     }
 }
 
-/// Whether a job waits for one that waits.
+/// Lets go of the jobs that wait and are not held, and answers whether there are any.
+fn let_go(waits: &mut [bool], held: &[bool]) -> bool {
+    let mut any = false;
+    for job in 1..waits.len() {
+        if waits[job] && !is_waiting(held, job as u64) {
+            waits[job] = false;
+            any = true;
+        }
+    }
+    any
+}
+
+/// Whether a job is noted to wait, or to be held.
 fn is_waiting(waits: &[bool], job: u64) -> bool {
     waits.get(job as usize).copied().unwrap_or(false)
 }
