@@ -1,15 +1,16 @@
 //! Which nodes a record covers, and which records are found, also those of another thread.
 
-ghost use Rattle.std.specs.Prelude.{◌≡◌, IsTrue, IfOk};
+ghost use Rattle.std.specs.Prelude.{◌≡◌, IsTrue};
 ghost use Rattle.racp_model.specs.Window.{IsNo};
 ghost use Rattle.racp_cutset.specs.Covering.{FitsBeforeTime};
 
+use self::Step::{Below, Count, Find, Forget, Keep, KeepLater, PushAndFind, PushLater, Take};
 use racp_cutset::{Board, Local, Node, Nogood};
 use racp_delay::conflict;
 use racp_model::{Network, OfNetwork};
 use racp_reference::decide_by_definition;
-use racp_samples::{SampleFault, crossed, parallel, question};
-use std::alloc::{AllocError, Global};
+use racp_samples::{crossed, parallel, question};
+use std::alloc::Global;
 use std::marker::Brand;
 use std::sync::Wait;
 use std::thread;
@@ -18,22 +19,20 @@ use std::thread::Threads;
 /// What a node is made of: capacities, lower and upper bounds, and its time.
 #[derive(Clone, Copy)]
 struct Place<'a> {
-    capacities: &'a [u32],
+    units: &'a [u32],
     lower: &'a [u32],
     upper: &'a [u32],
     time: u32,
 }
 
-/// The node of a place.
-fn node<N: OfNetwork>(
-    alloc: Global,
-    net: &Network,
-    place: Place<'_>,
-) -> Result<Node<N>, SampleFault>
+/// The node of a place; or `None` where there is no such sample, or memory is refused.
+fn node<N: OfNetwork>(alloc: Global, net: &Network, place: &Place<'_>) -> Option<Node<N>>
     requires named { net.now ≡ N.network }
 {
-    let asked = question(alloc, net, place.capacities, place.lower, place.upper)?;
-    Ok(Node::new(alloc, net, asked, place.time)?)
+    match question(alloc, net, place.units, place.lower, place.upper) {
+        Ok(asked) => Node::new(alloc, net, asked, place.time).ok(),
+        Err(_) => None,
+    }
 }
 
 /// Whether the early starts of a node keep its capacities before its time, and the jobs that start before it their bounds.
@@ -55,177 +54,177 @@ fn fits_before_time<N: OfNetwork>(net: &Network, node: &Node<N>) -> bool
 }
 
 /// Whether the question of a node is a no by the definition.
-fn is_no<N: OfNetwork>(alloc: Global, net: &Network, node: &Node<N>) -> Result<bool, AllocError>
+fn is_no<N: OfNetwork>(alloc: Global, net: &Network, node: &Node<N>) -> bool
     requires named { net.now ≡ N.network }
-    ensures { IfOk result (λ no. IsTrue no → IsNo N.network node.now.capacities node.now.window) }
+    ensures { IsTrue result → IsNo N.network node.now.capacities node.now.window }
 {
-    Ok(decide_by_definition(alloc, net, node.question())?.is_none())
+    match decide_by_definition(alloc, net, node.question()) {
+        Ok(found) => found.is_none(),
+        Err(_) => false,
+    }
 }
 
-/// The record of the node of a place, whose question is a no by the definition; there is no such sample where it is a yes.
-fn nogood<N: OfNetwork>(
-    alloc: Global,
-    net: &Network,
-    place: Place<'_>,
-) -> Result<Nogood<N>, SampleFault>
+/// The record of the node of a place; there is none where its question is a yes by the definition.
+fn nogood<N: OfNetwork>(alloc: Global, net: &Network, place: &Place<'_>) -> Option<Nogood<N>>
     requires named { net.now ≡ N.network }
 {
     let node: Node<N> = node(alloc, net, place)?;
-    if is_no(alloc, net, &node)? && fits_before_time(net, &node) {
-        return Ok(Nogood::of(node));
+    if is_no(alloc, net, &node) && fits_before_time(net, &node) {
+        return Some(Nogood::of(node));
     }
-    Err(SampleFault::NoSample)
+    None
 }
 
-/// The early starts of the five jobs.
-const EARLY: &[u32] = &[0, 0, 0, 0, 3];
+/// The root window of the five jobs for the deadline 4, with 2 units.
+const ROOT: Place<'static> = Place {
+    units: &[2],
+    lower: &[0, 0, 0, 0, 3],
+    upper: &[1, 1, 2, 2, 4],
+    time: 0,
+};
 
-/// The late starts of the five jobs for the deadline 4.
-const LATE: &[u32] = &[1, 1, 2, 2, 4];
+/// The same, in which the third job may not start before 2.
+const RAISED: Place<'static> = Place {
+    lower: &[0, 0, 2, 0, 3],
+    ..ROOT
+};
 
-/// The root window of the five jobs for the deadline 4, with so many units.
-fn root<'a>(units: &'a [u32]) -> Place<'a> {
-    Place {
-        capacities: units,
-        lower: EARLY,
-        upper: LATE,
-        time: 0,
-    }
+/// A place, and whether a record covers its node.
+struct Row {
+    place: Place<'static>,
+    covered: bool,
 }
 
-/// Whether the record covers the node of a place.
+const ROWS: &[Row] = &[
+    Row {
+        place: ROOT,
+        covered: true,
+    },
+    Row {
+        place: Place {
+            units: &[1],
+            ..ROOT
+        },
+        covered: true,
+    },
+    Row {
+        place: Place {
+            upper: &[0, 0, 1, 1, 3],
+            ..ROOT
+        },
+        covered: true,
+    },
+    Row {
+        place: RAISED,
+        covered: true,
+    },
+    Row {
+        place: Place {
+            units: &[3],
+            ..ROOT
+        },
+        covered: false,
+    },
+    Row {
+        place: Place {
+            upper: &[2, 2, 3, 3, 5],
+            ..ROOT
+        },
+        covered: false,
+    },
+];
+
+/// Whether the record covers the node of a place; or `None` where there is no such node.
 fn is_covered<N: OfNetwork>(
     alloc: Global,
     net: &Network,
     known: &Nogood<N>,
-    other: Place<'_>,
-) -> Result<bool, SampleFault>
+    place: &Place<'_>,
+) -> Option<bool>
     requires named { net.now ≡ N.network }
 {
-    let other: Node<N> = node(alloc, net, other)?;
-    Ok(known.covers(&other))
+    let other: Node<N> = node(alloc, net, place)?;
+    Some(known.covers(&other))
 }
 
-/// The place of the first row that the record of a place covers although it should not, or the other way round.
-fn wrong_row<N: OfNetwork>(
-    alloc: Global,
-    net: &Network,
-    known: Place<'_>,
-    rows: &[(Place<'_>, bool)],
-) -> Result<Option<usize>, SampleFault>
+/// Whether the record of the first place covers the nodes of the rows that it is to cover, and no other.
+fn covers_rows<N: OfNetwork>(alloc: Global, net: &Network, known: &Place<'_>, rows: &[Row]) -> bool
     requires named { net.now ≡ N.network }
 {
-    let known: Nogood<N> = nogood(alloc, net, known)?;
-    first_wrong(alloc, net, &known, rows)
-}
-
-/// The same, of a record.
-fn first_wrong<N: OfNetwork>(
-    alloc: Global,
-    net: &Network,
-    known: &Nogood<N>,
-    rows: &[(Place<'_>, bool)],
-) -> Result<Option<usize>, SampleFault>
-    requires named { net.now ≡ N.network }
-{
-    for (row, (other, covered)) in rows.iter().enumerate() {
-        if is_covered(alloc, net, known, *other)? != *covered {
-            return Ok(Some(row));
+    let Some(known) = nogood::<N>(alloc, net, known) else {
+        return false;
+    };
+    for row in rows {
+        if is_covered(alloc, net, &known, &row.place) != Some(row.covered) {
+            return false;
         }
     }
-    Ok(None)
+    true
 }
 
-#[test]
-fn covers_less_capacity_and_earlier_deadlines(rt: HostRuntime) -> Result<(), SampleFault> {
-    let alloc = rt.alloc();
-    let net = parallel(alloc)?;
-    let (known, earlier, later) = (root(&[2]), [0, 0, 1, 1, 3], [2, 2, 3, 3, 5]);
-    let rows = [
-        (root(&[2]), true),
-        (root(&[1]), true),
-        (root(&[3]), false),
-        (
-            Place {
-                upper: &earlier,
-                ..known
-            },
-            true,
-        ),
-        (
-            Place {
-                upper: &later,
-                ..known
-            },
-            false,
-        ),
-    ];
-    assert_eq!(rt; wrong_row::<Brand>(alloc, &net, known, &rows)?, None);
-    Ok(())
-}
-
-#[test]
-fn covers_the_same_started_jobs(rt: HostRuntime) -> Result<(), SampleFault> {
-    let alloc = rt.alloc();
-    let net = crossed(alloc)?;
-    let third_late = Place {
-        capacities: &[1, 1],
-        lower: &[0, 0, 1, 1, 1, 2],
-        upper: &[1, 1, 1, 2, 2, 3],
-        time: 2,
-    };
-    let second_late = Place {
-        lower: &[0, 1, 0, 1, 1, 2],
-        ..third_late
-    };
-    let rows = [
-        (third_late, true),
-        (
-            Place {
-                time: 1,
-                ..third_late
-            },
-            false,
-        ),
-        (
-            Place {
-                time: 3,
-                ..third_late
-            },
-            false,
-        ),
-    ];
-    assert_eq!(rt; wrong_row::<Brand>(alloc, &net, second_late, &rows)?, None);
-    Ok(())
-}
-
-/// Whether the record of the first place covers that of the second.
+/// Whether the record of the first place covers that of the second; or `None` where there are no such records.
 fn covers_record<N: OfNetwork>(
     alloc: Global,
     net: &Network,
-    known: Place<'_>,
-    other: Place<'_>,
-) -> Result<bool, SampleFault>
+    known: &Place<'_>,
+    other: &Place<'_>,
+) -> Option<bool>
     requires named { net.now ≡ N.network }
 {
     let known: Nogood<N> = nogood(alloc, net, known)?;
     let other = nogood(alloc, net, other)?;
-    Ok(known.covers_record(&other))
+    Some(known.covers_record(&other))
+}
+
+/// Whether records cover nodes and records of the five jobs as they are to.
+fn are_covered(alloc: Global) -> bool {
+    let Ok(net) = parallel(alloc) else {
+        return false;
+    };
+    covers_rows::<Brand>(alloc, &net, &ROOT, ROWS)
+        && covers_record::<Brand>(alloc, &net, &ROOT, &RAISED) == Some(true)
+        && covers_record::<Brand>(alloc, &net, &RAISED, &ROOT) == Some(false)
 }
 
 #[test]
-fn covers_higher_lower_bounds(rt: HostRuntime) -> Result<(), SampleFault> {
-    let alloc = rt.alloc();
-    let net = parallel(alloc)?;
-    let known = root(&[2]);
-    let raised = Place {
-        lower: &[0, 0, 2, 0, 3],
-        ..known
-    };
-    assert!(rt; covers_record::<Brand>(alloc, &net, known, raised)?);
-    assert!(rt; !covers_record::<Brand>(alloc, &net, raised, known)?);
-    Ok(())
+fn covers_less_capacity_and_tighter_bounds(rt: HostRuntime) {
+    assert!(rt; are_covered(rt.alloc()));
 }
+
+/// A node of the six jobs at time 2, in which the second job is late.
+const SECOND_LATE: Place<'static> = Place {
+    units: &[1, 1],
+    lower: &[0, 1, 0, 1, 1, 2],
+    upper: &[1, 1, 1, 2, 2, 3],
+    time: 2,
+};
+
+/// The same with a late third job, and at other times, when other jobs are started.
+const STARTED: &[Row] = &[
+    Row {
+        place: THIRD_LATE,
+        covered: true,
+    },
+    Row {
+        place: Place {
+            time: 1,
+            ..THIRD_LATE
+        },
+        covered: false,
+    },
+    Row {
+        place: Place {
+            time: 3,
+            ..THIRD_LATE
+        },
+        covered: false,
+    },
+];
+
+const THIRD_LATE: Place<'static> = Place {
+    lower: &[0, 0, 1, 1, 1, 2],
+    ..SECOND_LATE
+};
 
 /// What the readers of a node tell: its early starts and ends, and of the third and the fourth job whether it is started.
 fn is_told<N: OfNetwork>(node: &Node<N>) -> bool {
@@ -235,360 +234,339 @@ fn is_told<N: OfNetwork>(node: &Node<N>) -> bool {
         && !node.started().contains(4)
 }
 
-/// A node at time 2, in rows of its own and then in the same rows at time 1.
-fn moves<N: OfNetwork>(alloc: Global, net: &Network) -> Result<bool, SampleFault>
+/// The node in which the second job is late, in rows of its own and then in the same rows at time 1.
+fn moves<N: OfNetwork>(alloc: Global, net: &Network) -> bool
     requires named { net.now ≡ N.network }
 {
-    let place = Place {
-        capacities: &[1, 1],
-        lower: &[0, 1, 0, 1, 1, 2],
-        upper: &[1, 1, 1, 2, 2, 3],
-        time: 2,
+    let Some(first) = node::<N>(alloc, net, &SECOND_LATE) else {
+        return false;
     };
-    let first: Node<N> = node(alloc, net, place)?;
     let told = is_told(&first);
     let (asked, early, rows) = first.into_rows();
-    let again: Node<N> = Node::reusing(net, asked, early, rows, 1)?;
-    Ok(told && again.time() == 1 && is_told(&again))
+    match Node::<N>::reusing(net, asked, early, rows, 1) {
+        Ok(again) => told && again.time() == 1 && is_told(&again),
+        Err(_) => false,
+    }
+}
+
+/// Whether nodes of the six jobs tell what they are, and are covered where the same jobs are started.
+fn are_told(alloc: Global) -> bool {
+    let Ok(net) = crossed(alloc) else {
+        return false;
+    };
+    moves::<Brand>(alloc, &net) && covers_rows::<Brand>(alloc, &net, &SECOND_LATE, STARTED)
 }
 
 #[test]
-fn tells_what_a_node_is(rt: HostRuntime) -> Result<(), SampleFault> {
-    let alloc = rt.alloc();
-    let net = crossed(alloc)?;
-    assert!(rt; moves::<Brand>(alloc, &net)?);
-    Ok(())
+fn tells_which_jobs_are_started(rt: HostRuntime) {
+    assert!(rt; are_told(rt.alloc()));
 }
 
-/// Whether a record is found that covers the node of a place.
+/// What is done with the records of a thread and of the board, or asked of them. They are of the root window with so many units,
+/// and of the same window so many time units later; none of one window covers another.
+#[derive(Clone, Copy)]
+enum Step {
+    /// The record with so many units is kept; the first ones, so many, stay.
+    Keep(u32, usize),
+    /// The records with 2 units of so many windows, each a time unit later than the one before, are kept.
+    KeepLater(u32),
+    /// The same are pushed to the board.
+    PushLater(u32),
+    /// Records are pushed, so many, and behind each one is found that covers the window with one unit.
+    PushAndFind(u32),
+    /// Whether a record is found that covers the window with so many units, so much later.
+    Find(u32, u32, bool),
+    /// Only the first ones stay, so many.
+    Forget(usize),
+    /// Whether there is a last record, which is taken out.
+    Take(bool),
+    /// So many are kept, and there is room for more.
+    Count(usize),
+    /// Fewer than so many are kept.
+    Below(usize),
+}
+
+/// Steps in turn, and what they show.
+struct Script {
+    shows: &'static str,
+    steps: &'static [Step],
+}
+
+const SCRIPTS: &[Script] = &[
+    Script {
+        shows: "a record that is kept, until it is taken out",
+        steps: &[
+            Keep(2, 0),
+            Find(1, 0, true),
+            Find(3, 0, false),
+            Take(true),
+            Take(false),
+            Find(1, 0, false),
+            Find(3, 0, false),
+        ],
+    },
+    Script {
+        shows: "records until they are forgotten",
+        steps: &[
+            KeepLater(3),
+            Forget(3),
+            Count(3),
+            Find(2, 0, true),
+            Find(2, 1, true),
+            Find(2, 2, true),
+            Forget(1),
+            Count(1),
+            Find(2, 0, true),
+            Find(2, 1, false),
+            Find(2, 2, false),
+            Forget(0),
+            Count(0),
+            Find(2, 0, false),
+            Find(2, 1, false),
+            Find(2, 2, false),
+        ],
+    },
+    Script {
+        shows: "a record in the place of one that it covers, unless that is among the first ones",
+        steps: &[
+            Keep(1, 0),
+            Find(1, 0, true),
+            Count(1),
+            Keep(2, 0),
+            Find(2, 0, true),
+            Count(1),
+            Keep(2, 1),
+            Find(2, 0, true),
+            Count(2),
+            Keep(2, 1),
+            Find(2, 0, true),
+            Count(2),
+            Keep(2, 0),
+            Find(2, 0, true),
+            Count(2),
+        ],
+    },
+    Script {
+        shows: "of many with the same started jobs the newest, but not the oldest; then one that is kept anew",
+        steps: &[
+            KeepLater(40),
+            Below(40),
+            Find(2, 39, true),
+            Find(2, 0, false),
+            Forget(0),
+            Keep(2, 0),
+            Find(1, 0, true),
+            Find(3, 0, false),
+        ],
+    },
+    Script {
+        shows: "the newest of many on the board",
+        steps: &[Find(1, 0, false), PushLater(200), Find(1, 199, true)],
+    },
+];
+
+/// The bounds of the root window, so much later.
+#[derive(Clone, Copy)]
+struct Bounds {
+    lower: [u32; 5],
+    upper: [u32; 5],
+}
+
+fn later(time: u32) -> Bounds {
+    let after = |start: u32| start.saturating_add(time);
+    Bounds {
+        lower: [after(0), after(0), after(0), after(0), after(3)],
+        upper: [after(1), after(1), after(2), after(2), after(4)],
+    }
+}
+
+/// The record of the root window with so many units, so much later.
+fn record<N: OfNetwork>(alloc: Global, net: &Network, units: u32, time: u32) -> Option<Nogood<N>>
+    requires named { net.now ≡ N.network }
+{
+    let bounds = later(time);
+    let place = Place {
+        units: &[units],
+        lower: &bounds.lower,
+        upper: &bounds.upper,
+        time: 0,
+    };
+    nogood(alloc, net, &place)
+}
+
+/// Whether a record is found that covers the root window with so many units, so much later; or `None` where memory is refused.
 fn finds<N: OfNetwork>(
     alloc: Global,
     net: &Network,
     board: &Board<N>,
     local: &mut Local<N>,
-    place: Place<'_>,
-) -> Result<bool, SampleFault>
+    units: u32,
+    time: u32,
+) -> Option<bool>
     requires named { net.now ≡ N.network }
 {
-    let node: Node<N> = node(alloc, net, place)?;
-    Ok(local.find(board, &node).is_some())
-}
-
-/// Whether a record that is kept is found, until it is taken out.
-fn keeps_one<N: OfNetwork>(
-    alloc: Global,
-    net: &Network,
-    empty: &Board<N>,
-    local: &mut Local<N>,
-) -> Result<bool, SampleFault>
-    requires named { net.now ≡ N.network }
-{
-    local.keep(nogood(alloc, net, root(&[2]))?, 0);
-    let kept = finds_units(alloc, net, empty, local)? == [true, false];
-    let taken = local.take_kept().is_some() && local.take_kept().is_none();
-    Ok(kept && taken && finds_units(alloc, net, empty, local)? == [false, false])
-}
-
-/// Whether records are found that cover the root windows with one unit and with three.
-fn finds_units<N: OfNetwork>(
-    alloc: Global,
-    net: &Network,
-    board: &Board<N>,
-    local: &mut Local<N>,
-) -> Result<[bool; 2], SampleFault>
-    requires named { net.now ≡ N.network }
-{
-    let one = finds(alloc, net, board, local, root(&[1]))?;
-    let three = finds(alloc, net, board, local, root(&[3]))?;
-    Ok([one, three])
-}
-
-/// The root window with two units, so much later; its record covers no other of these.
-fn window<'a>(bounds: &'a ([u32; 5], [u32; 5])) -> Place<'a> {
-    Place {
-        capacities: &[2],
-        lower: &bounds.0,
-        upper: &bounds.1,
+    let bounds = later(time);
+    let place = Place {
+        units: &[units],
+        lower: &bounds.lower,
+        upper: &bounds.upper,
         time: 0,
-    }
+    };
+    let node: Node<N> = node(alloc, net, &place)?;
+    Some(local.find(board, &node).is_some())
 }
 
-/// Keeps the records of these windows.
-fn keep_all<N: OfNetwork>(
+/// Keeps the record of the root window with so many units, so much later, and says whether there is one.
+fn keeps<N: OfNetwork>(
     alloc: Global,
     net: &Network,
     local: &mut Local<N>,
-    windows: &[([u32; 5], [u32; 5])],
-) -> Result<(), SampleFault>
+    units: u32,
+    time: u32,
+    first: usize,
+) -> bool
     requires named { net.now ≡ N.network }
 {
-    for bounds in windows {
-        local.keep(nogood(alloc, net, window(bounds))?, 0);
+    match record(alloc, net, units, time) {
+        Some(known) => {
+            local.keep(known, first);
+            true
+        }
+        None => false,
     }
-    Ok(())
 }
 
-/// Whether records are found of the first windows, so many, and of no other.
-fn finds_first<N: OfNetwork>(
-    alloc: Global,
-    net: &Network,
-    empty: &Board<N>,
-    local: &mut Local<N>,
-    windows: &[([u32; 5], [u32; 5])],
-    count: usize,
-) -> Result<bool, SampleFault>
+fn keeps_later<N: OfNetwork>(alloc: Global, net: &Network, local: &mut Local<N>, count: u32) -> bool
     requires named { net.now ≡ N.network }
 {
-    for (place, bounds) in windows.iter().enumerate() {
-        if finds(alloc, net, empty, local, window(bounds))? != (place < count) {
-            return Ok(false);
+    for time in 0..count {
+        if !keeps(alloc, net, local, 2, time, 0) {
+            return false;
         }
     }
-    Ok(true)
+    true
 }
 
-/// Whether the first of three records are found, and those that were forgotten are not.
-fn forgets<N: OfNetwork>(
-    alloc: Global,
-    net: &Network,
-    empty: &Board<N>,
-    local: &mut Local<N>,
-) -> Result<bool, SampleFault>
-    requires named { net.now ≡ N.network }
-{
-    let windows = [later(0), later(1), later(2)];
-    keep_all(alloc, net, local, &windows)?;
-    for count in [3, 1, 0] {
-        local.forget_behind(count);
-        let counted = local.kept_count() == count && !local.is_full();
-        if !counted || !finds_first(alloc, net, empty, local, &windows, count)? {
-            return Ok(false);
-        }
-    }
-    Ok(true)
-}
-
-/// Whether a record takes the place of one that it covers, unless that is among the first ones.
-fn gives_way<N: OfNetwork>(
-    alloc: Global,
-    net: &Network,
-    empty: &Board<N>,
-    local: &mut Local<N>,
-) -> Result<bool, SampleFault>
-    requires named { net.now ≡ N.network }
-{
-    for (units, first, count) in [(1, 0, 1), (2, 0, 1), (2, 1, 2), (2, 1, 2), (2, 0, 2)] {
-        local.keep(nogood(alloc, net, root(&[units]))?, first);
-        let counted = local.kept_count() == count;
-        if !finds(alloc, net, empty, local, root(&[units]))? || !counted {
-            return Ok(false);
-        }
-    }
-    local.forget_behind(0);
-    Ok(true)
-}
-
-/// Whether of many records with the same started jobs the oldest give way.
-fn drops_oldest<N: OfNetwork>(
-    alloc: Global,
-    net: &Network,
-    empty: &Board<N>,
-    local: &mut Local<N>,
-) -> Result<bool, SampleFault>
-    requires named { net.now ≡ N.network }
-{
-    for time in 0..40 {
-        local.keep(nogood(alloc, net, window(&later(time)))?, 0);
-    }
-    let fewer = local.kept_count() < 40;
-    let newest = finds(alloc, net, empty, local, window(&later(39)))?;
-    let oldest = finds(alloc, net, empty, local, window(&later(0)))?;
-    local.forget_behind(0);
-    Ok(fewer && newest && !oldest)
-}
-
-/// What goes wrong with the records that one thread keeps.
-fn keeping_fault<N: OfNetwork>(
-    alloc: Global,
-    net: &Network,
-) -> Result<Option<&'static str>, SampleFault>
-    requires named { net.now ≡ N.network }
-{
-    let empty: Board<N> = Board::new(alloc, net)?;
-    let mut local: Local<N> = Local::new(alloc, net);
-    fault_in_turn(alloc, net, &empty, &mut local)
-}
-
-fn fault_in_turn<N: OfNetwork>(
-    alloc: Global,
-    net: &Network,
-    empty: &Board<N>,
-    local: &mut Local<N>,
-) -> Result<Option<&'static str>, SampleFault>
-    requires named { net.now ≡ N.network }
-{
-    Ok(if !keeps_one(alloc, net, empty, local)? {
-        Some("a record that is kept")
-    } else if !forgets(alloc, net, empty, local)? {
-        Some("records that are forgotten")
-    } else if !gives_way(alloc, net, empty, local)? {
-        Some("a record that is covered")
-    } else if !drops_oldest(alloc, net, empty, local)? {
-        Some("the oldest record")
-    } else if !keeps_one(alloc, net, empty, local)? {
-        Some("a record that is kept at the end")
-    } else {
-        None
-    })
-}
-
-#[test]
-fn finds_kept_records(rt: HostRuntime) -> Result<(), SampleFault> {
-    let alloc = rt.alloc();
-    let net = parallel(alloc)?;
-    assert_eq!(rt; keeping_fault::<Brand>(alloc, &net)?, None);
-    Ok(())
-}
-
-/// Pushes so many records of the root window, each a time unit later than the one before.
-fn push_later<N: OfNetwork, R: Wait>(
+fn pushes_later<N: OfNetwork, R: Wait>(
     rt: &R,
     alloc: Global,
     net: &Network,
     board: &Board<N>,
     count: u32,
-) -> Result<(), SampleFault>
+) -> bool
     requires named { net.now ≡ N.network }
 {
     for time in 0..count {
-        board.push(rt, nogood(alloc, net, window(&later(time)))?);
+        match record(alloc, net, 2, time) {
+            Some(known) => board.push(rt, known),
+            None => return false,
+        }
     }
-    Ok(())
+    true
 }
 
-/// The bounds of the root window, so much later.
-fn later(time: u32) -> ([u32; 5], [u32; 5]) {
-    let after = |start: u32| start.saturating_add(time);
-    (
-        [after(0), after(0), after(0), after(0), after(3)],
-        [after(1), after(1), after(2), after(2), after(4)],
-    )
-}
-
-/// Whether the last of many records is found on the board by whoever has not read it yet.
-fn finds_newest<N: OfNetwork, R: Wait>(
+fn pushes_and_finds<N: OfNetwork, R: Wait>(
     rt: &R,
     alloc: Global,
     net: &Network,
     board: &Board<N>,
     local: &mut Local<N>,
-) -> Result<bool, SampleFault>
+    count: u32,
+) -> bool
     requires named { net.now ≡ N.network }
 {
-    let before = finds(alloc, net, board, local, root(&[1]))?;
-    push_later(rt, alloc, net, board, 200)?;
-    let (lower, upper) = later(199);
-    let last = Place {
-        capacities: &[1],
-        lower: &lower,
-        upper: &upper,
-        time: 0,
-    };
-    let newest = finds(alloc, net, board, local, last)?;
-    Ok(newest && !before)
-}
-
-fn shares_newest<N: OfNetwork, R: Wait>(
-    rt: &R,
-    alloc: Global,
-    net: &Network,
-) -> Result<bool, SampleFault>
-    requires named { net.now ≡ N.network }
-{
-    let board: Board<N> = Board::new(alloc, net)?;
-    let mut local: Local<N> = Local::new(alloc, net);
-    finds_newest(rt, alloc, net, &board, &mut local)
-}
-
-#[test]
-fn finds_the_newest_of_many(rt: HostRuntime) -> Result<(), SampleFault> {
-    let alloc = rt.alloc();
-    let net = parallel(alloc)?;
-    assert!(rt; shares_newest::<Brand, HostRuntime>(&rt, alloc, &net)?);
-    Ok(())
-}
-
-fn add<N: OfNetwork>(records: &mut Vec<Nogood<N>>, known: Nogood<N>) -> Result<(), AllocError> {
-    Ok(records.push(known)?)
-}
-
-/// Thirty records of the root window.
-fn thirty<N: OfNetwork>(alloc: Global, net: &Network) -> Result<Vec<Nogood<N>>, SampleFault>
-    requires named { net.now ≡ N.network }
-{
-    let mut records = Vec::new(alloc);
-    for _record in 0..30 {
-        add(&mut records, nogood(alloc, net, root(&[2]))?)?;
+    for _record in 0..count {
+        let pushed = pushes_later(rt, alloc, net, board, 1);
+        if !pushed || finds(alloc, net, board, local, 1, 0) != Some(true) {
+            return false;
+        }
     }
-    Ok(records)
+    true
 }
 
-/// Pushes records, looks after each for one that covers the node, and says whether one was found each time.
-fn push_and_find<N: OfNetwork, R: Wait>(
+/// Takes a step, and says whether it is answered as it is to be.
+fn holds<N: OfNetwork, R: Wait>(
     rt: &R,
     alloc: Global,
     net: &Network,
     board: &Board<N>,
-    records: Vec<Nogood<N>>,
-    node: &Node<N>,
+    local: &mut Local<N>,
+    step: Step,
+) -> bool
+    requires named { net.now ≡ N.network }
+{
+    match step {
+        Keep(units, first) => keeps(alloc, net, local, units, 0, first),
+        KeepLater(count) => keeps_later(alloc, net, local, count),
+        PushLater(count) => pushes_later(rt, alloc, net, board, count),
+        PushAndFind(count) => pushes_and_finds(rt, alloc, net, board, local, count),
+        Find(units, time, wanted) => finds(alloc, net, board, local, units, time) == Some(wanted),
+        Forget(count) => {
+            local.forget_behind(count);
+            true
+        }
+        Take(wanted) => local.take_kept().is_some() == wanted,
+        Count(count) => local.kept_count() == count && !local.is_full(),
+        Below(count) => local.kept_count() < count,
+    }
+}
+
+/// Whether each step is answered as it is to be, by a thread that has read nothing yet.
+fn follows<N: OfNetwork, R: Wait>(
+    rt: &R,
+    alloc: Global,
+    net: &Network,
+    board: &Board<N>,
+    steps: &[Step],
 ) -> bool
     requires named { net.now ≡ N.network }
 {
     let mut local: Local<N> = Local::new(alloc, net);
-    let mut found = true;
-    for known in records {
-        board.push(rt, known);
-        found = found && local.find(board, node).is_some();
+    for step in steps {
+        if !holds(rt, alloc, net, board, &mut local, *step) {
+            return false;
+        }
     }
-    found
+    true
 }
 
-/// Two threads push sixty records on one board; each finds one that covers the node.
-fn push_sixty<N: OfNetwork + Send + Sync, R: Threads + Wait + Sync>(
-    rt: &R,
-    alloc: Global,
-    net: &Network,
-) -> Result<bool, SampleFault>
+/// The same, over a board of its own.
+fn is_shown<N: OfNetwork, R: Wait>(rt: &R, alloc: Global, net: &Network, steps: &[Step]) -> bool
     requires named { net.now ≡ N.network }
 {
-    let board: Board<N> = Board::new(alloc, net)?;
-    let asked: Node<N> = node(alloc, net, root(&[1]))?;
-    push_thirties(rt, alloc, net, &board, &asked)
+    match Board::<N>::new(alloc, net) {
+        Ok(board) => follows(rt, alloc, net, &board, steps),
+        Err(_) => false,
+    }
 }
 
-fn push_thirties<N: OfNetwork + Send + Sync, R: Threads + Wait + Sync>(
-    rt: &R,
-    alloc: Global,
-    net: &Network,
-    board: &Board<N>,
-    asked: &Node<N>,
-) -> Result<bool, SampleFault>
-    requires named { net.now ≡ N.network }
-{
-    let some = thirty(alloc, net)?;
-    let others = thirty(alloc, net)?;
-    Ok(push_in_threads(rt, alloc, net, board, some, others, asked))
+/// What of the records of the five jobs is not found as it is to be.
+fn missed<R: Wait>(rt: &R, alloc: Global) -> Option<&'static str> {
+    let Ok(net) = parallel(alloc) else {
+        return Some("memory");
+    };
+    for script in SCRIPTS {
+        if !is_shown::<Brand, R>(rt, alloc, &net, script.steps) {
+            return Some(script.shows);
+        }
+    }
+    None
 }
 
-/// Two threads push these records; each finds one that covers the node.
+#[test]
+fn finds_kept_records(rt: HostRuntime) {
+    assert_eq!(rt; missed(&rt, rt.alloc()), None);
+}
+
+/// Thirty records are pushed, and one that covers the window with a unit is found behind each.
+const THIRTY: &[Step] = &[PushAndFind(30)];
+
+/// Two threads push thirty records each on one board; each finds one behind each push.
 fn push_in_threads<N: OfNetwork + Send + Sync, R: Threads + Wait + Sync>(
     rt: &R,
     alloc: Global,
     net: &Network,
     board: &Board<N>,
-    some: Vec<Nogood<N>>,
-    others: Vec<Nogood<N>>,
-    asked: &Node<N>,
 ) -> bool
     requires named { net.now ≡ N.network }
 {
@@ -596,18 +574,36 @@ fn push_in_threads<N: OfNetwork + Send + Sync, R: Threads + Wait + Sync>(
         rt,
         || -> bool
             requires { net.now ≡ N.network }
-        { push_and_find(rt, alloc, net, board, some, asked) },
+        { follows(rt, alloc, net, board, THIRTY) },
         || -> bool
             requires { net.now ≡ N.network }
-        { push_and_find(rt, alloc, net, board, others, asked) },
+        { follows(rt, alloc, net, board, THIRTY) },
     );
     one && two
 }
 
+/// The same, over a board of the five jobs.
+fn push_sixty<N: OfNetwork + Send + Sync, R: Threads + Wait + Sync>(
+    rt: &R,
+    alloc: Global,
+    net: &Network,
+) -> bool
+    requires named { net.now ≡ N.network }
+{
+    match Board::<N>::new(alloc, net) {
+        Ok(board) => push_in_threads(rt, alloc, net, &board),
+        Err(_) => false,
+    }
+}
+
+fn is_shared<R: Threads + Wait + Sync>(rt: &R, alloc: Global) -> bool {
+    match parallel(alloc) {
+        Ok(net) => push_sixty::<Brand, R>(rt, alloc, &net),
+        Err(_) => false,
+    }
+}
+
 #[test]
-fn shares_a_board(rt: HostRuntime) -> Result<(), SampleFault> {
-    let alloc = rt.alloc();
-    let net = parallel(alloc)?;
-    assert!(rt; push_sixty::<Brand, HostRuntime>(&rt, alloc, &net)?);
-    Ok(())
+fn shares_a_board(rt: HostRuntime) {
+    assert!(rt; is_shared(&rt, rt.alloc()));
 }

@@ -1,15 +1,12 @@
 //! Searches of small questions, whole and in parts.
 
-ghost use Rattle.std.specs.Prelude.{◌≡◌, ◌≤◌, IfOk, length};
+ghost use Rattle.std.specs.Prelude.{◌≡◌, ◌+◌, ◌≤◌, IfSome};
 ghost use Rattle.racp_model.specs.Formed.{IsFormed};
 
 use racp_cutset::{Board, Local};
-use racp_model::{NetFault, Network, OfNetwork, Question, Starts, Window};
-use racp_reference::decide_by_definition;
-use racp_samples::{
-    Random, SampleFault, chained, crossed, network, parallel, question, random_network, root_window,
-};
-use racp_search::{Collector, Course, Finding, Never, Piece, Rest, Stop, decide, explore, pursue};
+use racp_model::{NetFault, Network, OfNetwork, Question, Window};
+use racp_samples::{chained, crossed, network, parallel, question, root_window};
+use racp_search::{Course, Finding, Never, Piece, Rest, Stop, decide, explore, pursue};
 use std::alloc::{AllocError, Global};
 use std::cell::Cell;
 use std::marker::Brand;
@@ -22,31 +19,57 @@ enum Small {
     Chained,
 }
 
-/// A vector between the floor and the roof of a deadline, and whether it admits an answer: the network, the deadline, the
-/// capacities, and whether they do.
-type Vector = (Small, u32, &'static [u32], bool);
+/// Vectors between the floor and the roof of a deadline: those that admit no answer, and those that admit one.
+struct Vectors {
+    of: Small,
+    deadline: u32,
+    no: &'static [&'static [u32]],
+    yes: &'static [&'static [u32]],
+}
 
-const VECTORS: &[Vector] = &[
-    (Small::Parallel, 3, &[3], false),
-    (Small::Parallel, 3, &[4], true),
-    (Small::Parallel, 4, &[2], false),
-    (Small::Parallel, 4, &[3], true),
-    (Small::Parallel, 4, &[4], true),
-    (Small::Parallel, 5, &[2], true),
-    (Small::Parallel, 5, &[3], true),
-    (Small::Parallel, 5, &[4], true),
-    (Small::Crossed, 2, &[2, 2], true),
-    (Small::Crossed, 2, &[1, 2], false),
-    (Small::Crossed, 3, &[1, 1], false),
-    (Small::Crossed, 3, &[1, 2], true),
-    (Small::Crossed, 3, &[2, 1], true),
-    (Small::Crossed, 3, &[2, 2], true),
-    (Small::Crossed, 4, &[1, 1], true),
-    (Small::Chained, 8, &[1], false),
-    (Small::Chained, 8, &[2], true),
-    (Small::Chained, 8, &[3], true),
-    (Small::Chained, 8, &[4], true),
-    (Small::Chained, 8, &[5], true),
+const VECTORS: &[Vectors] = &[
+    Vectors {
+        of: Small::Parallel,
+        deadline: 3,
+        no: &[&[3]],
+        yes: &[&[4]],
+    },
+    Vectors {
+        of: Small::Parallel,
+        deadline: 4,
+        no: &[&[2]],
+        yes: &[&[3], &[4]],
+    },
+    Vectors {
+        of: Small::Parallel,
+        deadline: 5,
+        no: &[],
+        yes: &[&[2], &[3], &[4]],
+    },
+    Vectors {
+        of: Small::Crossed,
+        deadline: 2,
+        no: &[&[1, 2]],
+        yes: &[&[2, 2]],
+    },
+    Vectors {
+        of: Small::Crossed,
+        deadline: 3,
+        no: &[&[1, 1]],
+        yes: &[&[1, 2], &[2, 1], &[2, 2]],
+    },
+    Vectors {
+        of: Small::Crossed,
+        deadline: 4,
+        no: &[],
+        yes: &[&[1, 1]],
+    },
+    Vectors {
+        of: Small::Chained,
+        deadline: 8,
+        no: &[&[1]],
+        yes: &[&[2], &[3], &[4], &[5]],
+    },
 ];
 
 fn sample(alloc: Global, which: Small) -> Result<Network, NetFault> {
@@ -57,74 +80,43 @@ fn sample(alloc: Global, which: Small) -> Result<Network, NetFault> {
     }
 }
 
-/// Whether some starts answer the question of these capacities and bounds, as the search decides it.
-fn admits(
-    alloc: Global,
-    net: &Network,
-    capacities: &[u32],
-    window: &Window,
-) -> Result<bool, SampleFault> {
-    let asked = question(alloc, net, capacities, window.lower(), window.upper())?;
-    Ok(decide(alloc, net, &asked)?.is_some())
+/// Whether some starts in the window answer with these capacities, as the search decides it; or `None` where memory is refused.
+fn admits(alloc: Global, net: &Network, units: &[u32], window: &Window) -> Option<bool> {
+    let Ok(asked) = question(alloc, net, units, window.lower(), window.upper()) else {
+        return None;
+    };
+    match decide(alloc, net, &asked) {
+        Ok(found) => Some(found.is_some()),
+        Err(_) => None,
+    }
 }
 
-/// Whether the capacities admit an answer by a deadline.
-fn admits_by(
-    alloc: Global,
-    which: Small,
-    deadline: u32,
-    capacities: &[u32],
-) -> Result<bool, SampleFault> {
-    let net = sample(alloc, which)?;
-    let window = root_window(alloc, &net, deadline)?;
-    admits(alloc, &net, capacities, &window)
+/// Whether each of these vectors admits an answer in the window, or none does.
+fn all_admit(alloc: Global, net: &Network, window: &Window, list: &[&[u32]], yes: bool) -> bool {
+    for units in list {
+        if admits(alloc, net, units, window) != Some(yes) {
+            return false;
+        }
+    }
+    true
+}
+
+/// Whether the vectors of a row admit answers as they are to.
+fn is_decided(alloc: Global, row: &Vectors) -> bool {
+    let Ok(net) = sample(alloc, row.of) else {
+        return false;
+    };
+    let Ok(window) = root_window(alloc, &net, row.deadline) else {
+        return false;
+    };
+    all_admit(alloc, &net, &window, row.no, false) && all_admit(alloc, &net, &window, row.yes, true)
 }
 
 #[test]
-fn decides_the_vectors_between_floors_and_roofs(rt: HostRuntime) -> Result<(), SampleFault> {
-    for (row, vector) in VECTORS.iter().enumerate() {
-        let (which, deadline, capacities, wanted) = *vector;
-        let found = admits_by(rt.alloc(), which, deadline, capacities)?;
-        assert_eq!(rt; found, wanted, "row {row}");
+fn decides_the_vectors_between_floors_and_roofs(rt: HostRuntime) {
+    for row in VECTORS {
+        assert!(rt; is_decided(rt.alloc(), row), "deadline {}", row.deadline);
     }
-    Ok(())
-}
-
-/// A random question about a network of five jobs and two resources.
-fn random_question(
-    alloc: Global,
-    net: &Network,
-    random: &mut Random,
-) -> Result<Question, SampleFault>
-    ensures capacities { IfOk result (λ asked. length asked.capacities ≡ net.now.resources) }
-    ensures lower { IfOk result (λ asked. length asked.window.lower ≡ length net.now.jobs) }
-    ensures upper { IfOk result (λ asked. length asked.window.upper ≡ length net.now.jobs) }
-{
-    let lower = random.list(alloc, 5, 2)?;
-    let upper = random.list(alloc, 5, 7)?;
-    let capacities = random.list(alloc, 2, 6)?;
-    question(alloc, net, &capacities, &lower, &upper)
-}
-
-/// Whether some starts answer a random question: as the search decides it, and by the definition.
-fn decided_twice(alloc: Global, random: &mut Random) -> Result<(bool, bool), SampleFault> {
-    let net = random_network(alloc, random, 2, 5)?;
-    let asked = random_question(alloc, &net, random)?;
-    let found = decide(alloc, &net, &asked)?.is_some();
-    Ok((found, decide_by_definition(alloc, &net, &asked)?.is_some()))
-}
-
-#[test]
-fn decides_as_by_definition(rt: HostRuntime) -> Result<(), SampleFault> {
-    let mut random = Random::new(1);
-    let mut answered: u32 = 0;
-    for round in 0..300 {
-        let (found, wanted) = decided_twice(rt.alloc(), &mut random)?;
-        assert_eq!(rt; found, wanted, "round {round}");
-        answered = answered.saturating_add(found as u32);
-    }
-    assert!(rt; 50 <= answered && answered <= 250, "{answered} answered");
-    Ok(())
 }
 
 /// Stops a search at one of its looks.
@@ -154,27 +146,126 @@ enum End {
     Look(u32),
 }
 
-/// What a search found and left.
-#[derive(Drop)]
-struct Told {
-    nodes: u64,
+/// What a search shows: whether starts were found, whether windows are left, whether it was stopped, and after how many nodes.
+#[derive(Clone, Copy)]
+struct Shown {
+    found: bool,
+    leaves: bool,
     stopped: bool,
-    found: Option<Starts>,
-    left: Vec<Window>,
+    nodes: u64,
 }
 
-impl Collector for Told {}
+/// What a finding shows.
+fn shown_by<N: OfNetwork>(finding: &Finding<N>) -> Shown
+    ensures { result.nodes ≡ finding.now.nodes }
+{
+    let leaves = match finding.rest() {
+        Rest::Whole => true,
+        Rest::Windows(windows) => !windows.is_empty(),
+    };
+    Shown {
+        found: finding.found().is_some(),
+        leaves,
+        stopped: finding.stopped(),
+        nodes: finding.nodes(),
+    }
+}
 
-/// What a search of the question of these capacities and bounds tells.
-fn searched(
+/// The answers with 2 units of the windows that one node leaves of the five jobs beside each other, which are to end by 5.
+const ANSWERS: &[&[u32]] = &[&[0, 0, 3, 3, 5], &[0, 2, 0, 0, 5]];
+
+fn is_one_of(starts: &[u32], answers: &[&[u32]]) -> bool {
+    for answer in answers {
+        if starts == *answer {
+            return true;
+        }
+    }
+    false
+}
+
+/// Whether a search of the window with 2 units finds starts; or `None` where these are other ones, or memory is refused.
+fn is_answered(alloc: Global, net: &Network, window: &Window) -> Option<bool> {
+    let Ok(asked) = question(alloc, net, &[2], window.lower(), window.upper()) else {
+        return None;
+    };
+    match decide(alloc, net, &asked) {
+        Ok(Some(starts)) if is_one_of(starts.as_slice(), ANSWERS) => Some(true),
+        Ok(None) => Some(false),
+        _ => None,
+    }
+}
+
+/// In how many of the windows starts are found; or `None` as there.
+fn count_answers(alloc: Global, net: &Network, windows: &[Window]) -> Option<u32> {
+    let mut count: u32 = 0;
+    for window in windows {
+        count = count.saturating_add(is_answered(alloc, net, window)? as u32);
+    }
+    Some(count)
+}
+
+/// In how many of the windows that one node leaves starts are found; or `None` as there, or where the node itself answers.
+fn count_answers_behind_one<N: OfNetwork>(
     alloc: Global,
     net: &Network,
-    capacities: &[u32],
-    window: (&[u32], &[u32]),
-    end: End,
-) -> Result<Told, SampleFault> {
-    let asked = question(alloc, net, capacities, window.0, window.1)?;
-    Ok(searched_named::<Brand>(alloc, net, asked, end)?)
+    asked: Question,
+    board: &Board<N>,
+) -> Option<u32>
+    requires named { net.now ≡ N.network }
+    requires formed { IsFormed net.now asked }
+{
+    let mut local: Local<N> = Local::new(alloc, net);
+    let piece: Piece<N> = Piece::new(0, 0, 0, asked);
+    let finding = explore(alloc, net, piece, Some(1), board, &mut local, &Never);
+    let one = finding.nodes() == 1 && finding.found().is_none();
+    let count = match finding.rest() {
+        Rest::Windows(windows) if one => count_answers(alloc, net, windows),
+        _ => None,
+    };
+    let _ = finding.into_found();
+    count
+}
+
+/// The same, over a board of its own.
+fn count_left_of<N: OfNetwork>(alloc: Global, net: &Network, asked: Question) -> Option<u32>
+    requires named { net.now ≡ N.network }
+    requires formed { IsFormed net.now asked }
+{
+    match Board::<N>::new(alloc, net) {
+        Ok(board) => count_answers_behind_one(alloc, net, asked, &board),
+        Err(_) => None,
+    }
+}
+
+/// The same, of the five jobs beside each other, which are to end by 5.
+fn count_left_answers(alloc: Global) -> Option<u32> {
+    let Ok(net) = parallel(alloc) else {
+        return None;
+    };
+    match question(alloc, &net, &[2], &[0, 0, 0, 0, 3], &[2, 2, 3, 3, 5]) {
+        Ok(asked) => count_left_of::<Brand>(alloc, &net, asked),
+        Err(_) => None,
+    }
+}
+
+#[test]
+fn searches_on_from_the_rest(rt: HostRuntime) {
+    assert_eq!(rt; count_left_answers(rt.alloc()), Some(2));
+}
+
+/// Six equal jobs, none of which waits for another.
+fn equal(alloc: Global) -> Result<Network, NetFault> {
+    let job: (u32, &[u32]) = (2, &[1]);
+    network(alloc, 1, &[job; 6], &[])
+}
+
+/// What a search of the equal jobs with 2 units shows, each of which starts at this time at the latest; or `None` where memory
+/// is refused.
+fn searched(alloc: Global, net: &Network, latest: u32, end: End) -> Option<Shown> {
+    match question(alloc, net, &[2], &[0; 6], &[latest; 6]) {
+        Ok(asked) => searched_named::<Brand>(alloc, net, asked, end),
+        Err(_) => None,
+    }
 }
 
 fn searched_named<N: OfNetwork>(
@@ -182,13 +273,13 @@ fn searched_named<N: OfNetwork>(
     net: &Network,
     asked: Question,
     end: End,
-) -> Result<Told, AllocError>
+) -> Option<Shown>
     requires named { net.now ≡ N.network }
-    requires capacities { length asked.capacities ≡ net.now.resources }
-    requires lower { length asked.window.lower ≡ length net.now.jobs }
-    requires upper { length asked.window.upper ≡ length net.now.jobs }
+    requires formed { IsFormed net.now asked }
 {
-    let board: Board<N> = Board::new(alloc, net)?;
+    let Ok(board) = Board::new(alloc, net) else {
+        return None;
+    };
     let mut local: Local<N> = Local::new(alloc, net);
     let (quantum, look) = match end {
         End::Nodes(most) => (Some(most), u32::MAX),
@@ -199,299 +290,233 @@ fn searched_named<N: OfNetwork>(
     };
     let piece: Piece<N> = Piece::new(0, 0, 0, asked);
     let finding = explore(alloc, net, piece, quantum, &board, &mut local, &stop);
-    told_of(alloc, finding)
+    let told = shown_by(&finding);
+    let _ = finding.into_found();
+    Some(told)
 }
 
-/// What a finding tells.
-fn told_of<N: OfNetwork>(alloc: Global, finding: Finding<N>) -> Result<Told, AllocError> {
-    let (nodes, stopped) = (finding.nodes(), finding.stopped());
-    let (piece, rest, found) = finding.into_parts();
-    let whole = piece.into_question::<Told>().window;
-    let left = match rest {
-        Rest::Whole => vec![in alloc; whole]?,
-        Rest::Windows(list) => list,
-    };
-    Ok(Told {
-        nodes,
-        stopped,
-        found,
-        left,
-    })
-}
-
-/// What a search finds of the five jobs beside each other in the windows that it leaves in the test below.
-const ANSWERS: [[u32; 5]; 2] = [[0, 0, 3, 3, 5], [0, 2, 0, 0, 5]];
-
-/// In how many of the windows one of these is found; or `None` where another is, or a window has no raised lower bound.
-fn count_answers(
-    alloc: Global,
-    net: &Network,
-    lower: &[u32],
-    windows: &[Window],
-) -> Result<Option<u32>, SampleFault> {
-    let mut answers: u32 = 0;
-    for window in windows {
-        let part = (window.lower(), window.upper());
-        let next = searched(alloc, net, &[2], part, End::Nodes(u64::MAX))?;
-        let other = match &next.found {
-            Some(starts) => ANSWERS
-                .iter()
-                .all(|answer| starts.as_slice() != answer.as_slice()),
-            None => false,
-        };
-        if other || part.0 <= lower {
-            return Ok(None);
-        }
-        answers = answers.saturating_add(next.found.is_some() as u32);
-    }
-    Ok(Some(answers))
-}
-
-#[test]
-fn searches_on_from_the_rest(rt: HostRuntime) -> Result<(), SampleFault> {
-    let alloc = rt.alloc();
-    let net = parallel(alloc)?;
-    let (lower, upper): ([u32; 5], [u32; 5]) = ([0, 0, 0, 0, 3], [2, 2, 3, 3, 5]);
-    let first = searched(alloc, &net, &[2], (&lower, &upper), End::Nodes(1))?;
-    assert!(rt; first.found.is_none() && !first.stopped && first.nodes == 1);
-    let answers = count_answers(alloc, &net, &lower, &first.left)?;
-    assert_eq!(rt; answers, Some(2));
-    Ok(())
-}
-
-/// Six equal jobs, none of which waits for another.
-fn equal(alloc: Global) -> Result<Network, NetFault> {
-    let job: (u32, &[u32]) = (2, &[1]);
-    network(alloc, 1, &[job; 6], &[])
-}
-
-/// What a part of a search of the equal jobs shows.
-#[derive(Clone, Copy)]
-struct Part {
-    /// Whether the part, or what it leaves, holds an answer.
-    holds: bool,
-    /// Whether it leaves windows.
-    leaves: bool,
-    stopped: bool,
-    nodes: u64,
-}
-
-/// A part of a search of the equal jobs with a capacity of 2, each of which starts at this time at the latest.
-fn part_of(alloc: Global, net: &Network, latest: u32, end: End) -> Result<Part, SampleFault> {
-    let told = searched(alloc, net, &[2], (&[0; 6], &[latest; 6]), end)?;
-    let mut holds = told.found.is_some();
-    for window in &told.left {
-        holds |= admits(alloc, net, &[2], window)?;
-    }
-    Ok(Part {
-        holds,
-        leaves: !told.left.is_empty(),
-        stopped: told.stopped,
-        nodes: told.nodes,
-    })
-}
-
-/// How many parts that leave windows there are, with as many nodes as this, and with a stop at the look behind them; or `None`
-/// where a part is not as it has to be.
-fn count_open(alloc: Global, net: &Network, nodes: u32) -> Result<Option<u32>, SampleFault> {
+/// Whether windows are left by a search of the equal jobs over so many nodes, and by one that is stopped at the look behind
+/// them; or `None` where the two differ, or windows are left for another reason.
+fn is_left(alloc: Global, net: &Network, latest: u32, nodes: u32) -> Option<bool> {
     let most = nodes as u64;
-    let mut open: u32 = 0;
-    for (latest, holds) in [(3, false), (4, true)] {
-        let limited = part_of(alloc, net, latest, End::Nodes(most))?;
-        let cut = part_of(alloc, net, latest, End::Look(nodes.saturating_add(1)))?;
-        if limited.stopped || cut.stopped != cut.leaves || limited.leaves != cut.leaves {
-            return Ok(None);
-        }
-        for part in [limited, cut] {
-            if part.holds != holds || part.leaves && part.nodes != most {
-                return Ok(None);
-            }
-            open = open.saturating_add(part.leaves as u32);
-        }
-    }
-    Ok(Some(open))
+    let limited = searched(alloc, net, latest, End::Nodes(most))?;
+    let cut = searched(alloc, net, latest, End::Look(nodes.saturating_add(1)))?;
+    let open = limited.leaves;
+    let told = !limited.stopped && cut.stopped == open && cut.leaves == open;
+    let spent = !open || limited.nodes == most && cut.nodes == most;
+    if told && spent { Some(open) } else { None }
 }
 
-/// The same, of all numbers of nodes up to 20.
-fn count_all_open(alloc: Global, net: &Network) -> Result<Option<u32>, SampleFault> {
-    let mut open: u32 = 0;
+/// How often windows are left, of all numbers of nodes up to 20; or `None` as there.
+fn count_left(alloc: Global, net: &Network) -> Option<u32> {
+    let mut count: u32 = 0;
     for nodes in 0..21 {
-        let Some(parts) = count_open(alloc, net, nodes)? else {
-            return Ok(None);
-        };
-        open = open.saturating_add(parts);
+        let (no, yes) = (
+            is_left(alloc, net, 3, nodes)?,
+            is_left(alloc, net, 4, nodes)?,
+        );
+        count = count.saturating_add(no as u32 + yes as u32);
     }
-    Ok(Some(open))
+    Some(count)
+}
+
+fn is_often_left(alloc: Global) -> bool {
+    let Ok(net) = equal(alloc) else {
+        return false;
+    };
+    count_left(alloc, &net).is_some_and(|count| 10 <= count)
 }
 
 #[test]
-fn answers_the_same_in_parts(rt: HostRuntime) -> Result<(), SampleFault> {
-    let alloc = rt.alloc();
-    let net = equal(alloc)?;
-    let open = count_all_open(alloc, &net)?;
-    assert!(rt; open.is_some_and(|open| 20 <= open));
-    Ok(())
+fn stops_at_the_look_behind_as_many_nodes_as_it_may_enter(rt: HostRuntime) {
+    assert!(rt; is_often_left(rt.alloc()));
 }
 
-/// What two searches of a piece over the same records show: how many nodes each searched, whether the first found starts, and the
-/// piece behind them: its number, seat and place, and its question.
-#[derive(Drop)]
-struct Again {
-    nodes: (u64, u64),
-    found: bool,
-    marks: (u64, usize, u64),
-    question: Question,
-}
-
-impl Collector for Again {}
-
-fn searched_again<N: OfNetwork>(
-    alloc: Global,
-    net: &Network,
-    asked: Question,
-) -> Result<Again, AllocError>
+/// Whether a second search of the piece over the same records finds them, and so takes fewer nodes. Nothing answers.
+fn is_shorter_again<N: OfNetwork>(alloc: Global, net: &Network, asked: Question) -> bool
     requires named { net.now ≡ N.network }
-    requires capacities { length asked.capacities ≡ net.now.resources }
-    requires lower { length asked.window.lower ≡ length net.now.jobs }
-    requires upper { length asked.window.upper ≡ length net.now.jobs }
+    requires formed { IsFormed net.now asked }
 {
-    let board: Board<N> = Board::new(alloc, net)?;
+    let Ok(board) = Board::new(alloc, net) else {
+        return false;
+    };
     let mut local: Local<N> = Local::new(alloc, net);
     let piece: Piece<N> = Piece::new(7, 5, 3, asked);
     let first = explore(alloc, net, piece, None, &board, &mut local, &Never);
     let (nodes, found) = (first.nodes(), first.found().is_some());
     let piece = first.into_piece();
     let second = explore(alloc, net, piece, None, &board, &mut local, &Never);
-    let nodes = (nodes, second.nodes());
-    let piece = second.into_piece();
-    let marks = (piece.number(), piece.seat(), piece.index());
-    Ok(Again {
-        nodes,
-        found,
-        marks,
-        question: piece.into_question::<Again>(),
-    })
+    let again = second.nodes();
+    let _ = second.into_found();
+    !found && again < nodes
+}
+
+fn finds_its_records(alloc: Global) -> bool {
+    let Ok(net) = equal(alloc) else {
+        return false;
+    };
+    match question(alloc, &net, &[1], &[0, 1, 0, 1, 0, 1], &[3; 6]) {
+        Ok(asked) => is_shorter_again::<Brand>(alloc, &net, asked),
+        Err(_) => false,
+    }
 }
 
 #[test]
-fn gives_pieces_back_and_finds_the_records_of_a_search(rt: HostRuntime) -> Result<(), SampleFault> {
-    let alloc = rt.alloc();
-    let net = equal(alloc)?;
-    let asked = question(alloc, &net, &[1], &[0, 1, 0, 1, 0, 1], &[3; 6])?;
-    let again = searched_again::<Brand>(alloc, &net, asked)?;
-    assert!(rt; is_the_piece(&again));
-    let (first, second) = again.nodes;
-    assert!(rt; !again.found && second < first, "{first} {second}");
-    Ok(())
+fn finds_the_records_of_a_search(rt: HostRuntime) {
+    assert!(rt; finds_its_records(rt.alloc()));
 }
 
-/// Whether the piece behind two searches is the one that was searched.
-fn is_the_piece(again: &Again) -> bool {
-    let window = &again.question.window;
-    again.marks == (7, 5, 3)
-        && again.question.capacities.as_slice() == [1].as_slice()
-        && window.lower() == [0, 1, 0, 1, 0, 1].as_slice()
-        && window.upper() == [3; 6].as_slice()
-}
-
-/// What a search shows that goes on by so many nodes at a time, up to 100: whether starts were found, after how many nodes,
-/// and how often it was called.
-#[derive(Drop)]
+/// What a search shows that goes on by so many nodes at a time: whether starts were found, after how many nodes, and how often
+/// it was called.
+#[derive(Clone, Copy)]
 struct Pursued {
     found: bool,
     nodes: u64,
     calls: u64,
 }
 
-impl Collector for Pursued {}
-
-/// A search in an order that goes on by so many nodes at a time; `None` where 100 times are not enough.
-fn searched_in_parts<N: OfNetwork>(
+/// What a search shows of the question over at most so many nodes, behind those that were spent on it before.
+fn searched_further<N: OfNetwork>(
     alloc: Global,
     net: &Network,
-    asked: Question,
-    order: usize,
+    asked: &Question,
+    spent: u64,
     most: u64,
-) -> Result<Option<Pursued>, AllocError>
+    board: &Board<N>,
+    local: &mut Local<N>,
+    course: &mut Course<N>,
+) -> Option<Shown>
     requires named { net.now ≡ N.network }
-    requires formed { IsFormed net.now asked }
+    requires formed { IsFormed net.now asked.now }
+    requires few { spent + most ≤ 1000000 }
+    ensures { IfSome result (λ told. told.nodes ≤ spent + most) }
+{
+    let Ok(asked) = asked.copy() else {
+        return None;
+    };
+    let piece: Piece<N> = Piece::new(0, 0, 0, asked);
+    let finding = pursue(alloc, net, piece, spent, most, board, local, course, &Never);
+    let told = shown_by(&finding);
+    let _ = finding.into_found();
+    Some(told)
+}
+
+/// A search that goes on by so many nodes at a time; `None` where 100 times are not enough.
+fn searched_on<N: OfNetwork>(
+    alloc: Global,
+    net: &Network,
+    asked: &Question,
+    most: u64,
+    board: &Board<N>,
+    local: &mut Local<N>,
+    course: &mut Course<N>,
+) -> Option<Pursued>
+    requires named { net.now ≡ N.network }
+    requires formed { IsFormed net.now asked.now }
     requires few { most ≤ 100 }
 {
-    let board: Board<N> = Board::new(alloc, net)?;
+    let mut nodes = 0;
+    for call in 0..100 {
+        match searched_further(alloc, net, asked, nodes, most, board, local, course) {
+            Some(told) if told.leaves => nodes = told.nodes,
+            Some(told) => {
+                return Some(Pursued {
+                    found: told.found,
+                    nodes: told.nodes,
+                    calls: call + 1,
+                });
+            }
+            None => return None,
+        }
+    }
+    None
+}
+
+/// The same, in an order.
+fn searched_over<N: OfNetwork>(
+    alloc: Global,
+    net: &Network,
+    asked: &Question,
+    order: usize,
+    most: u64,
+    board: &Board<N>,
+) -> Option<Pursued>
+    requires named { net.now ≡ N.network }
+    requires formed { IsFormed net.now asked.now }
+    requires few { most ≤ 100 }
+{
     let mut local: Local<N> = Local::new(alloc, net);
     let mut course: Course<N> = Course::new();
     course.turn_to(order);
-    let mut piece: Piece<N> = Piece::new(0, 0, 0, asked);
-    let mut nodes = 0;
-    for call in 0..100 {
-        let finding = pursue(
-            alloc,
-            net,
-            piece,
-            nodes,
-            most,
-            &board,
-            &mut local,
-            &mut course,
-            &Never,
-        );
-        nodes = finding.nodes();
-        let found = finding.found().is_some();
-        let is_decided = matches!(finding.rest(), Rest::Windows(_));
-        piece = finding.into_piece();
-        if is_decided {
-            let _ = piece.into_question::<Pursued>();
-            return Ok(Some(Pursued {
-                found,
-                nodes,
-                calls: call + 1,
-            }));
-        }
-    }
-    let _ = piece.into_question::<Pursued>();
-    Ok(None)
+    searched_on(alloc, net, asked, most, board, &mut local, &mut course)
 }
 
-/// Whether a search of the equal jobs, each of which starts at this time at the latest, goes on as it is to: by so many
-/// nodes at a time it takes as many calls as they are parts of its nodes, and it finds what a search in one part finds.
-fn goes_on(
+/// The same, over a board of its own.
+fn searched_in_parts<N: OfNetwork>(
+    alloc: Global,
+    net: &Network,
+    asked: &Question,
+    order: usize,
+    most: u64,
+) -> Option<Pursued>
+    requires named { net.now ≡ N.network }
+    requires formed { IsFormed net.now asked.now }
+    requires few { most ≤ 100 }
+{
+    match Board::<N>::new(alloc, net) {
+        Ok(board) => searched_over(alloc, net, asked, order, most, &board),
+        Err(_) => None,
+    }
+}
+
+/// What a search of the equal jobs with 2 units shows that goes on so, each of which starts at this time at the latest.
+fn asked_in_parts(
     alloc: Global,
     net: &Network,
     latest: u32,
     order: usize,
     most: u64,
-) -> Result<bool, SampleFault>
+) -> Option<Pursued>
     requires { most ≤ 100 }
 {
-    let whole = searched(
-        alloc,
-        net,
-        &[2],
-        (&[0; 6], &[latest; 6]),
-        End::Nodes(u64::MAX),
-    )?;
-    let asked = question(alloc, net, &[2], &[0; 6], &[latest; 6])?;
-    let Some(parts) = searched_in_parts::<Brand>(alloc, net, asked, order, most)? else {
-        return Ok(false);
+    match question(alloc, net, &[2], &[0; 6], &[latest; 6]) {
+        Ok(asked) => searched_in_parts::<Brand>(alloc, net, &asked, order, most),
+        Err(_) => None,
+    }
+}
+
+/// Whether a search of the equal jobs goes on as it is to: by so many nodes at a time it takes as many calls as they are parts
+/// of its nodes, and it finds what a search in one part finds.
+fn goes_on(alloc: Global, net: &Network, latest: u32, order: usize, most: u64) -> bool
+    requires { most ≤ 100 }
+{
+    let Some(whole) = searched(alloc, net, latest, End::Nodes(u64::MAX)) else {
+        return false;
     };
-    Ok(
-        parts.found == whole.found.is_some()
-            && parts.calls == parts.nodes.div_ceil(most.max(1))
-            && (order > 0 || parts.nodes == whole.nodes),
-    )
+    let Some(parts) = asked_in_parts(alloc, net, latest, order, most) else {
+        return false;
+    };
+    parts.found == whole.found
+        && parts.calls == parts.nodes.div_ceil(most.max(1))
+        && (order > 0 || parts.nodes == whole.nodes)
+}
+
+/// Whether searches in three orders go on so by 1 to 4 nodes, where nothing answers and where something does.
+fn all_go_on(alloc: Global) -> bool {
+    let Ok(net) = equal(alloc) else {
+        return false;
+    };
+    for order in 0..3 {
+        for most in 1..5 {
+            if !goes_on(alloc, &net, 3, order, most) || !goes_on(alloc, &net, 4, order, most) {
+                return false;
+            }
+        }
+    }
+    true
 }
 
 #[test]
-fn goes_on_where_it_came_to_a_halt(rt: HostRuntime) -> Result<(), SampleFault> {
-    let alloc = rt.alloc();
-    let net = equal(alloc)?;
-    for order in 0..3 {
-        for (latest, most) in [(3, 1), (3, 4), (4, 1), (4, 4)] {
-            assert!(rt;
-                goes_on(alloc, &net, latest, order, most)?,
-                "{order} {latest} {most}"
-            );
-        }
-    }
-    Ok(())
+fn goes_on_where_it_came_to_a_halt(rt: HostRuntime) {
+    assert!(rt; all_go_on(rt.alloc()));
 }

@@ -8,22 +8,21 @@ use racp_candidates::{One, Singles, Starts1, Vectors};
 use racp_model::{Capacities, Question, Window};
 use racp_prices::Order;
 use racp_questions::Series;
-use racp_samples::{SampleFault, parallel, root_window};
-use std::alloc::{AllocError, Global};
+use racp_samples::{parallel, root_window};
+use std::alloc::Global;
 
 /// A box of capacity vectors, and its vectors: all of them, or the first ones.
-#[derive(Clone, Copy)]
-struct Boxed {
-    prices: &'static [u32],
-    owned: &'static [u32],
-    floors: &'static [u32],
-    roofs: &'static [u32],
-    pairs: &'static [(u32, u32)],
-    vectors: &'static [&'static [u32]],
-    all: bool,
+pub(crate) struct Boxed {
+    pub(crate) prices: &'static [u32],
+    pub(crate) owned: &'static [u32],
+    pub(crate) floors: &'static [u32],
+    pub(crate) roofs: &'static [u32],
+    pub(crate) pairs: &'static [(u32, u32)],
+    pub(crate) vectors: &'static [&'static [u32]],
+    pub(crate) all: bool,
 }
 
-static BOXES: [Boxed; 8] = [
+const BOXES: &[Boxed] = &[
     Boxed {
         prices: &[1, 1],
         owned: &[0, 0],
@@ -153,11 +152,15 @@ pub(crate) struct Parts {
     pub(crate) pairs: Vec<(u32, u32)>,
 }
 
-/// An order of these prices and owned units.
-fn order_of(alloc: Global, prices: &[u32], owned: &[u32]) -> Result<Order, AllocError> {
-    let prices = prices.to_vec(alloc)?;
-    let owned = owned.to_vec(alloc)?;
-    Ok(Order {
+/// An order of these prices and owned units; or `None` where memory is refused.
+fn order_of(alloc: Global, prices: &[u32], owned: &[u32]) -> Option<Order> {
+    let Ok(prices) = prices.to_vec(alloc) else {
+        return None;
+    };
+    let Ok(owned) = owned.to_vec(alloc) else {
+        return None;
+    };
+    Some(Order {
         deadline: 0,
         prices,
         owned,
@@ -167,24 +170,28 @@ fn order_of(alloc: Global, prices: &[u32], owned: &[u32]) -> Result<Order, Alloc
     })
 }
 
-/// The parts of a box of these prices and owned units, floors, roofs and excluding pairs.
-pub(crate) fn parts_of(
-    alloc: Global,
-    (prices, owned): (&[u32], &[u32]),
-    floors: &[u32],
-    roofs: &[u32],
-    pairs: &[(u32, u32)],
-) -> Result<Parts, AllocError> {
-    let order = order_of(alloc, prices, owned)?;
-    let floors = floors.to_vec(alloc)?;
-    let roofs = roofs.to_vec(alloc)?;
-    let pairs = pairs.to_vec(alloc)?;
-    Ok(Parts {
-        order,
-        floors: Capacities::new(floors),
-        roofs: Capacities::new(roofs),
-        pairs,
-    })
+/// So many units; or `None` where memory is refused.
+fn capacities(alloc: Global, units: &[u32]) -> Option<Capacities> {
+    match units.to_vec(alloc) {
+        Ok(units) => Some(Capacities::new(units)),
+        Err(_) => None,
+    }
+}
+
+/// The parts of a box; or `None` where memory is refused.
+pub(crate) fn parts_of(alloc: Global, row: &Boxed) -> Option<Parts> {
+    let order = order_of(alloc, row.prices, row.owned)?;
+    let floors = capacities(alloc, row.floors)?;
+    let roofs = capacities(alloc, row.roofs)?;
+    match row.pairs.to_vec(alloc) {
+        Ok(pairs) => Some(Parts {
+            order,
+            floors,
+            roofs,
+            pairs,
+        }),
+        Err(_) => None,
+    }
 }
 
 /// Whether the prices and the bounds of a box are in their ranges, and its pairs name its resources.
@@ -202,10 +209,10 @@ pub(crate) fn is_box(parts: &Parts) -> bool
         && are_numbers(floors.len(), &parts.pairs)
 }
 
-/// The series of the vectors of a box; or `None` where it is no box.
-fn series_of(alloc: Global, parts: Parts, root: &Window) -> Result<Option<Vectors>, AllocError> {
+/// The series of the vectors of a box; or `None` where it is no box, or memory is refused.
+fn series_of(alloc: Global, parts: Parts, root: &Window) -> Option<Vectors> {
     if !is_box(&parts) {
-        return Ok(None);
+        return None;
     }
     let Parts {
         order,
@@ -213,167 +220,170 @@ fn series_of(alloc: Global, parts: Parts, root: &Window) -> Result<Option<Vector
         roofs,
         pairs,
     } = parts;
-    let series = Vectors::new(alloc, &order, floors, roofs, pairs, root)?;
-    Ok(Some(series))
+    Vectors::new(alloc, &order, floors, roofs, pairs, root).ok()
 }
 
-/// The next question of a series, which is asked for once more where memory is refused.
-fn next_of<S: Series>(series: &mut S) -> Result<Option<Question>, AllocError> {
-    match series.next() {
-        Ok(next) => Ok(next),
-        Err(_) => series.next(),
+/// Whether the next question of a series has these capacities, or there is none where none are given. It is asked for once
+/// more where memory is refused.
+fn is_next<S: Series>(series: &mut S, units: Option<&[u32]>) -> bool {
+    let next = match series.next() {
+        Ok(next) => next,
+        Err(_) => match series.next() {
+            Ok(next) => next,
+            Err(_) => return false,
+        },
+    };
+    match (next, units) {
+        (Some(question), Some(units)) => question.capacities.as_slice() == units,
+        (None, None) => true,
+        _ => false,
     }
-}
-
-/// Whether the next question of a series has these capacities.
-fn is_next<S: Series>(series: &mut S, units: &[u32]) -> Result<bool, AllocError> {
-    match next_of(series)? {
-        Some(question) => Ok(question.capacities.as_slice() == units),
-        None => Ok(false),
-    }
-}
-
-/// Whether a series has no more questions.
-fn has_ended<S: Series>(series: &mut S) -> Result<bool, AllocError> {
-    Ok(next_of(series)?.is_none())
 }
 
 /// Whether the questions of a series are of these capacities: all of them, or the first ones.
-fn gives<S: Series>(series: &mut S, vectors: &[&[u32]], all: bool) -> Result<bool, AllocError> {
+fn gives<S: Series>(series: &mut S, vectors: &[&[u32]], all: bool) -> bool {
     for units in vectors {
-        if !is_next(series, units)? {
-            return Ok(false);
+        if !is_next(series, Some(*units)) {
+            return false;
         }
     }
-    if all {
-        return has_ended(series);
-    }
-    Ok(true)
+    !all || is_next(series, None)
 }
 
-/// Whether a box has the vectors of its row, in this order.
-fn is_ordered(alloc: Global, row: &Boxed, root: &Window) -> Result<bool, AllocError> {
-    let costs = (row.prices, row.owned);
-    let parts = parts_of(alloc, costs, row.floors, row.roofs, row.pairs)?;
-    match series_of(alloc, parts, root)? {
+/// The series of the vectors of a row; or `None` where it is no box, or memory is refused.
+fn series_of_row(alloc: Global, row: &Boxed, root: &Window) -> Option<Vectors> {
+    match parts_of(alloc, row) {
+        Some(parts) => series_of(alloc, parts, root),
+        None => None,
+    }
+}
+
+/// Whether a box has the vectors of its row, in this order. A series that cannot be made is made once more.
+fn is_ordered(alloc: Global, row: &Boxed, root: &Window) -> bool {
+    let first = series_of_row(alloc, row, root);
+    let made = if first.is_some() {
+        first
+    } else {
+        series_of_row(alloc, row, root)
+    };
+    match made {
         Some(mut series) => gives(&mut series, row.vectors, row.all),
-        None => Ok(false),
+        None => false,
     }
 }
 
-/// The place of the first box that has other vectors than those of its row. A box that cannot be made is made once more.
-fn wrong_box(alloc: Global, root: &Window) -> Result<Option<usize>, AllocError> {
-    for at in 0..BOXES.len() {
-        let ordered = match is_ordered(alloc, &BOXES[at], root) {
-            Ok(ordered) => ordered,
-            Err(_) => is_ordered(alloc, &BOXES[at], root)?,
-        };
-        if !ordered {
-            return Ok(Some(at));
+/// The root window of five jobs for the deadline 4, which is made once more where memory is refused.
+fn root(alloc: Global) -> Option<Window> {
+    match root_once(alloc) {
+        Some(root) => Some(root),
+        None => root_once(alloc),
+    }
+}
+
+fn root_once(alloc: Global) -> Option<Window> {
+    match parallel(alloc) {
+        Ok(net) => root_window(alloc, &net, 4).ok(),
+        Err(_) => None,
+    }
+}
+
+/// The place of the first box that has other vectors than those of its row.
+fn wrong_box(alloc: Global) -> Option<usize> {
+    let Some(root) = root(alloc) else {
+        return Some(BOXES.len());
+    };
+    for (at, row) in BOXES.iter().enumerate() {
+        if !is_ordered(alloc, row, &root) {
+            return Some(at);
         }
     }
-    Ok(None)
-}
-
-/// The root window of five jobs for the deadline 4.
-fn root(alloc: Global) -> Result<Window, SampleFault> {
-    let net = parallel(alloc)?;
-    root_window(alloc, &net, 4)
+    None
 }
 
 #[test]
-fn orders_boxes(rt: HostRuntime) -> Result<(), SampleFault> {
-    let root = match root(rt.alloc()) {
-        Ok(root) => root,
-        Err(_) => root(rt.alloc())?,
-    };
-    assert_eq!(rt; wrong_box(rt.alloc(), &root)?, None);
-    Ok(())
+fn orders_boxes(rt: HostRuntime) {
+    assert_eq!(rt; wrong_box(rt.alloc()), None);
 }
 
-/// So many units of two resources.
-fn pair(alloc: Global, first: u32, second: u32) -> Result<Capacities, AllocError> {
-    Ok(Capacities::new([first, second].to_vec(alloc)?))
-}
-
-/// The series of the units of the first resource, between these floors and roofs of two; or `None` where they are not of two.
-fn singles(
-    alloc: Global,
-    floors: &Capacities,
-    roofs: &Capacities,
-    root: &Window,
-) -> Result<Option<Singles>, AllocError> {
+/// Whether the series of the units of the first resource, from 3 to 4, asks for each, with the roof of the second one.
+fn has_singles(alloc: Global, floors: &Capacities, roofs: &Capacities, root: &Window) -> bool {
     if floors.as_slice().is_empty() || roofs.as_slice().is_empty() {
-        return Ok(None);
+        return false;
     }
-    Ok(Some(Singles::new(alloc, floors, roofs, 0, root)?))
-}
-
-/// Whether the series of the units of the first resource asks for 3 and then for 4 of them, with the roof of the second one.
-fn has_singles(alloc: Global, floors: &Capacities, root: &Window) -> Result<bool, AllocError> {
-    let roofs = pair(alloc, 4, 2)?;
-    match singles(alloc, floors, &roofs, root)? {
-        Some(mut series) => gives(&mut series, &[&[3, 2], &[4, 2]], true),
-        None => Ok(false),
+    match Singles::new(alloc, floors, roofs, 0, root) {
+        Ok(mut series) => gives(&mut series, &[&[3, 2], &[4, 2]], true),
+        Err(_) => false,
     }
 }
 
 /// Whether the series of one question asks for 3 units and one, once.
-fn has_one(alloc: Global, capacities: &Capacities, root: &Window) -> Result<bool, AllocError> {
-    let mut one = One::new(alloc, capacities, root)?;
-    gives(&mut one, &[&[3, 1]], true)
+fn has_one(alloc: Global, units: &Capacities, root: &Window) -> bool {
+    match One::new(alloc, units, root) {
+        Ok(mut series) => gives(&mut series, &[&[3, 1]], true),
+        Err(_) => false,
+    }
 }
 
 /// Whether the third job starts at this time in the next question, and all else is as in the root window.
-fn is_next_start(starts: &mut Starts1, start: u32) -> Result<bool, AllocError> {
-    match starts.next()? {
-        Some(question) => Ok(is_at(&question, start)),
-        None => Ok(false),
+fn is_next_start(starts: &mut Starts1, start: u32) -> bool {
+    match starts.next() {
+        Ok(Some(question)) => is_at(&question, start),
+        _ => false,
     }
 }
 
 fn is_at(question: &Question, start: u32) -> bool {
+    let (lower, upper) = (question.window.lower(), question.window.upper());
     question.capacities.as_slice() == [3, 1].as_slice()
-        && question.window.lower() == [0, 0, start, 0, 3].as_slice()
-        && question.window.upper() == [1, 1, start, 2, 4].as_slice()
+        && lower == [0, 0, start, 0, 3].as_slice()
+        && upper == [1, 1, start, 2, 4].as_slice()
 }
 
-/// Whether the series asks for each start of the third job, from 0 to 2.
-fn gives_starts(starts: &mut Starts1) -> Result<bool, AllocError> {
+/// Whether the series of the starts of the third job asks for each, from 0 to 2.
+fn has_starts(alloc: Global, units: &Capacities, root: &Window) -> bool {
+    if root.lower().len() <= 2 || root.upper().len() <= 2 {
+        return false;
+    }
+    match Starts1::new(alloc, units, root, 2) {
+        Ok(mut starts) => gives_starts(&mut starts),
+        Err(_) => false,
+    }
+}
+
+fn gives_starts(starts: &mut Starts1) -> bool {
     for start in 0..3 {
-        if !is_next_start(starts, start)? {
-            return Ok(false);
+        if !is_next_start(starts, start) {
+            return false;
         }
     }
-    has_ended(starts)
-}
-
-fn has_starts(alloc: Global, capacities: &Capacities, root: &Window) -> Result<bool, AllocError> {
-    if root.lower().len() <= 2 || root.upper().len() <= 2 {
-        return Ok(false);
-    }
-    let mut starts = Starts1::new(alloc, capacities, root, 2)?;
-    gives_starts(&mut starts)
+    is_next(starts, None)
 }
 
 /// The first of the three small series whose questions are others.
-fn wrong_series(alloc: Global, root: &Window) -> Result<Option<&'static str>, AllocError> {
-    let floors = pair(alloc, 3, 1)?;
-    if !has_singles(alloc, &floors, root)? {
-        return Ok(Some("units of one resource"));
+fn wrong_series(alloc: Global, root: &Window) -> Option<&'static str> {
+    let (Some(low), Some(high)) = (capacities(alloc, &[3, 1]), capacities(alloc, &[4, 2])) else {
+        return Some("memory");
+    };
+    if !has_singles(alloc, &low, &high, root) {
+        Some("units of one resource")
+    } else if !has_one(alloc, &low, root) {
+        Some("one question")
+    } else if !has_starts(alloc, &low, root) {
+        Some("starts of one job")
+    } else {
+        None
     }
-    if !has_one(alloc, &floors, root)? {
-        return Ok(Some("one question"));
+}
+
+/// The same, in the root window.
+fn wrong_small_series(alloc: Global) -> Option<&'static str> {
+    match root(alloc) {
+        Some(root) => wrong_series(alloc, &root),
+        None => Some("memory"),
     }
-    if !has_starts(alloc, &floors, root)? {
-        return Ok(Some("starts of one job"));
-    }
-    Ok(None)
 }
 
 #[test]
-fn asks_single_values(rt: HostRuntime) -> Result<(), SampleFault> {
-    let root = root(rt.alloc())?;
-    assert_eq!(rt; wrong_series(rt.alloc(), &root)?, None);
-    Ok(())
+fn asks_single_values(rt: HostRuntime) {
+    assert_eq!(rt; wrong_small_series(rt.alloc()), None);
 }

@@ -1,29 +1,37 @@
 //! Series of the capacity vectors of a box, each with the root window.
 
-ghost use Rattle.std.specs.Prelude.{◌≡◌, length, IfOk};
+ghost use Rattle.std.specs.Prelude.{◌≡◌, length, IfOk, IfSome};
 ghost use Rattle.racp_candidates.specs.Box.{ArePrices, AreBounds};
 ghost use Rattle.racp_model.specs.Formed.{AreFormed, HasBounds};
 
-use crate::series::{Parts, is_box, parts_of};
+use crate::series::{Boxed, Parts, is_box, parts_of};
 use racp_candidates::Vectors;
 use racp_model::{Capacities, Network, Window};
 use racp_prices::Order;
-use racp_samples::{SampleFault, root_window};
+use racp_samples::root_window;
 use std::alloc::{AllocError, Global};
 
-/// The vectors from `floor` to `roof` units of each resource, where a unit costs 1, asked for the deadline 3.
-pub(crate) fn vectors(
-    alloc: Global,
-    net: &Network,
-    floor: u32,
-    roof: u32,
-) -> Result<Vectors, SampleFault>
-    ensures { IfOk result (λ series. AreFormed net.now series) }
+/// The vectors of a box that no pair excludes, asked for the deadline 3; or `None` where it is none of the network, or memory is
+/// refused.
+pub(crate) fn vectors(alloc: Global, net: &Network, row: &Boxed) -> Option<Vectors>
+    ensures { IfSome result (λ series. AreFormed net.now series) }
 {
-    let window = root_window(alloc, net, 3)?;
-    let parts = parts_of(alloc, (&[1; 2], &[0; 2]), &[floor; 2], &[roof; 2], &[])?;
+    let Some(parts) = parts_of(alloc, row) else {
+        return None;
+    };
+    match root_window(alloc, net, 3) {
+        Ok(window) => of_parts(alloc, net, parts, &window),
+        Err(_) => None,
+    }
+}
+
+/// The same, of its parts and this window.
+fn of_parts(alloc: Global, net: &Network, parts: Parts, window: &Window) -> Option<Vectors>
+    requires { HasBounds net.now window.now }
+    ensures { IfSome result (λ series. AreFormed net.now series) }
+{
     if net.resource_count() != parts.floors.as_slice().len() || !is_box(&parts) {
-        return Err(SampleFault::NoSample);
+        return None;
     }
     let Parts {
         order,
@@ -31,7 +39,10 @@ pub(crate) fn vectors(
         roofs,
         pairs: _,
     } = parts;
-    Ok(boxed(alloc, net, &order, floors, roofs, &window)?)
+    match boxed(alloc, net, &order, floors, roofs, window) {
+        Ok(series) => Some(series),
+        Err(_) => None,
+    }
 }
 
 /// The vectors of a box that no pair excludes.

@@ -1,15 +1,16 @@
 //! Calls of a collector, told one by one.
 
-ghost use Rattle.std.specs.Prelude.{◌≡◌, length, IfOk};
+ghost use Rattle.std.specs.Prelude.{◌≡◌, length, IfSome};
 
 use crate::collector::series::vectors;
+use crate::series::Boxed;
 use racp_candidates::Vectors;
 use racp_core::{Asked, Core, Merged, Outcome, Reply, Verdict};
 use racp_cutset::{Board, Local};
 use racp_model::{Network, OfNetwork, Question};
-use racp_samples::{SampleFault, question};
-use racp_search::{Collector, Finding, Never, Piece, Rest, explore};
-use std::alloc::{AllocError, Global};
+use racp_samples::question;
+use racp_search::{Collector, Finding, Never, Piece, explore};
+use std::alloc::Global;
 
 /// In what a piece that comes in differs from the one that was taken.
 #[derive(Clone, Copy)]
@@ -34,6 +35,7 @@ pub(crate) enum Call {
 }
 
 /// What a call answers: the place of a question, the number of a piece and the place of its question, or why there is none.
+/// `Refused` is a call to which memory was refused when it was made once more.
 #[derive(Clone, Copy, PartialEq)]
 pub(crate) enum Heard {
     Question(usize),
@@ -45,6 +47,7 @@ pub(crate) enum Heard {
     Taken,
     Stale,
     Halted,
+    Refused,
 }
 
 /// What is known of the series: the place of the first yes, that there is none, or the place of the first open question.
@@ -53,13 +56,6 @@ pub(crate) enum Known {
     First(usize),
     NoYes,
     Pending(usize),
-}
-
-/// What was found of the piece that came in last: whether a yes, and how many windows are left.
-#[derive(Clone, Copy)]
-pub(crate) struct Found {
-    pub(crate) yes: bool,
-    pub(crate) left: usize,
 }
 
 /// A piece that was taken, by its parts.
@@ -73,32 +69,24 @@ pub(crate) struct Held {
 
 impl Collector for Held {}
 
-/// A collector, the pieces that were taken of it, and what was found of the last one that came in.
+/// A collector, and the pieces that were taken of it.
 #[derive(Drop)]
 pub(crate) struct Trial<N: OfNetwork> {
     pub(crate) core: Core<N, Vectors>,
     pub(crate) pieces: Vec<Held>,
-    pub(crate) found: Found,
 }
 
-/// A collector of the vectors from `floor` to `roof` units.
-pub(crate) fn start<N: OfNetwork>(
-    alloc: Global,
-    net: &Network,
-    floor: u32,
-    roof: u32,
-) -> Result<Trial<N>, SampleFault>
+/// A collector of the vectors of a box; or `None` where there is none, or memory is refused.
+pub(crate) fn start<N: OfNetwork>(alloc: Global, net: &Network, row: &Boxed) -> Option<Trial<N>>
     requires { net.now ≡ N.network }
 {
-    let series = vectors(alloc, net, floor, roof)?;
-    Ok(Trial {
-        core: Core::new(alloc, net, series),
-        pieces: Vec::new(alloc),
-        found: Found {
-            yes: false,
-            left: 0,
-        },
-    })
+    match vectors(alloc, net, row) {
+        Some(series) => Some(Trial {
+            core: Core::new(alloc, net, series),
+            pieces: Vec::new(alloc),
+        }),
+        None => None,
+    }
 }
 
 /// Makes a call, and makes it once more where memory is refused. A piece that was never taken is stale.
@@ -107,81 +95,93 @@ pub(crate) fn make<N: OfNetwork>(
     net: &Network,
     trial: &mut Trial<N>,
     call: Call,
-) -> Result<Heard, SampleFault>
+) -> Heard
     requires { net.now ≡ N.network }
 {
     match call {
-        Call::Ask => Ok(ask(&mut trial.core)?),
-        Call::Take(seat) => Ok(take(trial, seat)?),
+        Call::Ask => ask(&mut trial.core),
+        Call::Take(seat) => take(trial, seat),
         Call::Hand(at, change, quantum) => hand(alloc, net, trial, at, change, quantum),
         Call::GiveBack(at, change) => give_back(alloc, net, trial, at, change),
         Call::Halt => {
             trial.core.halt();
-            Ok(Heard::Halted)
+            Heard::Halted
         }
     }
 }
 
-fn ask<N: OfNetwork>(core: &mut Core<N, Vectors>) -> Result<Heard, AllocError> {
-    let asked = match core.ask() {
-        Ok(asked) => asked,
-        Err(_) => core.ask()?,
-    };
-    Ok(match asked {
+fn ask<N: OfNetwork>(core: &mut Core<N, Vectors>) -> Heard {
+    match core.ask() {
+        Ok(asked) => of_asked(asked),
+        Err(_) => match core.ask() {
+            Ok(asked) => of_asked(asked),
+            Err(_) => Heard::Refused,
+        },
+    }
+}
+
+fn of_asked(asked: Asked) -> Heard {
+    match asked {
         Asked::Question(index) => Heard::Question(index),
         Asked::End => Heard::End,
         Asked::Enough => Heard::Enough,
         Asked::Halted => Heard::Halted,
-    })
+    }
 }
 
-fn take<N: OfNetwork>(trial: &mut Trial<N>, seat: usize) -> Result<Heard, AllocError> {
-    if trial.core.taken() == u64::MAX {
-        return Ok(Heard::Nothing);
-    }
-    if trial.pieces.reserve(1).is_err() {
-        trial.pieces.reserve(1)?;
+/// Makes room for a piece.
+fn has_room(pieces: &mut Vec<Held>) -> bool {
+    pieces.reserve(1).is_ok() || pieces.reserve(1).is_ok()
+}
+
+fn take<N: OfNetwork>(trial: &mut Trial<N>, seat: usize) -> Heard {
+    if trial.core.taken() == u64::MAX || !has_room(&mut trial.pieces) {
+        return Heard::Refused;
     }
     let reply = match trial.core.take(seat) {
         Ok(reply) => reply,
-        Err(_) => trial.core.take(seat)?,
+        Err(_) => match trial.core.take(seat) {
+            Ok(reply) => reply,
+            Err(_) => return Heard::Refused,
+        },
     };
     told_of(reply, &mut trial.pieces)
 }
 
 /// What a reply tells. Its piece is kept, for which there is room.
-fn told_of<N: OfNetwork>(
-    reply: Reply<Piece<N>>,
-    pieces: &mut Vec<Held>,
-) -> Result<Heard, AllocError> {
+fn told_of<N: OfNetwork>(reply: Reply<Piece<N>>, pieces: &mut Vec<Held>) -> Heard {
     match reply {
-        Reply::Piece(piece) => {
-            let (number, seat, index) = (piece.number(), piece.seat(), piece.index());
-            let question = piece.into_question::<Held>();
-            pieces.push(Held {
-                number,
-                seat,
-                index,
-                question,
-            })?;
-            Ok(Heard::Piece(number, index))
-        }
-        Reply::Nothing => Ok(Heard::Nothing),
-        Reply::Done => Ok(Heard::Done),
-        Reply::Halted => Ok(Heard::Halted),
+        Reply::Piece(piece) => kept(piece, pieces),
+        Reply::Nothing => Heard::Nothing,
+        Reply::Done => Heard::Done,
+        Reply::Halted => Heard::Halted,
     }
 }
 
-/// The piece, with a change.
+fn kept<N: OfNetwork>(piece: Piece<N>, pieces: &mut Vec<Held>) -> Heard {
+    let (number, seat, index) = (piece.number(), piece.seat(), piece.index());
+    let held = Held {
+        number,
+        seat,
+        index,
+        question: piece.into_question::<Held>(),
+    };
+    match pieces.push(held) {
+        Ok(_) => Heard::Piece(number, index),
+        Err(_) => Heard::Refused,
+    }
+}
+
+/// The piece, with a change; or `None` where memory is refused.
 fn piece<N: OfNetwork>(
     alloc: Global,
     net: &Network,
     held: &Held,
     change: Change,
-) -> Result<Piece<N>, SampleFault>
-    ensures capacities { IfOk result (λ piece. length piece.question.capacities ≡ net.now.resources) }
-    ensures lower { IfOk result (λ piece. length piece.question.window.lower ≡ length net.now.jobs) }
-    ensures upper { IfOk result (λ piece. length piece.question.window.upper ≡ length net.now.jobs) }
+) -> Option<Piece<N>>
+    ensures capacities { IfSome result (λ piece. length piece.question.capacities ≡ net.now.resources) }
+    ensures lower { IfSome result (λ piece. length piece.question.window.lower ≡ length net.now.jobs) }
+    ensures upper { IfSome result (λ piece. length piece.question.window.upper ≡ length net.now.jobs) }
 {
     let (mut number, mut seat, mut index) = (held.number, held.seat, held.index);
     let (window, times) = (&held.question.window, [0, 0, 1, 1, 2, 3]);
@@ -196,8 +196,10 @@ fn piece<N: OfNetwork>(
         Change::Capacities => units = &[3, 3],
         Change::Window => (lower, upper) = (&times, &times),
     }
-    let asked = question(alloc, net, units, lower, upper)?;
-    Ok(Piece::new(number, seat, index, asked))
+    match question(alloc, net, units, lower, upper) {
+        Ok(asked) => Some(Piece::new(number, seat, index, asked)),
+        Err(_) => None,
+    }
 }
 
 fn hand<N: OfNetwork>(
@@ -207,31 +209,29 @@ fn hand<N: OfNetwork>(
     at: usize,
     change: Change,
     quantum: Option<u64>,
-) -> Result<Heard, SampleFault>
+) -> Heard
     requires { net.now ≡ N.network }
 {
     let Some(held) = trial.pieces.get(at) else {
-        return Ok(Heard::Stale);
+        return Heard::Stale;
     };
-    let finding: Finding<N> = explored(alloc, net, held, change, quantum)?;
-    trial.found = found_in(&finding);
-    Ok(hand_in(&mut trial.core, finding)?)
+    match explored(alloc, net, held, change, quantum) {
+        Some(finding) => hand_in(&mut trial.core, finding),
+        None => Heard::Refused,
+    }
 }
 
 /// Hands a finding in, and hands it in once more where memory is refused.
-fn hand_in<N: OfNetwork>(
-    core: &mut Core<N, Vectors>,
-    finding: Finding<N>,
-) -> Result<Heard, AllocError> {
+fn hand_in<N: OfNetwork>(core: &mut Core<N, Vectors>, finding: Finding<N>) -> Heard {
     let finding = match core.hand(finding) {
-        Ok(merged) => return Ok(of_merged(merged)),
+        Ok(merged) => return of_merged(merged),
         Err((finding, _)) => finding,
     };
     match core.hand(finding) {
-        Ok(merged) => Ok(of_merged(merged)),
-        Err((finding, error)) => {
+        Ok(merged) => of_merged(merged),
+        Err((finding, _)) => {
             let _ = finding.into_found();
-            Err(error)
+            Heard::Refused
         }
     }
 }
@@ -243,12 +243,12 @@ fn explored<N: OfNetwork>(
     held: &Held,
     change: Change,
     quantum: Option<u64>,
-) -> Result<Finding<N>, SampleFault>
+) -> Option<Finding<N>>
     requires { net.now ≡ N.network }
 {
-    if let Ok(finding) = explored_once(alloc, net, held, change, quantum) {
+    if let Some(finding) = explored_once(alloc, net, held, change, quantum) {
         if !finding.short() {
-            return Ok(finding);
+            return Some(finding);
         }
         let _ = finding.into_found();
     }
@@ -261,23 +261,16 @@ fn explored_once<N: OfNetwork>(
     held: &Held,
     change: Change,
     quantum: Option<u64>,
-) -> Result<Finding<N>, SampleFault>
+) -> Option<Finding<N>>
     requires { net.now ≡ N.network }
 {
-    let board: Board<N> = Board::new(alloc, net)?;
-    let mut local: Local<N> = Local::new(alloc, net);
-    let piece = piece(alloc, net, held, change)?;
-    Ok(explore(alloc, net, piece, quantum, &board, &mut local, &Never))
-}
-
-fn found_in<N: OfNetwork>(finding: &Finding<N>) -> Found {
-    let left = match finding.rest() {
-        Rest::Whole => 1,
-        Rest::Windows(windows) => windows.len(),
+    let Ok(board) = Board::new(alloc, net) else {
+        return None;
     };
-    Found {
-        yes: finding.found().is_some(),
-        left,
+    let mut local: Local<N> = Local::new(alloc, net);
+    match piece(alloc, net, held, change) {
+        Some(piece) => Some(explore(alloc, net, piece, quantum, &board, &mut local, &Never)),
+        None => None,
     }
 }
 
@@ -287,19 +280,18 @@ fn give_back<N: OfNetwork>(
     trial: &mut Trial<N>,
     at: usize,
     change: Change,
-) -> Result<Heard, SampleFault> {
+) -> Heard {
     let Some(held) = trial.pieces.get(at) else {
-        return Ok(Heard::Stale);
+        return Heard::Stale;
     };
     let given = match piece(alloc, net, held, change) {
-        Ok(given) => given,
-        Err(_) => piece(alloc, net, held, change)?,
+        Some(given) => given,
+        None => match piece(alloc, net, held, change) {
+            Some(given) => given,
+            None => return Heard::Refused,
+        },
     };
-    trial.found = Found {
-        yes: false,
-        left: 1,
-    };
-    Ok(of_merged(trial.core.give_back(given)))
+    of_merged(trial.core.give_back(given))
 }
 
 fn of_merged(merged: Merged) -> Heard {
