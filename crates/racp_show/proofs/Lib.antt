@@ -6,3 +6,4 @@ mod Rows
 mod Fitting
 mod Drawn
 mod Listing
+mod Naming

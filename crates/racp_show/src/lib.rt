@@ -34,10 +34,11 @@
 //! Proved: a scale has the least span; the bar of each row is its start and end in that scale, and these are the
 //! plan's; the usage in a column is the greatest at its times; how busy a resource is, is exact and rounded down; the
 //! steps of a usage are exact at all times; each number and each name of a sheet is the plan's, the order's or the one
-//! that was given; `csv_text` gives exactly the table of the plan. In `laws`: a job is drawn in exactly the columns in
+//! that was given; the names of a text are its lines, at most as many as there may be jobs and resources, without their
+//! control characters; `csv_text` gives exactly the table of the plan. In `laws`: a job is drawn in exactly the columns in
 //! whose times it runs, and in no column that is not there. All of them return. Tested alone: how charts and pictures
-//! are laid out, the text of the JSON, which rests on what `serde` derives, and that names lose their control
-//! characters. Whether a plan is right is not looked at here: racp_check does.
+//! are laid out, and the text of the JSON, which rests on what `serde` derives. Whether a plan is right is not looked at
+//! here: racp_check does.
 #![tactic(auto)]
 
 mod cells;

@@ -1,7 +1,7 @@
 //! What the jobs and the resources are called.
 
-ghost use Rattle.std.specs.Prelude.{◌≡◌, ◌↔◌, ◌+◌, ◌<◌, ◌^◌, [], IfOk, IsSome, IsUtf8, option_map, slice_index_or};
-ghost use Rattle.racp_show.specs.Called.{name_at};
+ghost use Rattle.std.specs.Prelude.{◌≡◌, ◌↔◌, ◌+◌, ◌<◌, ◌^◌, [], IfOk, IfSome, IsSome, IsUtf8, option_map, slice_index_or, string_bytes};
+ghost use Rattle.racp_show.specs.Called.{name_at, names_of, printed};
 
 use racp_model::limits::{MOST_JOBS, MOST_RESOURCES};
 use std::alloc::{AllocError, Global};
@@ -40,7 +40,8 @@ impl Names {
     ///
     /// Memory was refused.
     pub fn read(alloc: Global, bytes: &[u8]) -> Result<Option<Names>, AllocError>
-        ensures { IfOk result (λ names. IsSome names ↔ IsUtf8 bytes.now) }
+        ensures utf8 { IfOk result (λ names. IsSome names ↔ IsUtf8 bytes.now) }
+        ensures names { IfOk result (λ names. IfSome names (λ names. names ≡ names_of bytes.now)) }
     {
         match std::str::from_utf8(bytes) {
             Ok(text) => Ok(Some(Names::of_lines(alloc, text)?)),
@@ -49,7 +50,9 @@ impl Names {
     }
 
     /// The names of a text's lines.
-    fn of_lines(alloc: Global, text: &str) -> Result<Names, AllocError> {
+    fn of_lines(alloc: Global, text: &str) -> Result<Names, AllocError>
+        ensures { IfOk result (λ names. names ≡ names_of text.now) }
+    {
         let mut names = Vec::new(alloc);
         for line in text.lines().take(MOST_JOBS + MOST_RESOURCES) {
             names.push(printed(alloc, line)?)?;
@@ -86,7 +89,9 @@ impl Names {
 }
 
 /// A line without its control characters.
-fn printed(alloc: Global, line: &str) -> Result<String, AllocError> {
+fn printed(alloc: Global, line: &str) -> Result<String, AllocError>
+    ensures { IfOk result (λ name. string_bytes name ≡ printed line.now) }
+{
     let mut name = String::new(alloc);
     for letter in line.chars() {
         if !letter.is_control() {
