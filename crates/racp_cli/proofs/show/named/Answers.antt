@@ -7,5 +7,5 @@ pub returns-in_ok-to_vec-in-None : goal.returns-in_ok-to_vec-in-None
 unfolding line
 returns-in_ok-to_vec-in-None c =
     let other : IsUtf8 c.args.names.now → ⊥ =
-    λ utf8. let some : false ≡ true = subst (λ (o : Option (List (List ℕ))). IsSome o) c.in-None.is (c.in_ok-names.ensures.1 utf8) in absurd (search (rules, some)) in
+    λ utf8. let some : false ≡ true = subst (λ (o : Option (List (List ℕ))). IsSome o) c.in-None.is (c.in_ok-names.ensures.utf8.1 utf8) in absurd (search (rules, some)) in
     inr (other, refl, search rules)
