@@ -73,6 +73,11 @@ pub spent_there : (quantum : Option ℕ) (nodes : ℕ) → IsSpent quantum nodes
 spent_there (Some most) nodes h e = absurd (cc e)
 spent_there None nodes h e = absurd (cc h)
 
+-- no node is within each quantum
+pub within_none : (quantum : Option ℕ) (nodes : ℕ) → nodes ≡ 0 → IfSome quantum (λ most. nodes ≤ most)
+within_none (Some most) nodes none = omega (arith, none)
+within_none None nodes none = tt
+
 -- one node more is within a quantum that is not spent
 pub within_still : (quantum : Option ℕ) (nodes new : ℕ) → IsSpent quantum nodes false → new ≤ nodes + 1 → IfSome quantum (λ most. new ≤ most)
 within_still (Some most) nodes new h l = elim (cases_lt nodes most) [

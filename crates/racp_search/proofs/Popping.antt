@@ -1,5 +1,5 @@
 -- The last frame of a stack is taken out: a window below it is searched next, or it is used up.
-use Rattle.std.proofs.Common.{◌≡◌, inl, inr, ◌∙◌, ℕ, ◌≤◌, List, [], ◌∷◌, ◌++◌, length, slice_set, take, drop, arith, sym, subst, ap}
+use Rattle.std.proofs.Common.{◌≡◌, inl, inr, ◌∙◌, ℕ, zero, suc, ◌≤◌, List, [], ◌∷◌, ◌++◌, length, slice_set, take, drop, arith, refl, sym, subst, ap}
 use Rattle.std.proofs.lemmas.List.{append-nil, append_assoc, take-append-drop, take-set-le}
 use Rattle.std.proofs.Math.Seq.{take-append_seam}
 use Rattle.racp_model.specs.Project.{Project}
@@ -51,16 +51,27 @@ first_stay count old = (
   ap (λ (xs : List SearchNode). record { records = xs; most = old.most }) (sym (take-append-drop count old.records)),
 )
 
--- what was kept at the start stays kept where the records behind it are dropped
-pub kept_first : (start old new : Kept) (count : ℕ) → StayKept start old → count ≡ length start.records → StayKept (front count old) new → StayKept start new
-kept_first start old new count kept first room =
-    let same : old.records ≡ start.records ++ kept.0 = ap (λ (k : Kept). k.records) kept.1 in
-    let taken : take count old.records ≡ start.records =
-    ap (λ n. take n old.records) first ∙ (ap (λ (xs : List SearchNode). take (length start.records) xs) same ∙ take-append_seam start.records kept.0) in
-    let e : front count old ≡ start =
-    ap (λ (xs : List SearchNode). record { records = xs; most = old.most }) taken
-    ∙ ap (λ (m : ℕ). record { records = start.records; most = m }) (ap (λ (k : Kept). k.most) kept.1) in
-    subst (λ (k : Kept). StayKept k new) e room
+-- the first ones of the first ones with others behind them
+first_of_first : (count : ℕ) (xs behind : List SearchNode) → (more : List SearchNode) × (take count (take count xs ++ behind) ≡ take count xs ++ more)
+first_of_first zero xs behind = ([], refl)
+first_of_first (suc n) [] behind = (take (suc n) behind, refl)
+first_of_first (suc n) (x ∷ xs) behind =
+    let rest = first_of_first n xs behind in
+    (rest.0, ap (λ (ys : List SearchNode). x ∷ ys) rest.1)
+
+-- what stays from one time to the next, and from there to a third one, stays
+pub stay_on : (count : ℕ) (start old new : Kept) → StayKept (front count start) old → StayKept (front count old) new → StayKept (front count start) new
+stay_on count start old new kept still =
+    let F : List SearchNode = take count start.records in
+    let same : old.records ≡ F ++ kept.0 = ap (λ (k : Kept). k.records) kept.1 in
+    let most : old.most ≡ start.most = ap (λ (k : Kept). k.most) kept.1 in
+    let seam = first_of_first count start.records kept.0 in
+    let taken : take count old.records ≡ F ++ seam.0 = ap (λ (xs : List SearchNode). take count xs) same ∙ seam.1 in (
+      seam.0 ++ still.0,
+      still.1 ∙ (ap (λ (xs : List SearchNode). record { records = xs ++ still.0; most = old.most }) taken
+          ∙ (ap (λ (m : ℕ). record { records = (F ++ seam.0) ++ still.0; most = m }) most
+          ∙ ap (λ (xs : List SearchNode). record { records = xs; most = start.most }) (append_assoc F seam.0 still.0))),
+    )
 
 -- the parts of a stack with one frame more
 pub open-with : (fs : List SearchFrame) (f : SearchFrame) → open_parts (fs ++ f ∷ []) ≡ open_parts fs ++ parts_of f

@@ -88,14 +88,18 @@ pub record IsPursued (piece : SearchPiece) (spent most : ℕ) (finding : SearchF
   -- a search that was stopped found nothing and leaves something
   pub stopped : IsTrue finding.stopped → (finding.found ≡ None) × (left_windows finding ≢ [])
 
--- what a thread goes on with: the order in which it searches child windows, and the question of the search that it has open
+-- what a thread goes on with: the order in which it searches child windows, how many of its first records stay, and the
+-- question of the search that it has open
 pub record SearchCourse : Type 0 where
   pub order : ℕ
+  pub first : ℕ
   pub begun : Option Question
 
--- what such a search of a piece leaves to go on with: in the same order, the search of the piece, where that is not decided
+-- what such a search of a piece leaves to go on with: in the same order, with the same first records, the search of the piece,
+-- where that is not decided
 pub record IsOnCourse (piece : SearchPiece) (most : ℕ) (finding : SearchFinding) (before after : SearchCourse) : Type 0 where
   pub order : after.order ≡ before.order
+  pub first : after.first ≡ before.first
   pub begun : 0 < most → IsFalse finding.short → left_windows finding ≢ [] → after.begun ≡ Some piece.question
 
 -- what is decided of a question: starts that answer it, or that nothing does

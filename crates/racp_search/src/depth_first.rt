@@ -40,8 +40,9 @@ pub(crate) fn search<N: OfNetwork, S: Stop>(
     ensures nodes { IfSome quantum (λ most. nodes.new ≤ most) }
     ensures kept { StayKept local.old local.new }
 {
+    let first = local.kept_count();
     let (_, mut stack, next) = OpenSearch::new(alloc, subject, 0)?.into_parts();
-    let halt = stack.go_on(subject, next, quantum, nodes, local, stop);
+    let halt = stack.go_on(subject, next, quantum, nodes, local, first, stop);
     stack.finish(alloc, subject, halt)
 }
 
@@ -60,12 +61,17 @@ pub(crate) fn search_further<N: OfNetwork, S: Stop>(
     requires nodes { nodes.old ≡ 0 }
     ensures progress { IfOk result (IsProgress N.network subject.now.capacities subject.now.window most nodes.new S.QUIET) }
     ensures nodes { nodes.new ≤ most }
-    ensures course { course.new ≡ record { order = course.old.order; begun = begun_after subject.now result } }
-    ensures kept { StayKept local.old local.new }
+    ensures course { course.new ≡ record {
+      order = course.old.order;
+      first = course.old.first;
+      begun = begun_after subject.now result;
+    } }
+    ensures kept { StayKept (front course.old.first local.old) local.new }
 {
+    let first = course.first();
     let open = course.start(alloc, subject)?;
     let (question, mut stack, next) = open.into_parts();
-    match stack.go_on(subject, next, Some(most), nodes, local, stop)? {
+    match stack.go_on(subject, next, Some(most), nodes, local, first, stop)? {
         Halt::Found(starts) => Ok(Progress::Decided(Ended::found(alloc, starts))),
         Halt::Nothing => Ok(Progress::Decided(Ended::nothing(alloc))),
         Halt::Left(next, stopped) => {
@@ -82,15 +88,6 @@ fn is_spent(quantum: Option<u64>, nodes: u64) -> bool
     match quantum {
         Some(most) => most <= nodes,
         None => false,
-    }
-}
-
-/// Drops the records behind the first `count` where no further one can be kept.
-fn make_room<N: OfNetwork>(local: &mut Local<N>, count: usize)
-    ensures { StayKept (front count local.old) local.new }
-{
-    if local.is_full() {
-        local.forget_behind(count);
     }
 }
 
@@ -237,7 +234,7 @@ impl<N: OfNetwork> Stack<N> {
     }
 
     /// Goes on by depth, until starts are found, nothing is left, as many nodes were entered as the quantum allows, or the
-    /// search is stopped. Counts the nodes.
+    /// search is stopped. Counts the nodes. The first `first` records stay.
     fn go_on<S: Stop>(
         &mut self,
         subject: &Subject<N>,
@@ -245,6 +242,7 @@ impl<N: OfNetwork> Stack<N> {
         quantum: Option<u64>,
         nodes: &mut u64,
         local: &mut Local<N>,
+        first: usize,
         stop: &S,
     ) -> Result<Halt, AllocError>
         requires state { IsSearchingNext N.network subject.now.capacities subject.now.window
@@ -254,9 +252,8 @@ impl<N: OfNetwork> Stack<N> {
         ensures halt { IfOk result (IsHalt N.network subject.now.capacities subject.now.window quantum nodes.new S.QUIET
             self.new.frames.items) }
         ensures nodes { IfSome quantum (λ most. nodes.new ≤ most) }
-        ensures kept { StayKept local.old local.new }
+        ensures kept { StayKept (front first local.old) local.new }
     {
-        let first = local.kept_count();
         'next: loop {
             if is_spent(quantum, *nodes) {
                 return Ok(Halt::Left(next, false));
@@ -265,7 +262,6 @@ impl<N: OfNetwork> Stack<N> {
                 return Ok(Halt::Left(next, true));
             }
             *nodes = nodes.saturating_add(1);
-            make_room(local, first);
             next = match self.step(subject, next, local, first)? {
                 Step::Further(next) => next,
                 Step::Found(starts) => return Ok(Halt::Found(starts)),

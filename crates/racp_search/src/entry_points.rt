@@ -1,6 +1,6 @@
 ghost use Rattle.std.specs.Prelude.{◌≡◌, ◌+◌, ◌≤◌, IsTrue, IsFalse, IfOk};
 ghost use Rattle.racp_model.specs.Formed.{IsFormed};
-ghost use Rattle.racp_cutset.specs.Kept.{StayKept};
+ghost use Rattle.racp_cutset.specs.Kept.{StayKept, front};
 ghost use Rattle.racp_search.specs.Truth.{IsExplored, IsDecision, IsOnCourse, IsPursued};
 ghost use Rattle.racp_search.specs.Ends.{AllowsNone};
 
@@ -51,7 +51,8 @@ pub fn explore<N: OfNetwork, S: Stop>(
 /// the piece is not decided, the finding leaves the whole of it, and the course has the search open. A search that the
 /// course has open is gone on with where it is that of the piece's question; else the piece is searched from its start, in
 /// the order of the course. Of threads that search one question in different orders, each passes over what the others have
-/// refuted. Records are kept and dropped as by `explore`, and the stop is asked as there.
+/// refuted. Records are kept as by `explore`, and the stop is asked as there; where there is no room for a further record,
+/// one gives way that is not among the first ones of the course.
 pub fn pursue<N: OfNetwork, S: Stop>(
     alloc: Global,
     net: &Network,
@@ -69,7 +70,7 @@ pub fn pursue<N: OfNetwork, S: Stop>(
     ensures pursued { IsPursued piece spent most result }
     ensures course { IsOnCourse piece most result course.old course.new }
     ensures quiet { IsTrue S.QUIET → IsFalse result.stopped }
-    ensures kept { StayKept local.old local.new }
+    ensures kept { StayKept (front course.old.first local.old) local.new }
 {
     if most == 0 {
         return Finding::whole(piece, spent, false);

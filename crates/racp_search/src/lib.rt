@@ -36,7 +36,7 @@
 //! still to be made, for each active job the window in which it alone is put off. It leaves as many frames so as make a
 //! few windows, and beside these the window of the next frame, in which all else that is left lies. `pursue` leaves no
 //! windows: it searches some nodes further, and where the search is not at its end then, a `Course` has it open for the
-//! next call. It can search child windows in another order than by slack, so that several threads search one question,
+//! next call, in which as many of the first records stay as it did when it was made. It can search child windows in another order than by slack, so that several threads search one question,
 //! and each passes over what the others have refuted. A search ends in any case: the place of a
 //! frame's last alternative in lexicographic order rises, and each child window has a greater sum of lower bounds than
 //! its parent, at most 10,000,000 for each job where there is a conflict. Rows and lists are used again, so a node
@@ -61,6 +61,7 @@ mod finding;
 mod frame;
 mod glance;
 mod piece;
+mod room;
 mod stop;
 mod subject;
 mod workspace;
@@ -69,4 +70,5 @@ pub use course::Course;
 pub use entry_points::{decide, explore, pursue};
 pub use finding::{Finding, Rest};
 pub use piece::{Collector, Piece};
+pub use room::make_room;
 pub use stop::{Never, Stop};

@@ -446,7 +446,7 @@ fn searched_over<N: OfNetwork>(
     requires few { most ≤ 100 }
 {
     let mut local: Local<N> = Local::new(alloc, net);
-    let mut course: Course<N> = Course::new();
+    let mut course: Course<N> = Course::new(0);
     course.turn_to(order);
     searched_on(alloc, net, asked, most, board, &mut local, &mut course)
 }

@@ -1,5 +1,5 @@
-use Rattle.std.proofs.Common.{◌≡◌, ◌<◌, ◌≤◌, ◌++◌, ◌∷◌, [], IfSome, length}
-use Rattle.racp_cutset.specs.Kept.{StayKept}
+use Rattle.std.proofs.Common.{◌<◌, ◌≤◌, ◌++◌, ◌∷◌, [], IfSome}
+use Rattle.racp_cutset.specs.Kept.{StayKept, front}
 use Rattle.racp_search.specs.DepthFirst.{IsSearchingNext, IsHigher, open_parts, weights}
 use Rattle.racp_search.specs.DepthFirst.Part.{all_of}
 use Rattle.racp_search.proofs.depth_first.Stack.go_on.Given as goal
@@ -9,8 +9,7 @@ invariant-next g l = record {
   state : IsSearchingNext g.N.OfNetwork.network l.subject.capacities l.subject.window l.self.frames.items l.next.window l.next.from;
   higher : 0 < l.nodes → IsHigher g.N.OfNetwork.network l.subject.window l.next.window;
   bounded : IfSome l.quantum (λ most. l.nodes ≤ most);
-  kept : StayKept l.fn.local l.local;
-  first : l.first ≡ length l.fn.local.records;
+  kept : StayKept (front l.first l.fn.local) l.local;
 }
 
 abbrev pub decreases-next : goal.decreases-next
