@@ -1,14 +1,9 @@
-//! Tests of plans: by their definition, of sharpened floors, of a box that is searched by halves, and of what is told where
-//! an asker gives up.
+//! Tests of plans: by their definition, and stage by stage, also where an asker gives up.
 #![tactic(auto)]
 
 #[cfg(test)]
-mod by_definition;
-#[cfg(test)]
-mod halves;
-#[cfg(test)]
 mod plans;
 #[cfg(test)]
-mod sharpening;
+mod stages;
 #[cfg(test)]
-mod stopping;
+mod tired;

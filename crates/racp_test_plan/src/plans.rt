@@ -1,65 +1,163 @@
-//! Plans of small orders by their definition, questions that are decided by it, and planning compared with both.
+//! Plans of small orders by their definition, and planning compared with them.
 
 ghost use Rattle.std.specs.Prelude.{◌≡◌};
+ghost use Rattle.racp_model.specs.Terms.{AreTermsOf};
 
-use racp_lexfix::{Alone, Answer, plan};
+use racp_lexfix::{Alone, Answer, PlanStop, plan};
 use racp_model::{NetFault, Network, OfNetwork};
 use racp_plan::Plan;
-use racp_prices::Order;
-use racp_reference::{Outcome, decide_by_definition, plan_by_definition};
-use racp_samples::{
-    Random, chained, crossed, network, parallel, question, random_network, random_order,
-    root_window,
-};
-use std::alloc::{AllocError, Global};
+use racp_prices::{Order, read_order};
+use racp_reference::{Outcome, plan_by_definition};
+use racp_samples::{Random, chained, crossed, network, parallel, random_network, random_order};
+use std::alloc::Global;
 use std::marker::Brand;
-use std::process::Abort;
-use std::test::Fail;
 
-/// The terms of an order.
+/// A small network.
 #[derive(Clone, Copy)]
-struct Terms<'a> {
-    deadline: u32,
-    prices: &'a [u32],
-    owned: &'a [u32],
-    ceilings: &'a [u32],
-    release: &'a [u32],
-    due: &'a [u32],
+enum Sample {
+    /// 2, 3 and 4, of 3, 2 and 2 time units and 2, 1 and 1 units of one resource, between 1 and 5.
+    Parallel,
+    /// 2 and 3, of a unit of the first resource, before 4 and 5, of one of the second, between 1 and 6.
+    Crossed,
+    /// 2 beside the chain 3, 4, 5, between 1 and 6.
+    Chained,
+    /// 1 before 2, of duration 0, that request nothing of one resource.
+    Idle,
 }
 
-/// The order on these terms, where an empty list of ceilings stands for none.
-fn order_of(alloc: Global, terms: &Terms<'_>) -> Result<Order, AllocError> {
-    let ceilings = ceilings_of(alloc, terms)?;
-    let prices = terms.prices.to_vec(alloc)?;
-    let owned = terms.owned.to_vec(alloc)?;
-    let release = terms.release.to_vec(alloc)?;
-    let due = terms.due.to_vec(alloc)?;
-    Ok(Order {
-        deadline: terms.deadline,
-        prices,
-        owned,
-        ceilings,
-        release,
-        due,
-    })
-}
-
-fn ceilings_of(alloc: Global, terms: &Terms<'_>) -> Result<Option<Vec<u32>>, AllocError> {
-    if terms.ceilings.is_empty() {
-        return Ok(None);
+/// The network of a sample.
+fn sampled(alloc: Global, sample: Sample) -> Result<Network, NetFault> {
+    match sample {
+        Sample::Parallel => parallel(alloc),
+        Sample::Crossed => crossed(alloc),
+        Sample::Chained => chained(alloc),
+        Sample::Idle => network(alloc, 1, &[(0, &[0]), (0, &[0])], &[(1, 2)]),
     }
-    Ok(Some(terms.ceilings.to_vec(alloc)?))
 }
 
-/// What is wanted: the critical length, cost, capacities and starts of a plan; or the critical length, or the job, that is the
+/// What comes out: the critical length, cost, capacities and starts of a plan; or the critical length, or the job, that is the
 /// reason why there is none, or the ceilings.
-#[derive(Clone, Copy)]
-enum Wanted<'a> {
-    Plan(u64, u64, &'a [u32], &'a [u32]),
+enum Wanted {
+    Plan(u64, u64, &'static [u32], &'static [u32]),
     TooLong(u64),
     TooLate(u32),
     OverCeilings,
 }
+
+/// The text of an order for a sample, and what comes out.
+struct Row {
+    sample: Sample,
+    order: &'static [u8],
+    wanted: Wanted,
+}
+
+const ROWS: &[Row] = &[
+    Row {
+        sample: Sample::Parallel,
+        order: b"deadline = 3\nprices = [10]",
+        wanted: Wanted::Plan(3, 40, &[4], &[0, 0, 0, 0, 3]),
+    },
+    Row {
+        sample: Sample::Parallel,
+        order: b"deadline = 4\nprices = [10]",
+        wanted: Wanted::Plan(3, 30, &[3], &[0, 0, 0, 2, 4]),
+    },
+    Row {
+        sample: Sample::Parallel,
+        order: b"deadline = 5\nprices = [10]",
+        wanted: Wanted::Plan(3, 20, &[2], &[0, 0, 3, 3, 5]),
+    },
+    Row {
+        sample: Sample::Parallel,
+        order: b"version = 2\ndeadline = 4\nprices = [10]\nowned = [5]",
+        wanted: Wanted::Plan(3, 0, &[3], &[0, 0, 0, 2, 4]),
+    },
+    Row {
+        sample: Sample::Parallel,
+        order: b"version = 2\ndeadline = 5\nprices = [10]\nrelease = [0, 1, 0, 0, 0]",
+        wanted: Wanted::Plan(4, 20, &[2], &[0, 2, 0, 0, 5]),
+    },
+    Row {
+        sample: Sample::Parallel,
+        order: b"version = 2\ndeadline = 5\nprices = [10]\ndue = [5, 5, 2, 5, 5]",
+        wanted: Wanted::Plan(3, 20, &[2], &[0, 2, 0, 0, 5]),
+    },
+    Row {
+        sample: Sample::Parallel,
+        order: b"deadline = 2\nprices = [10]",
+        wanted: Wanted::TooLong(3),
+    },
+    Row {
+        sample: Sample::Parallel,
+        order: b"version = 2\ndeadline = 2\nprices = [10]\nceiling = [0]",
+        wanted: Wanted::TooLong(3),
+    },
+    Row {
+        sample: Sample::Parallel,
+        order: b"version = 2\ndeadline = 5\nprices = [10]\nrelease = [0, 3, 0, 0, 0]",
+        wanted: Wanted::TooLong(6),
+    },
+    Row {
+        sample: Sample::Parallel,
+        order: b"version = 2\ndeadline = 5\nprices = [10]\nrelease = [0, 1, 0, 0, 0]\ndue = [5, 3, 5, 5, 5]",
+        wanted: Wanted::TooLate(2),
+    },
+    Row {
+        sample: Sample::Parallel,
+        order: b"version = 2\ndeadline = 4\nprices = [10]\nceiling = [2]",
+        wanted: Wanted::OverCeilings,
+    },
+    Row {
+        sample: Sample::Crossed,
+        order: b"deadline = 2\nprices = [1, 1]",
+        wanted: Wanted::Plan(2, 4, &[2, 2], &[0, 0, 0, 1, 1, 2]),
+    },
+    Row {
+        sample: Sample::Crossed,
+        order: b"deadline = 3\nprices = [1, 1]",
+        wanted: Wanted::Plan(2, 3, &[1, 2], &[0, 0, 1, 2, 2, 3]),
+    },
+    Row {
+        sample: Sample::Crossed,
+        order: b"deadline = 4\nprices = [1, 1]",
+        wanted: Wanted::Plan(2, 2, &[1, 1], &[0, 0, 1, 2, 3, 4]),
+    },
+    Row {
+        sample: Sample::Crossed,
+        order: b"deadline = 3\nprices = [0, 1]",
+        wanted: Wanted::Plan(2, 1, &[2, 1], &[0, 0, 0, 1, 2, 3]),
+    },
+    Row {
+        sample: Sample::Crossed,
+        order: b"deadline = 3\nprices = [0, 0]",
+        wanted: Wanted::Plan(2, 0, &[1, 2], &[0, 0, 1, 2, 2, 3]),
+    },
+    Row {
+        sample: Sample::Crossed,
+        order: b"version = 2\ndeadline = 3\nprices = [1, 1]\nowned = [2, 0]",
+        wanted: Wanted::Plan(2, 1, &[2, 1], &[0, 0, 0, 1, 2, 3]),
+    },
+    Row {
+        sample: Sample::Crossed,
+        order: b"version = 2\ndeadline = 3\nprices = [1, 1]\nceiling = [2, 1]",
+        wanted: Wanted::Plan(2, 3, &[2, 1], &[0, 0, 0, 1, 2, 3]),
+    },
+    Row {
+        sample: Sample::Crossed,
+        order: b"version = 2\ndeadline = 3\nprices = [1, 1]\nceiling = [1, 1]",
+        wanted: Wanted::OverCeilings,
+    },
+    Row {
+        sample: Sample::Chained,
+        order: b"deadline = 8\nprices = [1]",
+        wanted: Wanted::Plan(8, 2, &[2], &[0, 4, 0, 1, 4, 8]),
+    },
+    Row {
+        sample: Sample::Idle,
+        order: b"deadline = 0\nprices = [1]",
+        wanted: Wanted::Plan(0, 0, &[0], &[0, 0]),
+    },
+];
 
 /// Whether a plan is this one.
 fn is_plan(plan: &Plan, critical: u64, cost: u64, capacities: &[u32], starts: &[u32]) -> bool {
@@ -70,275 +168,65 @@ fn is_plan(plan: &Plan, critical: u64, cost: u64, capacities: &[u32], starts: &[
 }
 
 /// Whether an outcome is what is wanted.
-fn is_wanted(outcome: &Outcome, wanted: Wanted<'_>) -> bool {
+fn is_wanted(outcome: &Outcome, wanted: &Wanted) -> bool {
     match (outcome, wanted) {
         (Outcome::Plan(plan), Wanted::Plan(critical, cost, capacities, starts)) => {
-            is_plan(plan, critical, cost, capacities, starts)
+            is_plan(plan, *critical, *cost, capacities, starts)
         }
-        (Outcome::TooLong { critical }, Wanted::TooLong(wanted)) => *critical == wanted,
-        (Outcome::TooLate { job }, Wanted::TooLate(wanted)) => *job == wanted,
+        (Outcome::TooLong { critical }, Wanted::TooLong(wanted)) => critical == wanted,
+        (Outcome::TooLate { job }, Wanted::TooLate(wanted)) => job == wanted,
         (Outcome::OverCeilings, Wanted::OverCeilings) => true,
         _ => false,
     }
 }
 
-/// Whether the outcome by definition is what is wanted.
-fn comes_out(
-    alloc: Global,
-    net: &Network,
-    terms: &Terms<'_>,
-    wanted: Wanted<'_>,
-) -> Result<bool, Fail> {
-    let order = order_of(alloc, terms)?;
-    if !order.is_for(net) {
-        return Err("the order is not one for the network".into());
-    }
-    let outcome = plan_by_definition(alloc, net, &order)?;
-    Ok(is_wanted(&outcome, wanted))
-}
-
-/// Tries each row.
-fn try_rows(
-    rt: &impl Abort,
-    alloc: Global,
-    net: &Network,
-    rows: &[(Terms<'_>, Wanted<'_>)],
-) -> Result<(), Fail> {
-    for (i, (terms, wanted)) in rows.iter().enumerate() {
-        assert!(rt; comes_out(alloc, net, terms, *wanted)?, "row {i}");
-    }
-    Ok(())
-}
-
-/// Terms with one resource.
-const FOUR: Terms<'static> = Terms {
-    deadline: 4,
-    prices: &[10],
-    owned: &[0],
-    ceilings: &[],
-    release: &[0; 5],
-    due: &[10; 5],
-};
-
-const FIVE: Terms<'static> = Terms {
-    deadline: 5,
-    ..FOUR
-};
-
-const ONE_RESOURCE: &[(Terms<'static>, Wanted<'static>)] = &[
-    (
-        Terms {
-            deadline: 3,
-            ..FOUR
-        },
-        Wanted::Plan(3, 40, &[4], &[0, 0, 0, 0, 3]),
-    ),
-    (FOUR, Wanted::Plan(3, 30, &[3], &[0, 0, 0, 2, 4])),
-    (FIVE, Wanted::Plan(3, 20, &[2], &[0, 0, 3, 3, 5])),
-    (
-        Terms {
-            owned: &[5],
-            ..FOUR
-        },
-        Wanted::Plan(3, 0, &[3], &[0, 0, 0, 2, 4]),
-    ),
-    (
-        Terms {
-            release: &[0, 1, 0, 0, 0],
-            ..FIVE
-        },
-        Wanted::Plan(4, 20, &[2], &[0, 2, 0, 0, 5]),
-    ),
-    (
-        Terms {
-            due: &[5, 5, 2, 5, 5],
-            ..FIVE
-        },
-        Wanted::Plan(3, 20, &[2], &[0, 2, 0, 0, 5]),
-    ),
-    (
-        Terms {
-            deadline: 2,
-            ..FOUR
-        },
-        Wanted::TooLong(3),
-    ),
-    (
-        Terms {
-            deadline: 2,
-            ceilings: &[0],
-            ..FOUR
-        },
-        Wanted::TooLong(3),
-    ),
-    (
-        Terms {
-            release: &[0, 3, 0, 0, 0],
-            ..FIVE
-        },
-        Wanted::TooLong(6),
-    ),
-    (
-        Terms {
-            release: &[0, 1, 0, 0, 0],
-            due: &[5, 3, 5, 5, 5],
-            ..FIVE
-        },
-        Wanted::TooLate(2),
-    ),
-    (
-        Terms {
-            ceilings: &[2],
-            ..FOUR
-        },
-        Wanted::OverCeilings,
-    ),
-];
-
-#[test]
-fn plans_with_one_resource(rt: HostRuntime) -> Result<(), Fail> {
-    let net = parallel(rt.alloc())?;
-    try_rows(&rt, rt.alloc(), &net, ONE_RESOURCE)
-}
-
-/// Terms with two resources.
-const THREE: Terms<'static> = Terms {
-    deadline: 3,
-    prices: &[1, 1],
-    owned: &[0, 0],
-    ceilings: &[],
-    release: &[0; 6],
-    due: &[3; 6],
-};
-
-const TWO_RESOURCES: &[(Terms<'static>, Wanted<'static>)] = &[
-    (THREE, Wanted::Plan(2, 3, &[1, 2], &[0, 0, 1, 2, 2, 3])),
-    (
-        Terms {
-            prices: &[0, 1],
-            ..THREE
-        },
-        Wanted::Plan(2, 1, &[2, 1], &[0, 0, 0, 1, 2, 3]),
-    ),
-    (
-        Terms {
-            prices: &[0, 0],
-            ..THREE
-        },
-        Wanted::Plan(2, 0, &[1, 2], &[0, 0, 1, 2, 2, 3]),
-    ),
-    (
-        Terms {
-            deadline: 2,
-            ..THREE
-        },
-        Wanted::Plan(2, 4, &[2, 2], &[0, 0, 0, 1, 1, 2]),
-    ),
-    (
-        Terms {
-            deadline: 4,
-            due: &[4; 6],
-            ..THREE
-        },
-        Wanted::Plan(2, 2, &[1, 1], &[0, 0, 1, 2, 3, 4]),
-    ),
-    (
-        Terms {
-            owned: &[2, 0],
-            ..THREE
-        },
-        Wanted::Plan(2, 1, &[2, 1], &[0, 0, 0, 1, 2, 3]),
-    ),
-    (
-        Terms {
-            ceilings: &[2, 1],
-            ..THREE
-        },
-        Wanted::Plan(2, 3, &[2, 1], &[0, 0, 0, 1, 2, 3]),
-    ),
-    (
-        Terms {
-            ceilings: &[1, 1],
-            ..THREE
-        },
-        Wanted::OverCeilings,
-    ),
-];
-
-#[test]
-fn plans_with_two_resources(rt: HostRuntime) -> Result<(), Fail> {
-    let net = crossed(rt.alloc())?;
-    try_rows(&rt, rt.alloc(), &net, TWO_RESOURCES)
-}
-
-/// Two jobs of duration 0 that request nothing of one resource, 1 before 2.
-fn idle(alloc: Global) -> Result<Network, NetFault> {
-    network(alloc, 1, &[(0, &[0]), (0, &[0])], &[(1, 2)])
-}
-
-#[test]
-fn plans_without_room(rt: HostRuntime) -> Result<(), Fail> {
-    let alloc = rt.alloc();
-    let eight = Terms {
-        deadline: 8,
-        prices: &[1],
-        owned: &[0],
-        ceilings: &[],
-        release: &[0; 6],
-        due: &[8; 6],
-    };
-    let none = Terms {
-        deadline: 0,
-        release: &[0; 2],
-        due: &[0; 2],
-        ..eight
-    };
-    let net = chained(alloc)?;
-    try_rows(
-        &rt,
-        alloc,
-        &net,
-        &[(eight, Wanted::Plan(8, 2, &[2], &[0, 4, 0, 1, 4, 8]))],
-    )?;
-    let net = idle(alloc)?;
-    try_rows(
-        &rt,
-        alloc,
-        &net,
-        &[(none, Wanted::Plan(0, 0, &[0], &[0, 0]))],
-    )
-}
-
-/// Whether a question of so many units in the root window of a deadline has this as its least answer, or has none.
-fn is_decided(
-    alloc: Global,
-    net: &Network,
-    units: u32,
-    deadline: u32,
-    wanted: &[u32],
-) -> Result<bool, Fail> {
-    let root = root_window(alloc, net, deadline)?;
-    let asked = question(alloc, net, &[units], root.lower(), root.upper())?;
-    match decide_by_definition(alloc, net, &asked)? {
-        Some(starts) => Ok(starts.as_slice() == wanted),
-        None => Ok(wanted.is_empty()),
+/// Whether the outcome of an order by definition is what is wanted.
+fn comes_out(alloc: Global, net: &Network, order: &Order, wanted: &Wanted) -> bool
+    requires { AreTermsOf net.now order.now }
+{
+    match plan_by_definition(alloc, net, order) {
+        Ok(outcome) => is_wanted(&outcome, wanted),
+        Err(_) => false,
     }
 }
 
-#[test]
-fn decides_questions(rt: HostRuntime) -> Result<(), Fail> {
-    let alloc = rt.alloc();
-    let net = parallel(alloc)?;
-    assert!(rt; is_decided(alloc, &net, 2, 4, &[])?);
-    assert!(rt; is_decided(alloc, &net, 2, 5, &[0, 0, 3, 3, 5])?);
-    let net = chained(alloc)?;
-    assert!(rt; is_decided(alloc, &net, 1, 8, &[])?);
-    Ok(())
+/// Whether the row of a network holds.
+fn is_row(alloc: Global, net: &Network, row: &Row) -> bool {
+    match read_order(alloc, row.order, net.resource_count(), net.job_count()) {
+        Ok(order) => comes_out(alloc, net, &order, &row.wanted),
+        Err(_) => false,
+    }
 }
 
-/// Whether an answer is the outcome by definition, and of which of the four kinds that is.
-fn is_same(answer: &Answer, outcome: &Outcome) -> (bool, usize) {
-    match (answer, outcome) {
+/// Whether a row holds.
+fn holds(alloc: Global, row: &Row) -> bool {
+    match sampled(alloc, row.sample) {
+        Ok(net) => is_row(alloc, &net, row),
+        Err(_) => false,
+    }
+}
+
+/// The place of the first row that does not hold.
+fn first_broken(alloc: Global, rows: &[Row]) -> Option<usize> {
+    for (place, row) in rows.iter().enumerate() {
+        if !holds(alloc, row) {
+            return Some(place);
+        }
+    }
+    None
+}
+
+#[test]
+fn plans_by_definition(rt: HostRuntime) {
+    assert_eq!(rt; first_broken(rt.alloc(), ROWS), None);
+}
+
+/// What stands for an answer that is not the outcome by definition.
+const OTHER: usize = 4;
+
+/// Of which of the four kinds an answer is, where it is the outcome by definition.
+fn same_kind(answer: &Answer, outcome: &Outcome) -> usize {
+    let (same, kind) = match (answer, outcome) {
         (Answer::Plan(plan), Outcome::Plan(wanted)) => {
             let (capacities, starts) = (wanted.capacities.as_slice(), wanted.starts.as_slice());
             let same = is_plan(plan, wanted.critical, wanted.cost, capacities, starts);
@@ -347,37 +235,67 @@ fn is_same(answer: &Answer, outcome: &Outcome) -> (bool, usize) {
         (Answer::Impossible { longest }, Outcome::TooLong { critical }) => (longest == critical, 1),
         (Answer::Due { job }, Outcome::TooLate { job: wanted }) => (job == wanted, 2),
         (Answer::Ceiling, Outcome::OverCeilings) => (true, 3),
-        _ => (false, 0),
+        _ => (false, OTHER),
+    };
+    if same { kind } else { OTHER }
+}
+
+/// The answer that the calling thread finds.
+fn planned<N: OfNetwork>(alloc: Global, net: &Network, order: &Order) -> Result<Answer, PlanStop>
+    requires named { net.now ≡ N.network }
+    requires terms { AreTermsOf net.now order.now }
+{
+    let mut alone: Alone<N> = Alone::new(alloc, net)?;
+    plan(alloc, net, order, &mut alone)
+}
+
+/// Of which kind the answer to an order is, where it is the outcome by definition.
+fn kind_of<N: OfNetwork>(alloc: Global, net: &Network, order: &Order) -> usize
+    requires named { net.now ≡ N.network }
+    requires terms { AreTermsOf net.now order.now }
+{
+    match planned::<N>(alloc, net, order) {
+        Ok(answer) => kind_beside(alloc, net, order, &answer),
+        Err(_) => OTHER,
     }
 }
 
-/// Whether the answer to an order is the one by definition, and of which kind.
-fn compare<N: OfNetwork>(alloc: Global, net: &Network, order: &Order) -> Result<(bool, usize), Fail>
-    requires { net.now ≡ N.network }
+/// The same, of an answer.
+fn kind_beside(alloc: Global, net: &Network, order: &Order, answer: &Answer) -> usize
+    requires { AreTermsOf net.now order.now }
 {
-    if !order.is_for(net) {
-        return Err("the order is not one for the network".into());
+    match plan_by_definition(alloc, net, order) {
+        Ok(outcome) => same_kind(answer, &outcome),
+        Err(_) => OTHER,
     }
-    let mut alone: Alone<N> = Alone::new(alloc, net)?;
-    let answer = plan(alloc, net, order, &mut alone)?;
-    let outcome = plan_by_definition(alloc, net, order)?;
-    Ok(is_same(&answer, &outcome))
+}
+
+/// The same, of the next order for a network.
+fn next_order(alloc: Global, random: &mut Random, net: &Network) -> usize {
+    match random_order(alloc, random, net) {
+        Ok(order) if order.is_for(net) => kind_of::<Brand>(alloc, net, &order),
+        _ => OTHER,
+    }
+}
+
+/// The same, of the next network and order.
+fn next_kind(alloc: Global, random: &mut Random) -> usize {
+    let resources = random.below(2).saturating_add(1) as usize;
+    let jobs = random.below(4).saturating_add(1);
+    match random_network(alloc, random, resources, jobs) {
+        Ok(net) => next_order(alloc, random, &net),
+        Err(_) => OTHER,
+    }
 }
 
 #[test]
-fn plans_as_by_definition(rt: HostRuntime) -> Result<(), Fail> {
-    let alloc = rt.alloc();
+fn plans_as_by_definition(rt: HostRuntime) {
     let mut random = Random::new(1);
-    let mut counts: [u32; 4] = [0; 4];
+    let mut counts: [u32; OTHER] = [0; OTHER];
     for round in 0..200 {
-        let resources = random.below(2).saturating_add(1) as usize;
-        let jobs = random.below(4).saturating_add(1);
-        let net = random_network(alloc, &mut random, resources, jobs)?;
-        let order = random_order(alloc, &mut random, &net)?;
-        let (same, kind) = compare::<Brand>(alloc, &net, &order)?;
-        assert!(rt; same && kind < 4, "round {round}");
+        let kind = next_kind(rt.alloc(), &mut random);
+        assert!(rt; kind < OTHER, "round {round}");
         counts[kind] = counts[kind].saturating_add(1);
     }
     assert!(rt; counts.iter().all(|count| 10 <= *count));
-    Ok(())
 }
