@@ -2,86 +2,31 @@
 
 ghost use Rattle.std.specs.Prelude.{◌≡◌, ◌≤◌};
 
-use crate::runs::{ALL_TURNS, Ended, Numbers, ROWS, WORKERS, run_with};
-use racp_desk::{Gate, Open};
-use racp_model::{Network, OfNetwork};
+use crate::runs::{ALL_TURNS, Ended, Numbers, ROWS, run_with};
+use racp_desk::Gate;
+use racp_model::{NetFault, Network, OfNetwork};
 use racp_samples::crossed;
 use racp_search::Never;
 use std::alloc::Global;
 use std::marker::Brand;
 use std::sync::Wait;
 use std::sync::atomic::{AtomicU64, Ordering};
-use std::test::Fail;
 use std::thread;
 use std::thread::Threads;
 
-/// How many nodes a piece is searched at most.
-const QUANTA: [u64; 2] = [1, 1000];
-
-/// Whether a run with these numbers of workers and of nodes a piece finds the first yes of each row.
-fn finds_each<N: OfNetwork + Send + Sync, G: Gate + Sync, R: Threads + Wait + Sync>(
-    rt: &R,
-    alloc: Global,
-    net: &Network,
+/// How many workers there are, and which pieces are held up, by seed after seed: bit k, counted from 0, holds up the pieces of
+/// the numbers k, k + 64, and so on.
+struct Crew {
     workers: usize,
-    quantum: u64,
-    gate: &G,
-) -> Result<bool, Fail>
-    requires named { net.now ≡ N.network }
-    requires workers { workers ≤ 64 }
-    requires quantum { quantum ≤ 1000000 }
-{
-    for (second, yes) in ROWS {
-        let numbers = Numbers {
-            second,
-            workers,
-            quantum,
-            turns: ALL_TURNS,
-        };
-        let wanted = Ended {
-            yes,
-            open: None,
-            halted: None,
-        };
-        if run_with::<N, G, Never, R>(rt, alloc, net, numbers, gate, &Never)? != wanted {
-            return Ok(false);
-        }
-    }
-    Ok(true)
+    seeds: &'static [u64],
 }
 
-/// The first number of workers with which a first yes is not found.
-fn first_lost<N: OfNetwork + Send + Sync, R: Threads + Wait + Sync>(
-    rt: &R,
-    alloc: Global,
-    net: &Network,
-) -> Result<Option<usize>, Fail>
-    requires { net.now ≡ N.network }
-{
-    for workers in WORKERS {
-        for quantum in QUANTA {
-            let workers = workers.min(64);
-            if !finds_each::<N, Open, R>(rt, alloc, net, workers, quantum.min(1000), &Open)? {
-                return Ok(Some(workers));
-            }
-        }
-    }
-    Ok(None)
-}
+/// No piece is held up.
+const OPEN: &[u64] = &[0];
 
-#[test]
-fn any_number_of_workers_finds_the_first_yes(rt: HostRuntime) -> Result<(), Fail> {
-    let net = crossed(rt.alloc())?;
-    assert_eq!(rt;
-        first_lost::<Brand, HostRuntime>(&rt, rt.alloc(), &net)?,
-        None
-    );
-    Ok(())
-}
-
-/// Seeds: bit k, counted from 0, holds up the pieces of the numbers k, k + 64, and so on. Of the fourth question, which
-/// is a yes in two rows, the piece is number 3.
-const SEEDS: [u64; 9] = [
+/// Of the fourth question, which is a yes in two rows, the piece is number 3.
+const SEEDS: &[u64] = &[
+    0,
     0b0001,
     0b0010,
     0b0100,
@@ -91,6 +36,29 @@ const SEEDS: [u64; 9] = [
     0x5555_5555_5555_5555,
     0xAAAA_AAAA_AAAA_AAAA,
     0x9E37_79B9_7F4A_7C15,
+];
+
+const CREWS: &[Crew] = &[
+    Crew {
+        workers: 1,
+        seeds: OPEN,
+    },
+    Crew {
+        workers: 2,
+        seeds: SEEDS,
+    },
+    Crew {
+        workers: 3,
+        seeds: SEEDS,
+    },
+    Crew {
+        workers: 8,
+        seeds: SEEDS,
+    },
+    Crew {
+        workers: 64,
+        seeds: OPEN,
+    },
 ];
 
 /// How often a worker looks that is held up.
@@ -114,33 +82,82 @@ impl Gate for Seeded {
     }
 }
 
-/// The first seed, and the number of workers, with which a first yes is not found.
-fn first_out_of_order<N: OfNetwork + Send + Sync, R: Threads + Wait + Sync>(
+/// Whether so many workers, of which some are held up, find the first yes of each row in pieces of so many nodes.
+fn finds_each<N: OfNetwork + Send + Sync, R: Threads + Wait + Sync>(
     rt: &R,
     alloc: Global,
     net: &Network,
-) -> Result<Option<(u64, usize)>, Fail>
-    requires { net.now ≡ N.network }
+    workers: usize,
+    quantum: u64,
+    gate: &Seeded,
+) -> bool
+    requires named { net.now ≡ N.network }
+    requires quantum { quantum ≤ 1000000 }
 {
-    for seed in SEEDS {
-        for workers in [2, 3, 8] {
-            let gate = Seeded {
-                seed,
-                looks: AtomicU64::new(0),
-            };
-            if !finds_each::<N, Seeded, R>(rt, alloc, net, workers, 1000, &gate)? {
-                return Ok(Some((seed, workers)));
-            }
+    for &(second, yes) in ROWS {
+        let numbers = Numbers {
+            second,
+            workers: workers.min(64),
+            quantum,
+            turns: ALL_TURNS,
+        };
+        let ended = run_with::<N, Seeded, Never, R>(rt, alloc, net, numbers, gate, &Never);
+        let wanted = Ended {
+            yes,
+            open: None,
+            halted: None,
+        };
+        if ended != Some(wanted) {
+            return false;
         }
     }
-    Ok(None)
+    true
+}
+
+/// The first seed with which a crew does not find the first yes.
+fn first_seed<N: OfNetwork + Send + Sync, R: Threads + Wait + Sync>(
+    rt: &R,
+    alloc: Global,
+    net: &Network,
+    crew: &Crew,
+) -> Option<u64>
+    requires { net.now ≡ N.network }
+{
+    for &seed in crew.seeds {
+        let gate = Seeded {
+            seed,
+            looks: AtomicU64::new(0),
+        };
+        if !finds_each::<N, R>(rt, alloc, net, crew.workers, 1, &gate)
+            || !finds_each::<N, R>(rt, alloc, net, crew.workers, 1000, &gate)
+        {
+            return Some(seed);
+        }
+    }
+    None
+}
+
+/// The number of workers of the first crew that does not find the first yes, and the seed.
+fn first_lost<N: OfNetwork + Send + Sync, R: Threads + Wait + Sync>(
+    rt: &R,
+    alloc: Global,
+    net: &Network,
+) -> Option<(usize, u64)>
+    requires { net.now ≡ N.network }
+{
+    for crew in CREWS {
+        if let Some(seed) = first_seed::<N, R>(rt, alloc, net, crew) {
+            return Some((crew.workers, seed));
+        }
+    }
+    None
 }
 
 #[test]
-fn held_up_workers_change_no_answer(rt: HostRuntime) -> Result<(), Fail> {
+fn any_crew_finds_the_first_yes(rt: HostRuntime) -> Result<(), NetFault> {
     let net = crossed(rt.alloc())?;
     assert_eq!(rt;
-        first_out_of_order::<Brand, HostRuntime>(&rt, rt.alloc(), &net)?,
+        first_lost::<Brand, HostRuntime>(&rt, rt.alloc(), &net),
         None
     );
     Ok(())
@@ -198,13 +215,13 @@ impl Gate for Pair {
     }
 }
 
-/// Whether two workers search at once, and find the first yes.
+/// Whether two of so many workers search at once, and find the first yes.
 fn are_two_at_once<N: OfNetwork + Send + Sync, R: Threads + Wait + Sync>(
     rt: &R,
     alloc: Global,
     net: &Network,
     workers: usize,
-) -> Result<bool, Fail>
+) -> bool
     requires named { net.now ≡ N.network }
     requires workers { workers ≤ 64 }
 {
@@ -215,14 +232,19 @@ fn are_two_at_once<N: OfNetwork + Send + Sync, R: Threads + Wait + Sync>(
         quantum: 1000,
         turns: ALL_TURNS,
     };
-    let ended = run_with::<N, Pair, Never, R>(rt, alloc, net, numbers, &gate, &Never)?;
-    Ok(ended.yes == Some(2) && gate.both())
+    let ended = run_with::<N, Pair, Never, R>(rt, alloc, net, numbers, &gate, &Never);
+    let wanted = Ended {
+        yes: Some(2),
+        open: None,
+        halted: None,
+    };
+    ended == Some(wanted) && gate.both()
 }
 
 #[test]
-fn two_pieces_at_once(rt: HostRuntime) -> Result<(), Fail> {
+fn two_pieces_at_once(rt: HostRuntime) -> Result<(), NetFault> {
     let net = crossed(rt.alloc())?;
-    assert!(rt; are_two_at_once::<Brand, HostRuntime>(&rt, rt.alloc(), &net, 2)?);
-    assert!(rt; are_two_at_once::<Brand, HostRuntime>(&rt, rt.alloc(), &net, 8)?);
+    assert!(rt; are_two_at_once::<Brand, HostRuntime>(&rt, rt.alloc(), &net, 2));
+    assert!(rt; are_two_at_once::<Brand, HostRuntime>(&rt, rt.alloc(), &net, 8));
     Ok(())
 }

@@ -3,69 +3,87 @@
 ghost use Rattle.std.specs.Prelude.{◌≡◌};
 
 use crate::runs::{ALL_TURNS, Ended, Numbers, ROWS, run_with};
-use crate::stops::{AtCall, AtOnce};
+use crate::stops::AtCall;
 use racp_desk::{Cause, Open};
-use racp_model::{Network, OfNetwork};
+use racp_model::{NetFault, Network, OfNetwork};
 use racp_samples::crossed;
 use racp_search::Never;
 use std::alloc::Global;
 use std::marker::Brand;
 use std::sync::Wait;
-use std::test::Fail;
 use std::thread::Threads;
 
 /// Turns, and the question that one worker leaves open which has used up so many, beside one unit of the second
 /// resource. By the third turn the first yes is found, of the question at place 2.
 const TURNS: &[(u64, Option<usize>)] = &[(0, Some(0)), (1, Some(1)), (2, Some(2)), (3, None)];
 
+/// Whether a run by one worker with so many turns leaves that question open, or finds the first yes.
+fn run_out<N: OfNetwork + Send + Sync, R: Threads + Wait + Sync>(
+    rt: &R,
+    alloc: Global,
+    net: &Network,
+    turns: u64,
+    open: Option<usize>,
+) -> bool
+    requires { net.now ≡ N.network }
+{
+    let numbers = Numbers {
+        second: 1,
+        workers: 1,
+        quantum: 1000,
+        turns: turns.min(ALL_TURNS),
+    };
+    let (yes, halted) = match open {
+        Some(_) => (None, Some(Cause::Turns)),
+        None => (Some(2), None),
+    };
+    let ended = run_with::<N, Open, Never, R>(rt, alloc, net, numbers, &Open, &Never);
+    ended == Some(Ended { yes, open, halted })
+}
+
 /// The first number of turns with which a run ends otherwise.
 fn first_other_turns<N: OfNetwork + Send + Sync, R: Threads + Wait + Sync>(
     rt: &R,
     alloc: Global,
     net: &Network,
-) -> Result<Option<u64>, Fail>
+) -> Option<u64>
     requires { net.now ≡ N.network }
 {
     for &(turns, open) in TURNS {
-        let turns = turns.min(ALL_TURNS);
-        let numbers = Numbers {
-            second: 1,
-            workers: 1,
-            quantum: 1000,
-            turns,
-        };
-        let (yes, halted) = match open {
-            Some(_) => (None, Some(Cause::Turns)),
-            None => (Some(2), None),
-        };
-        let ended = run_with::<N, Open, Never, R>(rt, alloc, net, numbers, &Open, &Never)?;
-        if ended != (Ended { yes, open, halted }) {
-            return Ok(Some(turns));
+        if !run_out::<N, R>(rt, alloc, net, turns, open) {
+            return Some(turns);
         }
     }
-    Ok(None)
+    None
 }
 
 #[test]
-fn turns_run_out(rt: HostRuntime) -> Result<(), Fail> {
+fn turns_run_out(rt: HostRuntime) -> Result<(), NetFault> {
     let net = crossed(rt.alloc())?;
     assert_eq!(rt;
-        first_other_turns::<Brand, HostRuntime>(&rt, rt.alloc(), &net)?,
+        first_other_turns::<Brand, HostRuntime>(&rt, rt.alloc(), &net),
         None
     );
     Ok(())
 }
 
-/// What two workers do beside so many units of the second resource.
-fn two_workers(second: u32) -> Numbers
-    ensures { result ≡ record { second = second; workers = 2; quantum = 1000; turns = 1000000000000 } }
+/// How a run by two workers beside so many units of the second resource ends.
+fn ended_by_two<N: OfNetwork + Send + Sync, R: Threads + Wait + Sync>(
+    rt: &R,
+    alloc: Global,
+    net: &Network,
+    second: u32,
+    stop: &AtCall,
+) -> Option<Ended>
+    requires { net.now ≡ N.network }
 {
-    Numbers {
+    let numbers = Numbers {
         second,
         workers: 2,
         quantum: 1000,
         turns: ALL_TURNS,
-    }
+    };
+    run_with::<N, Open, AtCall, R>(rt, alloc, net, numbers, &Open, stop)
 }
 
 /// Whether a run of a series of four questions, of which the first yes is this one, may end so where a stop came, or
@@ -79,52 +97,68 @@ fn may_end(ended: Ended, yes: Option<usize>, came: bool) -> bool {
     answered && ended.halted == halted
 }
 
-/// The first call at which a stop is asked for so that a run ends as it may not.
+/// Whether the run of each row ends as it may where a stop is asked for at the call of this number.
+fn end_as_they_may<N: OfNetwork + Send + Sync, R: Threads + Wait + Sync>(
+    rt: &R,
+    alloc: Global,
+    net: &Network,
+    number: u64,
+) -> bool
+    requires { net.now ≡ N.network }
+{
+    for &(second, yes) in ROWS {
+        let stop = AtCall::once(number);
+        let may = match ended_by_two::<N, R>(rt, alloc, net, second, &stop) {
+            Some(ended) => may_end(ended, yes, stop.came()),
+            None => false,
+        };
+        if !may {
+            return false;
+        }
+    }
+    true
+}
+
+/// Whether a stop that is asked for at each call decides nothing.
+fn decides_nothing<N: OfNetwork + Send + Sync, R: Threads + Wait + Sync>(
+    rt: &R,
+    alloc: Global,
+    net: &Network,
+) -> bool
+    requires { net.now ≡ N.network }
+{
+    match ended_by_two::<N, R>(rt, alloc, net, 1, &AtCall::each(true)) {
+        Some(ended) => ended.open == Some(0) && ended.halted == Some(Cause::Stop),
+        None => false,
+    }
+}
+
+/// The first call at which a stop is asked for so that a run ends as it may not; 0 for a stop at each call.
 fn first_other_call<N: OfNetwork + Send + Sync, R: Threads + Wait + Sync>(
     rt: &R,
     alloc: Global,
     net: &Network,
-) -> Result<Option<u64>, Fail>
+) -> Option<u64>
     requires { net.now ≡ N.network }
 {
     for number in 1..=20 {
-        for (second, yes) in ROWS {
-            let stop = AtCall::new(number);
-            let numbers = two_workers(second);
-            let ended = run_with::<N, Open, AtCall, R>(rt, alloc, net, numbers, &Open, &stop)?;
-            if !may_end(ended, yes, stop.came()) {
-                return Ok(Some(number));
-            }
+        if !end_as_they_may::<N, R>(rt, alloc, net, number) {
+            return Some(number);
         }
     }
-    Ok(None)
+    if decides_nothing::<N, R>(rt, alloc, net) {
+        None
+    } else {
+        Some(0)
+    }
 }
 
 #[test]
-fn one_stop_leaves_questions_open(rt: HostRuntime) -> Result<(), Fail> {
+fn stops_leave_questions_open(rt: HostRuntime) -> Result<(), NetFault> {
     let net = crossed(rt.alloc())?;
     assert_eq!(rt;
-        first_other_call::<Brand, HostRuntime>(&rt, rt.alloc(), &net)?,
+        first_other_call::<Brand, HostRuntime>(&rt, rt.alloc(), &net),
         None
     );
-    Ok(())
-}
-
-/// How a run ends where a stop is asked for at each call.
-fn stopped_at_once<N: OfNetwork + Send + Sync, R: Threads + Wait + Sync>(
-    rt: &R,
-    alloc: Global,
-    net: &Network,
-) -> Result<Ended, Fail>
-    requires { net.now ≡ N.network }
-{
-    run_with::<N, Open, AtOnce, R>(rt, alloc, net, two_workers(1), &Open, &AtOnce)
-}
-
-#[test]
-fn a_stop_at_once_decides_nothing(rt: HostRuntime) -> Result<(), Fail> {
-    let net = crossed(rt.alloc())?;
-    let ended = stopped_at_once::<Brand, HostRuntime>(&rt, rt.alloc(), &net)?;
-    assert!(rt; ended.open == Some(0) && ended.halted == Some(Cause::Stop));
     Ok(())
 }

@@ -1,12 +1,10 @@
-//! Tests of the desk, and of plans whose questions are answered by workers.
+//! Tests of the desk, and of questions that are put to workers one by one.
 #![tactic(auto)]
 
 #[cfg(test)]
 mod crews;
 #[cfg(test)]
 mod halts;
-#[cfg(test)]
-mod plans;
 #[cfg(test)]
 mod probes;
 #[cfg(test)]

@@ -1,23 +1,21 @@
 //! What workers tell of one question.
 
-ghost use Rattle.std.specs.Prelude.{◌≡◌, ◌≤◌, IfOk};
+ghost use Rattle.std.specs.Prelude.{◌≡◌, ◌≤◌, false, IfOk};
 ghost use Rattle.racp_model.specs.Formed.{AreFormed, IsFormed};
 ghost use Rattle.racp_candidates.specs.AnySeries.{any_questions};
 ghost use Rattle.racp_desk.specs.Closing.{IsRunClosed};
 
-use crate::stops::AtOnce;
+use crate::stops::AtCall;
 use racp_candidates::AnySeries;
 use racp_cutset::Board;
 use racp_desk::{Closed, DeskFault, Open, run};
 use racp_lexfix::{Crowd, Unheard};
-use racp_model::{Network, OfNetwork, Question};
+use racp_model::{NetFault, Network, OfNetwork, Question};
 use racp_questions::{AskStop, Asker, Probe};
-use racp_samples::{crossed, question, root_window};
-use racp_search::{Never, Stop};
+use racp_samples::{SampleFault, crossed, question, root_window};
 use std::alloc::{AllocError, Global};
 use std::marker::Brand;
 use std::sync::Wait;
-use std::test::Fail;
 use std::thread::Threads;
 
 /// What is told of a question.
@@ -40,114 +38,137 @@ fn told_by(probe: Result<Probe, AskStop>) -> Told {
     }
 }
 
-/// What two workers with so many turns tell of a question with a bound on its nodes, and how many turns are left.
-fn probed<N: OfNetwork + Send + Sync, P: Stop + Sync, R: Threads + Wait + Sync>(
+/// Units of the second resource in a question of the project beside one of the first, the bound on its nodes, how many turns
+/// there are, whether a stop is asked for at each call, and what is told.
+struct Row {
+    second: u32,
+    most: Option<u64>,
+    turns: u64,
+    stops: bool,
+    told: Told,
+}
+
+const YES: Row = Row {
+    second: 2,
+    most: None,
+    turns: 1_000,
+    stops: false,
+    told: Told::Yes,
+};
+
+const ROWS: &[Row] = &[
+    YES,
+    Row {
+        second: 1,
+        told: Told::No,
+        ..YES
+    },
+    Row {
+        most: Some(64_000),
+        ..YES
+    },
+    Row {
+        most: Some(0),
+        told: Told::Open,
+        ..YES
+    },
+    Row {
+        turns: 0,
+        told: Told::Stopped,
+        ..YES
+    },
+    Row {
+        stops: true,
+        told: Told::Stopped,
+        ..YES
+    },
+    Row {
+        most: Some(64_000),
+        stops: true,
+        told: Told::Stopped,
+        ..YES
+    },
+];
+
+/// Whether two workers tell of a question what the row says, and no more turns are left than there were.
+fn tell<N: OfNetwork + Send + Sync, R: Threads + Wait + Sync>(
     rt: &R,
     alloc: Global,
     net: &Network,
+    board: &Board<N>,
     question: Question,
-    most: Option<u64>,
-    turns: u64,
-    stop: &P,
-) -> Result<(Told, u64), AllocError>
+    row: &Row,
+) -> bool
     requires named { net.now ≡ N.network }
     requires formed { IsFormed net.now question }
-    requires turns { turns ≤ 1000000000000 }
 {
-    let board: Board<N> = Board::new(alloc, net)?;
-    let mut crowd: Crowd<N, P, Unheard, _> = Crowd::new(
+    let turns = row.turns.min(1_000);
+    let stop = &AtCall::each(row.stops);
+    let mut crowd: Crowd<N, AtCall, Unheard, _> = Crowd::new(
         2,
         turns,
         Unheard,
         |series: AnySeries, workers: usize, quantum: u64, turns: u64| -> Result<Closed, DeskFault>
             requires { (net.now ≡ N.network) × AreFormed net.now (any_questions series) ×
                 (workers ≤ 64) × (quantum ≤ 1000000) × (turns ≤ 1000000000000) }
-            ensures { IfOk result (IsRunClosed net.entry.now (any_questions series) turns P.QUIET) }
+            ensures { IfOk result (IsRunClosed net.entry.now (any_questions series) turns false) }
         {
             run(
-                rt, alloc, net, series, workers, quantum, turns, &board, &Open, stop,
+                rt, alloc, net, series, workers, quantum, turns, board, &Open, stop,
             )
         },
     );
-    let told = told_by(crowd.probe(net, question, most));
-    Ok((told, crowd.left()))
+    let told = told_by(crowd.probe(net, question, row.most));
+    told == row.told && crowd.left() <= turns
 }
 
-/// A question of the project with these capacities, the bound on its nodes, how many turns there are, and what is told.
-type Row = ([u32; 2], Option<u64>, u64, Told);
-
-/// What is told where nobody stops.
-const UNSTOPPED: &[Row] = &[
-    ([1, 1], None, 1_000, Told::No),
-    ([1, 2], None, 1_000, Told::Yes),
-    ([1, 2], Some(64_000), 1_000, Told::Yes),
-    ([1, 2], Some(0), 1_000, Told::Open),
-    ([1, 2], None, 0, Told::Stopped),
-];
-
-/// What is told where a stop is asked for at once.
-const STOPPED: &[Row] = &[
-    ([1, 2], None, 1_000, Told::Stopped),
-    ([1, 2], Some(64_000), 1_000, Told::Stopped),
-];
-
-/// Whether that is told of a row, and no more turns are left than there were.
-fn is_told<N: OfNetwork + Send + Sync, P: Stop + Sync, R: Threads + Wait + Sync>(
-    rt: &R,
-    alloc: Global,
-    net: &Network,
-    row: Row,
-    stop: &P,
-) -> Result<bool, Fail>
-    requires { net.now ≡ N.network }
+/// The question of so many units of the second resource beside one of the first, by the deadline 3.
+fn asked(alloc: Global, net: &Network, second: u32) -> Result<Question, SampleFault>
+    ensures { IfOk result (IsFormed net.now) }
 {
-    let (capacities, most, turns, told) = row;
-    let turns = turns.min(1_000);
     let root = root_window(alloc, net, 3)?;
-    let question = question(
-        alloc,
-        net,
-        capacities.as_slice(),
-        root.lower(),
-        root.upper(),
-    )?;
-    let (found, left) = probed::<N, P, R>(rt, alloc, net, question, most, turns, stop)?;
-    Ok(found == told && left <= turns)
+    question(alloc, net, &[1, second], root.lower(), root.upper())
 }
 
-/// The first row of which something else is told.
-fn first_other<N: OfNetwork + Send + Sync, P: Stop + Sync, R: Threads + Wait + Sync>(
+/// Whether a row holds.
+fn holds<N: OfNetwork + Send + Sync, R: Threads + Wait + Sync>(
     rt: &R,
     alloc: Global,
     net: &Network,
-    rows: &[Row],
-    stop: &P,
-) -> Result<Option<usize>, Fail>
+    row: &Row,
+) -> bool
     requires { net.now ≡ N.network }
 {
-    for (i, row) in rows.iter().enumerate() {
-        if !is_told::<N, P, R>(rt, alloc, net, *row, stop)? {
-            return Ok(Some(i));
+    let Ok(board): Result<Board<N>, AllocError> = Board::new(alloc, net) else {
+        return false;
+    };
+    match asked(alloc, net, row.second) {
+        Ok(question) => tell::<N, R>(rt, alloc, net, &board, question, row),
+        Err(_) => false,
+    }
+}
+
+/// The place of the first row that does not hold.
+fn first_broken<N: OfNetwork + Send + Sync, R: Threads + Wait + Sync>(
+    rt: &R,
+    alloc: Global,
+    net: &Network,
+) -> Option<usize>
+    requires { net.now ≡ N.network }
+{
+    for (place, row) in ROWS.iter().enumerate() {
+        if !holds::<N, R>(rt, alloc, net, row) {
+            return Some(place);
         }
     }
-    Ok(None)
+    None
 }
 
 #[test]
-fn probes_tell(rt: HostRuntime) -> Result<(), Fail> {
+fn probes_tell(rt: HostRuntime) -> Result<(), NetFault> {
     let net = crossed(rt.alloc())?;
     assert_eq!(rt;
-        first_other::<Brand, Never, HostRuntime>(&rt, rt.alloc(), &net, UNSTOPPED, &Never)?,
-        None
-    );
-    Ok(())
-}
-
-#[test]
-fn probes_stop(rt: HostRuntime) -> Result<(), Fail> {
-    let net = crossed(rt.alloc())?;
-    assert_eq!(rt;
-        first_other::<Brand, AtOnce, HostRuntime>(&rt, rt.alloc(), &net, STOPPED, &AtOnce)?,
+        first_broken::<Brand, HostRuntime>(&rt, rt.alloc(), &net),
         None
     );
     Ok(())

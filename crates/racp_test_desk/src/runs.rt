@@ -5,19 +5,15 @@ ghost use Rattle.std.specs.Prelude.{◌≡◌, ◌≤◌};
 use crate::series::units_of_the_first;
 use racp_core::Outcome;
 use racp_cutset::Board;
-use racp_desk::{Cause, Closed, DeskFault, Entry, Gate, run};
+use racp_desk::{Cause, Closed, Entry, Gate, run};
 use racp_model::{Network, OfNetwork};
 use racp_search::Stop;
-use std::alloc::Global;
+use std::alloc::{AllocError, Global};
 use std::sync::Wait;
-use std::test::Fail;
 use std::thread::Threads;
 
 /// Units of the second resource, and the place of the first number of units of the first that is enough.
-pub(crate) const ROWS: [(u32, Option<usize>); 3] = [(0, None), (1, Some(2)), (2, Some(1))];
-
-/// Numbers of workers.
-pub(crate) const WORKERS: [usize; 5] = [1, 2, 3, 8, 64];
+pub(crate) const ROWS: &[(u32, Option<usize>)] = &[(0, None), (1, Some(2)), (2, Some(1))];
 
 /// The most turns that there are.
 pub(crate) const ALL_TURNS: u64 = 1_000_000_000_000;
@@ -55,20 +51,24 @@ fn end_of(closed: &Closed) -> Ended {
     Ended { yes, open, halted }
 }
 
-/// A run with these numbers.
+/// How a run with these numbers ends; `None` where memory or a thread was refused.
 pub(crate) fn run_with<
     N: OfNetwork + Send + Sync,
     G: Gate + Sync,
     P: Stop + Sync,
     R: Threads + Wait + Sync,
->(rt: &R, alloc: Global, net: &Network, numbers: Numbers, gate: &G, stop: &P) -> Result<Ended, Fail>
+>(rt: &R, alloc: Global, net: &Network, numbers: Numbers, gate: &G, stop: &P) -> Option<Ended>
     requires named { net.now ≡ N.network }
     requires workers { numbers.workers ≤ 64 }
     requires quantum { numbers.quantum ≤ 1000000 }
     requires turns { numbers.turns ≤ 1000000000000 }
 {
-    let series = units_of_the_first(alloc, net, numbers.second)?;
-    let board: Board<N> = Board::new(alloc, net)?;
+    let Some(series) = units_of_the_first(alloc, net, numbers.second) else {
+        return None;
+    };
+    let Ok(board): Result<Board<N>, AllocError> = Board::new(alloc, net) else {
+        return None;
+    };
     let Numbers {
         workers,
         quantum,
@@ -78,8 +78,7 @@ pub(crate) fn run_with<
     match run(
         rt, alloc, net, series, workers, quantum, turns, &board, gate, stop,
     ) {
-        Ok(closed) => Ok(end_of(&closed)),
-        Err(DeskFault::Memory) => Err(Fail::from("out of memory")),
-        Err(DeskFault::NoThread) => Err(Fail::from("no thread")),
+        Ok(closed) => Some(end_of(&closed)),
+        Err(_) => None,
     }
 }

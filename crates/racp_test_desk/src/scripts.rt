@@ -1,4 +1,4 @@
-//! Calls with the answers that they must have, and the log that they must leave.
+//! Calls with the answers that they must have.
 
 ghost use Rattle.std.specs.Prelude.{◌≡◌, ◌<◌};
 ghost use Rattle.racp_model.specs.Formed.{AreFormed};
@@ -9,21 +9,18 @@ use crate::trial::How::{NextSeat, Stopped, Whole};
 use crate::trial::{Call, Heard, make};
 use racp_candidates::Singles;
 use racp_core::Outcome;
-use racp_desk::{Cause, Closed, Entry, Names, State};
-use racp_model::{Network, OfNetwork};
+use racp_desk::{Closed, Names, State};
+use racp_model::{NetFault, Network, OfNetwork};
 use racp_samples::crossed;
-use std::alloc::Global;
+use std::alloc::{AllocError, Global};
 use std::marker::Brand;
 use std::sync::ledger::{Blank, Share};
-use std::test::Fail;
 
 /// Some calls of a desk about the units of the first resource beside so many of the second, each with its answer; the
-/// log at the end, without the numbers of nodes; the place of the first yes, or of the first question that is open; and
-/// the capacities that were reached, if any.
+/// place of the first yes, or of the first question that is open; and the capacities that were reached, if any.
 struct Script {
     second: u32,
     rows: &'static [(Call, Heard)],
-    log: &'static [Entry],
     yes: Option<usize>,
     open: Option<usize>,
     reached: &'static [u32],
@@ -51,17 +48,6 @@ const SCRIPTS: &[Script] = &[
             (Ask, Heard::Halted),
             (Take(1), Heard::Halted),
         ],
-        log: &[
-            Entry::Asked(0),
-            Entry::Taken(1, 0, 0),
-            Entry::Handed(1, 0, 1, false, 0),
-            Entry::Taken(2, 1, 0),
-            Entry::Handed(2, 1, 0, false, 0),
-            Entry::Asked(1),
-            Entry::Taken(1, 2, 1),
-            Entry::GivenBack(1, 2),
-            Entry::Halted(Cause::Fault),
-        ],
         yes: None,
         open: Some(1),
         reached: &[1, 1],
@@ -79,27 +65,11 @@ const SCRIPTS: &[Script] = &[
             (Hand(0, Whole), Heard::Taken),
             (Take(0), Heard::Done),
         ],
-        log: &[
-            Entry::Asked(0),
-            Entry::Asked(1),
-            Entry::Taken(0, 0, 0),
-            Entry::Taken(1, 1, 1),
-            Entry::Handed(1, 1, 0, true, 0),
-            Entry::Handed(0, 0, 0, false, 0),
-        ],
         yes: Some(1),
         open: None,
         reached: &[],
     },
 ];
-
-/// An entry without its number of nodes.
-fn without_nodes(entry: Entry) -> Entry {
-    match entry {
-        Entry::Handed(seat, number, rest, yes, _) => Entry::Handed(seat, number, rest, yes, 0),
-        other => other,
-    }
-}
 
 /// Whether a desk ended as the script says.
 fn ends(closed: &Closed, script: &Script) -> bool {
@@ -112,16 +82,7 @@ fn ends(closed: &Closed, script: &Script) -> bool {
         Some(reached) => reached.as_slice() == script.reached,
         None => script.reached.is_empty(),
     };
-    yes == script.yes && open == script.open && reached && has_entries(&closed.log, script.log)
-}
-
-/// Whether a log has these entries, but for the nodes.
-fn has_entries(log: &[Entry], wanted: &[Entry]) -> bool {
-    log.len() == wanted.len()
-        && log
-            .iter()
-            .zip(wanted)
-            .all(|(entry, wanted)| without_nodes(*entry) == *wanted)
+    yes == script.yes && open == script.open && reached
 }
 
 /// Makes the calls. Whether each is answered as it must be.
@@ -131,7 +92,7 @@ fn follows<N: OfNetwork, M: Names>(
     state: &mut State<N, M, Singles>,
     mine: &mut Share<M>,
     rows: &[(Call, Heard)],
-) -> Result<bool, Fail>
+) -> bool
     requires named { net.now ≡ N.network }
     requires parts { 0 < mine.old.parts }
     requires turns { M.turns ≡ 100 }
@@ -139,11 +100,11 @@ fn follows<N: OfNetwork, M: Names>(
 {
     let mut pieces = Vec::new(alloc);
     for (call, heard) in rows {
-        if make(alloc, net, state, mine, &mut pieces, *call)? != *heard {
-            return Ok(false);
+        if make(alloc, net, state, mine, &mut pieces, *call) != *heard {
+            return false;
         }
     }
-    Ok(true)
+    true
 }
 
 /// Whether a desk does as the script says.
@@ -153,7 +114,7 @@ fn plays<N: OfNetwork, M: Names>(
     series: Singles,
     script: &Script,
     blank: Blank,
-) -> Result<bool, Fail>
+) -> bool
     requires named { net.now ≡ N.network }
     requires formed { AreFormed net.now series }
     requires series { series ≡ M.series }
@@ -162,37 +123,40 @@ fn plays<N: OfNetwork, M: Names>(
     requires whole { blank.parts ≡ M.parts }
     requires one { blank.parts ≡ 1 }
 {
-    let (total, all) = blank.open::<M>();
-    let mut all = all;
-    let mut state: State<N, M, Singles> = State::new(alloc, net, series, total)?;
-    let followed = follows(alloc, net, &mut state, &mut all, script.rows)?;
+    let (total, mut all) = blank.open::<M>();
+    let made: Result<State<N, M, Singles>, AllocError> = State::new(alloc, net, series, total);
+    let Ok(mut state) = made else {
+        return false;
+    };
+    let followed = follows(alloc, net, &mut state, &mut all, script.rows);
     state.audit(&mut all);
-    let closed = state.close(all);
-    Ok(followed && ends(&closed, script))
+    followed && ends(&state.close(all), script)
 }
 
-fn holds<N: OfNetwork>(alloc: Global, net: &Network, script: &Script) -> Result<bool, Fail>
+fn holds<N: OfNetwork>(alloc: Global, net: &Network, script: &Script) -> bool
     requires { net.now ≡ N.network }
 {
-    let series = units_of_the_first(alloc, net, script.second)?;
-    plays::<N, Brand>(alloc, net, series, script, Blank::new(1))
+    match units_of_the_first(alloc, net, script.second) {
+        Some(series) => plays::<N, Brand>(alloc, net, series, script, Blank::new(1)),
+        None => false,
+    }
 }
 
 /// The place of the first script that is answered otherwise.
-fn broken<N: OfNetwork>(alloc: Global, net: &Network) -> Result<Option<usize>, Fail>
+fn broken<N: OfNetwork>(alloc: Global, net: &Network) -> Option<usize>
     requires { net.now ≡ N.network }
 {
     for (place, script) in SCRIPTS.iter().enumerate() {
-        if !holds::<N>(alloc, net, script)? {
-            return Ok(Some(place));
+        if !holds::<N>(alloc, net, script) {
+            return Some(place);
         }
     }
-    Ok(None)
+    None
 }
 
 #[test]
-fn calls_leave_their_entries(rt: HostRuntime) -> Result<(), Fail> {
+fn calls_are_answered(rt: HostRuntime) -> Result<(), NetFault> {
     let net = crossed(rt.alloc())?;
-    assert_eq!(rt; broken::<Brand>(rt.alloc(), &net)?, None);
+    assert_eq!(rt; broken::<Brand>(rt.alloc(), &net), None);
     Ok(())
 }

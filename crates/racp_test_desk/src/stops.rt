@@ -1,28 +1,13 @@
-//! Stops that are asked for at given calls.
+//! A stop that is asked for at given calls.
 
 use racp_search::Stop;
 use std::sync::atomic::{AtomicU64, Ordering};
 
-/// A stop that is asked for from the first call on.
-#[derive(Clone, Copy)]
-pub(crate) struct AtOnce;
-
-impl Stop for AtOnce {
-    ghost use Rattle.std.specs.Prelude.{false};
-
-    ghost QUIET = { false };
-
-    const QUIET: bool = false;
-
-    fn asked(&self) -> bool {
-        true
-    }
-}
-
-/// A stop that is asked for once, at the call of this number, from 1.
+/// A stop that is asked for at the call of this number, from 1, and, where it lasts, at each behind it.
 #[derive(Drop)]
 pub(crate) struct AtCall {
     number: u64,
+    lasts: bool,
     calls: AtomicU64,
 }
 
@@ -34,14 +19,26 @@ impl Stop for AtCall {
     const QUIET: bool = false;
 
     fn asked(&self) -> bool {
-        self.calls.fetch_add(1, Ordering::SeqCst).wrapping_add(1) == self.number
+        let call = self.calls.fetch_add(1, Ordering::SeqCst).wrapping_add(1);
+        call == self.number || (self.lasts && self.number < call)
     }
 }
 
 impl AtCall {
-    pub(crate) fn new(number: u64) -> Self {
+    /// At the call of this number alone.
+    pub(crate) fn once(number: u64) -> Self {
         AtCall {
             number,
+            lasts: false,
+            calls: AtomicU64::new(0),
+        }
+    }
+
+    /// At each call, or at none.
+    pub(crate) fn each(stops: bool) -> Self {
+        AtCall {
+            number: if stops { 1 } else { u64::MAX },
+            lasts: true,
             calls: AtomicU64::new(0),
         }
     }

@@ -2,17 +2,16 @@
 
 ghost use Rattle.std.specs.Prelude.{◌≡◌, ◌<◌, ◌≤◌, length, IfOk};
 
-use crate::stops::AtOnce;
+use crate::stops::AtCall;
 use racp_candidates::Singles;
 use racp_core::{Asked, Merged, Reply};
 use racp_cutset::{Board, Local};
 use racp_desk::{Cause, Names, State};
 use racp_model::{Network, OfNetwork, Question};
 use racp_samples::{SampleFault, question};
-use racp_search::{Collector, Finding, Never, Piece, explore};
-use std::alloc::{AllocError, Global};
+use racp_search::{Collector, Finding, Piece, explore};
+use std::alloc::Global;
 use std::sync::ledger::Share;
-use std::test::Fail;
 
 /// How a piece is searched that is handed in.
 #[derive(Clone, Copy)]
@@ -35,7 +34,7 @@ pub(crate) enum Call {
     Halt,
 }
 
-/// What a call answers: the place of a question, the number of a piece, or why there is none.
+/// What a call answers: the place of a question, the number of a piece, or why there is none, also where memory was refused.
 #[derive(Clone, Copy, PartialEq)]
 pub(crate) enum Heard {
     Question(usize),
@@ -47,6 +46,7 @@ pub(crate) enum Heard {
     Taken,
     Stale,
     Halted,
+    Refused,
 }
 
 /// A piece that was taken, by its parts.
@@ -68,37 +68,35 @@ pub(crate) fn make<N: OfNetwork, M: Names>(
     mine: &mut Share<M>,
     pieces: &mut Vec<Held>,
     call: Call,
-) -> Result<Heard, Fail>
+) -> Heard
     requires named { net.now ≡ N.network }
     requires parts { 0 < mine.old.parts }
     requires turns { M.turns ≡ 100 }
     ensures { mine.new.parts ≡ mine.old.parts }
 {
     match call {
-        Call::Ask => Ok(ask(state, mine)?),
-        Call::Take(seat) => Ok(take(state, mine, pieces, seat)?),
+        Call::Ask => ask(state, mine),
+        Call::Take(seat) => take(state, mine, pieces, seat),
         Call::Hand(at, how) => hand(alloc, net, state, mine, pieces, at, how),
-        Call::GiveBack(at) => Ok(give_back(alloc, net, state, mine, pieces, at)?),
+        Call::GiveBack(at) => give_back(alloc, net, state, mine, pieces, at),
         Call::Halt => {
             state.halt(Cause::Fault, mine);
-            Ok(Heard::Halted)
+            Heard::Halted
         }
     }
 }
 
-fn ask<N: OfNetwork, M: Names>(
-    state: &mut State<N, M, Singles>,
-    mine: &mut Share<M>,
-) -> Result<Heard, AllocError>
+fn ask<N: OfNetwork, M: Names>(state: &mut State<N, M, Singles>, mine: &mut Share<M>) -> Heard
     requires { 0 < mine.old.parts }
     ensures { mine.new.parts ≡ mine.old.parts }
 {
-    Ok(match state.ask(mine)? {
-        Asked::Question(index) => Heard::Question(index),
-        Asked::End => Heard::End,
-        Asked::Enough => Heard::Enough,
-        Asked::Halted => Heard::Halted,
-    })
+    match state.ask(mine) {
+        Ok(Asked::Question(index)) => Heard::Question(index),
+        Ok(Asked::End) => Heard::End,
+        Ok(Asked::Enough) => Heard::Enough,
+        Ok(Asked::Halted) => Heard::Halted,
+        Err(_) => Heard::Refused,
+    }
 }
 
 fn take<N: OfNetwork, M: Names>(
@@ -106,29 +104,36 @@ fn take<N: OfNetwork, M: Names>(
     mine: &mut Share<M>,
     pieces: &mut Vec<Held>,
     seat: usize,
-) -> Result<Heard, AllocError>
+) -> Heard
     requires parts { 0 < mine.old.parts }
     requires turns { M.turns ≡ 100 }
     ensures { mine.new.parts ≡ mine.old.parts }
 {
     if state.pieces() >= 100 {
-        return Ok(Heard::Nothing);
+        return Heard::Nothing;
     }
-    match state.take(seat, mine)? {
-        Reply::Piece(piece) => {
-            let (number, seat, index) = (piece.number(), piece.seat(), piece.index());
-            let question = piece.into_question::<Held>();
-            pieces.push(Held {
-                number,
-                seat,
-                index,
-                question,
-            })?;
-            Ok(Heard::Piece(number))
-        }
-        Reply::Nothing => Ok(Heard::Nothing),
-        Reply::Done => Ok(Heard::Done),
-        Reply::Halted => Ok(Heard::Halted),
+    match state.take(seat, mine) {
+        Ok(Reply::Piece(piece)) => keep(piece, pieces),
+        Ok(Reply::Nothing) => Heard::Nothing,
+        Ok(Reply::Done) => Heard::Done,
+        Ok(Reply::Halted) => Heard::Halted,
+        Err(_) => Heard::Refused,
+    }
+}
+
+/// Keeps the parts of a piece.
+fn keep<N: OfNetwork>(piece: Piece<N>, pieces: &mut Vec<Held>) -> Heard {
+    let (number, seat, index) = (piece.number(), piece.seat(), piece.index());
+    let question = piece.into_question::<Held>();
+    let held = Held {
+        number,
+        seat,
+        index,
+        question,
+    };
+    match pieces.push(held) {
+        Ok(()) => Heard::Piece(number),
+        Err(_) => Heard::Refused,
     }
 }
 
@@ -165,13 +170,9 @@ fn explored<N: OfNetwork>(
         How::Whole | How::Stopped => held.seat,
     };
     let piece = again(alloc, net, held, seat)?;
+    let stop = AtCall::each(matches!(how, How::Stopped));
     let most = Some(1_000_000);
-    Ok(match how {
-        How::Stopped => explore(alloc, net, piece, most, &board, &mut local, &AtOnce),
-        How::Whole | How::NextSeat => {
-            explore(alloc, net, piece, most, &board, &mut local, &Never)
-        }
-    })
+    Ok(explore(alloc, net, piece, most, &board, &mut local, &stop))
 }
 
 fn hand<N: OfNetwork, M: Names>(
@@ -182,20 +183,34 @@ fn hand<N: OfNetwork, M: Names>(
     pieces: &[Held],
     at: usize,
     how: How,
-) -> Result<Heard, Fail>
+) -> Heard
     requires named { net.now ≡ N.network }
     requires parts { 0 < mine.old.parts }
     ensures { mine.new.parts ≡ mine.old.parts }
 {
     let Some(held) = pieces.get(at) else {
-        return Ok(Heard::Stale);
+        return Heard::Stale;
     };
-    let finding: Finding<N> = explored(alloc, net, held, how)?;
+    match explored(alloc, net, held, how) {
+        Ok(finding) => hand_in(state, mine, finding),
+        Err(_) => Heard::Refused,
+    }
+}
+
+fn hand_in<N: OfNetwork, M: Names>(
+    state: &mut State<N, M, Singles>,
+    mine: &mut Share<M>,
+    finding: Finding<N>,
+) -> Heard
+    requires parts { 0 < mine.old.parts }
+    requires nodes { finding.nodes ≤ 1000000 }
+    ensures { mine.new.parts ≡ mine.old.parts }
+{
     match state.hand(finding, mine) {
-        Ok(merged) => Ok(of_merged(merged)),
-        Err((finding, error)) => {
+        Ok(merged) => of_merged(merged),
+        Err((finding, _)) => {
             let _ = finding.into_found();
-            Err(Fail::from(error))
+            Heard::Refused
         }
     }
 }
@@ -207,15 +222,17 @@ fn give_back<N: OfNetwork, M: Names>(
     mine: &mut Share<M>,
     pieces: &[Held],
     at: usize,
-) -> Result<Heard, SampleFault>
+) -> Heard
     requires { 0 < mine.old.parts }
     ensures { mine.new.parts ≡ mine.old.parts }
 {
     let Some(held) = pieces.get(at) else {
-        return Ok(Heard::Stale);
+        return Heard::Stale;
     };
-    let piece = again(alloc, net, held, held.seat)?;
-    Ok(of_merged(state.give_back(piece, mine)))
+    match again(alloc, net, held, held.seat) {
+        Ok(piece) => of_merged(state.give_back(piece, mine)),
+        Err(_) => Heard::Refused,
+    }
 }
 
 fn of_merged(merged: Merged) -> Heard {
