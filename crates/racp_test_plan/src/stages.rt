@@ -1,7 +1,7 @@
 //! Stages of planning for a small network with two resources: sharpened floors and refuted pairs, and what is told where an asker
 //! gives up.
 
-ghost use Rattle.std.specs.Prelude.{◌≡◌, length, IsTrue, IfOk};
+ghost use Rattle.std.specs.Prelude.{◌≡◌, ◌<◌, ◌≤◌, ℕ, length, slice_index, IsTrue, IfOk};
 ghost use Rattle.racp_model.specs.Formed.{HasBounds};
 ghost use Rattle.racp_model.specs.Terms.{AreTermsOf};
 ghost use Rattle.racp_model.specs.Window.{IsYes};
@@ -147,6 +147,14 @@ fn is_answered(alloc: Global, net: &Network, question: &Question) -> bool
     matches!(decide_by_definition(alloc, net, question), Ok(Some(_)))
 }
 
+/// Whether no number is above the one at its place in another list.
+fn are_bounds(low: &[u32], high: &[u32]) -> bool
+    requires { length low.now ≡ length high.now }
+    ensures { IsTrue result → (k : ℕ) → k < length low.now → slice_index low.now k ≤ slice_index high.now k }
+{
+    low.iter().zip(high).all(|(low, high)| *low <= *high)
+}
+
 /// Whether sharpening ends so.
 fn is_sharp(found: &Result<Sharp, (Capacities, AskStop)>, wanted: &Sharpening) -> bool {
     let floors = wanted.floors.as_slice();
@@ -173,11 +181,7 @@ fn sharpens<N: OfNetwork>(
     requires yes { IsYes net.now most.now window.now }
 {
     let least = wanted.least.as_slice();
-    let are_bounds = least
-        .iter()
-        .zip(most.as_slice())
-        .all(|(low, high)| *low <= *high);
-    if least.len() != most.as_slice().len() || !are_bounds {
+    if least.len() != most.as_slice().len() || !are_bounds(least, most.as_slice()) {
         return Ok(false);
     }
     let least = Capacities::new(least.to_vec(alloc)?);
