@@ -38,6 +38,9 @@
 //! beside the lock: the least place of a yes that came in, so that a search of the same or a later question, which is of no
 //! use, is left at its next node.
 //!
+//! `Boards` holds the board from run to run, and puts one without records in its place where it is full. A worker whose own part
+//! has less than half of its room left where a run begins forgets what it kept before.
+//!
 //! A worker helps with a double of a piece that is out, of the least question of which there is one: it searches the child
 //! windows of each node in a pseudo-random order of its own, and so begins elsewhere than the worker that has the
 //! piece. What either refutes becomes a record, and the other passes over it where it comes to it; so they part the
@@ -65,6 +68,7 @@
 //! and which of two findings comes first.
 #![tactic(auto)]
 
+mod boards;
 mod book;
 mod gate;
 pub mod laws;
@@ -75,6 +79,7 @@ mod state;
 mod watch;
 mod worker;
 
+pub use boards::Boards;
 pub use book::{Book, Rules};
 pub use gate::{Gate, Open};
 pub use log::{Cause, Entry};

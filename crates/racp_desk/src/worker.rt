@@ -14,7 +14,7 @@ use racp_core::{Merged, Reply};
 use racp_cutset::{Board, Local};
 use racp_model::{Network, OfNetwork};
 use racp_questions::Series;
-use racp_search::{Course, Finding, Piece, Rest, Stop, pursue};
+use racp_search::{Course, Finding, Piece, Rest, Stop, make_room, pursue};
 use std::alloc::Global;
 use std::sync::ledger::Share;
 use std::sync::{Condvar, Mutex, MutexGuard, Wait};
@@ -415,7 +415,7 @@ pub(crate) fn work<'a, N: OfNetwork, M: Names, S: Series, G: Gate, P: Stop, R: W
     let mut mine = mine;
     let Job { alloc, board, .. } = &shared.job;
     let mut local: Local<N> = board.take_part(rt, *alloc);
-    let count = local.kept_count();
+    let count = make_room(&mut local);
     let state = shared.desk.lock(rt);
     if let Some(work) = work_from(rt, shared, state, seat, &mut mine) {
         go_on(rt, shared, seat, work, &mut local, &mut mine);
@@ -440,7 +440,7 @@ fn go_on<'a, N: OfNetwork, M: Names, S: Series, G: Gate, P: Stop, R: Wait>(
     ensures { mine.new.parts ≡ mine.old.parts }
 {
     let kept = local.kept_count();
-    let mut course = Course::new();
+    let mut course = Course::new(kept);
     let mut work = work;
     for _round in rt.forever() {
         let (piece, is_own) = match work {
