@@ -5,14 +5,15 @@ use Rattle.racp_sm.specs.Reading.{IsReading, IsReadingOrMemory}
 use Rattle.racp_sm.specs.Faults.{SmFault}
 use Rattle.racp_prices.specs.Orders.{IsOrderOrMemory}
 use Rattle.racp_prices.specs.declared.fault.OrderFault.{OrderFault}
-use Rattle.racp_lexfix.specs.Printing.{IsRefusal}
+use Rattle.racp_lexfix.specs.Printing.{IsRefusal, IsCrowdEnd}
 use Rattle.racp_lexfix.specs.declared.answer.PlanStop.{PlanStop}
-use Rattle.racp_lexfix.specs.declared.answer.PlanStop.TheVariants.{Memory}
+use Rattle.racp_lexfix.specs.declared.answer.PlanStop.TheVariants.{Stopped, Memory, NoThread}
 use Rattle.racp_lexfix.specs.declared.printed.Refusal.{Refusal}
 use Rattle.racp_lexfix.specs.declared.printed.Refusal.TheVariants.{Sm, Order, Stop}
 use Rattle.racp_cli.specs.Texts.{memory_line}
 use Rattle.racp_cli.specs.Responses.{IsNetworkRefused, IsOrderRefused, IsRefusedLine}
 use Rattle.racp_cli.specs.Plans.{IsNetworkLine, IsOrderLine, IsMemoryLine, IsPlanAnswer}
+use Rattle.racp_cli.specs.Crowds.{IsCrowdAnswer}
 use Rattle.racp_cli.proofs.Answering.{right_refusal}
 
 -- the line of a network text that is refused
@@ -31,6 +32,24 @@ pub line_refused : (net order : List ℕ) (refusal : Refusal) (status : ℕ) (te
 line_refused net order (Sm fault) status text reading refused = inl (network_line net fault status text reading refused)
 line_refused net order (Order fault) status text right refused = inr (inl (order_line net order right.0 fault status text right.1 right.2 refused))
 line_refused net order (Stop stop) status text is refused = absurd (subst (λ (s : PlanStop). IsRefusedLine (Stop s) status text) is refused)
+
+-- the line where workers give no answer: which text is refused, that they were stopped, or that one could not be started
+pub crowd_refused : (net order : List ℕ) (refusal : Refusal) (status : ℕ) (text : List ℕ) → IsRefusal (IsCrowdEnd net order) net order refusal → IsRefusedLine refusal status text →
+    IsCrowdAnswer net order status text
+crowd_refused net order (Sm fault) status text reading refused = inl (inr (inl (network_line net fault status text reading refused)))
+crowd_refused net order (Order fault) status text right refused = inl (inr (inr (inl (order_line net order right.0 fault status text right.1 right.2 refused))))
+crowd_refused net order (Stop (Stopped not_before)) status text (network, terms, are_terms, told) refused = inr (inl (record {
+  network = network;
+  terms = terms;
+  not_before = not_before;
+  are_terms = are_terms;
+  none = told.0;
+  floors = told.1;
+  with_status = sym refused.0;
+  with_text = sym refused.1;
+}))
+crowd_refused net order (Stop Memory) status text is refused = absurd refused
+crowd_refused net order (Stop NoThread) status text is refused = inr (inr (sym refused.0, sym refused.1))
 
 -- the answer where memory ran out
 pub plan_memory : (net order : List ℕ) → IsPlanAnswer net order 6 memory_line

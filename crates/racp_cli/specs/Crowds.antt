@@ -2,7 +2,7 @@
 use Rattle.std.specs.Prelude.{◌≡◌, ◌≢◌, ◌⊎◌, ℕ, List, [], ◌∷◌, Option, Some, None, Result, Ok, Err}
 use Rattle.racp_model.specs.Project.{Project}
 use Rattle.racp_model.specs.Terms.{Terms}
-use Rattle.racp_lexfix.specs.Answers.{IsStoppedAt}
+use Rattle.racp_lexfix.specs.Answers.{IsNotAfterEnough, AreAboveFloors}
 use Rattle.racp_lexfix.specs.Printing.{AreTextsOf}
 use Rattle.racp_lexfix.specs.declared.crowd.Effort.{Effort}
 use Rattle.racp_cli.specs.Texts.{stopped_line, no_thread_line}
@@ -10,15 +10,14 @@ use Rattle.racp_cli.specs.Plans.{IsPlanAnswer}
 use Rattle.racp_cli.specs.Streams.{Reader, IsRun, ToTwo}
 use Rattle.racp_cli.specs.declared.fault.StreamFault.{StreamFault}
 
--- planning was stopped: the line tells capacities before which none are enough
+-- planning was stopped: the line tells capacities at or above the floors, before which none are enough
 pub record IsStoppedLine (net order : List ℕ) (status : ℕ) (text : List ℕ) : Type 0 where
   pub network : Project
   pub terms : Terms
   pub not_before : List ℕ
-  pub answered : ℕ
-  pub told : Option (List ℕ)
   pub are_terms : AreTextsOf net order network terms
-  pub stopped : IsStoppedAt network terms answered told not_before
+  pub none : IsNotAfterEnough network terms not_before
+  pub floors : AreAboveFloors network terms not_before
   pub with_status : status ≡ 4
   pub with_text : text ≡ stopped_line not_before
 

@@ -5,6 +5,7 @@ use Rattle.racp_model.specs.Terms.{Terms}
 use Rattle.racp_plan.specs.declared.plan.Plan.{Plan}
 use Rattle.racp_plan.specs.Texts.{line}
 use Rattle.racp_check.specs.PlanFaults.{IsChecked}
+use Rattle.racp_show.specs.Called.{names_of}
 use Rattle.racp_show.specs.Tables.{table_text}
 use Rattle.racp_cli.specs.Checks.{AreRead, HasRightHead, IsCheck, check_status, check_text}
 use Rattle.racp_cli.specs.Streams.{Reader, IsRun, ToFour}
@@ -29,7 +30,7 @@ names_line = line (codes "refused names 1 NotUtf8")
 -- the plan with these names, or that they are none
 abbrev pub IsNamed : Look → Project → Plan → List ℕ → ℕ → List ℕ → Type 0
 IsNamed look network plan names status text =
-    (IsUtf8 names × (status ≡ 0) × ((all : List (List ℕ)) × IsPicture look.form network plan all text)) ⊎
+    (IsUtf8 names × (status ≡ 0) × IsPicture look.form network plan (names_of names) text) ⊎
     ((IsUtf8 names → ⊥) × (status ≡ 5) × (text ≡ names_line))
 
 -- the plan, with which nothing is wrong

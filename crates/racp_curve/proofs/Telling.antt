@@ -22,7 +22,7 @@ told_too IsTold IsToldToo may_stop may_want_thread NoThread so h = h
 
 -- where planning for a deadline stops, none that are enough for it or an earlier one stand before what is told
 pub stopped_by : (p : Project) (terms : Terms) (deadline answered : ℕ) (told : Option (List ℕ)) (capacities : List ℕ) → IsStoppedAt p (order_by deadline terms) answered told capacities → AreNotAfterEnough p terms (deadline + 1) capacities
-stopped_by p terms deadline answered told capacities h by l other is before = h.none other (enough_later p terms by deadline other (omega (arith, l)) is) before
+stopped_by p terms deadline answered told capacities h by l other is before = h.none.none other (enough_later p terms by deadline other (omega (arith, l)) is) before
 
 -- where planning for the order's own deadline stops, there are no steps
 pub stopped_first : (p : Project) (terms : Terms) (may_stop may_want_thread : Type 0) (answered : ℕ) (told : Option (List ℕ)) (steps : List Step) (stop : PlanStop) → steps ≡ [] → IsPlanStop (IsStoppedAt p terms answered told) may_stop may_want_thread stop →

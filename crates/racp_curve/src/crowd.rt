@@ -11,8 +11,7 @@ use crate::following::{curve, out_of_memory};
 use crate::ground::Ground;
 use crate::step::{CurveAnswer, CurveStop};
 use racp_candidates::AnySeries;
-use racp_cutset::Board;
-use racp_desk::{Closed, DeskFault, Gate, run};
+use racp_desk::{Boards, Closed, DeskFault, Gate, run};
 use racp_lexfix::{Crew, Crowd, Unheard};
 use racp_model::{Network, OfNetwork};
 use racp_prices::Order;
@@ -66,8 +65,8 @@ fn curve_by<N: OfNetwork + Send + Sync, G: Gate + Sync, P: Stop + Sync, R: Threa
         stop,
         observer: _,
     } = crew;
-    let board: Board<N> = match Board::within(alloc, net, memory, workers) {
-        Ok(board) => board,
+    let boards: Boards<N> = match Boards::within(alloc, net, memory, workers) {
+        Ok(boards) => boards,
         Err(_) => return Err(out_of_memory(alloc)),
     };
     let mut crowd: Crowd<N, P, Unheard, _> = Crowd::new(
@@ -79,6 +78,9 @@ fn curve_by<N: OfNetwork + Send + Sync, G: Gate + Sync, P: Stop + Sync, R: Threa
                 (workers ≤ 64) × (quantum ≤ 1000000) × (turns ≤ 1000000000000) }
             ensures { IfOk result (IsRunClosed net.entry.now (any_questions series) turns P.QUIET) }
         {
+            let Ok(board) = boards.next(rt, alloc, net) else {
+                return Err(DeskFault::Memory);
+            };
             run(
                 rt, alloc, net, series, workers, quantum, turns, &board, gate, stop,
             )

@@ -24,7 +24,7 @@ use Rattle.racp_bounds.specs.Floors.{AreFloors, AreRoofs}
 use Rattle.racp_bounds.specs.Sharp.{AreSharpened, AreRefutedPairs, AreSharpenedBefore}
 use Rattle.racp_bounds.proofs.lemmas.Above.{admitting_above, roofs_admit}
 use Rattle.racp_bounds.proofs.lemmas.Sharpened.{above_admits, admitting_yes, admitting_above_sharpened, admitting_in_box}
-use Rattle.racp_lexfix.specs.Stages.{IsNotAfterEnough}
+use Rattle.racp_lexfix.specs.Answers.{IsNotAfterEnough}
 
 -- so it is the same where the other does not stand before it
 above-same : (p : Project) (terms : Terms) (low high : List ℕ) → AreTermsOf p terms → length low ≡ p.resources → length high ≡ p.resources →

@@ -15,7 +15,8 @@ use Rattle.racp_questions.specs.declared.asker.AskStop.{AskStop}
 use Rattle.racp_questions.specs.declared.asker.AskStop.TheVariants.{Stopped as AskStopped, Memory as AskMemory, NoThread as AskNoThread}
 use Rattle.racp_questions.specs.FirstYes.{IsProbeStop, IsReached, IsStop, question_at}
 use Rattle.racp_lexfix.specs.Answers.{IsPlanStop}
-use Rattle.racp_lexfix.specs.Stages.{AreSharpFloorsAndRoofs, IsNotAfterEnough, IsStoppedInBox, given_up}
+use Rattle.racp_lexfix.specs.Answers.{IsNotAfterEnough}
+use Rattle.racp_lexfix.specs.Stages.{AreSharpFloorsAndRoofs, IsStoppedInBox, given_up}
 use Rattle.racp_lexfix.proofs.Choosing.{cut_admits, cut_less, cut_within, due_by, reached_first, yes_enough}
 
 module _ (p : Project) (terms : Terms) (root : Bounds) (t : AreTermsOf p terms) (h : IsRootWindow p (release_of terms) (due_of terms) root) (sharp : Sharp) (roofs : List ℕ) (ends : AreSharpFloorsAndRoofs p terms root sharp roofs) where

@@ -20,10 +20,10 @@ use Rattle.racp_candidates.specs.Box.{AreBounds, AreBoxQuestions}
 use Rattle.racp_bounds.specs.Floors.{AreFloors}
 use Rattle.racp_bounds.specs.Sharp.{IsSharpened, AreSharpened, AreSharpenedBefore, pair_count, IsUnsharpened}
 use Rattle.racp_bounds.specs.declared.sharp.Sharp.{Sharp}
-use Rattle.racp_lexfix.specs.Answers.{ceiling_series, AreAboveFloors, IsStoppedAt, IsPlanStop}
+use Rattle.racp_lexfix.specs.Answers.{ceiling_series, AreAboveFloors, IsNotAfterEnough, IsStoppedAt, IsPlanStop}
 use Rattle.racp_lexfix.specs.declared.answer.PlanStop.{PlanStop}
 use Rattle.racp_lexfix.specs.declared.answer.PlanStop.TheVariants.{Stopped, Memory, NoThread}
-use Rattle.racp_lexfix.specs.Stages.{AreFloorsAndRoofs, AreSharpFloorsAndRoofs, IsNotAfterEnough, IsStoppedInBox, HasNoEnough, given_up, stopped_at}
+use Rattle.racp_lexfix.specs.Stages.{AreFloorsAndRoofs, AreSharpFloorsAndRoofs, IsStoppedInBox, HasNoEnough, given_up, stopped_at}
 use Rattle.racp_lexfix.proofs.Choosing.{first_reached, reached_first, yes_enough, enough_above, some_yes, peaks_least, reached_box, reached_boxed}
 use Rattle.racp_bounds.proofs.lemmas.Sharpened.{all_sharpened}
 
@@ -90,8 +90,7 @@ module _ (p : Project) (terms : Terms) (root : Bounds) (t : AreTermsOf p terms) 
   pub stopped_first : (floors roofs : List ℕ) (answered : ℕ) (told : Option (List ℕ)) → AreFloors p root terms.deadline floors → AreMostUnits p terms roofs →
       answered ≡ 0 → ceiling_series terms ≡ 1 → IsStoppedAt p terms answered told floors
   stopped_first floors roofs answered told lowest most none asked = record {
-    places = lowest.places;
-    none = (reached_first p terms root floors roofs t h lowest most 0 floors (first_reached p terms root floors roofs t h lowest most)).none;
+    none = reached_first p terms root floors roofs t h lowest most 0 floors (first_reached p terms root floors roofs t h lowest most);
     floors = record { root = root; floors = floors; is_root = h; are_floors = lowest; above = λ k l. omega arith };
     sharpened = λ k l more. absurd (omega (arith, more, none));
     in_box = λ e. absurd (omega (arith, e, none, asked));
@@ -124,8 +123,7 @@ module _ (p : Project) (terms : Terms) (root : Bounds) (t : AreTermsOf p terms) 
       pub stopped_early : (n : ℕ) → answered ≤ ceiling_series terms + n → answered < ceiling_series terms + p.resources + pair_count p.resources →
           AreSharpenedBefore p root floors roofs n capacities → IsStoppedAt p terms answered told capacities
       stopped_early n most left are = record {
-        places = are.places;
-        none = (reached_first p terms root floors roofs t h ends.lowest ends.most n capacities are).none;
+        none = reached_first p terms root floors roofs t h ends.lowest ends.most n capacities are;
         floors = above_floors capacities (reached_above n capacities are);
         sharpened = λ k l asked. sharpened_enough k (slice_index capacities k) l (are.sharpened k (omega (arith, asked, most)) l);
         in_box = λ e. absurd (omega (arith, e, left));
@@ -136,8 +134,7 @@ module _ (p : Project) (terms : Terms) (root : Bounds) (t : AreTermsOf p terms) 
       pub stopped_in_box : (sharp : List ℕ) → answered ≡ ceiling_series terms + p.resources + pair_count p.resources → AreSharpened p root floors roofs sharp →
           IsStoppedInBox p terms sharp told capacities → IsStoppedAt p terms answered told capacities
       stopped_in_box sharp e are is = record {
-        places = is.none.places;
-        none = is.none.none;
+        none = is.none;
         floors = above_floors capacities (λ k l. omega (arith, (are.each k l).is.from_floor, is.above k l));
         sharpened = λ k l asked. let some = sharpened_enough k (slice_index sharp k) l (are.each k l) in (some.0, some.1, omega (arith, some.2, is.above k l));
         in_box = λ same. is.as_told;
@@ -147,8 +144,7 @@ module _ (p : Project) (terms : Terms) (root : Bounds) (t : AreTermsOf p terms) 
       -- behind it, at the first capacities that are enough
       pub stopped_behind : ceiling_series terms + p.resources + pair_count p.resources < answered → IsLeast (IsBefore terms) (IsEnough p terms) capacities → IsStoppedAt p terms answered told capacities
       stopped_behind more first = record {
-        places = first.is.places;
-        none = first.least;
+        none = record { places = first.is.places; none = first.least };
         floors = above_floors capacities (enough_above p terms root floors roofs t h ends.lowest ends.most capacities first.is);
         sharpened = λ k l asked. (capacities, first.is, omega arith);
         in_box = λ e. absurd (omega (arith, e, more));

@@ -23,6 +23,11 @@ IsAnswer p terms Ceiling = IsOverCeilings p terms
 abbrev pub ceiling_series : Terms → ℕ
 ceiling_series terms = if is_some terms.ceilings then 1 else 0
 
+-- no capacities that are enough stand before these
+pub record IsNotAfterEnough (p : Project) (terms : Terms) (capacities : List ℕ) : Type 0 where
+  pub places : length capacities ≡ p.resources
+  pub none : (enough : List ℕ) → IsEnough p terms enough → IsBefore terms enough capacities → ⊥
+
 -- capacities at or above the floor of each resource, by the root window
 pub record AreAboveFloors (p : Project) (terms : Terms) (capacities : List ℕ) : Type 0 where
   pub root : Bounds
@@ -36,8 +41,7 @@ pub record AreAboveFloors (p : Project) (terms : Terms) (capacities : List ℕ) 
 -- that are enough. Where the vectors of the box were asked they are what the asker told, if it told any; after that they are the plan's
 pub record IsStoppedAt (p : Project) (terms : Terms) (answered : ℕ) (told : Option (List ℕ)) (capacities : List ℕ)
     : Type 0 where
-  pub places : length capacities ≡ p.resources
-  pub none : (enough : List ℕ) → IsEnough p terms enough → IsBefore terms enough capacities → ⊥
+  pub none : IsNotAfterEnough p terms capacities
   pub floors : AreAboveFloors p terms capacities
   pub sharpened : (k : ℕ) → k < p.resources → ceiling_series terms + k < answered →
       (enough : List ℕ) × IsEnough p terms enough × (slice_index enough k ≤ slice_index capacities k)

@@ -1,10 +1,10 @@
 -- What is printed for the texts of a network and an order.
-use Rattle.std.specs.Prelude.{◌≡◌, ℕ, List, length, Option, Result, Ok, Err, ⊤}
+use Rattle.std.specs.Prelude.{◌≡◌, ℕ, List, length, Result, Ok, Err, ⊤}
 use Rattle.racp_model.specs.Project.{Project}
 use Rattle.racp_model.specs.Terms.{Terms}
 use Rattle.racp_sm.specs.Reading.{IsReading, IsReadingOrMemory}
 use Rattle.racp_prices.specs.Orders.{IsOrder, IsOrderOrMemory}
-use Rattle.racp_lexfix.specs.Answers.{IsAnswer, IsStoppedAt}
+use Rattle.racp_lexfix.specs.Answers.{IsAnswer, IsNotAfterEnough, AreAboveFloors}
 use Rattle.racp_lexfix.specs.Texts.{answer_text, answer_status}
 use Rattle.racp_lexfix.specs.declared.answer.Answer.{Answer}
 use Rattle.racp_lexfix.specs.declared.answer.PlanStop.{PlanStop}
@@ -47,10 +47,11 @@ abbrev pub IsPrinting : List ℕ → List ℕ → Result Printed Refusal → Typ
 IsPrinting net order (Ok printed) = IsPrinted net order printed.text.items printed.status
 IsPrinting net order (Err refusal) = IsRefusal (λ stop. stop ≡ Memory) net order refusal
 
--- why workers ended early: they stopped, and tell capacities; memory was refused; or one could not be started
+-- why workers ended early: they stopped, and tell capacities at or above the floors, before which none are enough; memory was
+-- refused; or one could not be started
 abbrev pub IsCrowdStop : Project → Terms → PlanStop → Type 0
 IsCrowdStop network terms (Stopped not_before) =
-    (answered : ℕ) × (told : Option (List ℕ)) × IsStoppedAt network terms answered told not_before
+    IsNotAfterEnough network terms not_before × AreAboveFloors network terms not_before
 IsCrowdStop network terms Memory = ⊤
 IsCrowdStop network terms NoThread = ⊤
 

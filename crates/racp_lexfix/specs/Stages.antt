@@ -1,7 +1,7 @@
 -- Contracts of private functions: what is known at each stage of planning.
 use Rattle.std.specs.Prelude.{◌≡◌, ℕ, ◌<◌, ◌≤◌, List, length, slice_index, Option, Some, None, IfSome, Bool, true, false}
 use Rattle.racp_model.specs.Project.{Project}
-use Rattle.racp_model.specs.Terms.{Terms, cost, IsBefore}
+use Rattle.racp_model.specs.Terms.{Terms, cost}
 use Rattle.racp_model.specs.Plan.{IsPlan, IsEnough}
 use Rattle.racp_model.specs.Window.{Bounds, IsYes, IsNo}
 use Rattle.racp_prices.specs.Units.{AreMostUnits}
@@ -11,7 +11,7 @@ use Rattle.racp_candidates.specs.Box.{AreBounds}
 use Rattle.racp_bounds.specs.Floors.{AreFloors}
 use Rattle.racp_bounds.specs.Sharp.{IsSharp}
 use Rattle.racp_bounds.specs.declared.sharp.Sharp.{Sharp}
-use Rattle.racp_lexfix.specs.Answers.{ceiling_series}
+use Rattle.racp_lexfix.specs.Answers.{IsNotAfterEnough, ceiling_series}
 use Rattle.racp_lexfix.specs.declared.answer.PlanStop.{PlanStop}
 use Rattle.racp_lexfix.specs.declared.answer.PlanStop.TheVariants.{Stopped, Memory, NoThread}
 
@@ -38,11 +38,6 @@ pub record AreSharpFloorsAndRoofs (p : Project) (terms : Terms) (root : Bounds) 
   pub first : List ℕ
   pub ends : AreFloorsAndRoofs p terms root first roofs
   pub sharp_are : IsSharp p root first roofs sharp
-
--- no capacities that are enough stand before these
-pub record IsNotAfterEnough (p : Project) (terms : Terms) (capacities : List ℕ) : Type 0 where
-  pub places : length capacities ≡ p.resources
-  pub none : (enough : List ℕ) → IsEnough p terms enough → IsBefore terms enough capacities → ⊥
 
 -- capacities that are told where the vectors of the box are asked: none that are enough stand before them, they are at or above these
 -- floors, and they are what the asker told, if it told any

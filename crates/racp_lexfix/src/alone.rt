@@ -1,4 +1,4 @@
-ghost use Rattle.std.specs.Prelude.{◌≡◌, ◌≤◌, None, [], length, IfOk, IfErr, IsFalse};
+ghost use Rattle.std.specs.Prelude.{◌≡◌, ◌≤◌, None, [], IfOk, IfErr, IsFalse};
 ghost use Rattle.racp_cutset.specs.Kept.{most_records};
 ghost use Rattle.racp_questions.specs.declared.asker.AskStop.TheVariants.{Memory};
 ghost use Rattle.racp_search.specs.Truth.{rest_windows};
@@ -10,7 +10,7 @@ use racp_core::{Asked, Core, Merged, Outcome, Reply};
 use racp_cutset::{Board, DEFAULT_MEMORY, Local, most_records};
 use racp_model::{Network, OfNetwork, Question};
 use racp_questions::{AskStop, Asker, First, Probe, Series};
-use racp_search::{Finding, Never, Piece, Rest, explore};
+use racp_search::{Finding, Never, Piece, Rest, explore, make_room};
 use std::alloc::{AllocError, Global};
 
 /// Answers series of questions about the network that `N` names, on the calling thread. It keeps the records of the
@@ -88,7 +88,7 @@ impl<N: OfNetwork, S: Series> Asker<S> for Alone<N> {
         question: Question,
         most: Option<u64>,
     ) -> Result<Probe, AskStop> {
-        let kept = begin(&mut self.local);
+        let kept = make_room(&mut self.local);
         let piece = Piece::new(0, 0, 0, question);
         let local = &mut self.local;
         let finding = explore(self.alloc, net, piece, most, &self.board, local, &Never);
@@ -98,17 +98,6 @@ impl<N: OfNetwork, S: Series> Asker<S> for Alone<N> {
         }
         Ok(probe)
     }
-}
-
-/// How many records are kept where a question begins. All are forgotten before it where they leave less than half of the
-/// room for its own.
-fn begin<N: OfNetwork>(local: &mut Local<N>) -> usize
-    ensures { result ≡ length local.new.records }
-{
-    if local.most() / 2 < local.kept_count() {
-        local.forget_behind(0);
-    }
-    local.kept_count()
 }
 
 /// What the finding of a question tells of it. Where memory was refused to the search, it tells nothing.
@@ -157,7 +146,7 @@ fn settle_next<N: OfNetwork, S: Series>(
     let Some(piece) = next_piece(core)? else {
         return Ok(false);
     };
-    let kept = begin(local);
+    let kept = make_room(local);
     let finding = explore(alloc, net, piece, None, board, local, &Never);
     if finding.short() {
         let _ = finding.into_found();

@@ -1,10 +1,10 @@
-ghost use Rattle.std.specs.Prelude.{◌≡◌, ◌≤◌, ℕ, List, Ok, IfOk, IfErr};
+ghost use Rattle.std.specs.Prelude.{◌≡◌, ◌≤◌, ◌⊎◌, ⊤, ℕ, ◌-◌, List, Ok, IfOk, IfErr, false};
 ghost use Rattle.racp_model.specs.Formed.{AreFormed};
 ghost use Rattle.racp_model.specs.Terms.{AreTermsOf};
 ghost use Rattle.racp_candidates.specs.AnySeries.{any_questions};
 ghost use Rattle.racp_sm.specs.Reading.{IsReading};
 ghost use Rattle.racp_desk.specs.Closing.{IsRunClosed};
-ghost use Rattle.racp_lexfix.specs.Answers.{IsAnswer};
+ghost use Rattle.racp_lexfix.specs.Answers.{IsAnswer, IsStoppedAt, IsPlanStop};
 ghost use Rattle.racp_lexfix.specs.Crowds.{RunsDesks};
 ghost use Rattle.racp_lexfix.specs.Printing.{IsAnswerPrinted, IsPrinting, IsCrowdPrinting, IsCrowdStop};
 ghost use Rattle.racp_lexfix.specs.Texts.{answer_text, answer_status};
@@ -17,8 +17,8 @@ use crate::lines::answer_lines;
 use crate::observer::{Observer, Pricing, Unheard};
 use crate::planning::{Task, plan};
 use racp_candidates::AnySeries;
-use racp_cutset::{Board, DEFAULT_MEMORY};
-use racp_desk::{Closed, DeskFault, Gate, run};
+use racp_cutset::DEFAULT_MEMORY;
+use racp_desk::{Boards, Closed, DeskFault, Gate, run};
 use racp_model::{Network, OfNetwork};
 use racp_prices::{Order, OrderFault, read_order};
 use racp_search::Stop;
@@ -321,7 +321,7 @@ fn plan_by<
 {
     let (alloc, net, order) = (task.alloc, task.net, task.order);
     crew.observer.hear_deadline(order.deadline);
-    let board: Board<N> = Board::within(alloc, net, crew.memory, crew.workers)?;
+    let boards: Boards<N> = Boards::within(alloc, net, crew.memory, crew.workers)?;
     let pricing = Pricing::new(net, order, crew.observer);
     let mut crowd: Crowd<N, P, Pricing<'_, O>, _> = Crowd::new(
         crew.workers,
@@ -332,6 +332,9 @@ fn plan_by<
                 (workers ≤ 64) × (quantum ≤ 1000000) × (turns ≤ 1000000000000) }
             ensures { IfOk result (IsRunClosed net.entry.now (any_questions series) turns P.QUIET) }
         {
+            let Ok(board) = boards.next(rt, alloc, net) else {
+                return Err(DeskFault::Memory);
+            };
             run(
                 rt, alloc, net, series, workers, quantum, turns, &board, crew.gate, crew.stop,
             )
@@ -351,7 +354,9 @@ fn plan_with<
     requires terms { AreTermsOf task.now.net.now task.now.order.now }
     requires run { RunsDesks N.network P.QUIET (F.pre crowd.old.run) (F.post crowd.old.run) }
     ensures answer { IfOk result (λ done. IsAnswer task.now.net.now task.now.order.now done.0) }
-    ensures stop { IfErr result (IsCrowdStop task.now.net.now task.now.order.now) }
+    ensures stop { IfErr result (IsPlanStop (IsStoppedAt task.now.net.now task.now.order.now
+        (crowd.new.answered - crowd.old.answered) crowd.new.told)
+        ((crowd.new.left ≡ 0) ⊎ (P.QUIET ≡ false)) ⊤) }
 {
     let answer = plan(task.alloc, task.net, task.order, crowd)?;
     let effort = crowd.effort();
