@@ -47,8 +47,8 @@ Examples:
 Exit status:
   0  done                       5  a text is refused
   2  the words are refused      6  no memory
-  3  there is no plan           7  a file or a stream failed
-  4  planning was stopped       8  the plan or the certificate is not right
+  3  there is no plan           7  a file, a stream or a thread failed
+  4  planning was stopped       8  a plan is not right, or is not proved
 
 Proved with Rattle, logic dac8208d650f15bf.";
 
