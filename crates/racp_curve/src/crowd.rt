@@ -11,7 +11,7 @@ use crate::following::{curve, out_of_memory};
 use crate::ground::Ground;
 use crate::step::{CurveAnswer, CurveStop};
 use racp_candidates::AnySeries;
-use racp_desk::{Boards, Closed, DeskFault, Gate, run};
+use racp_desk::{Boards, Closed, DeskFault, Gate};
 use racp_lexfix::{Crew, Crowd, Unheard};
 use racp_model::{Network, OfNetwork};
 use racp_prices::Order;
@@ -77,14 +77,7 @@ fn curve_by<N: OfNetwork + Send + Sync, G: Gate + Sync, P: Stop + Sync, R: Threa
             requires { (net.now ≡ N.network) × AreFormed net.now (any_questions series) ×
                 (workers ≤ 64) × (quantum ≤ 1000000) × (turns ≤ 1000000000000) }
             ensures { IfOk result (IsRunClosed net.entry.now (any_questions series) turns P.QUIET) }
-        {
-            let Ok(board) = boards.next(rt, alloc, net) else {
-                return Err(DeskFault::Memory);
-            };
-            run(
-                rt, alloc, net, series, workers, quantum, turns, &board, gate, stop,
-            )
-        },
+        { boards.run(rt, alloc, net, series, workers, quantum, turns, gate, stop) },
     );
     curve(alloc, net, order, &mut crowd)
 }

@@ -38,8 +38,8 @@
 //! beside the lock: the least place of a yes that came in, so that a search of the same or a later question, which is of no
 //! use, is left at its next node.
 //!
-//! `Boards` holds the board from run to run, and puts one without records in its place where it is full. A worker whose own part
-//! has less than half of its room left where a run begins forgets what it kept before.
+//! `Boards::run` is a run with the board of those before it, or with one without records, for as much memory, where that is
+//! full. A worker whose own part has less than half of its room left where a run begins forgets what it kept before.
 //!
 //! A worker helps with a double of a piece that is out, of the least question of which there is one: it searches the child
 //! windows of each node in a pseudo-random order of its own, and so begins elsewhere than the worker that has the

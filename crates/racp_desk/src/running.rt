@@ -236,9 +236,9 @@ impl<N: OfNetwork + Send + Sync, G: Gate + Sync, P: Stop + Sync> Job<'_, N, G, P
     }
 }
 
-/// Lets workers answer a series of questions about a network: the first yes, or that there is none, or, where they were
-/// stopped or no turn is left, before which question each is a no. A turn is a piece that is taken; a piece is searched
-/// over at most `quantum` nodes.
+/// Lets so many workers, 1 to 64, answer a series of questions about a network: the first yes, or that there is none, or,
+/// where they were stopped or no turn is left, before which question each is a no. A turn is a piece that is taken, at most
+/// 1,000,000,000,000; a piece is searched over at most `quantum` nodes, up to 1,000,000.
 ///
 /// # Errors
 ///

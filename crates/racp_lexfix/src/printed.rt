@@ -18,7 +18,7 @@ use crate::observer::{Observer, Pricing, Unheard};
 use crate::planning::{Task, plan};
 use racp_candidates::AnySeries;
 use racp_cutset::DEFAULT_MEMORY;
-use racp_desk::{Boards, Closed, DeskFault, Gate, run};
+use racp_desk::{Boards, Closed, DeskFault, Gate};
 use racp_model::{Network, OfNetwork};
 use racp_prices::{Order, OrderFault, read_order};
 use racp_search::Stop;
@@ -332,11 +332,8 @@ fn plan_by<
                 (workers ≤ 64) × (quantum ≤ 1000000) × (turns ≤ 1000000000000) }
             ensures { IfOk result (IsRunClosed net.entry.now (any_questions series) turns P.QUIET) }
         {
-            let Ok(board) = boards.next(rt, alloc, net) else {
-                return Err(DeskFault::Memory);
-            };
-            run(
-                rt, alloc, net, series, workers, quantum, turns, &board, crew.gate, crew.stop,
+            boards.run(
+                rt, alloc, net, series, workers, quantum, turns, crew.gate, crew.stop,
             )
         },
     );

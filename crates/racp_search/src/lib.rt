@@ -36,11 +36,12 @@
 //! still to be made, for each active job the window in which it alone is put off. It leaves as many frames so as make a
 //! few windows, and beside these the window of the next frame, in which all else that is left lies. `pursue` leaves no
 //! windows: it searches some nodes further, and where the search is not at its end then, a `Course` has it open for the
-//! next call, in which as many of the first records stay as it did when it was made. It can search child windows in another order than by slack, so that several threads search one question,
-//! and each passes over what the others have refuted. A search ends in any case: the place of a
-//! frame's last alternative in lexicographic order rises, and each child window has a greater sum of lower bounds than
-//! its parent, at most 10,000,000 for each job where there is a conflict. Rows and lists are used again, so a node
-//! takes memory only where its path is the longest so far, or where it becomes a record.
+//! next call. A course is made with a number of first records, and none of these gives way while it is followed. It can
+//! search child windows in another order than by slack, so that several threads search one question, and each passes over
+//! what the others have refuted. A search ends in any case: the place of a frame's last alternative in lexicographic order
+//! rises, and each child window has a greater sum of lower bounds than its parent, at most 10,000,000 for each job where
+//! there is a conflict. Rows and lists are used again, so a node takes memory only where its path is the longest so far, or
+//! where it becomes a record.
 //!
 //! Proved: `decide` answers starts in the window that fit, or `None` exactly where there are none. A finding of
 //! `explore` is true: the found starts answer, or what answers lies in a window of the rest, each inside the piece's
