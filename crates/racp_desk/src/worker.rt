@@ -162,16 +162,13 @@ fn work_from<'a, 'b, N: OfNetwork, M: Names, S: Series, G: Gate, P: Stop, R: Wai
     ensures formed { IfSome result (IsFormedHeld N.network) }
     ensures parts { mine.new.parts ≡ mine.old.parts }
 {
+    let job = &shared.job;
     let mut state = state;
-    let Job { workers, turns, .. } = &shared.job;
     for _round in rt.forever() {
         let is_out = shared.leads.has_before(rt, shared.hint.least());
-        match next_turn(&mut *state, *workers, *turns, is_out, seat, mine) {
+        match next_turn(&mut *state, job.workers, job.turns, is_out, seat, mine) {
             Turn::Search(piece) => {
-                if *workers > 1 {
-                    shared.leads.post(rt, &piece);
-                    shared.idle.notify_all();
-                }
+                tell(rt, shared, &piece);
                 return Some(Held::Own(piece));
             }
             Turn::Leave => return None,
@@ -184,6 +181,20 @@ fn work_from<'a, 'b, N: OfNetwork, M: Names, S: Series, G: Gate, P: Stop, R: Wai
         }
     }
     unreachable!()
+}
+
+/// Tells the other workers that a piece is out.
+fn tell<'a, N: OfNetwork, M: Names, S: Series, G: Gate, P: Stop, R: Wait>(
+    rt: &R,
+    shared: &Shared<'a, N, M, S, G, P>,
+    piece: &Piece<N>,
+)
+    requires { IsFormed N.network piece.now.question }
+{
+    if shared.job.workers > 1 {
+        shared.leads.post(rt, piece);
+        shared.idle.notify_all();
+    }
 }
 
 /// How many nodes a worker searches between two looks at what others did, and before its records go to the board.
@@ -224,18 +235,27 @@ fn search<'a, N: OfNetwork, M: Names, S: Series, G: Gate, P: Stop, R: Wait>(
             publish(rt, job.board, local);
         }
         nodes = finding.nodes();
-        if finding.short()
-            || finding.stopped()
-            || nodes >= quantum
-            || is_decided(&finding)
-            || !is_still_out(rt, &shared.leads, finding.piece().number(), &mut seen)
-        {
+        if nodes >= quantum || is_over(rt, &shared.leads, &finding, &mut seen) {
             let by_user = watch.reasons.by_user();
             return Searched { finding, by_user };
         }
         piece = finding.into_piece();
     }
     unreachable!()
+}
+
+/// Whether a piece is searched no further behind a finding: it is decided, by this worker or another one, or the search was
+/// stopped or short of memory.
+fn is_over<N: OfNetwork, R: Wait>(
+    rt: &R,
+    leads: &Leads<N>,
+    finding: &Finding<N>,
+    seen: &mut u64,
+) -> bool {
+    finding.short()
+        || finding.stopped()
+        || is_decided(finding)
+        || !is_still_out(rt, leads, finding.piece().number(), seen)
 }
 
 /// How many nodes are searched next of so many that are left.
@@ -425,8 +445,7 @@ pub(crate) fn work<'a, N: OfNetwork, M: Names, S: Series, G: Gate, P: Stop, R: W
     bring_back(mine)
 }
 
-/// Searches a piece or a double and those that come after it, until there is nothing more to do. A worker that is alone
-/// forgets what it kept of a question once that is a no, as a search on one thread does.
+/// Searches a piece or a double and those that come after it, until there is nothing more to do.
 fn go_on<'a, N: OfNetwork, M: Names, S: Series, G: Gate, P: Stop, R: Wait>(
     rt: &R,
     shared: &Shared<'a, N, M, S, G, P>,
@@ -439,33 +458,58 @@ fn go_on<'a, N: OfNetwork, M: Names, S: Series, G: Gate, P: Stop, R: Wait>(
     requires formed { IsFormedHeld N.network work }
     ensures { mine.new.parts ≡ mine.old.parts }
 {
-    let kept = local.kept_count();
-    let mut course = Course::new(kept);
+    let mut course = Course::new(local.kept_count());
     let mut work = work;
     for _round in rt.forever() {
-        let (piece, is_own) = match work {
-            Held::Own(piece) => {
-                shared.job.gate.enter(seat, piece.number());
-                (piece, true)
-            }
-            Held::Double(piece) => (piece, false),
-        };
-        course.turn_to(order_at(seat, is_own));
-        let Searched { finding, by_user } = search(rt, shared, piece, &mut course, local);
-        if shared.job.workers < 2 && is_refuted(&finding) {
-            local.forget_behind(kept);
-        }
-        let next = if is_own || is_decided(&finding) {
-            hand_in(rt, shared, finding, by_user, seat, mine)
-        } else {
-            give_over(rt, shared, seat, mine, finding, by_user)
-        };
-        match next {
+        match turn_over(rt, shared, seat, work, &mut course, local, mine) {
             Some(next) => work = next,
             None => return,
         }
     }
     unreachable!()
+}
+
+/// Searches a piece or a double, hands in or drops what it found, and takes what to search next. A worker that is alone
+/// forgets what it kept of a question once that is a no, as a search on one thread does.
+fn turn_over<'a, N: OfNetwork, M: Names, S: Series, G: Gate, P: Stop, R: Wait>(
+    rt: &R,
+    shared: &Shared<'a, N, M, S, G, P>,
+    seat: usize,
+    work: Held<Piece<N>>,
+    course: &mut Course<N>,
+    local: &mut Local<N>,
+    mine: &mut Share<M>,
+) -> Option<Held<Piece<N>>>
+    requires parts { 0 < mine.old.parts }
+    requires formed { IsFormedHeld N.network work }
+    ensures formed { IfSome result (IsFormedHeld N.network) }
+    ensures parts { mine.new.parts ≡ mine.old.parts }
+{
+    let (piece, is_own) = enter(shared.job.gate, seat, work);
+    course.turn_to(order_at(seat, is_own));
+    let Searched { finding, by_user } = search(rt, shared, piece, course, local);
+    if shared.job.workers < 2 && is_refuted(&finding) {
+        local.forget_behind(course.first());
+    }
+    if is_own || is_decided(&finding) {
+        hand_in(rt, shared, finding, by_user, seat, mine)
+    } else {
+        give_over(rt, shared, seat, mine, finding, by_user)
+    }
+}
+
+/// Enters the gate with a piece of one's own, and without one for a double. The piece, and whether it is one's own.
+fn enter<N: OfNetwork, G: Gate>(gate: &G, seat: usize, work: Held<Piece<N>>) -> (Piece<N>, bool)
+    requires { IsFormedHeld N.network work }
+    ensures { IsFormed N.network result.0.question }
+{
+    match work {
+        Held::Own(piece) => {
+            gate.enter(seat, piece.number());
+            (piece, true)
+        }
+        Held::Double(piece) => (piece, false),
+    }
 }
 
 /// The order in which the worker at a seat searches a piece: that of a search on one thread for one of its own, and for a

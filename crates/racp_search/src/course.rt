@@ -44,7 +44,7 @@ impl<N: OfNetwork> Course<N> {
     }
 
     /// How many of the first records stay.
-    pub(crate) fn first(&self) -> usize
+    pub fn first(&self) -> usize
         ensures { result ≡ self.now.first }
     {
         self.first
