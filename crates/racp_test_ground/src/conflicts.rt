@@ -3,25 +3,24 @@
 ghost use Rattle.std.specs.Prelude.{◌≡◌, All, length};
 ghost use Rattle.racp_model.specs.Project.{IsNumber};
 
-use crate::samples::{Sample, sampled};
+use crate::samples::{Sample, Setting, set_up};
 use racp_delay::{
     Alternative, Clash, DelayingAlternatives, JobSet, alternatives, conflict, first_end,
 };
-use racp_model::{Capacities, Network, Starts};
-use racp_samples::{SampleFault, network};
 use smallvec::SmallVec;
 use std::alloc::{AllocError, Global};
-use std::test::Fail;
 
 /// Jobs that go, and the time to which their lower bounds are raised in the child window, where there is one.
-type Resolution<'a> = (&'a [u32], Option<u64>);
+struct Resolution {
+    gone: &'static [u32],
+    end: Option<u64>,
+}
 
 /// A conflict: its time, the active jobs and the alternatives.
-#[derive(Clone, Copy)]
-struct Expected<'a> {
+struct Expected {
     time: u32,
-    active: &'a [u32],
-    alternatives: &'a [Resolution<'a>],
+    active: &'static [u32],
+    alternatives: &'static [Resolution],
 }
 
 /// A network with capacities and starts, and their first conflict.
@@ -30,8 +29,11 @@ struct Row {
     sample: Sample,
     capacities: &'static [u32],
     starts: &'static [u32],
-    expected: Option<Expected<'static>>,
+    expected: Option<Expected>,
 }
+
+/// Four jobs, of which the first two, or the last two, may go where there are two units of each of two resources.
+const FOUR: Sample = Sample::Free(2, &[(2, &[2, 0]), (2, &[0, 2]), (2, &[1, 1]), (2, &[1, 1])]);
 
 const CONFLICTS: &[Row] = &[
     Row {
@@ -42,7 +44,16 @@ const CONFLICTS: &[Row] = &[
         expected: Some(Expected {
             time: 0,
             active: &[2, 3, 4],
-            alternatives: &[(&[2], Some(2)), (&[3, 4], Some(3))],
+            alternatives: &[
+                Resolution {
+                    gone: &[2],
+                    end: Some(2),
+                },
+                Resolution {
+                    gone: &[3, 4],
+                    end: Some(3),
+                },
+            ],
         }),
     },
     Row {
@@ -67,7 +78,16 @@ const CONFLICTS: &[Row] = &[
         expected: Some(Expected {
             time: 1,
             active: &[2, 4],
-            alternatives: &[(&[2], Some(4)), (&[4], Some(4))],
+            alternatives: &[
+                Resolution {
+                    gone: &[2],
+                    end: Some(4),
+                },
+                Resolution {
+                    gone: &[4],
+                    end: Some(4),
+                },
+            ],
         }),
     },
     Row {
@@ -79,13 +99,22 @@ const CONFLICTS: &[Row] = &[
     },
     Row {
         name: "both resources are exceeded at once",
-        sample: Sample::Free(2, &[(2, &[2, 0]), (2, &[0, 2]), (2, &[1, 1]), (2, &[1, 1])]),
+        sample: FOUR,
         capacities: &[2, 2],
         starts: &[0; 4],
         expected: Some(Expected {
             time: 0,
             active: &[1, 2, 3, 4],
-            alternatives: &[(&[1, 2], Some(2)), (&[3, 4], Some(2))],
+            alternatives: &[
+                Resolution {
+                    gone: &[1, 2],
+                    end: Some(2),
+                },
+                Resolution {
+                    gone: &[3, 4],
+                    end: Some(2),
+                },
+            ],
         }),
     },
     Row {
@@ -96,7 +125,16 @@ const CONFLICTS: &[Row] = &[
         expected: Some(Expected {
             time: 4,
             active: &[2, 3],
-            alternatives: &[(&[2], Some(7)), (&[3], Some(5))],
+            alternatives: &[
+                Resolution {
+                    gone: &[2],
+                    end: Some(7),
+                },
+                Resolution {
+                    gone: &[3],
+                    end: Some(5),
+                },
+            ],
         }),
     },
     Row {
@@ -107,7 +145,10 @@ const CONFLICTS: &[Row] = &[
         expected: Some(Expected {
             time: 0,
             active: &[1],
-            alternatives: &[(&[1], None)],
+            alternatives: &[Resolution {
+                gone: &[1],
+                end: None,
+            }],
         }),
     },
     Row {
@@ -118,7 +159,16 @@ const CONFLICTS: &[Row] = &[
         expected: Some(Expected {
             time: 0,
             active: &[2, 3, 4],
-            alternatives: &[(&[3], Some(2)), (&[4], Some(2))],
+            alternatives: &[
+                Resolution {
+                    gone: &[3],
+                    end: Some(2),
+                },
+                Resolution {
+                    gone: &[4],
+                    end: Some(2),
+                },
+            ],
         }),
     },
     Row {
@@ -136,298 +186,276 @@ const CONFLICTS: &[Row] = &[
         expected: Some(Expected {
             time: 4_294_967_295,
             active: &[1, 2],
-            alternatives: &[(&[1], Some(4_294_967_296)), (&[2], Some(4_294_977_295))],
+            alternatives: &[
+                Resolution {
+                    gone: &[1],
+                    end: Some(4_294_967_296),
+                },
+                Resolution {
+                    gone: &[2],
+                    end: Some(4_294_977_295),
+                },
+            ],
         }),
     },
 ];
 
 /// Whether these are the alternatives of a conflict.
 fn are_alternatives(
-    net: &Network,
-    starts: &Starts,
+    setting: &Setting,
     conflict: &Clash,
     lists: &[SmallVec<u32, 8>],
     expected: &[Resolution],
 ) -> bool
-    requires starts { length starts.now ≡ length net.now.jobs }
-    requires active { All (IsNumber (length net.now.jobs)) conflict.now.active }
+    requires starts { length setting.now.starts ≡ length setting.now.net.jobs }
+    requires active { All (IsNumber (length setting.now.net.jobs)) conflict.now.active }
 {
-    for (list, (gone, end)) in lists.iter().zip(expected) {
-        if list.as_slice() != *gone || first_end(net, starts, &conflict.active, list) != *end {
+    for (list, resolution) in lists.iter().zip(expected) {
+        let end = first_end(&setting.net, &setting.starts, &conflict.active, list);
+        if list.as_slice() != resolution.gone || end != resolution.end {
             return false;
         }
     }
     lists.len() == expected.len()
 }
 
-/// Whether these are the alternatives of a conflict, found one behind the other.
-fn follow_each_other(
-    alloc: Global,
-    net: &Network,
-    capacities: &Capacities,
-    conflict: &Clash,
-    expected: &[Resolution],
-) -> Result<bool, AllocError>
-    requires capacities { length capacities.now ≡ net.now.resources }
-    requires active { All (IsNumber (length net.now.jobs)) conflict.now.active }
-{
-    let mut found = Alternative::new(alloc);
-    let active = &conflict.active;
-    let mut last: &[u32] = &[];
-    for (gone, _) in expected {
-        if !found.find_behind(net, capacities, active, active, last)? || found.jobs() != *gone {
-            return Ok(false);
-        }
-        last = gone;
-    }
-    let more = found.find_behind(net, capacities, active, active, last)?;
-    Ok(!more)
-}
-
 /// Whether these are the active jobs of a conflict.
-fn are_active(alloc: Global, conflict: &Clash, jobs: &[u32]) -> Result<bool, AllocError> {
-    let active: Vec<u32> = conflict.active.iter().collect(alloc)?;
-    Ok(active.as_slice() == jobs)
+pub(crate) fn are_active(alloc: Global, conflict: &Clash, jobs: &[u32]) -> bool {
+    has_jobs(alloc, &conflict.active, jobs)
 }
 
 /// Whether these alternatives are listed.
-fn are_listed(
-    alloc: Global,
-    net: &Network,
-    capacities: &Capacities,
-    starts: &Starts,
-    conflict: &Clash,
-    expected: &[Resolution],
-) -> Result<bool, AllocError>
-    requires capacities { length capacities.now ≡ net.now.resources }
-    requires starts { length starts.now ≡ length net.now.jobs }
-    requires active { All (IsNumber (length net.now.jobs)) conflict.now.active }
+fn are_listed(alloc: Global, setting: &Setting, conflict: &Clash, expected: &[Resolution]) -> bool
+    requires capacities { length setting.now.capacities ≡ setting.now.net.resources }
+    requires starts { length setting.now.starts ≡ length setting.now.net.jobs }
+    requires active { All (IsNumber (length setting.now.net.jobs)) conflict.now.active }
 {
-    let lists = alternatives(alloc, net, capacities, conflict)?;
-    Ok(are_alternatives(net, starts, conflict, &lists, expected))
+    match alternatives(alloc, &setting.net, &setting.capacities, conflict) {
+        Ok(lists) => are_alternatives(setting, conflict, &lists, expected),
+        Err(_) => false,
+    }
 }
 
-/// Whether these alternatives are found twice in the same memory.
-fn are_found_again(
-    alloc: Global,
-    net: &Network,
-    capacities: &Capacities,
-    starts: &Starts,
-    conflict: &Clash,
-    expected: &[Resolution],
-) -> Result<bool, AllocError>
-    requires capacities { length capacities.now ≡ net.now.resources }
-    requires starts { length starts.now ≡ length net.now.jobs }
-    requires active { All (IsNumber (length net.now.jobs)) conflict.now.active }
+/// Whether these alternatives are found in memory of one's own.
+fn are_found(alloc: Global, setting: &Setting, conflict: &Clash, expected: &[Resolution]) -> bool
+    requires capacities { length setting.now.capacities ≡ setting.now.net.resources }
+    requires starts { length setting.now.starts ≡ length setting.now.net.jobs }
+    requires active { All (IsNumber (length setting.now.net.jobs)) conflict.now.active }
 {
     let mut found = DelayingAlternatives::new(alloc);
-    found.find(net, capacities, conflict)?;
-    found.find(net, capacities, conflict)?;
-    Ok(are_alternatives(net, starts, conflict, found.lists(), expected))
+    match found.find(&setting.net, &setting.capacities, conflict) {
+        Ok(()) => are_alternatives(setting, conflict, found.lists(), expected),
+        Err(_) => false,
+    }
 }
 
-/// What is found otherwise than this of a conflict. The alternatives are found four times: alone, twice in the same
-/// memory, and one behind the other.
-fn conflict_difference(
-    alloc: Global,
-    net: &Network,
-    capacities: &Capacities,
-    starts: &Starts,
+/// A list of jobs, those of a conflict that are free, and the alternative that is found behind the list, if there is one.
+struct Behind {
+    free: &'static [u32],
+    last: &'static [u32],
+    found: Option<&'static [u32]>,
+}
+
+/// Whether this alternative of free jobs is found behind a list, or none.
+fn is_behind(
+    found: &mut Alternative,
+    setting: &Setting,
     conflict: &Clash,
-    expected: Expected,
-) -> Result<Option<&'static str>, AllocError>
-    requires capacities { length capacities.now ≡ net.now.resources }
-    requires starts { length starts.now ≡ length net.now.jobs }
-    requires active { All (IsNumber (length net.now.jobs)) conflict.now.active }
+    free: &JobSet,
+    last: &[u32],
+    expected: Option<&[u32]>,
+) -> bool
+    requires capacities { length setting.now.capacities ≡ setting.now.net.resources }
+    requires active { All (IsNumber (length setting.now.net.jobs)) conflict.now.active }
+{
+    let active = &conflict.active;
+    match found.find_behind(&setting.net, &setting.capacities, active, free, last) {
+        Ok(true) => expected.is_some_and(|jobs| found.jobs() == jobs),
+        Ok(false) => expected.is_none(),
+        Err(_) => false,
+    }
+}
+
+/// Whether these are the alternatives of a conflict, found one behind the other.
+fn follow_each_other(
+    alloc: Global,
+    setting: &Setting,
+    conflict: &Clash,
+    expected: &[Resolution],
+) -> bool
+    requires capacities { length setting.now.capacities ≡ setting.now.net.resources }
+    requires active { All (IsNumber (length setting.now.net.jobs)) conflict.now.active }
+{
+    let mut found = Alternative::new(alloc);
+    let mut last: &[u32] = &[];
+    for resolution in expected {
+        let gone = Some(resolution.gone);
+        if !is_behind(&mut found, setting, conflict, &conflict.active, last, gone) {
+            return false;
+        }
+        last = resolution.gone;
+    }
+    is_behind(&mut found, setting, conflict, &conflict.active, last, None)
+}
+
+/// Whether a conflict is this one. The alternatives are found in three ways: listed, in memory of one's own, and one behind
+/// the other.
+fn is_conflict(alloc: Global, setting: &Setting, conflict: &Clash, expected: &Expected) -> bool
+    requires capacities { length setting.now.capacities ≡ setting.now.net.resources }
+    requires starts { length setting.now.starts ≡ length setting.now.net.jobs }
+    requires active { All (IsNumber (length setting.now.net.jobs)) conflict.now.active }
 {
     let wanted = expected.alternatives;
-    Ok(if conflict.time != expected.time {
-        Some("the time")
-    } else if !are_active(alloc, conflict, expected.active)? {
-        Some("the active jobs")
-    } else if !are_listed(alloc, net, capacities, starts, conflict, wanted)? {
-        Some("the alternatives")
-    } else if !are_found_again(alloc, net, capacities, starts, conflict, wanted)? {
-        Some("the alternatives found again")
-    } else if !follow_each_other(alloc, net, capacities, conflict, wanted)? {
-        Some("the alternatives one behind the other")
-    } else {
-        None
-    })
+    conflict.time == expected.time
+        && are_active(alloc, conflict, expected.active)
+        && are_listed(alloc, setting, conflict, wanted)
+        && are_found(alloc, setting, conflict, wanted)
+        && follow_each_other(alloc, setting, conflict, wanted)
 }
 
-/// What is found otherwise than this conflict.
-fn difference(
-    alloc: Global,
-    net: &Network,
-    capacities: &[u32],
-    starts: &[u32],
-    expected: Option<Expected>,
-) -> Result<Option<&'static str>, AllocError> {
-    if capacities.len() != net.resource_count() || starts.len() != net.job_count() {
-        return Ok(Some("the lengths"));
-    }
-    let capacities = Capacities::new(capacities.to_vec(alloc)?);
-    let starts = Starts::new(starts.to_vec(alloc)?);
-    first_difference(alloc, net, &capacities, &starts, expected)
-}
-
-/// The same, of capacities and starts of the right number.
-fn first_difference(
-    alloc: Global,
-    net: &Network,
-    capacities: &Capacities,
-    starts: &Starts,
-    expected: Option<Expected>,
-) -> Result<Option<&'static str>, AllocError>
-    requires capacities { length capacities.now ≡ net.now.resources }
-    requires starts { length starts.now ≡ length net.now.jobs }
+/// Whether the first conflict is this one, or there is none.
+fn is_first(alloc: Global, setting: &Setting, expected: &Option<Expected>) -> bool
+    requires capacities { length setting.now.capacities ≡ setting.now.net.resources }
+    requires starts { length setting.now.starts ≡ length setting.now.net.jobs }
 {
-    let Some(first) = conflict(net, capacities, starts) else {
-        return Ok(expected.map(|_| "no conflict"));
-    };
-    match expected {
-        Some(expected) => conflict_difference(alloc, net, capacities, starts, &first, expected),
-        None => Ok(Some("a conflict")),
+    match conflict(&setting.net, &setting.capacities, &setting.starts) {
+        Some(first) => match expected {
+            Some(expected) => is_conflict(alloc, setting, &first, expected),
+            None => false,
+        },
+        None => expected.is_none(),
     }
 }
 
-/// What is found otherwise than the conflict of a row.
-fn row_difference(alloc: Global, row: &Row) -> Result<Option<&'static str>, SampleFault> {
-    let net = sampled(alloc, row.sample)?;
-    Ok(difference(alloc, &net, row.capacities, row.starts, row.expected)?)
+/// Whether the first conflict of a row is the expected one.
+fn holds(alloc: Global, row: &Row) -> bool {
+    match set_up(alloc, row.sample, row.capacities, row.starts) {
+        Ok(setting) => is_first(alloc, &setting, &row.expected),
+        Err(_) => false,
+    }
 }
 
 #[test]
-fn finds_conflicts_and_alternatives(rt: HostRuntime) -> Result<(), Fail> {
+fn finds_conflicts_and_alternatives(rt: HostRuntime) {
     for row in CONFLICTS {
-        let difference = row_difference(rt.alloc(), row)?;
-        assert_eq!(rt; difference, None, "{}", row.name);
+        assert!(rt; holds(rt.alloc(), row), "{}", row.name);
     }
-    Ok(())
 }
 
 /// The active jobs of a conflict with the alternatives 1, 2 and 3, 4.
 const ACTIVE: &[u32] = &[1, 2, 3, 4];
 
-/// The free jobs, a list, and the alternative that is found behind it, of this conflict.
-const BEHIND: &[(&[u32], &[u32], Option<&[u32]>)] = &[
-    (ACTIVE, &[], Some(&[1, 2])),
-    (ACTIVE, &[1], Some(&[1, 2])),
-    (ACTIVE, &[1, 1, 9], Some(&[1, 2])),
-    (ACTIVE, &[1, 2], Some(&[3, 4])),
-    (ACTIVE, &[1, 2, 3], Some(&[3, 4])),
-    (ACTIVE, &[1, 3], Some(&[3, 4])),
-    (ACTIVE, &[2], Some(&[3, 4])),
-    (ACTIVE, &[3, 3, 7], Some(&[3, 4])),
-    (ACTIVE, &[3, 4], None),
-    (ACTIVE, &[4], None),
-    (&[3, 4], &[], Some(&[3, 4])),
-    (&[1, 3, 4, 9], &[1], Some(&[3, 4])),
-    (&[1, 2, 3], &[1, 2], None),
-    (&[2, 3], &[], None),
+/// What is found for this conflict.
+const BEHIND: &[Behind] = &[
+    Behind {
+        free: ACTIVE,
+        last: &[],
+        found: Some(&[1, 2]),
+    },
+    Behind {
+        free: ACTIVE,
+        last: &[1],
+        found: Some(&[1, 2]),
+    },
+    Behind {
+        free: ACTIVE,
+        last: &[1, 1, 9],
+        found: Some(&[1, 2]),
+    },
+    Behind {
+        free: ACTIVE,
+        last: &[1, 2],
+        found: Some(&[3, 4]),
+    },
+    Behind {
+        free: ACTIVE,
+        last: &[1, 2, 3],
+        found: Some(&[3, 4]),
+    },
+    Behind {
+        free: ACTIVE,
+        last: &[1, 3],
+        found: Some(&[3, 4]),
+    },
+    Behind {
+        free: ACTIVE,
+        last: &[2],
+        found: Some(&[3, 4]),
+    },
+    Behind {
+        free: ACTIVE,
+        last: &[3, 3, 7],
+        found: Some(&[3, 4]),
+    },
+    Behind {
+        free: ACTIVE,
+        last: &[3, 4],
+        found: None,
+    },
+    Behind {
+        free: ACTIVE,
+        last: &[4],
+        found: None,
+    },
+    Behind {
+        free: &[3, 4],
+        last: &[],
+        found: Some(&[3, 4]),
+    },
+    Behind {
+        free: &[1, 3, 4, 9],
+        last: &[1],
+        found: Some(&[3, 4]),
+    },
+    Behind {
+        free: &[1, 2, 3],
+        last: &[1, 2],
+        found: None,
+    },
+    Behind {
+        free: &[2, 3],
+        last: &[],
+        found: None,
+    },
 ];
 
 /// Whether these are found for a conflict.
-fn finds_each_behind(
-    alloc: Global,
-    net: &Network,
-    capacities: &Capacities,
-    conflict: &Clash,
-) -> Result<bool, AllocError>
-    requires capacities { length capacities.now ≡ net.now.resources }
-    requires active { All (IsNumber (length net.now.jobs)) conflict.now.active }
+fn finds_each_behind(alloc: Global, setting: &Setting, conflict: &Clash) -> bool
+    requires capacities { length setting.now.capacities ≡ setting.now.net.resources }
+    requires active { All (IsNumber (length setting.now.net.jobs)) conflict.now.active }
 {
     let mut found = Alternative::new(alloc);
-    for &(free, last, expected) in BEHIND {
-        let free = set_of(free);
-        let more = found.find_behind(net, capacities, &conflict.active, &free, last)?;
-        if more != expected.is_some() || (more && Some(found.jobs()) != expected) {
-            return Ok(false);
+    for row in BEHIND {
+        let free = set_of(row.free);
+        if !is_behind(&mut found, setting, conflict, &free, row.last, row.found) {
+            return false;
         }
     }
-    Ok(true)
+    true
 }
 
-/// The same at the first conflict of four jobs that start at once and have two units of each of two resources.
-fn finds_behind(alloc: Global, net: &Network) -> Result<bool, AllocError> {
-    if net.resource_count() != 2 || net.job_count() != 4 {
-        return Ok(false);
+/// The same at the first conflict.
+fn finds_behind(alloc: Global, setting: &Setting) -> bool
+    requires capacities { length setting.now.capacities ≡ setting.now.net.resources }
+    requires starts { length setting.now.starts ≡ length setting.now.net.jobs }
+{
+    match conflict(&setting.net, &setting.capacities, &setting.starts) {
+        Some(first) => finds_each_behind(alloc, setting, &first),
+        None => false,
     }
-    let capacities = Capacities::new(vec![in alloc; 2; 2]?);
-    let starts = Starts::new(vec![in alloc; 0; 4]?);
-    match conflict(net, &capacities, &starts) {
-        Some(first) => finds_each_behind(alloc, net, &capacities, &first),
-        None => Ok(false),
+}
+
+/// The same of the four jobs, which start at once.
+fn finds_behind_of_four(alloc: Global) -> bool {
+    match set_up(alloc, FOUR, &[2, 2], &[0; 4]) {
+        Ok(setting) => finds_behind(alloc, &setting),
+        Err(_) => false,
     }
 }
 
 #[test]
-fn finds_the_alternative_behind_any_list(rt: HostRuntime) -> Result<(), Fail> {
-    let sample = Sample::Free(2, &[(2, &[2, 0]), (2, &[0, 2]), (2, &[1, 1]), (2, &[1, 1])]);
-    let net = sampled(rt.alloc(), sample)?;
-    let finds = finds_behind(rt.alloc(), &net)?;
-    assert!(rt; finds);
-    Ok(())
-}
-
-/// 130 equal jobs beside each other.
-fn wide(alloc: Global) -> Result<Network, SampleFault> {
-    let one: &[u32] = &[1];
-    let jobs = vec![in alloc; (1, one); 130]?;
-    Ok(network(alloc, 1, &jobs, &[])?)
-}
-
-/// The alternatives in which one of these jobs goes, and those that stay end at 1.
-fn each_alone(alloc: Global, jobs: &[u32]) -> Result<Vec<Resolution>, AllocError> {
-    let mut alternatives = Vec::new(alloc);
-    for job in jobs.chunks(1) {
-        alternatives.push((job, Some(1)))?;
-    }
-    Ok(alternatives)
-}
-
-#[test]
-fn finds_the_conflict_of_many_jobs(rt: HostRuntime) -> Result<(), Fail> {
-    let active: Vec<u32> = (1..131).collect(rt.alloc())?;
-    let net = wide(rt.alloc())?;
-    let difference = alone_difference(rt.alloc(), &net, &active)?;
-    assert_eq!(rt; difference, None);
-    Ok(())
-}
-
-/// What is found otherwise of the 130 jobs than a conflict in which each of them may go alone.
-fn alone_difference(
-    alloc: Global,
-    net: &Network,
-    active: &[u32],
-) -> Result<Option<&'static str>, AllocError> {
-    let alternatives = each_alone(alloc, active)?;
-    let all = Expected {
-        time: 0,
-        active,
-        alternatives: &alternatives,
-    };
-    wide_difference(alloc, net, all)
-}
-
-/// What is found otherwise of the 130 jobs: this conflict with 129 units, and none with one more, or where the last job starts
-/// later.
-fn wide_difference(
-    alloc: Global,
-    net: &Network,
-    all: Expected,
-) -> Result<Option<&'static str>, AllocError> {
-    for (capacity, last_start, has_conflict) in [(129, 0, true), (130, 0, false), (129, 1, false)] {
-        let mut starts = [0; 130];
-        starts[129] = last_start;
-        let expected = if has_conflict { Some(all) } else { None };
-        let difference = difference(alloc, net, &[capacity], &starts, expected)?;
-        if difference.is_some() {
-            return Ok(difference);
-        }
-    }
-    Ok(None)
+fn finds_the_alternative_behind_any_list(rt: HostRuntime) {
+    assert!(rt; finds_behind_of_four(rt.alloc()));
 }
 
 /// A set of these jobs, of those that are from 1 to 512.
@@ -442,9 +470,12 @@ fn set_of(jobs: &[u32]) -> JobSet {
 }
 
 /// Whether a set has these jobs, rising.
-fn has_jobs(alloc: Global, set: &JobSet, expected: &[u32]) -> Result<bool, AllocError> {
-    let jobs: Vec<u32> = set.iter().collect(alloc)?;
-    Ok(jobs.as_slice() == expected)
+fn has_jobs(alloc: Global, set: &JobSet, expected: &[u32]) -> bool {
+    let jobs: Result<Vec<u32>, AllocError> = set.iter().collect(alloc);
+    match jobs {
+        Ok(jobs) => jobs.as_slice() == expected,
+        Err(_) => false,
+    }
 }
 
 /// Whether a set is a proper part of another one.
@@ -452,13 +483,17 @@ fn is_part(part: &JobSet, whole: &JobSet) -> bool {
     part.is_subset(whole) && !whole.is_subset(part) && part != whole
 }
 
+/// Whether a set of these jobs has them, and no other.
+fn is_set(alloc: Global, set: &JobSet) -> bool {
+    has_jobs(alloc, set, &[1, 64, 65, 512])
+        && set.contains(65)
+        && !set.contains(63)
+        && *set == set.copy()
+}
+
 #[test]
-fn keeps_sets_of_jobs(rt: HostRuntime) -> Result<(), Fail> {
-    let set = set_of(&[512, 64, 1, 65, 64]);
-    assert!(rt; has_jobs(rt.alloc(), &set, &[1, 64, 65, 512])?);
-    assert!(rt; set.contains(65) && !set.contains(63) && set == set.copy());
-    let part = set_of(&[64, 512]);
-    assert!(rt; is_part(&part, &set) && is_part(&JobSet::new(), &part));
-    assert!(rt; JobSet::new().is_empty());
-    Ok(())
+fn keeps_sets_of_jobs(rt: HostRuntime) {
+    let (set, part) = (set_of(&[512, 64, 1, 65, 64]), set_of(&[64, 512]));
+    assert!(rt; is_set(rt.alloc(), &set) && is_part(&part, &set));
+    assert!(rt; is_part(&JobSet::new(), &part) && JobSet::new().is_empty());
 }

@@ -1,10 +1,9 @@
 //! Which networks are made, which are refused and why, and which starts fit.
 
-use crate::samples::{Sample, sampled};
-use racp_model::{Capacities, NetFault, Network, Starts, fits, usage_at};
-use racp_samples::{SampleFault, network};
-use std::alloc::{AllocError, Global};
-use std::test::Fail;
+use crate::samples::{Sample, Setting, set_up};
+use racp_model::{NetFault, Network, fits, usage_at};
+use racp_samples::network;
+use std::alloc::Global;
 
 /// The resources, jobs and pairs of a network, and why it is not made.
 struct Attempt {
@@ -154,65 +153,38 @@ const ATTEMPTS: &[Attempt] = &[
     },
 ];
 
-/// Why the network of an attempt is not made.
-fn fault_of(alloc: Global, row: &Attempt) -> Option<NetFault> {
-    network(alloc, row.resources, row.jobs, row.arcs).err()
+/// Whether the network of an attempt is made, or refused for its reason.
+fn is_refused(alloc: Global, row: &Attempt) -> bool {
+    match network(alloc, row.resources, row.jobs, row.arcs) {
+        Ok(_) => row.fault.is_none(),
+        Err(fault) => row.fault == Some(fault),
+    }
 }
 
 #[test]
 fn tells_why_no_network_is_made(rt: HostRuntime) {
     for row in ATTEMPTS {
-        assert_eq!(rt; fault_of(rt.alloc(), row), row.fault, "{}", row.name);
+        assert!(rt; is_refused(rt.alloc(), row), "{}", row.name);
     }
 }
 
-/// So many equal jobs, each of which precedes all with higher numbers, or with lower ones.
-fn complete(alloc: Global, count: u32, rising: bool) -> Result<Network, SampleFault> {
-    let one: &[u32] = &[1];
-    let jobs = vec![in alloc; (1, one); count as usize]?;
-    let arcs = complete_arcs(alloc, count, rising)?;
-    Ok(network(alloc, 1, &jobs, &arcs)?)
-}
+/// Five jobs with one resource, by their durations and requests.
+const JOBS: &[(u32, &[u32])] = &[(0, &[0]), (3, &[2]), (2, &[1]), (2, &[1]), (0, &[0])];
 
-/// Each pair of so many jobs, the lesser number first, or the greater one.
-fn complete_arcs(alloc: Global, count: u32, rising: bool) -> Result<Vec<(u32, u32)>, AllocError> {
-    let mut arcs = Vec::new(alloc);
-    for j in 0..count {
-        for i in 0..j {
-            let (low, high) = (i.saturating_add(1), j.saturating_add(1));
-            arcs.push(if rising { (low, high) } else { (high, low) })?;
-        }
-    }
-    Ok(arcs)
-}
+/// Their pairs, out of order, two of them twice.
+const PAIRS: &[(u32, u32)] = &[
+    (4, 5),
+    (1, 3),
+    (1, 2),
+    (4, 5),
+    (2, 5),
+    (1, 4),
+    (3, 5),
+    (1, 2),
+];
 
-/// How many pairs there are, in order and in topological order; and of these the first job of the first, and the last.
-fn outline(net: &Network) -> Option<(usize, usize, u32, (u32, u32))> {
-    let arcs = net.topological_arcs();
-    Some((net.arcs().len(), arcs.len(), arcs.first()?.0, *arcs.last()?))
-}
-
-#[test]
-fn makes_the_largest_networks(rt: HostRuntime) -> Result<(), Fail> {
-    for (rising, first, last) in [(true, 0, (510, 511)), (false, 511, (1, 0))] {
-        let net = complete(rt.alloc(), 512, rising)?;
-        assert_eq!(rt; outline(&net), Some((130_816, 130_816, first, last)));
-    }
-    assert!(rt; complete(rt.alloc(), 513, true).is_err());
-    Ok(())
-}
-
-/// What is used of the first resource at the times from 0 to 4, where there is a start for each job.
-fn usages(net: &Network, starts: &[u32]) -> Option<[u64; 5]> {
-    if starts.len() != net.job_count() {
-        return None;
-    }
-    let mut used = [0; 5];
-    for time in 0..5 {
-        used[time] = usage_at(net, starts, 0, time as u32);
-    }
-    Some(used)
-}
+/// Each of these pairs once, in order.
+const ONCE: &[(u32, u32)] = &[(1, 2), (1, 3), (1, 4), (2, 5), (3, 5), (4, 5)];
 
 /// Whether these are the durations and the requests of the jobs.
 fn are_jobs(net: &Network, jobs: &[(u32, &[u32])]) -> bool {
@@ -227,29 +199,39 @@ fn are_jobs(net: &Network, jobs: &[(u32, &[u32])]) -> bool {
     true
 }
 
-/// Whether each pair of the five jobs stands there once, in order.
-fn are_pairs(net: &Network) -> bool {
-    let once = [(1, 2), (1, 3), (1, 4), (2, 5), (3, 5), (4, 5)];
-    net.arcs() == once.as_slice() && net.topological_arcs().len() == 6
+/// Whether each of these pairs stands there once, in order.
+fn are_pairs(net: &Network, pairs: &[(u32, u32)]) -> bool {
+    net.arcs() == pairs && net.topological_arcs().len() == pairs.len()
+}
+
+/// Whether so much of the first resource is used at the times from 0 to 4, where there is a start for each job.
+fn are_usages(net: &Network, starts: &[u32], used: [u64; 5]) -> bool {
+    if starts.len() != net.job_count() {
+        return false;
+    }
+    for time in 0..5 {
+        if usage_at(net, starts, 0, time as u32) != used[time] {
+            return false;
+        }
+    }
+    true
+}
+
+/// Whether a network of the five jobs is what it was made of.
+fn is_read_back(alloc: Global) -> bool {
+    match network(alloc, 1, JOBS, PAIRS) {
+        Ok(net) => {
+            are_jobs(&net, JOBS)
+                && are_pairs(&net, ONCE)
+                && are_usages(&net, &[0, 0, 0, 2, 4], [3, 3, 3, 1, 0])
+        }
+        Err(_) => false,
+    }
 }
 
 #[test]
-fn reads_back_what_was_given(rt: HostRuntime) -> Result<(), Fail> {
-    let jobs: [(u32, &[u32]); 5] = [(0, &[0]), (3, &[2]), (2, &[1]), (2, &[1]), (0, &[0])];
-    let pairs = [
-        (4, 5),
-        (1, 3),
-        (1, 2),
-        (4, 5),
-        (2, 5),
-        (1, 4),
-        (3, 5),
-        (1, 2),
-    ];
-    let net = network(rt.alloc(), 1, &jobs, &pairs)?;
-    assert!(rt; are_jobs(&net, &jobs) && are_pairs(&net));
-    assert_eq!(rt; usages(&net, &[0, 0, 0, 2, 4]), Some([3, 3, 3, 1, 0]));
-    Ok(())
+fn reads_back_what_was_given(rt: HostRuntime) {
+    assert!(rt; is_read_back(rt.alloc()));
 }
 
 /// Two jobs that each request nothing of the first resource, and a unit of the second.
@@ -324,45 +306,30 @@ const FITS: &[Fit] = &[
     },
 ];
 
-/// Whether starts fit a network with these capacities by a deadline, or none where there is not a number for each resource
-/// and each job.
-fn is_fitting(
-    alloc: Global,
-    net: &Network,
-    capacities: &[u32],
-    starts: &[u32],
-    deadline: u64,
-) -> Result<Option<bool>, AllocError> {
-    if capacities.len() != net.resource_count() || starts.len() != net.job_count() {
-        return Ok(None);
+/// Whether the starts of a row fit as they are to.
+fn holds(alloc: Global, row: &Fit) -> bool {
+    match set_up(alloc, row.sample, row.capacities, row.starts) {
+        Ok(setting) => {
+            let Setting {
+                net,
+                capacities,
+                starts,
+            } = &setting;
+            fits(net, capacities, starts, row.deadline) == row.fits
+        }
+        Err(_) => false,
     }
-    let capacities = Capacities::new(capacities.to_vec(alloc)?);
-    let starts = Starts::new(starts.to_vec(alloc)?);
-    Ok(Some(fits(net, &capacities, &starts, deadline)))
-}
-
-/// Whether the starts of a row fit.
-fn row_fits(alloc: Global, row: &Fit) -> Result<Option<bool>, SampleFault> {
-    let net = sampled(alloc, row.sample)?;
-    Ok(is_fitting(alloc, &net, row.capacities, row.starts, row.deadline)?)
 }
 
 #[test]
-fn tells_which_starts_fit(rt: HostRuntime) -> Result<(), Fail> {
+fn tells_which_starts_fit(rt: HostRuntime) {
     for row in FITS {
-        assert_eq!(rt; row_fits(rt.alloc(), row)?, Some(row.fits), "{}", row.name);
+        assert!(rt; holds(rt.alloc(), row), "{}", row.name);
     }
-    Ok(())
 }
 
 #[test]
 fn numbers_its_faults(rt: HostRuntime) {
-    for (number, fault) in [
-        (1, NetFault::Limit),
-        (2, NetFault::BadJob),
-        (3, NetFault::Cycle),
-        (4, NetFault::Memory),
-    ] {
-        assert_eq!(rt; fault as u8, number);
-    }
+    assert!(rt; NetFault::Limit as u8 == 1 && NetFault::BadJob as u8 == 2);
+    assert!(rt; NetFault::Cycle as u8 == 3 && NetFault::Memory as u8 == 4);
 }

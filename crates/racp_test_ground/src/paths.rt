@@ -4,10 +4,8 @@ ghost use Rattle.std.specs.Prelude.{◌≡◌, ◌≤◌, IsTrue, All, length};
 
 use crate::samples::{Sample, sampled};
 use racp_cpm::{early, first_late, late, longest, root, settle_early};
-use racp_model::{Network, Starts, Window};
-use racp_samples::{SampleFault, network};
-use std::alloc::{AllocError, Global};
-use std::test::Fail;
+use racp_model::Network;
+use std::alloc::Global;
 
 /// The times of a network, and what is found from them.
 struct Times {
@@ -125,110 +123,93 @@ fn are_times(net: &Network, times: &[u32]) -> bool
     times.len() == net.job_count() && times.iter().all(|time| *time <= 10_000_000)
 }
 
-/// What is found otherwise from the release times of a network.
-fn early_difference(
-    alloc: Global,
-    net: &Network,
-    times: &Times,
-) -> Result<Option<&'static str>, AllocError> {
-    if !are_times(net, times.release) {
-        return Ok(Some("the release times"));
+/// Whether the release times settle into the early starts.
+fn settle(alloc: Global, net: &Network, times: &Times) -> bool
+    requires places { length times.now.release.now ≡ length net.now.jobs }
+    requires small { All (λ x. x ≤ 10000000) times.now.release.now }
+{
+    match times.release.to_vec(alloc) {
+        Ok(mut starts) => {
+            settle_early(net, &mut starts);
+            starts.as_slice() == times.early
+        }
+        Err(_) => false,
     }
-    let mut settled = times.release.to_vec(alloc)?;
-    settle_early(net, &mut settled);
-    Ok(if settled.as_slice() != times.early {
-        Some("the settled starts")
-    } else if early(alloc, net, times.release)?.as_slice() != times.early {
-        Some("the early starts")
-    } else if longest(alloc, net, times.release)? != times.critical {
-        Some("the critical length")
-    } else {
-        None
-    })
 }
 
-/// Whether these are the late starts, or there are none.
-fn are_late(found: &Option<Starts>, starts: &[u32]) -> bool {
-    match found {
-        Some(found) => found.as_slice() == starts,
-        None => starts.is_empty(),
+/// Whether the early starts are found, and the first job that is late by them.
+fn has_early(alloc: Global, net: &Network, times: &Times) -> bool
+    requires places { length times.now.release.now ≡ length net.now.jobs }
+    requires small { All (λ x. x ≤ 10000000) times.now.release.now }
+    requires due { length times.now.due.now ≡ length net.now.jobs }
+{
+    match early(alloc, net, times.release) {
+        Ok(starts) => {
+            starts.as_slice() == times.early
+                && first_late(net, &starts, times.due) == times.late_job
+        }
+        Err(_) => false,
+    }
+}
+
+/// Whether the critical length is found.
+fn has_critical(alloc: Global, net: &Network, times: &Times) -> bool
+    requires places { length times.now.release.now ≡ length net.now.jobs }
+    requires small { All (λ x. x ≤ 10000000) times.now.release.now }
+{
+    match longest(alloc, net, times.release) {
+        Ok(length) => length == times.critical,
+        Err(_) => false,
+    }
+}
+
+/// Whether the late starts are found, or none where there are none.
+fn has_late(alloc: Global, net: &Network, times: &Times) -> bool
+    requires { length times.now.due.now ≡ length net.now.jobs }
+{
+    match late(alloc, net, times.due) {
+        Ok(Some(starts)) => starts.as_slice() == times.late,
+        Ok(None) => times.late.is_empty(),
+        Err(_) => false,
     }
 }
 
 /// Whether the window goes from the early to the late starts; there is none where a job is late.
-fn is_root(found: &Option<Window>, times: &Times) -> bool {
-    match found {
-        Some(found) => found.lower() == times.early && found.upper() == times.late,
-        None => times.late_job.is_some(),
+fn has_root(alloc: Global, net: &Network, times: &Times) -> bool
+    requires release { length times.now.release.now ≡ length net.now.jobs }
+    requires release_small { All (λ x. x ≤ 10000000) times.now.release.now }
+    requires due { length times.now.due.now ≡ length net.now.jobs }
+    requires due_small { All (λ x. x ≤ 10000000) times.now.due.now }
+{
+    match root(alloc, net, times.release, times.due) {
+        Ok(Some(window)) => window.lower() == times.early && window.upper() == times.late,
+        Ok(None) => times.late_job.is_some(),
+        Err(_) => false,
     }
 }
 
-/// What is found otherwise from the due times of a network.
-fn late_difference(
-    alloc: Global,
-    net: &Network,
-    times: &Times,
-) -> Result<Option<&'static str>, AllocError> {
-    if !are_times(net, times.release) || !are_times(net, times.due) {
-        return Ok(Some("the due times"));
-    }
-    let starts = early(alloc, net, times.release)?;
-    Ok(if first_late(net, &starts, times.due) != times.late_job {
-        Some("the late job")
-    } else if !are_late(&late(alloc, net, times.due)?, times.late) {
-        Some("the late starts")
-    } else if !is_root(&root(alloc, net, times.release, times.due)?, times) {
-        Some("the root window")
-    } else {
-        None
-    })
+/// Whether all of that is found in a network.
+fn are_found(alloc: Global, net: &Network, times: &Times) -> bool {
+    are_times(net, times.release)
+        && are_times(net, times.due)
+        && settle(alloc, net, times)
+        && has_early(alloc, net, times)
+        && has_critical(alloc, net, times)
+        && has_late(alloc, net, times)
+        && has_root(alloc, net, times)
 }
 
-/// What is found otherwise than these times.
-fn difference(alloc: Global, times: &Times) -> Result<Option<&'static str>, SampleFault> {
-    let net = sampled(alloc, times.sample)?;
-    Ok(match early_difference(alloc, &net, times)? {
-        Some(difference) => Some(difference),
-        None => late_difference(alloc, &net, times)?,
-    })
+/// The same, in the network of the times.
+fn hold(alloc: Global, times: &Times) -> bool {
+    match sampled(alloc, times.sample) {
+        Ok(net) => are_found(alloc, &net, times),
+        Err(_) => false,
+    }
 }
 
 #[test]
-fn finds_starts_and_lengths(rt: HostRuntime) -> Result<(), Fail> {
+fn finds_starts_and_lengths(rt: HostRuntime) {
     for (row, times) in TIMES.iter().enumerate() {
-        let difference = difference(rt.alloc(), times)?;
-        assert_eq!(rt; difference, None, "row {row}");
+        assert!(rt; hold(rt.alloc(), times), "row {row}");
     }
-    Ok(())
-}
-
-/// 512 jobs of the longest duration, each of which precedes the next.
-fn longest_chain(alloc: Global) -> Result<Network, SampleFault> {
-    let one: &[u32] = &[1];
-    let jobs = vec![in alloc; (10_000, one); 512]?;
-    Ok(network(alloc, 1, &jobs, &chain(alloc)?)?)
-}
-
-/// The pairs of each of 512 jobs and the next one.
-fn chain(alloc: Global) -> Result<Vec<(u32, u32)>, AllocError> {
-    let mut arcs = Vec::new(alloc);
-    for job in 1..512 {
-        arcs.push((job, job + 1))?;
-    }
-    Ok(arcs)
-}
-
-/// The critical length from one release time of all jobs, up to 20,000,000.
-fn longest_from(alloc: Global, net: &Network, release: u32) -> Result<u64, AllocError> {
-    let release = vec![in alloc; release.min(20_000_000); net.job_count()]?;
-    longest(alloc, net, &release)
-}
-
-#[test]
-fn runs_along_the_longest_chain(rt: HostRuntime) -> Result<(), Fail> {
-    let net = longest_chain(rt.alloc())?;
-    for (release, critical) in [(0, 5_120_000), (20_000_000, 25_120_000)] {
-        assert_eq!(rt; longest_from(rt.alloc(), &net, release)?, critical);
-    }
-    Ok(())
 }
