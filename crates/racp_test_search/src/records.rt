@@ -64,15 +64,25 @@ fn is_no<N: OfNetwork>(alloc: Global, net: &Network, node: &Node<N>) -> bool
     }
 }
 
-/// The record of the node of a place; there is none where its question is a yes by the definition.
+/// The record of a node; there is none where its question is a yes by the definition.
+fn refuted<N: OfNetwork>(alloc: Global, net: &Network, node: Node<N>) -> Option<Nogood<N>>
+    requires named { net.now ≡ N.network }
+{
+    if is_no(alloc, net, &node) && fits_before_time(net, &node) {
+        Some(Nogood::of(node))
+    } else {
+        None
+    }
+}
+
+/// The record of the node of a place.
 fn nogood<N: OfNetwork>(alloc: Global, net: &Network, place: &Place<'_>) -> Option<Nogood<N>>
     requires named { net.now ≡ N.network }
 {
-    let node: Node<N> = node(alloc, net, place)?;
-    if is_no(alloc, net, &node) && fits_before_time(net, &node) {
-        return Some(Nogood::of(node));
+    match node(alloc, net, place) {
+        Some(node) => refuted(alloc, net, node),
+        None => None,
     }
-    None
 }
 
 /// The root window of the five jobs for the deadline 4, with 2 units.
@@ -134,56 +144,67 @@ const ROWS: &[Row] = &[
     },
 ];
 
-/// Whether the record covers the node of a place; or `None` where there is no such node.
-fn is_covered<N: OfNetwork>(
-    alloc: Global,
-    net: &Network,
-    known: &Nogood<N>,
-    place: &Place<'_>,
-) -> Option<bool>
+/// Whether the record covers the node of a row as it is to.
+fn is_covered<N: OfNetwork>(alloc: Global, net: &Network, known: &Nogood<N>, row: &Row) -> bool
     requires named { net.now ≡ N.network }
 {
-    let other: Node<N> = node(alloc, net, place)?;
-    Some(known.covers(&other))
+    match node::<N>(alloc, net, &row.place) {
+        Some(other) => known.covers(&other) == row.covered,
+        None => false,
+    }
 }
 
-/// Whether the record of the first place covers the nodes of the rows that it is to cover, and no other.
-fn covers_rows<N: OfNetwork>(alloc: Global, net: &Network, known: &Place<'_>, rows: &[Row]) -> bool
+/// The same of each row.
+fn covers_each<N: OfNetwork>(alloc: Global, net: &Network, known: &Nogood<N>, rows: &[Row]) -> bool
     requires named { net.now ≡ N.network }
 {
-    let Some(known) = nogood::<N>(alloc, net, known) else {
-        return false;
-    };
     for row in rows {
-        if is_covered(alloc, net, &known, &row.place) != Some(row.covered) {
+        if !is_covered(alloc, net, known, row) {
             return false;
         }
     }
     true
 }
 
-/// Whether the record of the first place covers that of the second; or `None` where there are no such records.
+/// Whether the record of a place covers the nodes of the rows that it is to cover, and no other.
+fn covers_rows<N: OfNetwork>(alloc: Global, net: &Network, known: &Place<'_>, rows: &[Row]) -> bool
+    requires named { net.now ≡ N.network }
+{
+    match nogood::<N>(alloc, net, known) {
+        Some(known) => covers_each(alloc, net, &known, rows),
+        None => false,
+    }
+}
+
+/// Whether the record of the first place covers that of the second, or not, as it is to.
 fn covers_record<N: OfNetwork>(
     alloc: Global,
     net: &Network,
     known: &Place<'_>,
     other: &Place<'_>,
-) -> Option<bool>
+    covered: bool,
+) -> bool
     requires named { net.now ≡ N.network }
 {
-    let known: Nogood<N> = nogood(alloc, net, known)?;
-    let other = nogood(alloc, net, other)?;
-    Some(known.covers_record(&other))
+    let Some(known) = nogood::<N>(alloc, net, known) else {
+        return false;
+    };
+    match nogood(alloc, net, other) {
+        Some(other) => known.covers_record(&other) == covered,
+        None => false,
+    }
 }
 
 /// Whether records cover nodes and records of the five jobs as they are to.
 fn are_covered(alloc: Global) -> bool {
-    let Ok(net) = parallel(alloc) else {
-        return false;
-    };
-    covers_rows::<Brand>(alloc, &net, &ROOT, ROWS)
-        && covers_record::<Brand>(alloc, &net, &ROOT, &RAISED) == Some(true)
-        && covers_record::<Brand>(alloc, &net, &RAISED, &ROOT) == Some(false)
+    match parallel(alloc) {
+        Ok(net) => {
+            covers_rows::<Brand>(alloc, &net, &ROOT, ROWS)
+                && covers_record::<Brand>(alloc, &net, &ROOT, &RAISED, true)
+                && covers_record::<Brand>(alloc, &net, &RAISED, &ROOT, false)
+        }
+        Err(_) => false,
+    }
 }
 
 #[test]
@@ -380,8 +401,8 @@ fn later(time: u32) -> Bounds {
     }
 }
 
-/// The record of the root window with so many units, so much later.
-fn record<N: OfNetwork>(alloc: Global, net: &Network, units: u32, time: u32) -> Option<Nogood<N>>
+/// The node of the root window with so many units, so much later.
+fn later_node<N: OfNetwork>(alloc: Global, net: &Network, units: u32, time: u32) -> Option<Node<N>>
     requires named { net.now ≡ N.network }
 {
     let bounds = later(time);
@@ -391,7 +412,17 @@ fn record<N: OfNetwork>(alloc: Global, net: &Network, units: u32, time: u32) -> 
         upper: &bounds.upper,
         time: 0,
     };
-    nogood(alloc, net, &place)
+    node(alloc, net, &place)
+}
+
+/// The record of that node.
+fn record<N: OfNetwork>(alloc: Global, net: &Network, units: u32, time: u32) -> Option<Nogood<N>>
+    requires named { net.now ≡ N.network }
+{
+    match later_node(alloc, net, units, time) {
+        Some(node) => refuted(alloc, net, node),
+        None => None,
+    }
 }
 
 /// Whether a record is found that covers the root window with so many units, so much later; or `None` where memory is refused.
@@ -405,15 +436,10 @@ fn finds<N: OfNetwork>(
 ) -> Option<bool>
     requires named { net.now ≡ N.network }
 {
-    let bounds = later(time);
-    let place = Place {
-        units: &[units],
-        lower: &bounds.lower,
-        upper: &bounds.upper,
-        time: 0,
-    };
-    let node: Node<N> = node(alloc, net, &place)?;
-    Some(local.find(board, &node).is_some())
+    match later_node(alloc, net, units, time) {
+        Some(node) => Some(local.find(board, &node).is_some()),
+        None => None,
+    }
 }
 
 /// Keeps the record of the root window with so many units, so much later, and says whether there is one.
@@ -540,22 +566,19 @@ fn is_shown<N: OfNetwork, R: Wait>(rt: &R, alloc: Global, net: &Network, steps: 
     }
 }
 
-/// What of the records of the five jobs is not found as it is to be.
-fn missed<R: Wait>(rt: &R, alloc: Global) -> Option<&'static str> {
-    let Ok(net) = parallel(alloc) else {
-        return Some("memory");
-    };
-    for script in SCRIPTS {
-        if !is_shown::<Brand, R>(rt, alloc, &net, script.steps) {
-            return Some(script.shows);
-        }
+/// The same, of the records of the five jobs.
+fn is_found<R: Wait>(rt: &R, alloc: Global, script: &Script) -> bool {
+    match parallel(alloc) {
+        Ok(net) => is_shown::<Brand, R>(rt, alloc, &net, script.steps),
+        Err(_) => false,
     }
-    None
 }
 
 #[test]
 fn finds_kept_records(rt: HostRuntime) {
-    assert_eq!(rt; missed(&rt, rt.alloc()), None);
+    for script in SCRIPTS {
+        assert!(rt; is_found(&rt, rt.alloc(), script), "{}", script.shows);
+    }
 }
 
 /// Thirty records are pushed, and one that covers the window with a unit is found behind each.

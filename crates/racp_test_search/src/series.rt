@@ -9,7 +9,7 @@ use racp_model::{Capacities, Question, Window};
 use racp_prices::Order;
 use racp_questions::Series;
 use racp_samples::{parallel, root_window};
-use std::alloc::Global;
+use std::alloc::{AllocError, Global};
 
 /// A box of capacity vectors, and its vectors: all of them, or the first ones.
 pub(crate) struct Boxed {
@@ -223,20 +223,21 @@ fn series_of(alloc: Global, parts: Parts, root: &Window) -> Option<Vectors> {
     Vectors::new(alloc, &order, floors, roofs, pairs, root).ok()
 }
 
-/// Whether the next question of a series has these capacities, or there is none where none are given. It is asked for once
-/// more where memory is refused.
+/// Whether a question has these capacities, or there is none where none are given; or `None` where memory is refused.
+fn is_asked(next: Result<Option<Question>, AllocError>, units: Option<&[u32]>) -> Option<bool> {
+    match next {
+        Ok(Some(question)) => Some(units.is_some_and(|units| question.capacities.as_slice()
+            == units)),
+        Ok(None) => Some(units.is_none()),
+        Err(_) => None,
+    }
+}
+
+/// Whether that is so of the next question of a series. It is asked for once more where memory is refused.
 fn is_next<S: Series>(series: &mut S, units: Option<&[u32]>) -> bool {
-    let next = match series.next() {
-        Ok(next) => next,
-        Err(_) => match series.next() {
-            Ok(next) => next,
-            Err(_) => return false,
-        },
-    };
-    match (next, units) {
-        (Some(question), Some(units)) => question.capacities.as_slice() == units,
-        (None, None) => true,
-        _ => false,
+    match is_asked(series.next(), units) {
+        Some(asked) => asked,
+        None => is_asked(series.next(), units) == Some(true),
     }
 }
 
@@ -258,17 +259,19 @@ fn series_of_row(alloc: Global, row: &Boxed, root: &Window) -> Option<Vectors> {
     }
 }
 
-/// Whether a box has the vectors of its row, in this order. A series that cannot be made is made once more.
+/// Whether a box has the vectors of its row, in this order; or `None` where it is no box, or memory is refused.
+fn has_vectors(alloc: Global, row: &Boxed, root: &Window) -> Option<bool> {
+    match series_of_row(alloc, row, root) {
+        Some(mut series) => Some(gives(&mut series, row.vectors, row.all)),
+        None => None,
+    }
+}
+
+/// Whether it has them. A series that cannot be made is made once more.
 fn is_ordered(alloc: Global, row: &Boxed, root: &Window) -> bool {
-    let first = series_of_row(alloc, row, root);
-    let made = if first.is_some() {
-        first
-    } else {
-        series_of_row(alloc, row, root)
-    };
-    match made {
-        Some(mut series) => gives(&mut series, row.vectors, row.all),
-        None => false,
+    match has_vectors(alloc, row, root) {
+        Some(ordered) => ordered,
+        None => has_vectors(alloc, row, root) == Some(true),
     }
 }
 
@@ -287,26 +290,35 @@ fn root_once(alloc: Global) -> Option<Window> {
     }
 }
 
-/// The place of the first box that has other vectors than those of its row.
-fn wrong_box(alloc: Global) -> Option<usize> {
-    let Some(root) = root(alloc) else {
-        return Some(BOXES.len());
-    };
-    for (at, row) in BOXES.iter().enumerate() {
-        if !is_ordered(alloc, row, &root) {
-            return Some(at);
-        }
+/// The same, in the root window.
+fn is_ordered_in_root(alloc: Global, row: &Boxed) -> bool {
+    match root(alloc) {
+        Some(root) => is_ordered(alloc, row, &root),
+        None => false,
     }
-    None
 }
 
 #[test]
 fn orders_boxes(rt: HostRuntime) {
-    assert_eq!(rt; wrong_box(rt.alloc()), None);
+    for (place, row) in BOXES.iter().enumerate() {
+        assert!(rt; is_ordered_in_root(rt.alloc(), row), "box {place}");
+    }
 }
 
 /// Whether the series of the units of the first resource, from 3 to 4, asks for each, with the roof of the second one.
-fn has_singles(alloc: Global, floors: &Capacities, roofs: &Capacities, root: &Window) -> bool {
+fn has_singles(alloc: Global, floors: &Capacities, root: &Window) -> bool {
+    match capacities(alloc, &[4, 2]) {
+        Some(roofs) => has_singles_between(alloc, floors, &roofs, root),
+        None => false,
+    }
+}
+
+fn has_singles_between(
+    alloc: Global,
+    floors: &Capacities,
+    roofs: &Capacities,
+    root: &Window,
+) -> bool {
     if floors.as_slice().is_empty() || roofs.as_slice().is_empty() {
         return false;
     }
@@ -320,6 +332,22 @@ fn has_singles(alloc: Global, floors: &Capacities, roofs: &Capacities, root: &Wi
 fn has_one(alloc: Global, units: &Capacities, root: &Window) -> bool {
     match One::new(alloc, units, root) {
         Ok(mut series) => gives(&mut series, &[&[3, 1]], true),
+        Err(_) => false,
+    }
+}
+
+/// Whether the series of the starts of the third job asks for the starts 0, 1 and 2.
+fn has_starts(alloc: Global, units: &Capacities, root: &Window) -> bool {
+    if root.lower().len() <= 2 || root.upper().len() <= 2 {
+        return false;
+    }
+    match Starts1::new(alloc, units, root, 2) {
+        Ok(mut starts) => {
+            is_next_start(&mut starts, 0)
+                && is_next_start(&mut starts, 1)
+                && is_next_start(&mut starts, 2)
+                && is_next(&mut starts, None)
+        }
         Err(_) => false,
     }
 }
@@ -339,51 +367,27 @@ fn is_at(question: &Question, start: u32) -> bool {
         && upper == [1, 1, start, 2, 4].as_slice()
 }
 
-/// Whether the series of the starts of the third job asks for each, from 0 to 2.
-fn has_starts(alloc: Global, units: &Capacities, root: &Window) -> bool {
-    if root.lower().len() <= 2 || root.upper().len() <= 2 {
-        return false;
-    }
-    match Starts1::new(alloc, units, root, 2) {
-        Ok(mut starts) => gives_starts(&mut starts),
-        Err(_) => false,
-    }
-}
-
-fn gives_starts(starts: &mut Starts1) -> bool {
-    for start in 0..3 {
-        if !is_next_start(starts, start) {
-            return false;
+/// Whether the three small series ask for what they are to ask in a window.
+fn have_questions(alloc: Global, root: &Window) -> bool {
+    match capacities(alloc, &[3, 1]) {
+        Some(units) => {
+            has_singles(alloc, &units, root)
+                && has_one(alloc, &units, root)
+                && has_starts(alloc, &units, root)
         }
-    }
-    is_next(starts, None)
-}
-
-/// The first of the three small series whose questions are others.
-fn wrong_series(alloc: Global, root: &Window) -> Option<&'static str> {
-    let (Some(low), Some(high)) = (capacities(alloc, &[3, 1]), capacities(alloc, &[4, 2])) else {
-        return Some("memory");
-    };
-    if !has_singles(alloc, &low, &high, root) {
-        Some("units of one resource")
-    } else if !has_one(alloc, &low, root) {
-        Some("one question")
-    } else if !has_starts(alloc, &low, root) {
-        Some("starts of one job")
-    } else {
-        None
+        None => false,
     }
 }
 
 /// The same, in the root window.
-fn wrong_small_series(alloc: Global) -> Option<&'static str> {
+fn have_questions_in_root(alloc: Global) -> bool {
     match root(alloc) {
-        Some(root) => wrong_series(alloc, &root),
-        None => Some("memory"),
+        Some(root) => have_questions(alloc, &root),
+        None => false,
     }
 }
 
 #[test]
 fn asks_single_values(rt: HostRuntime) {
-    assert_eq!(rt; wrong_small_series(rt.alloc()), None);
+    assert!(rt; have_questions_in_root(rt.alloc()));
 }
