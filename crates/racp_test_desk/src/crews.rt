@@ -4,7 +4,7 @@ ghost use Rattle.std.specs.Prelude.{◌≡◌, ◌≤◌};
 
 use crate::runs::{ALL_TURNS, Ended, Numbers, ROWS, run_with};
 use racp_desk::Gate;
-use racp_model::{NetFault, Network, OfNetwork};
+use racp_model::{Network, OfNetwork};
 use racp_samples::crossed;
 use racp_search::Never;
 use std::alloc::Global;
@@ -114,53 +114,58 @@ fn finds_each<N: OfNetwork + Send + Sync, R: Threads + Wait + Sync>(
     true
 }
 
-/// The first seed with which a crew does not find the first yes.
-fn first_seed<N: OfNetwork + Send + Sync, R: Threads + Wait + Sync>(
+/// Whether a crew finds the first yes with a seed, in small pieces and in large ones.
+fn finds_with<N: OfNetwork + Send + Sync, R: Threads + Wait + Sync>(
+    rt: &R,
+    alloc: Global,
+    net: &Network,
+    workers: usize,
+    seed: u64,
+) -> bool
+    requires { net.now ≡ N.network }
+{
+    let gate = Seeded {
+        seed,
+        looks: AtomicU64::new(0),
+    };
+    finds_each::<N, R>(rt, alloc, net, workers, 1, &gate)
+        && finds_each::<N, R>(rt, alloc, net, workers, 1000, &gate)
+}
+
+/// The same with each of its seeds.
+fn finds_with_each<N: OfNetwork + Send + Sync, R: Threads + Wait + Sync>(
     rt: &R,
     alloc: Global,
     net: &Network,
     crew: &Crew,
-) -> Option<u64>
+) -> bool
     requires { net.now ≡ N.network }
 {
     for &seed in crew.seeds {
-        let gate = Seeded {
-            seed,
-            looks: AtomicU64::new(0),
-        };
-        if !finds_each::<N, R>(rt, alloc, net, crew.workers, 1, &gate)
-            || !finds_each::<N, R>(rt, alloc, net, crew.workers, 1000, &gate)
-        {
-            return Some(seed);
+        if !finds_with::<N, R>(rt, alloc, net, crew.workers, seed) {
+            return false;
         }
     }
-    None
+    true
 }
 
-/// The number of workers of the first crew that does not find the first yes, and the seed.
-fn first_lost<N: OfNetwork + Send + Sync, R: Threads + Wait + Sync>(
-    rt: &R,
-    alloc: Global,
-    net: &Network,
-) -> Option<(usize, u64)>
-    requires { net.now ≡ N.network }
-{
-    for crew in CREWS {
-        if let Some(seed) = first_seed::<N, R>(rt, alloc, net, crew) {
-            return Some((crew.workers, seed));
-        }
+/// Whether a crew finds the first yes of the six jobs with each of its seeds.
+fn finds_of_six<R: Threads + Wait + Sync>(rt: &R, alloc: Global, crew: &Crew) -> bool {
+    match crossed(alloc) {
+        Ok(net) => finds_with_each::<Brand, R>(rt, alloc, &net, crew),
+        Err(_) => false,
     }
-    None
 }
 
 #[test]
-fn any_crew_finds_the_first_yes(rt: HostRuntime) -> Result<(), NetFault> {
-    let net = crossed(rt.alloc())?;
-    assert_eq!(rt;
-        first_lost::<Brand, HostRuntime>(&rt, rt.alloc(), &net),
-        None
-    );
-    Ok(())
+fn any_crew_finds_the_first_yes(rt: HostRuntime) {
+    for crew in CREWS {
+        assert!(rt;
+            finds_of_six(&rt, rt.alloc(), crew),
+            "{} workers",
+            crew.workers
+        );
+    }
 }
 
 /// Holds the worker of the first piece until the second one is about to be searched. 1 stands for what has happened.
@@ -241,10 +246,18 @@ fn are_two_at_once<N: OfNetwork + Send + Sync, R: Threads + Wait + Sync>(
     ended == Some(wanted) && gate.both()
 }
 
+/// The same, of the six jobs.
+fn are_two_of_six<R: Threads + Wait + Sync>(rt: &R, alloc: Global, workers: usize) -> bool
+    requires { workers ≤ 64 }
+{
+    match crossed(alloc) {
+        Ok(net) => are_two_at_once::<Brand, R>(rt, alloc, &net, workers),
+        Err(_) => false,
+    }
+}
+
 #[test]
-fn two_pieces_at_once(rt: HostRuntime) -> Result<(), NetFault> {
-    let net = crossed(rt.alloc())?;
-    assert!(rt; are_two_at_once::<Brand, HostRuntime>(&rt, rt.alloc(), &net, 2));
-    assert!(rt; are_two_at_once::<Brand, HostRuntime>(&rt, rt.alloc(), &net, 8));
-    Ok(())
+fn two_pieces_at_once(rt: HostRuntime) {
+    assert!(rt; are_two_of_six(&rt, rt.alloc(), 2));
+    assert!(rt; are_two_of_six(&rt, rt.alloc(), 8));
 }

@@ -5,7 +5,7 @@ ghost use Rattle.std.specs.Prelude.{◌≡◌};
 use crate::runs::{ALL_TURNS, Ended, Numbers, ROWS, run_with};
 use crate::stops::AtCall;
 use racp_desk::{Cause, Open};
-use racp_model::{NetFault, Network, OfNetwork};
+use racp_model::{Network, OfNetwork};
 use racp_samples::crossed;
 use racp_search::Never;
 use std::alloc::Global;
@@ -13,9 +13,9 @@ use std::marker::Brand;
 use std::sync::Wait;
 use std::thread::Threads;
 
-/// Turns, and the question that one worker leaves open which has used up so many, beside one unit of the second
+/// The question that one worker leaves open which has used up so many turns, from 0 on, beside one unit of the second
 /// resource. By the third turn the first yes is found, of the question at place 2.
-const TURNS: &[(u64, Option<usize>)] = &[(0, Some(0)), (1, Some(1)), (2, Some(2)), (3, None)];
+const OPEN: &[Option<usize>] = &[Some(0), Some(1), Some(2), None];
 
 /// Whether a run by one worker with so many turns leaves that question open, or finds the first yes.
 fn run_out<N: OfNetwork + Send + Sync, R: Threads + Wait + Sync>(
@@ -41,30 +41,27 @@ fn run_out<N: OfNetwork + Send + Sync, R: Threads + Wait + Sync>(
     ended == Some(Ended { yes, open, halted })
 }
 
-/// The first number of turns with which a run ends otherwise.
-fn first_other_turns<N: OfNetwork + Send + Sync, R: Threads + Wait + Sync>(
+/// The same, of the six jobs.
+fn run_out_of_six<R: Threads + Wait + Sync>(
     rt: &R,
     alloc: Global,
-    net: &Network,
-) -> Option<u64>
-    requires { net.now ≡ N.network }
-{
-    for &(turns, open) in TURNS {
-        if !run_out::<N, R>(rt, alloc, net, turns, open) {
-            return Some(turns);
-        }
+    turns: usize,
+    open: Option<usize>,
+) -> bool {
+    match crossed(alloc) {
+        Ok(net) => run_out::<Brand, R>(rt, alloc, &net, turns as u64, open),
+        Err(_) => false,
     }
-    None
 }
 
 #[test]
-fn turns_run_out(rt: HostRuntime) -> Result<(), NetFault> {
-    let net = crossed(rt.alloc())?;
-    assert_eq!(rt;
-        first_other_turns::<Brand, HostRuntime>(&rt, rt.alloc(), &net),
-        None
-    );
-    Ok(())
+fn turns_run_out(rt: HostRuntime) {
+    for (turns, open) in OPEN.iter().enumerate() {
+        assert!(rt;
+            run_out_of_six(&rt, rt.alloc(), turns, *open),
+            "{turns} turns"
+        );
+    }
 }
 
 /// How a run by two workers beside so many units of the second resource ends.
@@ -133,32 +130,26 @@ fn decides_nothing<N: OfNetwork + Send + Sync, R: Threads + Wait + Sync>(
     }
 }
 
-/// The first call at which a stop is asked for so that a run ends as it may not; 0 for a stop at each call.
-fn first_other_call<N: OfNetwork + Send + Sync, R: Threads + Wait + Sync>(
-    rt: &R,
-    alloc: Global,
-    net: &Network,
-) -> Option<u64>
-    requires { net.now ≡ N.network }
-{
-    for number in 1..=20 {
-        if !end_as_they_may::<N, R>(rt, alloc, net, number) {
-            return Some(number);
-        }
+/// Whether runs of the six jobs end as they may where a stop is asked for at the call of this number.
+fn end_of_six<R: Threads + Wait + Sync>(rt: &R, alloc: Global, number: u64) -> bool {
+    match crossed(alloc) {
+        Ok(net) => end_as_they_may::<Brand, R>(rt, alloc, &net, number),
+        Err(_) => false,
     }
-    if decides_nothing::<N, R>(rt, alloc, net) {
-        None
-    } else {
-        Some(0)
+}
+
+/// Whether a stop at each call decides nothing of the six jobs.
+fn nothing_of_six<R: Threads + Wait + Sync>(rt: &R, alloc: Global) -> bool {
+    match crossed(alloc) {
+        Ok(net) => decides_nothing::<Brand, R>(rt, alloc, &net),
+        Err(_) => false,
     }
 }
 
 #[test]
-fn stops_leave_questions_open(rt: HostRuntime) -> Result<(), NetFault> {
-    let net = crossed(rt.alloc())?;
-    assert_eq!(rt;
-        first_other_call::<Brand, HostRuntime>(&rt, rt.alloc(), &net),
-        None
-    );
-    Ok(())
+fn stops_leave_questions_open(rt: HostRuntime) {
+    for number in 1..21 {
+        assert!(rt; end_of_six(&rt, rt.alloc(), number), "call {number}");
+    }
+    assert!(rt; nothing_of_six(&rt, rt.alloc()));
 }

@@ -1,6 +1,6 @@
 //! Calls of a desk on one thread, told one by one.
 
-ghost use Rattle.std.specs.Prelude.{◌≡◌, ◌<◌, ◌≤◌, length, IfOk};
+ghost use Rattle.std.specs.Prelude.{◌≡◌, ◌<◌, ◌≤◌, length, IfOk, IfSome};
 
 use crate::stops::AtCall;
 use racp_candidates::Singles;
@@ -153,26 +153,25 @@ fn again<N: OfNetwork>(
     Ok(Piece::new(held.number, seat, held.index, asked))
 }
 
-/// What a search of the piece finds.
-fn explored<N: OfNetwork>(
-    alloc: Global,
-    net: &Network,
-    held: &Held,
-    how: How,
-) -> Result<Finding<N>, SampleFault>
+/// What a search of the piece finds; or `None` where memory is refused.
+fn explored<N: OfNetwork>(alloc: Global, net: &Network, held: &Held, how: How) -> Option<Finding<N>>
     requires { net.now ≡ N.network }
-    ensures { IfOk result (λ finding. finding.nodes ≤ 1000000) }
+    ensures { IfSome result (λ finding. finding.nodes ≤ 1000000) }
 {
-    let board: Board<N> = Board::new(alloc, net)?;
+    let Ok(board) = Board::new(alloc, net) else {
+        return None;
+    };
     let mut local: Local<N> = Local::new(alloc, net);
     let seat = match how {
         How::NextSeat => held.seat.wrapping_add(1),
         How::Whole | How::Stopped => held.seat,
     };
-    let piece = again(alloc, net, held, seat)?;
     let stop = AtCall::each(matches!(how, How::Stopped));
     let most = Some(1_000_000);
-    Ok(explore(alloc, net, piece, most, &board, &mut local, &stop))
+    match again(alloc, net, held, seat) {
+        Ok(piece) => Some(explore(alloc, net, piece, most, &board, &mut local, &stop)),
+        Err(_) => None,
+    }
 }
 
 fn hand<N: OfNetwork, M: Names>(
@@ -192,8 +191,8 @@ fn hand<N: OfNetwork, M: Names>(
         return Heard::Stale;
     };
     match explored(alloc, net, held, how) {
-        Ok(finding) => hand_in(state, mine, finding),
-        Err(_) => Heard::Refused,
+        Some(finding) => hand_in(state, mine, finding),
+        None => Heard::Refused,
     }
 }
 
