@@ -206,19 +206,11 @@ fn holds(alloc: Global, row: &Row) -> bool {
     }
 }
 
-/// The place of the first row that does not hold.
-fn first_broken(alloc: Global, rows: &[Row]) -> Option<usize> {
-    for (place, row) in rows.iter().enumerate() {
-        if !holds(alloc, row) {
-            return Some(place);
-        }
-    }
-    None
-}
-
 #[test]
 fn plans_by_definition(rt: HostRuntime) {
-    assert_eq!(rt; first_broken(rt.alloc(), ROWS), None);
+    for (place, row) in ROWS.iter().enumerate() {
+        assert!(rt; holds(rt.alloc(), row), "row {place}");
+    }
 }
 
 /// What stands for an answer that is not the outcome by definition.

@@ -9,7 +9,7 @@ ghost use Rattle.racp_model.specs.Window.{IsYes};
 use crate::tired::Tired;
 use racp_bounds::{Sharp, roofs, sharpen};
 use racp_lexfix::{PlanStop, plan};
-use racp_model::{Capacities, NetFault, Network, OfNetwork, Question, Window};
+use racp_model::{Capacities, Network, OfNetwork, Question, Window};
 use racp_prices::{Order, read_order};
 use racp_questions::AskStop;
 use racp_reference::decide_by_definition;
@@ -174,7 +174,7 @@ fn sharpens<N: OfNetwork>(
     window: &Window,
     most: &Capacities,
     wanted: &Sharpening,
-) -> Result<bool, AllocError>
+) -> bool
     requires named { net.now ≡ N.network }
     requires window { HasBounds net.now window.now }
     requires roofs { length most.now ≡ net.now.resources }
@@ -182,12 +182,21 @@ fn sharpens<N: OfNetwork>(
 {
     let least = wanted.least.as_slice();
     if least.len() != most.as_slice().len() || !are_bounds(least, most.as_slice()) {
-        return Ok(false);
+        return false;
     }
-    let least = Capacities::new(least.to_vec(alloc)?);
-    let mut asker: Tired<N> = Tired::new(alloc, net, wanted.series)?;
-    let found = sharpen(alloc, net, window, least, most, &mut asker);
-    Ok(is_sharp(&found, wanted))
+    let Ok(least) = least.to_vec(alloc) else {
+        return false;
+    };
+    match Tired::<N>::new(alloc, net, wanted.series) {
+        Ok(mut asker) => {
+            let least = Capacities::new(least);
+            is_sharp(
+                &sharpen(alloc, net, window, least, most, &mut asker),
+                wanted,
+            )
+        }
+        Err(_) => false,
+    }
 }
 
 /// Whether planning stops where the asker gives up after so many series, and tells these capacities.
@@ -197,14 +206,16 @@ fn tells<N: OfNetwork>(
     order: &Order,
     series: u32,
     units: &[u32],
-) -> Result<bool, AllocError>
+) -> bool
     requires named { net.now ≡ N.network }
     requires terms { AreTermsOf net.now order.now }
 {
-    let mut asker: Tired<N> = Tired::new(alloc, net, series)?;
+    let Ok(mut asker) = Tired::<N>::new(alloc, net, series) else {
+        return false;
+    };
     match plan(alloc, net, order, &mut asker) {
-        Err(PlanStop::Stopped { not_before }) => Ok(not_before.as_slice() == units),
-        _ => Ok(false),
+        Err(PlanStop::Stopped { not_before }) => not_before.as_slice() == units,
+        _ => false,
     }
 }
 
@@ -219,10 +230,10 @@ fn sharpens_in<N: OfNetwork>(
     requires window { HasBounds net.now window.now }
 {
     match roofs(alloc, net) {
-        Ok(most) if is_yes(alloc, net, &most, window) => {
-            matches!(sharpens::<N>(alloc, net, window, &most, wanted), Ok(true))
+        Ok(most) => {
+            is_yes(alloc, net, &most, window) && sharpens::<N>(alloc, net, window, &most, wanted)
         }
-        _ => false,
+        Err(_) => false,
     }
 }
 
@@ -236,9 +247,7 @@ fn ends<N: OfNetwork>(alloc: Global, net: &Network, order: &Order, stage: &Stage
             Ok(window) => sharpens_in::<N>(alloc, net, &window, wanted),
             Err(_) => false,
         },
-        Stage::Told(series, units) => {
-            matches!(tells::<N>(alloc, net, order, *series, units), Ok(true))
-        }
+        Stage::Told(series, units) => tells::<N>(alloc, net, order, *series, units),
     }
 }
 
@@ -252,21 +261,17 @@ fn holds<N: OfNetwork>(alloc: Global, net: &Network, row: &Row) -> bool
     }
 }
 
-/// The place of the first row that does not hold.
-fn first_broken<N: OfNetwork>(alloc: Global, net: &Network) -> Option<usize>
-    requires { net.now ≡ N.network }
-{
-    for (place, row) in ROWS.iter().enumerate() {
-        if !holds::<N>(alloc, net, row) {
-            return Some(place);
-        }
+/// The same, of the six jobs.
+fn holds_of_six(alloc: Global, row: &Row) -> bool {
+    match crossed(alloc) {
+        Ok(net) => holds::<Brand>(alloc, &net, row),
+        Err(_) => false,
     }
-    None
 }
 
 #[test]
-fn stages_end_as_they_have_to(rt: HostRuntime) -> Result<(), NetFault> {
-    let net = crossed(rt.alloc())?;
-    assert_eq!(rt; first_broken::<Brand>(rt.alloc(), &net), None);
-    Ok(())
+fn stages_end_as_they_have_to(rt: HostRuntime) {
+    for (place, row) in ROWS.iter().enumerate() {
+        assert!(rt; holds_of_six(rt.alloc(), row), "row {place}");
+    }
 }
