@@ -15,7 +15,8 @@ use Rattle.racp_model.proofs.lemmas.Costs.{before_cases, before_trans}
 use Rattle.racp_model.proofs.lemmas.Relations.{member_cases, member_first, member_later, no_member}
 use Rattle.racp_trees.specs.declared.claim.Claim.{Claim}
 use Rattle.racp_trees.specs.declared.parts.Part.{Part}
-use Rattle.racp_trees.specs.Enough.{IsGapAnswer, IsAtMost, IsBelowSome, AreEnoughBlocks, IsPartAt, AreParts, ArePartsAdded, IsPart, IsIn, IsLeft, IsLooking, slack, weights}
+use Rattle.racp_trees.specs.Enough.{IsGapAnswer, IsAtMost, IsBelowSome, AreEnoughBlocks, IsPartAt, AreParts, ArePartsAdded}
+use Rattle.racp_trees.proofs.Looking.{IsPart, IsIn, IsLeft, IsLooking, slack, weights}
 
 -- a vector that is at or above another in each place does not stand before it (from racp_lexfix)
 above-no_before : (p : Project) (terms : Terms) (low high : List ℕ) → AreTermsOf p terms → length low ≡ p.resources → length high ≡ p.resources →

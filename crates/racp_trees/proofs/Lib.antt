@@ -1,5 +1,6 @@
 mod Children
 mod Refuting
+mod Looking
 mod Boxes
 mod Digits
 mod Lines

@@ -1,7 +1,7 @@
 ghost use Rattle.std.specs.Prelude.{◌≡◌, ◌↔◌, ◌≤◌, ℕ, ◌<◌, IfOk, IsTrue, length, slice_index, slice_index_or};
 ghost use Rattle.racp_model.specs.Project.{IsSound};
 ghost use Rattle.racp_model.specs.Terms.{AreTermsOf};
-ghost use Rattle.racp_trees.specs.Enough.{AreEnoughBlocks, IsClaim, IsGapAnswer, IsPart, AreParts};
+ghost use Rattle.racp_trees.specs.Enough.{AreEnoughBlocks, IsClaim, IsGapAnswer};
 
 use crate::before::{is_before, place_above};
 use crate::claim::Claim;

@@ -2,7 +2,8 @@ use Rattle.std.proofs.Common.{◌∙◌, ◌++◌, ◌∷◌, [], ℕ, length, s
 use Rattle.std.specs.Global.{Global}
 use Rattle.racp_model.specs.Terms.{IsBefore}
 use Rattle.racp_trees.specs.declared.parts.Part.{Part}
-use Rattle.racp_trees.specs.Enough.{IsAtMost, ArePartsAdded, IsPart}
+use Rattle.racp_trees.specs.Enough.{IsAtMost, ArePartsAdded}
+use Rattle.racp_trees.proofs.Looking.{IsPart}
 use Rattle.racp_trees.proofs.Boxes.{looking-first, looking-skip, looking-parts, parts-weigh, skip-weighs, enough-none, taken-is, never, below_of, added_of, at_of, empty}
 use Rattle.racp_trees.proofs.enough.gap.Goals as goal
 

@@ -1,4 +1,4 @@
-use Rattle.racp_trees.specs.Enough.{IsLooking, weights}
+use Rattle.racp_trees.proofs.Looking.{IsLooking, weights}
 use Rattle.racp_trees.proofs.enough.gap.Given as goal
 
 abbrev pub invariant-loop-part : goal.invariant-loop-part
