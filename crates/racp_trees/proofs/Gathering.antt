@@ -1,6 +1,6 @@
 -- A certificate is made block by block: whatever ends it as a certificate's rest does, ends it as a certificate.
-use Rattle.std.proofs.Common.{◌≡◌, ◌∙◌, inl, inr, ℕ, ◌<◌, ◌≤◌, List, [], ◌∷◌, ◌++◌, length, slice_index_or, Contains, AllPairs, Vec, arith, refl, sym, subst, ap, append_assoc, codes}
-use Rattle.std.specs.Prelude.{Some, None, flat_map}
+use Rattle.std.proofs.Common.{◌≡◌, ◌∙◌, inl, inr, ℕ, ◌<◌, ◌≤◌, List, [], ◌∷◌, ◌++◌, length, slice_index_or, Contains, AllPairs, Vec, Bool, IsTrue, arith, refl, sym, subst, ap, append_assoc, codes}
+use Rattle.std.specs.Prelude.{Some, None, Result, Ok, Err, IfOk, flat_map}
 use Rattle.std.specs.Global.{Global}
 use Rattle.std.proofs.lemmas.Option.{none-some}
 use Rattle.std.proofs.lemmas.List.Elements.{All-contains_itself, Contains-append_cases}
@@ -41,6 +41,12 @@ block_made p a root old new text begun whole some places small none begins made 
             (subst (λ (bs : List Branch). IsNext p a (rest_of p wanted root (vectors ++ a ∷ [])) nodes old.number root (open_nodes a root.upper bs) more) none (told.2 x))),
       );
 }
+
+-- where the tree was made, so was the block
+pub block_pushed : {E : Type 0} (p : Project) (a : List ℕ) (root : Bounds) (old new : Reader) (text begun whole : List ℕ) (result : Result Bool E) → 1 ≤ p.resources → length a ≡ p.resources → AreSmall a → old.branches.items ≡ [] →
+    begun ≡ text ++ vector_line a → IfOk result (λ made. IsTrue made → HasMadeTree p a root old begun new whole) → IfOk result (λ made. IsTrue made → HasMadeBlock p a root old text new whole)
+block_pushed p a root old new text begun whole (Ok made) some places small none begins h = λ yes'. block_made p a root old new text begun whole some places small none begins (h yes')
+block_pushed p a root old new text begun whole (Err e) some places small none begins h = tt
 
 -- the vectors of blocks
 abbrev pub vectors_from : List (Vec ℕ Global) → List (List ℕ)

@@ -14,7 +14,7 @@ use Rattle.racp_trees.specs.Following.{IsNext}
 use Rattle.racp_trees.specs.Nodes.{AreRecords, HasPlace}
 use Rattle.racp_trees.specs.Records.{record_at}
 use Rattle.racp_trees.specs.Readers.{IsReady, HasRead, IsLineAnswer, IsNextAnswer, StaysReady, AsksNext, HasReadTree, open_nodes, rest_of}
-use Rattle.racp_trees.specs.Making.{IsThinned, IsThinnedReader, HasMadeTree}
+use Rattle.racp_trees.specs.Making.{IsChoice, IsThinned, IsThinnedReader, HasMadeTree}
 use Rattle.racp_trees.specs.Texts.{step_line, step_number, most_number}
 use Rattle.racp_trees.specs.declared.branch.Branch.{Branch}
 use Rattle.racp_trees.specs.declared.closed.Closed.{Closed}
@@ -51,10 +51,18 @@ thinned_ready p a old new thin ready = record {
   branches = λ b c. ready.branches b (subst (λ (xs : Vec Branch Global). Contains xs.items b) thin.branches c);
 }
 
--- nothing is forgotten, or something more
+-- nothing is forgotten
 pub thinned_same : (r : Reader) → IsThinnedReader r r
 thinned_same r = record { branches = refl; number = refl; closed = record { told = λ m kept e. e; empty = λ m less e. e } }
 
+-- a line that names a node with a place may be chosen, and one that divides a node
+pub choice_covers : (r : Reader) (node : ℕ) → node ≤ most_number → HasPlace r.closed node → IsChoice r r (Some (C node))
+choice_covers r node little place = (thinned_same r, little, λ other same. let e : node ≡ other = cc same in subst (λ (n : ℕ). HasPlace r.closed n) e place)
+
+pub choice_divides : (old new : Reader) (time : ℕ) → time ≤ most_number → IsThinnedReader old new → IsChoice old new (Some (D time))
+choice_divides old new time little thin = (thin, little, λ node same. absurd (cc same))
+
+-- something more is forgotten
 pub thinned_then : (old mid : Reader) (closed : Closed) → IsThinnedReader old mid → IsThinned mid.closed closed mid.number → IsThinnedReader old (record { closed = closed; branches = mid.branches; number = mid.number; usual = mid.usual })
 thinned_then old mid closed first second = record {
   branches = first.branches;

@@ -10,7 +10,8 @@ use Rattle.racp_delay.specs.Branching.{IsConflict}
 use Rattle.racp_cutset.specs.Covering.{SearchNode}
 use Rattle.racp_trees.specs.Trees.{IsNodeOf, IsTooLate}
 use Rattle.racp_trees.specs.Following.{IsOpened}
-use Rattle.racp_trees.specs.Nodes.{IsAtMostAll, IsDivisionAnswer}
+use Rattle.racp_trees.specs.Nodes.{IsDivisionAnswer}
+use Rattle.racp_trees.specs.Enough.{IsAtMost}
 use Rattle.racp_trees.specs.Readers.{IsOpenedBy}
 use Rattle.racp_trees.specs.declared.branch.Branch.{Branch}
 use Rattle.racp_trees.specs.declared.reader.Reader.{Reader}
@@ -32,7 +33,7 @@ module _ (p : Project) (a lower upper early : List ℕ) (h : IsEarly p (slice_in
   )
 
   -- D
-  opened_parts : (time : ℕ) (v : SearchNode) (active : List ℕ) → IsOpened p a window time v active → IsAtMostAll early upper × IsConflict p a early time active
+  opened_parts : (time : ℕ) (v : SearchNode) (active : List ℕ) → IsOpened p a window time v active → IsAtMost (length early) early upper × IsConflict p a early time active
   opened_parts time v active o =
       let is : IsOpened p a window time (node_at a lower upper early v.time) active = subst (λ (x : SearchNode). IsOpened p a window time x active) (node_is p a lower upper early v h o.is) o in
       (λ i l. is.below i (omega (arith, l, h.places)), subst (λ (t : ℕ). IsConflict p a early t active) is.at is.clash)

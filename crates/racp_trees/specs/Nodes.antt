@@ -1,22 +1,19 @@
 -- Contracts of private functions: what lines say of nodes, told by records of closed nodes.
-use Rattle.std.specs.Prelude.{◌≡◌, ℕ, ◌<◌, ◌≤◌, List, length, slice_index, Contains, Option, Some, None}
+use Rattle.std.specs.Prelude.{◌≡◌, ℕ, List, length, Contains, Option, Some, None}
 use Rattle.racp_model.specs.Project.{Project}
 use Rattle.racp_model.specs.Window.{Bounds}
 use Rattle.racp_delay.specs.Branching.{IsConflict}
 use Rattle.racp_cutset.specs.Covering.{SearchNode, IsNode, FitsBeforeTime}
 use Rattle.racp_trees.specs.Trees.{IsNodeOf, IsCovered}
+use Rattle.racp_trees.specs.Enough.{IsAtMost}
 use Rattle.racp_trees.specs.Records.{IsRecordOf, HasRows, record_at}
 use Rattle.racp_trees.specs.declared.record.Record.{Record}
 use Rattle.racp_trees.specs.declared.closed.Closed.{Closed}
 
--- no early start exceeds its upper bound
-abbrev pub IsAtMostAll : List ℕ → List ℕ → Type 0
-IsAtMostAll early upper = (i : ℕ) → i < length early → slice_index early i ≤ slice_index upper i
-
--- none does, and the first conflict is at this time, with these active jobs; or that is not so
+-- no early start exceeds its upper bound, and the first conflict is at this time, with these active jobs; or that is not so
 abbrev pub IsDivisionAnswer : Project → List ℕ → List ℕ → List ℕ → ℕ → Option (List ℕ) → Type 0
-IsDivisionAnswer p capacities upper early time (Some active) = IsAtMostAll early upper × IsConflict p capacities early time active
-IsDivisionAnswer p capacities upper early time None = (active : List ℕ) → IsAtMostAll early upper → IsConflict p capacities early time active → ⊥
+IsDivisionAnswer p capacities upper early time (Some active) = IsAtMost (length early) early upper × IsConflict p capacities early time active
+IsDivisionAnswer p capacities upper early time None = (active : List ℕ) → IsAtMost (length early) early upper → IsConflict p capacities early time active → ⊥
 
 -- each record has rows for the network
 abbrev pub HaveRows : Project → Closed → Type 0

@@ -97,14 +97,19 @@ pub record StaysReady (p : Project) (capacities : List ℕ) (old new : Reader) :
   pub number : new.number ≡ old.number
   pub places : (node : ℕ) → HasPlace old.closed node → HasPlace new.closed node
 
--- a branch that was taken off goes on to its next child, or is closed
+-- a branch that was taken off is closed, and its record is kept
+abbrev pub IsClosedBy : Project → List ℕ → Reader → Branch → Reader → Type 0
+IsClosedBy p capacities old branch new =
+    (kept : Record) × (new.branches.items ≡ old.branches.items) × (new.number ≡ old.number) × IsKept old.closed branch.number kept new.closed ×
+    ((upper : List ℕ) → IsRecordOf p (open_node capacities upper branch).node kept)
+
+-- it goes on to its next child, or is closed
 abbrev pub IsGoneOn : Project → List ℕ → Reader → Branch → Reader → Option (Vec ℕ Global) → Type 0
 IsGoneOn p capacities old branch new (Some lower) =
     (next : Branch) × (new.branches.items ≡ old.branches.items ++ next ∷ []) × (new.closed ≡ old.closed) × (new.number ≡ old.number) × (next.number ≡ branch.number) × (next.early ≡ branch.early) ×
     IsBranch p capacities next × IsNextChild p capacities branch next lower.items
 IsGoneOn p capacities old branch new None =
-    (kept : Record) × (new.branches.items ≡ old.branches.items) × (new.number ≡ old.number) × IsKept old.closed branch.number kept new.closed ×
-    ((upper : List ℕ) → IsRecordOf p (open_node capacities upper branch).node kept) × ((upper : List ℕ) → IsReadUp p (open_node capacities upper branch))
+    IsClosedBy p capacities old branch new × ((upper : List ℕ) → IsReadUp p (open_node capacities upper branch))
 
 -- the tree of the root window was read from a text: what is left, and that the text is a certificate's rest exactly where that is
 pub record HasReadTree (p : Project) (capacities : List ℕ) (root : Bounds) (old : Reader) (text : List ℕ) (new : Reader) (rest : List ℕ) : Type 0 where

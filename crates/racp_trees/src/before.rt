@@ -18,7 +18,7 @@ pub(crate) fn is_before(claim: &Claim, vector: &[u32]) -> bool
 }
 
 /// Whether no number is above the one at its place in another list.
-fn is_at_most(first: &[u32], second: &[u32]) -> bool
+pub(crate) fn is_at_most(first: &[u32], second: &[u32]) -> bool
     requires { length second.now ≡ length first.now }
     ensures { IsTrue result ↔ IsAtMost (length first.now) first.now second.now }
 {

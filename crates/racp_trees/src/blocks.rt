@@ -6,13 +6,11 @@ ghost use Rattle.racp_trees.specs.Reading.{IsNamed};
 ghost use Rattle.racp_trees.specs.Nodes.{HasPlace};
 ghost use Rattle.racp_trees.specs.Blocks.{IsBetween, IsBlockRead, AreBlocksRead};
 
-use crate::branch::copied;
 use crate::closed::Closed;
 use crate::reader::{Ground, Reader};
 use crate::reading::{behind, read_vector};
 use racp_model::{Capacities, Network, Window};
 use std::alloc::{AllocError, Global};
-use std::rc::Rc;
 
 /// The capacity vectors of the blocks of a certificate's text, in their order; `None` where the text is not one of blocks that
 /// hold with the root window. Whether the blocks are enough is not looked at.
@@ -32,14 +30,7 @@ pub fn block_vectors(
     let Some(rest) = behind(text, "proof\n") else {
         return Ok(None);
     };
-    let usual = Rc::new(alloc, copied(alloc, root.lower())?)?;
-    let closed = Closed::for_text(alloc, rest)?;
-    let reader = Reader {
-        closed,
-        branches: Vec::new(alloc),
-        number: 1,
-        usual,
-    };
+    let reader = Reader::new(alloc, root, Closed::for_text(alloc, rest)?)?;
     read_blocks(alloc, net, root, reader, rest)
 }
 

@@ -10,19 +10,16 @@ ghost use Rattle.racp_trees.specs.Enough.{IsClaim};
 ghost use Rattle.racp_trees.specs.Making.{HasAddedBlock, HasMadeBlock, IsGiven};
 ghost use Rattle.racp_trees.specs.Records.{record_at};
 ghost use Rattle.racp_trees.specs.Texts.{first_line, last_line};
-ghost use Rattle.racp_trees.specs.declared.maker.Made.TheVariants.{Tree};
 
-use crate::before::is_before;
-use crate::branch::copied;
+use crate::before::{is_at_most, is_before};
 use crate::claim::Claim;
 use crate::enough::gap;
-use crate::maker::{MOST_BYTES, Made, Maker};
+use crate::maker::{MOST_BYTES, Maker};
 use crate::reader::Ground;
 use crate::writer::push_vector;
 use racp_model::{Capacities, Network, Window};
 use racp_prices::Order;
 use std::alloc::{AllocError, Global};
-use std::rc::Rc;
 
 /// How many blocks a certificate has at most. One has 13 bytes or more.
 const MOST_BLOCKS: usize = 1_290_555;
@@ -68,11 +65,19 @@ pub fn certificate(
         capacities,
     };
     let given = Given { claim, root, hints };
-    let usual = Rc::new(alloc, copied(alloc, root.lower())?)?;
-    let mut maker = Maker::new(alloc, net, usual);
     let mut text = b"proof\n".to_vec(alloc)?;
-    let is_made = push_blocks(alloc, &given, &mut maker, &mut text)?;
+    let is_made = push_rest(alloc, &given, &mut text)?;
     Ok(if is_made { Some(text) } else { None })
+}
+
+/// Adds the lines behind the first one. False where some block was not made, or the text has too many bytes.
+fn push_rest(alloc: Global, given: &Given, text: &mut Vec<u8>) -> Result<bool, AllocError>
+    requires given { IsGiven given.now }
+    requires begun { text.old.items ≡ first_line }
+    ensures { IfOk result (λ yes. IsTrue yes → IsCertificate given.now.claim.net.now given.now.claim.order.now given.now.claim.capacities.now text.new.items) }
+{
+    let mut maker = Maker::new(alloc, given.claim.net, given.root)?;
+    push_blocks(alloc, given, &mut maker, text)
 }
 
 /// Adds blocks until they are enough, and then the last line. False where some block was not made, or the text has too
@@ -129,11 +134,16 @@ fn push_next(
     requires room { maker.old.reader.number ≤ length text.old.items }
     ensures { IfOk result (λ yes. IsTrue yes → HasAddedBlock given.now.claim.net.now given.now.root.now maker.old.reader blocks.old.items text.old.items maker.new.reader blocks.new.items text.new.items) }
 {
-    let vector = vector_above(alloc, given, low)?;
-    if !push_block(alloc, maker, given.claim.net, given.root, &vector, text)? {
+    let capacities = Capacities::new(vector_above(alloc, given, low)?);
+    let ground = Ground {
+        net: given.claim.net,
+        root: given.root,
+        capacities: &capacities,
+    };
+    if !push_block(alloc, maker, &ground, text)? {
         return Ok(false);
     }
-    blocks.push(vector)?;
+    blocks.push(capacities.into_vec())?;
     Ok(true)
 }
 
@@ -141,37 +151,18 @@ fn push_next(
 fn push_block(
     alloc: Global,
     maker: &mut Maker,
-    net: &Network,
-    root: &Window,
-    vector: &Vec<u32>,
+    ground: &Ground,
     text: &mut Vec<u8>,
 ) -> Result<bool, AllocError>
-    requires vector { length vector.now.items ≡ net.now.resources }
-    requires root { HasBounds net.now root.now }
+    requires capacities { length ground.now.capacities.now ≡ ground.now.net.now.resources }
+    requires root { HasBounds ground.now.net.now ground.now.root.now }
     requires branches { maker.old.reader.branches.items ≡ [] }
     requires room { maker.old.reader.number ≤ length text.old.items }
-    ensures { IfOk result (λ yes. IsTrue yes → HasMadeBlock net.now vector.now.items root.now maker.old.reader text.old.items maker.new.reader text.new.items) }
+    ensures { IfOk result (λ yes. IsTrue yes → HasMadeBlock ground.now.net.now ground.now.capacities.now ground.now.root.now maker.old.reader text.old.items maker.new.reader text.new.items) }
 {
-    prove!(net.job_count() == net.job_count());
-    push_vector(alloc, text, vector)?;
-    let capacities = Capacities::new(vector.to_vec(alloc)?);
-    let ground = Ground {
-        net,
-        root,
-        capacities: &capacities,
-    };
-    let made = maker.make_tree(alloc, &ground, text)?;
-    Ok(is_tree(&made))
-}
-
-/// Whether a tree was made.
-fn is_tree(made: &Made) -> bool
-    ensures { IsTrue result → made.now ≡ Tree }
-{
-    match made {
-        Made::Tree => true,
-        Made::Open | Made::Long => false,
-    }
+    prove!(ground.net.job_count() == ground.net.job_count());
+    push_vector(alloc, text, ground.capacities.as_slice())?;
+    maker.make_tree(alloc, ground, text)
 }
 
 /// The first of the hints that is at or above a vector that stands before the capacities, or else a vector at or above
@@ -195,7 +186,7 @@ fn vector_above(alloc: Global, given: &Given, low: Vec<u32>) -> Result<Vec<u32>,
 fn is_above(hint: &[u32], low: &[u32]) -> bool
     ensures { IsTrue result → length hint.now ≡ length low.now }
 {
-    hint.len() == low.len() && (0..low.len()).all(|k| low[k] <= hint[k])
+    hint.len() == low.len() && is_at_most(low, hint)
 }
 
 /// Raises the numbers of a vector, one place after another, each as far as the vector stands before the capacities.

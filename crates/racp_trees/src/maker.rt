@@ -7,7 +7,6 @@ ghost use Rattle.racp_model.specs.Path.{IsEarly};
 ghost use Rattle.racp_trees.specs.Making.{IsChoice, IsThinnedReader, IsLineMade, HasMadeTree};
 ghost use Rattle.racp_trees.specs.Readers.{IsReady};
 ghost use Rattle.racp_trees.specs.Records.{HasRows, record_at};
-ghost use Rattle.racp_trees.specs.declared.maker.Made.TheVariants.{Tree};
 
 use crate::branch::copied;
 use crate::closed::Closed;
@@ -18,23 +17,12 @@ use crate::step::Step;
 use crate::writer::push_step;
 use racp_cpm::early;
 use racp_delay::{conflict, laws};
-use racp_model::{Network, Starts};
+use racp_model::{Network, Starts, Window};
 use std::alloc::{AllocError, Global};
 use std::rc::Rc;
 
 /// How many bytes a certificate has at most.
 pub(crate) const MOST_BYTES: usize = 16_777_216;
-
-/// What came of making a tree.
-#[derive(Drop)]
-pub(crate) enum Made {
-    /// The tree was made, and holds.
-    Tree,
-    /// Some window of the tree has starts that fit.
-    Open,
-    /// The text would have too many bytes.
-    Long,
-}
 
 /// A maker of trees: a reader of the lines that it makes itself, and the nodes that may cover others.
 #[derive(Drop)]
@@ -44,37 +32,32 @@ pub(crate) struct Maker {
 }
 
 impl Maker {
-    /// A maker that has made nothing. Its next node has the number 1, and these bounds are usual.
-    pub(crate) fn new(alloc: Global, net: &Network, usual: Rc<Vec<u32>>) -> Self
-        ensures number { result.reader.number ≡ 1 }
-        ensures closed { (number : ℕ) → record_at result.reader.closed number ≡ None }
-        ensures branches { result.reader.branches.items ≡ [] }
+    /// A maker that has made nothing. The lower bounds of the root window are usual.
+    pub(crate) fn new(alloc: Global, net: &Network, root: &Window) -> Result<Self, AllocError>
+        ensures number { IfOk result (λ maker. maker.reader.number ≡ 1) }
+        ensures closed { IfOk result (λ maker. (number : ℕ) → record_at maker.reader.closed number ≡ None) }
+        ensures branches { IfOk result (λ maker. maker.reader.branches.items ≡ []) }
     {
-        let reader = Reader {
-            closed: Closed::none(alloc),
-            branches: Vec::new(alloc),
-            number: 1,
-            usual,
-        };
-        Maker {
+        let reader = Reader::new(alloc, root, Closed::none(alloc))?;
+        Ok(Maker {
             reader,
             offers: Offers::new(alloc, net),
-        }
+        })
     }
 
     /// Makes the tree of the root window, and adds its lines to the text. Each line that is chosen is read as a reader
-    /// of the text reads it.
+    /// of the text reads it. False where some window of the tree has starts that fit, or the text would have too many bytes.
     pub(crate) fn make_tree(
         &mut self,
         alloc: Global,
         ground: &Ground,
         text: &mut Vec<u8>,
-    ) -> Result<Made, AllocError>
+    ) -> Result<bool, AllocError>
         requires capacities { length ground.now.capacities.now ≡ ground.now.net.now.resources }
         requires root { HasBounds ground.now.net.now ground.now.root.now }
         requires branches { self.old.reader.branches.items ≡ [] }
         requires room { self.old.reader.number ≤ length text.old.items }
-        ensures { IfOk result (λ made. made ≡ Tree → HasMadeTree ground.now.net.now ground.now.capacities.now ground.now.root.now self.old.reader text.old.items self.new.reader text.new.items) }
+        ensures { IfOk result (λ made. IsTrue made → HasMadeTree ground.now.net.now ground.now.capacities.now ground.now.root.now self.old.reader text.old.items self.new.reader text.new.items) }
     {
         laws::some_job_goes();
         laws::conflict_is_one();
@@ -82,14 +65,14 @@ impl Maker {
         let mut lower = copied(alloc, ground.root.lower())?;
         while text.len() < MOST_BYTES {
             if !self.make_line(alloc, ground, lower, text)? {
-                return Ok(Made::Open);
+                return Ok(false);
             }
             match self.reader.next_window(alloc, ground)? {
                 Some(next) => lower = next,
-                None => return Ok(Made::Tree),
+                None => return Ok(true),
             }
         }
-        Ok(Made::Long)
+        Ok(false)
     }
 
     /// Makes the line of the window with these lower bounds, adds it to the text, and reads it. False where the window has

@@ -6,8 +6,9 @@ ghost use Rattle.racp_model.specs.Path.{IsEarly};
 ghost use Rattle.racp_model.specs.Limits.{most_bound, most_early};
 ghost use Rattle.racp_delay.specs.Alternatives.{place};
 ghost use Rattle.racp_cutset.specs.Covering.{SearchNode};
-ghost use Rattle.racp_trees.specs.Nodes.{IsDivisionAnswer, AreRecords, HaveRows, HasPlace, IsCoveredHere, IsAtMostAll};
+ghost use Rattle.racp_trees.specs.Nodes.{IsDivisionAnswer, AreRecords, HaveRows, HasPlace, IsCoveredHere};
 
+use crate::before::is_at_most;
 use crate::closed::Closed;
 use crate::record::Record;
 use racp_delay::{JobSet, conflict};
@@ -26,14 +27,6 @@ pub(crate) fn is_too_late(upper: &[u32], early: &[u32], job: u32) -> bool
     upper[job as usize - 1] < early[job as usize - 1]
 }
 
-/// Whether no early start exceeds its upper bound.
-fn are_in_time(upper: &[u32], early: &[u32]) -> bool
-    requires { length upper.now ≡ length early.now }
-    ensures { IsTrue result ↔ IsAtMostAll early.now upper.now }
-{
-    (0..early.len()).all(|i| early[i] <= upper[i])
-}
-
 /// The jobs that are active at the first conflict of early starts, where that is at this time and none of them exceeds
 /// its upper bound; else `None`.
 pub(crate) fn active_at(
@@ -49,7 +42,7 @@ pub(crate) fn active_at(
     ensures { IsDivisionAnswer net.now capacities.now upper.now early.now time result }
 {
     racp_delay::laws::conflict_is_one();
-    if !are_in_time(upper, early.as_slice()) {
+    if !is_at_most(early.as_slice(), upper) {
         return None;
     }
     let clash = conflict(net, capacities, early)?;

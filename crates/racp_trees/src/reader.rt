@@ -1,12 +1,12 @@
 //! Reading the tree of a block, line by line.
 
-ghost use Rattle.std.specs.Prelude.{◌≡◌, ◌+◌, ◌<◌, ◌≤◌, ◌^◌, ℕ, All, IfOk, length, slice_index};
+ghost use Rattle.std.specs.Prelude.{◌≡◌, ◌+◌, ◌<◌, ◌≤◌, ◌^◌, ℕ, All, [], IfOk, OnOk, length, slice_index};
 ghost use Rattle.racp_model.specs.Path.{IsEarly};
 ghost use Rattle.racp_model.specs.Formed.{HasBounds};
 ghost use Rattle.racp_model.specs.Limits.{most_bound, most_start};
 ghost use Rattle.racp_trees.specs.Nodes.{HasPlace};
 ghost use Rattle.racp_trees.specs.Reading.{IsNamed};
-ghost use Rattle.racp_trees.specs.Readers.{IsReady, IsLineAnswer, IsNextAnswer, IsGoneOn, IsTreeAnswer, StaysReady};
+ghost use Rattle.racp_trees.specs.Readers.{IsReady, IsLineAnswer, IsNextAnswer, IsClosedBy, IsGoneOn, IsTreeAnswer, StaysReady};
 ghost use Rattle.racp_trees.specs.Branches.{IsBranch};
 ghost use Rattle.racp_trees.specs.declared.step.Step.TheVariants.{C, D};
 
@@ -40,6 +40,21 @@ pub(crate) struct Reader {
 }
 
 impl Reader {
+    /// A reader that has read nothing, with these closed nodes. The lower bounds of the root window are usual.
+    pub(crate) fn new(alloc: Global, root: &Window, closed: Closed) -> Result<Self, AllocError>
+        ensures closed { IfOk result (λ reader. reader.closed ≡ closed) }
+        ensures branches { IfOk result (λ reader. reader.branches.items ≡ []) }
+        ensures number { IfOk result (λ reader. reader.number ≡ 1) }
+    {
+        let usual = Rc::new(alloc, copied(alloc, root.lower())?)?;
+        Ok(Reader {
+            closed,
+            branches: Vec::new(alloc),
+            number: 1,
+            usual,
+        })
+    }
+
     /// Reads the tree of the root window, and answers what stands behind it; `None` where a text does not begin with a
     /// tree that holds.
     pub(crate) fn read_tree<'t>(
@@ -186,8 +201,17 @@ impl Reader {
             self.branches.push(branch)?;
             return Ok(Some(lower));
         }
+        self.close(alloc, ground, &branch)?;
+        Ok(None)
+    }
+
+    /// Closes a node, whose children were all read.
+    fn close(&mut self, alloc: Global, ground: &Ground, branch: &Branch) -> Result<(), AllocError>
+        requires { IsBranch ground.now.net.now ground.now.capacities.now branch.now }
+        ensures { OnOk result (IsClosedBy ground.now.net.now ground.now.capacities.now self.old branch.now self.new) }
+    {
         let kept = branch.record(alloc, ground.net, ground.capacities, &self.usual)?;
         self.closed.keep(branch.number, kept)?;
-        Ok(None)
+        Ok(())
     }
 }

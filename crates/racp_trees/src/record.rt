@@ -3,9 +3,9 @@
 ghost use Rattle.std.specs.Prelude.{◌≡◌, ◌↔◌, ◌<◌, ◌≤◌, ℕ, List, IsTrue, IfOk, length, slice_index};
 ghost use Rattle.racp_model.specs.Project.{IsSound};
 ghost use Rattle.racp_model.specs.Limits.{most_early};
-ghost use Rattle.racp_trees.specs.Enough.{IsAtMost};
 ghost use Rattle.racp_trees.specs.Records.{IsRecordOf, RecordCovers, AreAlike, AreBounds, AreNotEarlier, AreWaits, AreTold, bound_at, wait_of};
 
+use crate::before::is_at_most;
 use crate::branch::copied;
 use racp_cutset::started_before;
 use racp_delay::JobSet;
@@ -96,14 +96,6 @@ fn number_at(numbers: &[u32], place: usize) -> u32
     ensures { result ≡ slice_index numbers.now place }
 {
     numbers.get(place).copied().unwrap_or(0)
-}
-
-/// Whether no number is above the one at its place in another list.
-fn is_at_most(first: &[u32], second: &[u32]) -> bool
-    requires { length second.now ≡ length first.now }
-    ensures { IsTrue result ↔ IsAtMost (length first.now) first.now second.now }
-{
-    (0..first.len()).all(|k| first[k] <= second[k])
 }
 
 /// The ends of the jobs that start before a time, and the lower bounds of the others.

@@ -1,8 +1,8 @@
 //! The lines of a certificate.
 
-ghost use Rattle.std.specs.Prelude.{◌≡◌, ◌++◌, ◌∷◌, [], OnOk, codes};
+ghost use Rattle.std.specs.Prelude.{◌≡◌, ◌≤◌, ◌++◌, ◌∷◌, [], All, OnOk, codes};
 ghost use Rattle.std.specs.Fmt.{decimal};
-ghost use Rattle.racp_trees.specs.Texts.{step_line, vector_line};
+ghost use Rattle.racp_trees.specs.Texts.{most_number, step_line, vector_line};
 
 use crate::step::Step;
 use std::alloc::{AllocError, Global};
@@ -37,7 +37,8 @@ pub(crate) fn push_vector(
     text: &mut Vec<u8>,
     vector: &[u32],
 ) -> Result<(), AllocError>
-    ensures { OnOk result (text.new.items ≡ text.old.items ++ vector_line vector.now) }
+    ensures line { OnOk result (text.new.items ≡ text.old.items ++ vector_line vector.now) }
+    ensures small { OnOk result (All (λ units. units ≤ most_number) vector.now) }
 {
     text.extend_from_slice(b"vector")?;
     for place in 0..vector.len() {

@@ -2,7 +2,7 @@ use Rattle.std.proofs.Common.{◌≡◌, codes, rules}
 use Rattle.racp_trees.proofs.Gathering.{first_written}
 use Rattle.racp_trees.proofs.certifying.certificate.Goals as goal
 
-pub push_blocks-requires-clause-begun : goal.push_blocks-requires-clause-begun
-push_blocks-requires-clause-begun c =
+pub push_rest-requires-clause-begun : goal.push_rest-requires-clause-begun
+push_rest-requires-clause-begun c =
     let begun : c.in_ok-text.text.items ≡ codes "proof\n" = search rules in
     first_written c.in_ok-text.text.items begun

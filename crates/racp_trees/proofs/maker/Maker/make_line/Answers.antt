@@ -1,6 +1,6 @@
-use Rattle.std.proofs.Common.{refl, ap, ◌∙◌, ◌+◌, ℕ, List, Option, subst, arith}
+use Rattle.std.proofs.Common.{refl, ◌+◌, ℕ, List, Option, subst, arith}
 use Rattle.racp_model.specs.Window.{Bounds}
-use Rattle.racp_trees.specs.Making.{IsChoice, IsLineMade}
+use Rattle.racp_trees.specs.Making.{IsChoice}
 use Rattle.racp_trees.specs.Readers.{IsLineAnswer}
 use Rattle.racp_trees.specs.declared.reader.Reader.{Reader}
 use Rattle.racp_trees.specs.declared.step.Step.{Step}

@@ -20,7 +20,7 @@ loop-branch-smaller c =
     let a : List ℕ = c.args.ground.now.capacities.now in
     let popped : Reader = record { closed = c.loop-branch.self.closed; branches = c.pop.new.self; number = c.loop-branch.self.number; usual = c.loop-branch.self.usual } in
     let g = subst (λ (o : Option (Vec ℕ Global)). IsGoneOn p a popped c.in-Some.branch c.go_on.new.self o) c.in_default-2.is c.in_ok-lower.ensures in
-    omega (arith, ap (λ (xs : List Branch). length xs) g.1, ap (λ (xs : List Branch). length xs) c.in-Some.ensures.items, length-append c.pop.new.self.items (c.in-Some.branch ∷ []))
+    omega (arith, ap (λ (xs : List Branch). length xs) g.0.1, ap (λ (xs : List Branch). length xs) c.in-Some.ensures.items, length-append c.pop.new.self.items (c.in-Some.branch ∷ []))
 
 pub returns-clause-ready : goal.returns-clause-ready
 returns-clause-ready c =
@@ -52,7 +52,7 @@ loop-branch-preserved c =
     let a : List ℕ = c.args.ground.now.capacities.now in
     let popped : Reader = record { closed = c.loop-branch.self.closed; branches = c.pop.new.self; number = c.loop-branch.self.number; usual = c.loop-branch.self.usual } in
     let g = subst (λ (o : Option (Vec ℕ Global)). IsGoneOn p a popped c.in-Some.branch c.go_on.new.self o) c.in_default-2.is c.in_ok-lower.ensures in
-    passing_closed p a c.args.ground.now.root.now c.args.self.now c.loop-branch.self c.go_on.new.self c.pop.new.self.items c.in-Some.branch c.requires.capacities c.requires.root.upper c.loop-branch.invariant c.in-Some.ensures.items g.0 g.1 g.2 g.3 g.4 g.5
+    passing_closed p a c.args.ground.now.root.now c.args.self.now c.loop-branch.self c.go_on.new.self c.pop.new.self.items c.in-Some.branch c.requires.capacities c.requires.root.upper c.loop-branch.invariant c.in-Some.ensures.items g.0.0 g.0.1 g.0.2 g.0.3 g.0.4 g.1
 
 pub returns-clause-window : goal.returns-clause-window
 returns-clause-window c =
