@@ -1,6 +1,6 @@
 //! What deadlines cost, as a picture.
 
-use crate::svg::{MOST_MARKS, mark_of, push_head};
+use crate::svg::{MOST_MARKS, mark_of, push_head, push_mark, push_move, push_step};
 use std::alloc::{AllocError, Global};
 
 /// A deadline from which on a plan costs so much.
@@ -23,6 +23,9 @@ const TOP: u64 = 40;
 
 /// How high the greatest cost is drawn.
 const HEIGHT: u64 = 300;
+
+/// Where the deadlines are written, from above.
+const NUMBERS: u64 = 358;
 
 /// How high the picture is.
 const BOTTOM: u64 = 400;
@@ -95,12 +98,7 @@ fn push_deadlines(text: &mut String, range: &Range) -> Result<(), AllocError> {
     for number in 0..MOST_MARKS + 1 {
         let deadline = begin.saturating_add(number).saturating_mul(mark);
         if deadline <= range.last {
-            let x = range.across(deadline);
-            writeln!(
-                text,
-                "<path d=\"M{x} {TOP}V{base}\" stroke=\"#ddd\"/>\
-                 <text x=\"{x}\" y=\"358\" text-anchor=\"middle\">{deadline}</text>"
-            )?;
+            push_mark(text, deadline, range.across(deadline), TOP, base, NUMBERS)?;
         }
     }
     text.push_str("<text x=\"500\" y=\"382\" text-anchor=\"middle\">deadline</text>\n")
@@ -109,31 +107,37 @@ fn push_deadlines(text: &mut String, range: &Range) -> Result<(), AllocError> {
 /// Adds the axis of costs.
 fn push_costs(text: &mut String, range: &Range) -> Result<(), AllocError> {
     let mark = mark_of(range.most).max(1);
-    let right = LEFT.saturating_add(SPAN);
     for number in 0..MOST_MARKS + 1 {
         let cost = mark.saturating_mul(number);
         if cost <= range.most {
-            let y = range.down(cost);
-            let base = y.saturating_add(4);
-            writeln!(
-                text,
-                "<path d=\"M{LEFT} {y}H{right}\" stroke=\"#ddd\"/>\
-                 <text x=\"112\" y=\"{base}\" text-anchor=\"end\">{cost}</text>"
-            )?;
+            push_cost(text, cost, range.down(cost))?;
         }
     }
     text.push_str("<text x=\"112\" y=\"24\" text-anchor=\"end\">cost</text>\n")
 }
 
+/// Adds a number of the axis of costs: a line at the height `y`, and the number.
+fn push_cost(text: &mut String, cost: u64, y: u64) -> Result<(), AllocError> {
+    let right = LEFT.saturating_add(SPAN);
+    let base = y.saturating_add(4);
+    writeln!(
+        text,
+        "<path d=\"M{LEFT} {y}H{right}\" stroke=\"#ddd\"/>\
+         <text x=\"112\" y=\"{base}\" text-anchor=\"end\">{cost}</text>"
+    )
+}
+
 /// Adds the stair.
 fn push_stair(text: &mut String, corners: &[Corner], range: &Range) -> Result<(), AllocError> {
-    let (mut across, mut down) = ('M', ' ');
     text.push_str("<path d=\"")?;
-    for corner in corners {
+    for (place, corner) in corners.iter().enumerate() {
         let x = range.across(corner.deadline as u64);
         let y = range.down(corner.cost);
-        write!(text, "{across}{x}{down}{y}")?;
-        (across, down) = ('H', 'V');
+        if place == 0 {
+            push_move(text, x, y)?;
+        } else {
+            push_step(text, x, y)?;
+        }
     }
     let right = LEFT.saturating_add(SPAN);
     writeln!(

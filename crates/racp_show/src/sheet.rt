@@ -102,7 +102,7 @@ fn job_entries<'a>(
 ) -> Result<Vec<JobEntry<'a>>, AllocError>
     ensures { IfOk result (λ entries. AreJobEntries times.now.net.now times.now.starts.now names.now entries.items) }
 {
-    let mut entries = Vec::with_capacity(alloc, times.net.job_count())?;
+    let mut entries = Vec::new(alloc);
     for i in 0..times.net.job_count() {
         entries.push(job_entry(times, names, i))?;
     }
@@ -136,7 +136,7 @@ fn resource_entries<'a>(
     requires fits { FitsTerms net.now order.now plan.now.capacities plan.now.starts }
     ensures { IfOk result (λ entries. AreResourceEntries net.now order.now plan.now names.now entries.items) }
 {
-    let mut entries = Vec::with_capacity(alloc, net.resource_count())?;
+    let mut entries = Vec::new(alloc);
     for k in 0..net.resource_count() {
         entries.push(resource_entry(alloc, net, order, plan, names, k)?)?;
     }

@@ -22,6 +22,9 @@ const WIDTH: u64 = 930;
 /// How high the head of the picture is.
 const TOP: u64 = 24;
 
+/// Where the numbers of the axis are written, from above.
+const NUMBERS: u64 = 16;
+
 /// How high the line of a job is.
 const LINE: u64 = 18;
 
@@ -106,19 +109,36 @@ fn push_axis(text: &mut String, deadline: u64, bottom: u64) -> Result<(), AllocE
     for number in 0..MOST_MARKS + 1 {
         let time = mark.saturating_mul(number);
         if time <= deadline {
-            push_mark(text, time, across(time, deadline), bottom)?;
+            push_mark(text, time, across(time, deadline), TOP, bottom, NUMBERS)?;
         }
     }
     Ok(())
 }
 
-/// Adds one number of the axis.
-fn push_mark(text: &mut String, time: u64, x: u64, bottom: u64) -> Result<(), AllocError> {
+/// Adds a number of an axis of times: a line at `x` from `top` to `bottom`, and the number at the height `y`.
+pub(crate) fn push_mark(
+    text: &mut String,
+    time: u64,
+    x: u64,
+    top: u64,
+    bottom: u64,
+    y: u64,
+) -> Result<(), AllocError> {
     writeln!(
         text,
-        "<path d=\"M{x} {TOP}V{bottom}\" stroke=\"#ddd\"/>\
-         <text x=\"{x}\" y=\"16\" text-anchor=\"middle\">{time}</text>"
+        "<path d=\"M{x} {top}V{bottom}\" stroke=\"#ddd\"/>\
+         <text x=\"{x}\" y=\"{y}\" text-anchor=\"middle\">{time}</text>"
     )
+}
+
+/// Adds where a stair begins.
+pub(crate) fn push_move(text: &mut String, x: u64, y: u64) -> Result<(), AllocError> {
+    write!(text, "M{x} {y}")
+}
+
+/// Adds a step of a stair: across to `x`, and up or down to `y`.
+pub(crate) fn push_step(text: &mut String, x: u64, y: u64) -> Result<(), AllocError> {
+    write!(text, "H{x}V{y}")
 }
 
 /// Adds a bar for each job.
@@ -225,17 +245,15 @@ fn push_stair(
     top: u64,
 ) -> Result<(), AllocError> {
     let base = top.saturating_add(HEIGHT);
-    write!(text, "<path d=\"M{LEFT} {base}")?;
+    text.push_str("<path d=\"")?;
+    push_move(text, LEFT, base)?;
     for step in &entry.usage {
         let x = across(step.from as u64, deadline);
         let y = base.saturating_sub(height(step.units, entry.capacity));
-        write!(text, "H{x}V{y}")?;
+        push_step(text, x, y)?;
     }
-    let right = LEFT.saturating_add(SPAN);
-    writeln!(
-        text,
-        "H{right}V{base}Z\" fill=\"#bcd\" stroke=\"#4a7ebb\"/>"
-    )
+    push_step(text, LEFT.saturating_add(SPAN), base)?;
+    text.push_str("Z\" fill=\"#bcd\" stroke=\"#4a7ebb\"/>\n")
 }
 
 /// How high a usage is drawn.

@@ -2,13 +2,16 @@ use Rattle.std.proofs.Common.{◌∙◌, ◌++◌, List, ℕ, encode_utf8, encod
 use Rattle.std.proofs.lemmas.Iterator.{YieldsList-from_chars}
 use Rattle.std.proofs.lemmas.Iterator.Consumers.{YieldsList-end}
 use Rattle.std.specs.Char.{is_control}
-use Rattle.racp_show.proofs.Naming.{with_letter}
+use Rattle.racp_show.proofs.Naming.{with_letter, without_letter}
 use Rattle.racp_show.proofs.names.printed.Goals as goal
 
 pub loop-letter-preserved-in-Continue-1 : goal.loop-letter-preserved-in-Continue-1
 loop-letter-preserved-in-Continue-1 c =
     c.in_ok-push.ensures.bytes ∙ ap (λ bytes. bytes ++ encode_utf8 c.in-Some.letter) c.loop-letter.invariant
     ∙ sym (with_letter c.loop-letter.yielded c.in-Some.letter cc)
+
+pub loop-letter-preserved : goal.loop-letter-preserved
+loop-letter-preserved c = c.loop-letter.invariant ∙ sym (without_letter c.loop-letter.yielded c.in-Some.letter cc)
 
 pub returns : goal.returns
 returns c =
