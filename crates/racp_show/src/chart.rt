@@ -84,7 +84,7 @@ pub fn chart_of(
 fn job_rows(alloc: Global, times: &Times, scale: &Scale) -> Result<Vec<JobRow>, AllocError>
     ensures { IfOk result (λ rows. AreJobRows times.now.net.now times.now.starts.now scale.now rows.items) }
 {
-    let mut rows = Vec::with_capacity(alloc, times.net.job_count())?;
+    let mut rows = Vec::new(alloc);
     for i in 0..times.net.job_count() {
         rows.push(job_row(times, scale, i))?;
     }
@@ -114,7 +114,7 @@ fn resource_rows(
     requires starts { length plan.now.starts ≡ length net.now.jobs }
     ensures { IfOk result (λ rows. AreResourceRows net.now plan.now deadline scale.now rows.items) }
 {
-    let mut rows = Vec::with_capacity(alloc, net.resource_count())?;
+    let mut rows = Vec::new(alloc);
     for k in 0..net.resource_count() {
         rows.push(resource_row(alloc, net, plan, deadline, scale, k)?)?;
     }
@@ -157,7 +157,7 @@ fn levels(
     requires starts { length starts.now ≡ length net.now.jobs }
     ensures { IfOk result (λ levels. AreLevels net.now starts.now scale.now k levels.items) }
 {
-    let mut levels = Vec::with_capacity(alloc, scale.columns as usize)?;
+    let mut levels = Vec::new(alloc);
     for column in 0..scale.columns {
         let from = column * scale.span;
         levels.push(greatest_usage(net, starts, k, from, from + scale.span))?;

@@ -77,17 +77,21 @@ impl Range {
 ///
 /// Memory was refused.
 pub fn costs_svg(alloc: Global, corners: &[Corner], last: u32) -> Result<String, AllocError> {
-    let range = Range::of(corners, last);
     let mut text = String::new(alloc);
-    push_head(&mut text, BOTTOM)?;
-    push_deadlines(&mut text, &range)?;
-    push_costs(&mut text, &range)?;
-    push_stair(&mut text, corners, &range)?;
-    for corner in corners {
-        push_corner(&mut text, corner, &range)?;
-    }
-    text.push_str("</svg>\n")?;
+    push_picture(&mut text, corners, &Range::of(corners, last))?;
     Ok(text)
+}
+
+/// Adds the picture of some corners.
+fn push_picture(text: &mut String, corners: &[Corner], range: &Range) -> Result<(), AllocError> {
+    push_head(text, BOTTOM)?;
+    push_deadlines(text, range)?;
+    push_costs(text, range)?;
+    push_stair(text, corners, range)?;
+    for corner in corners {
+        push_corner(text, corner, range)?;
+    }
+    text.push_str("</svg>\n")
 }
 
 /// Adds the axis of deadlines.

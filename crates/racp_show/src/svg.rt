@@ -51,23 +51,23 @@ pub fn svg_text(
     sheet: &Sheet<'_>,
 ) -> Result<String, AllocError> {
     let labels = labels(alloc, net, names, LABEL)?;
-    picture(alloc, sheet, &labels)
+    let mut text = String::new(alloc);
+    push_picture(&mut text, sheet, &labels)?;
+    Ok(text)
 }
 
-/// The picture of a sheet, with labels for its jobs and then its resources.
-fn picture(alloc: Global, sheet: &Sheet<'_>, labels: &[String]) -> Result<String, AllocError> {
-    let mut text = String::new(alloc);
+/// Adds the picture of a sheet, with labels for its jobs and then its resources.
+fn push_picture(text: &mut String, sheet: &Sheet<'_>, labels: &[String]) -> Result<(), AllocError> {
     let jobs = sheet.jobs.len() as u64;
     let resources = sheet.resources.len() as u64;
     let bottom = TOP
         .saturating_add(jobs.saturating_mul(LINE))
         .saturating_add(resources.saturating_mul(STRIP));
-    push_head(&mut text, bottom.saturating_add(10))?;
-    push_axis(&mut text, sheet.deadline as u64, bottom)?;
-    push_jobs(&mut text, sheet, labels)?;
-    push_resources(&mut text, sheet, labels)?;
-    text.push_str("</svg>\n")?;
-    Ok(text)
+    push_head(text, bottom.saturating_add(10))?;
+    push_axis(text, sheet.deadline as u64, bottom)?;
+    push_jobs(text, sheet, labels)?;
+    push_resources(text, sheet, labels)?;
+    text.push_str("</svg>\n")
 }
 
 /// Adds the beginning of a picture of this height.
