@@ -1,4 +1,4 @@
-use Rattle.std.proofs.Common.{◌≡◌, ◌∙◌, ℕ, List, Vec, Option, Some, None, sym, subst}
+use Rattle.std.proofs.Common.{◌≡◌, ◌∙◌, arith, ℕ, List, Vec, Option, Some, None, sym, subst}
 use Rattle.std.specs.Global.{Global}
 use denote.Ref.{Bor}
 use Rattle.racp_trees.specs.Blocks.{HasReadBlock}
@@ -6,6 +6,9 @@ use Rattle.racp_trees.specs.Reading.{IsVectorAnswer}
 use Rattle.racp_trees.specs.Readers.{IsTreeAnswer}
 use Rattle.racp_trees.proofs.Vectors.{block_missing, block_named, block_fails, block_read}
 use Rattle.racp_trees.proofs.blocks.read_block.Goals as goal
+
+pub read_vector-requires : goal.read_vector-requires
+read_vector-requires c = omega (arith, c.resource_count.ensures.count, c.resource_count.ensures.sound.limits.some_resource)
 
 pub returns-in_default : goal.returns-in_default
 returns-in_default c =

@@ -1,4 +1,5 @@
-use Rattle.std.proofs.Common.{refl, ◌+◌, ℕ, List, Option, subst, arith}
+use Rattle.std.proofs.Common.{refl, ◌∙◌, ◌+◌, ◌≤◌, ℕ, List, All, Option, length, ap, subst, sym, arith}
+use Rattle.racp_model.specs.Limits.{most_bound}
 use Rattle.racp_model.specs.Window.{Bounds}
 use Rattle.racp_trees.specs.Making.{IsChoice}
 use Rattle.racp_trees.specs.Readers.{IsLineAnswer}
@@ -7,6 +8,22 @@ use Rattle.racp_trees.specs.declared.step.Step.{Step}
 use Rattle.racp_trees.proofs.Advancing.{line_ready}
 use Rattle.racp_trees.proofs.Making.{thinned_ready}
 use Rattle.racp_trees.proofs.maker.Maker.make_line.Goals as goal
+
+pub choose-requires-clause-lower : goal.choose-requires-clause-lower
+choose-requires-clause-lower c = ap (λ (xs : List ℕ). length xs) c.deref.ensures.value ∙ c.requires.lower
+
+pub choose-requires-clause-small : goal.choose-requires-clause-small
+choose-requires-clause-small c = subst (λ (xs : List ℕ). All (λ x. x ≤ most_bound) xs) (sym c.deref.ensures.value) c.requires.small
+
+pub read_line-requires-clause-ready : goal.read_line-requires-clause-ready
+read_line-requires-clause-ready c =
+    let choice = subst (λ (o : Option Step). IsChoice c.args.self.now.reader c.choose.new.self.reader o) c.in-Some.is c.in_ok-step.ensures in
+    thinned_ready c.args.ground.now.net.now c.args.ground.now.capacities.now c.args.self.now.reader c.choose.new.self.reader choice.0 c.requires.ready
+
+pub read_line-requires-clause-place : goal.read_line-requires-clause-place
+read_line-requires-clause-place c =
+    let choice = subst (λ (o : Option Step). IsChoice c.args.self.now.reader c.choose.new.self.reader o) c.in-Some.is c.in_ok-step.ensures in
+    choice.2
 
 pub returns : goal.returns
 returns c holds =

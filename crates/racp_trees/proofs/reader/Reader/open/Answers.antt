@@ -1,8 +1,17 @@
-use Rattle.std.proofs.Common.{refl, ℕ, List, subst}
+use Rattle.std.proofs.Common.{◌∙◌, refl, ℕ, List, length, ap, subst}
 use Rattle.std.specs.Prelude.{None, Some}
 use Rattle.racp_trees.specs.Nodes.{IsDivisionAnswer}
 use Rattle.racp_trees.proofs.Opening.{not_divided, divided_by}
 use Rattle.racp_trees.proofs.reader.Reader.open.Goals as goal
+
+pub active_at-requires-clause-capacities : goal.active_at-requires-clause-capacities
+active_at-requires-clause-capacities c = c.requires.capacities
+
+pub active_at-requires-clause-early : goal.active_at-requires-clause-early
+active_at-requires-clause-early c = c.requires.early.places
+
+pub active_at-requires-clause-upper : goal.active_at-requires-clause-upper
+active_at-requires-clause-upper c = ap (λ (xs : List ℕ). length xs) c.upper-upper.ensures.bounds ∙ c.requires.root.upper
 
 pub returns-in_default-clause-line : goal.returns-in_default-clause-line
 returns-in_default-clause-line c =
