@@ -172,6 +172,11 @@ pub first_written : (text : List ℕ) → text ≡ codes "proof\n" → text ≡ 
 unfolding first_line
 first_written text e = e
 
+-- what a text that was added to is, whatever the answer
+pub added_so : {E : Type 0} {A B : Type 0} (result : Result Bool E) → (A → B) → IfOk result (λ yes'. A) → IfOk result (λ yes'. IsTrue yes' → B)
+added_so (Ok fits) leads added = λ yes'. leads added
+added_so (Err e) leads added = tt
+
 pub last_written : (text whole : List ℕ) → whole ≡ text ++ codes "end\n" → whole ≡ text ++ last_line
 unfolding last_line
 last_written text whole e = e

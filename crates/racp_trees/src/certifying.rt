@@ -100,8 +100,7 @@ fn push_blocks(
     let mut blocks = Vec::new(alloc);
     for _ in 0..MOST_BLOCKS {
         let Some(low) = gap(alloc, claim, &blocks)? else {
-            let fits = push_end(text)?;
-            return Ok(fits);
+            return push_end(text);
         };
         if !push_next(alloc, given, maker, &mut blocks, low, text)? {
             return Ok(false);
