@@ -1,6 +1,6 @@
 //! The head of a network text, as far as faults are told by it.
 
-use crate::line_of::{first_word, is_blank, is_line_feed, is_space, without_return};
+use crate::line_of::{count_words, first_word, is_line_feed, is_space, is_word, without_return};
 use racp_text::{cut_at, number};
 
 /// The number that the first line with a key that begins with these words gives; 0 where there is none.
@@ -23,50 +23,34 @@ fn value_of<'a>(line: &'a [u8], key: &[&[u8]]) -> Option<&'a [u8]> {
     }
 }
 
-/// Whether the words of a line begin with these.
-fn begins_with(line: &[u8], key: &[&[u8]]) -> bool {
-    let mut words = key.iter();
-    for word in line.split(is_blank) {
-        if word.is_empty() {
-            continue;
-        }
-        match words.next() {
-            Some(wanted) if word == *wanted => {}
-            Some(_) => return false,
-            None => return true,
-        }
-    }
-    words.next().is_none()
-}
-
-/// Whether the words of a line are exactly `PRECEDENCE RELATIONS:`, the title of the precedence part.
-pub(crate) fn is_precedence_title(line: &[u8]) -> bool {
-    has_words(without_return(line), &[b"PRECEDENCE", b"RELATIONS:"])
-}
-
-/// Whether the words of a line, between blanks and tabs, are exactly these.
-fn has_words(line: &[u8], words: &[&[u8]]) -> bool {
-    let mut words = words.iter();
-    for word in line.split(is_space) {
-        if word.is_empty() {
-            continue;
-        }
-        match words.next() {
-            Some(wanted) if word == *wanted => {}
-            _ => return false,
-        }
-    }
-    words.next().is_none()
-}
-
-/// Whether the line with this number, from 1, stands before the title of the precedence part.
-pub(crate) fn is_in_head(body: &[u8], number: usize) -> bool {
-    for line in body.split(is_line_feed).take(number) {
-        if is_precedence_title(line) {
+/// Whether the words of a line, between blanks and tabs, begin with these.
+fn begins_with(line: &[u8], wanted: &[&[u8]]) -> bool {
+    let mut words = without_return(line).split(is_space).filter(is_word);
+    for word in wanted {
+        if words.next() != Some(*word) {
             return false;
         }
     }
     true
+}
+
+/// How many lines stand before the title of the precedence part, whose words are exactly `PRECEDENCE RELATIONS:`; `None`
+/// where there is no such line.
+pub(crate) fn lines_of_head(body: &[u8]) -> Option<usize> {
+    body.split(is_line_feed).position(is_precedence_title)
+}
+
+/// Whether a line is the title of the precedence part.
+fn is_precedence_title(line: &[u8]) -> bool {
+    begins_with(line, &[b"PRECEDENCE", b"RELATIONS:"]) && count_words(line) == 2
+}
+
+/// Whether the line with this number, from 1, stands before the title of the precedence part.
+pub(crate) fn is_in_head(body: &[u8], number: usize) -> bool {
+    match lines_of_head(body) {
+        Some(lines) => number <= lines,
+        None => true,
+    }
 }
 
 /// The first line that has this word, whatever its letters' case, and its number, from 1.

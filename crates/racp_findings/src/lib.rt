@@ -27,6 +27,7 @@ mod order_text;
 mod plan_faults;
 mod plan_text;
 mod ring;
+mod wanted;
 
 /// What stands between what was wanted and what is there.
 pub const THERE: &str = "\nracp: there:  ";

@@ -141,28 +141,18 @@ fn push_letters(text: &mut String, line: &[u8]) -> Result<(), AllocError> {
 
 /// How many words a line has, between blanks and tabs.
 pub(crate) fn count_words(line: &[u8]) -> usize {
-    let mut count = 0usize;
-    for word in line.split(is_blank) {
-        if !word.is_empty() {
-            count = count.saturating_add(1);
-        }
-    }
-    count
+    without_return(line).split(is_space).filter(is_word).count()
 }
 
-/// The first word of a line, or nothing.
+/// The first word of a line, between blanks and tabs; nothing where it has none.
 pub(crate) fn first_word(line: &[u8]) -> &[u8] {
-    for word in line.split(is_blank) {
-        if !word.is_empty() {
-            return word;
-        }
-    }
-    &[]
+    let first = without_return(line).split(is_space).find(is_word);
+    first.unwrap_or(&[])
 }
 
-/// Whether a byte stands between words.
-pub(crate) fn is_blank(byte: &u8) -> bool {
-    is_space(byte) || *byte == b'\r'
+/// Whether what stands between blanks and tabs is a word.
+pub(crate) fn is_word(piece: &&[u8]) -> bool {
+    !piece.is_empty()
 }
 
 /// Whether a byte is a blank or a tab.

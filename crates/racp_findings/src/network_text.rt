@@ -3,10 +3,11 @@
 use crate::THERE;
 use crate::head::{head_number, is_in_head, line_like};
 use crate::line_of::{
-    body_of, count_words, first_word, is_line_feed, is_space, line_at, push_quoted, push_shown,
-    without_return,
+    body_of, count_words, first_word, is_line_feed, is_space, is_word, line_at, push_quoted,
+    push_shown, without_return,
 };
 use crate::ring::ring_of;
+use crate::wanted::push_wanted;
 use racp_sm::{SmFault, SmFaultKind};
 use std::alloc::{AllocError, Global};
 
@@ -57,7 +58,7 @@ pub fn push_network_finding(
 
 /// Adds what a line has to be, and the line.
 fn push_bad_line(text: &mut String, wanted: &str, line: Option<&[u8]>) -> Result<(), AllocError> {
-    write!(text, "{wanted}{THERE}")?;
+    push_wanted(text, wanted)?;
     push_shown(text, line)
 }
 
@@ -83,7 +84,7 @@ fn push_missing(
     wanted: &str,
     word: &str,
 ) -> Result<(), AllocError> {
-    write!(text, "{wanted}{THERE}")?;
+    push_wanted(text, wanted)?;
     if looks_like_order(body) {
         text.push_str("what looks like an order; the network comes first")
     } else {
@@ -104,12 +105,12 @@ fn push_like(text: &mut String, like: Option<(usize, &[u8])>) -> Result<(), Allo
 
 /// Whether a text looks like an order.
 fn looks_like_order(body: &[u8]) -> bool {
-    for line in body.split(is_line_feed) {
-        if first_word(line).starts_with(b"deadline") && line.contains(&b'=') {
-            return true;
-        }
-    }
-    false
+    body.split(is_line_feed).any(is_like_deadline)
+}
+
+/// Whether a line looks like that of the deadline in an order.
+fn is_like_deadline(line: &[u8]) -> bool {
+    first_word(line).starts_with(b"deadline") && line.contains(&b'=')
 }
 
 /// Adds how many numbers the part with this title has to have, and how many it has.
@@ -185,10 +186,8 @@ fn is_of_dashes(line: &[u8]) -> bool {
 
 /// Adds the jobs that wait for each other.
 fn push_ring(alloc: Global, text: &mut String, body: &[u8]) -> Result<(), AllocError> {
-    write!(
-        text,
-        "no job that has to wait for itself{THERE}jobs that wait for each other:"
-    )?;
+    push_wanted(text, "no job that has to wait for itself")?;
+    text.push_str("jobs that wait for each other:")?;
     let ring = ring_of(alloc, body, jobs_of(body))?;
     push_jobs(text, &ring)
 }
@@ -203,7 +202,7 @@ fn push_jobs(text: &mut String, jobs: &[u64]) -> Result<(), AllocError> {
 
 /// Adds the word that is no number, and its line.
 fn push_bad_number(text: &mut String, body: &[u8], number: usize) -> Result<(), AllocError> {
-    write!(text, "a whole number, of decimal digits alone{THERE}")?;
+    push_wanted(text, "a whole number, of decimal digits alone")?;
     let line = line_at(body, number);
     push_word(text, no_number(line, is_in_head(body, number)))?;
     push_shown(text, line)
@@ -212,11 +211,11 @@ fn push_bad_number(text: &mut String, body: &[u8], number: usize) -> Result<(), 
 /// Adds a word of a line, where there is one, and what stands before its line.
 fn push_word(text: &mut String, word: Option<&[u8]>) -> Result<(), AllocError> {
     match word {
-        Some(word) => {
+        Some(word) if !word.is_empty() => {
             push_quoted(text, word)?;
             text.push_str(" in ")
         }
-        None => Ok(()),
+        _ => Ok(()),
     }
 }
 
@@ -225,30 +224,15 @@ fn no_number(line: Option<&[u8]>, is_of_head: bool) -> Option<&[u8]> {
     let line = without_return(line?);
     if is_of_head {
         let (_, value) = racp_text::cut_at(line, b':')?;
-        word_of(value)
+        Some(first_word(value))
     } else {
-        word_without_number(line)
+        line.split(is_space).find(is_no_number)
     }
 }
 
-/// The first word of a line, between blanks and tabs.
-fn word_of(line: &[u8]) -> Option<&[u8]> {
-    for word in line.split(is_space) {
-        if !word.is_empty() {
-            return Some(word);
-        }
-    }
-    None
-}
-
-/// The first word of a line, between blanks and tabs, that is no number.
-fn word_without_number(line: &[u8]) -> Option<&[u8]> {
-    for word in line.split(is_space) {
-        if !word.is_empty() && racp_text::number(word).is_none() {
-            return Some(word);
-        }
-    }
-    None
+/// Whether what stands between blanks and tabs is a word, and no number.
+fn is_no_number(piece: &&[u8]) -> bool {
+    is_word(piece) && racp_text::number(piece).is_none()
 }
 
 /// Adds the row with a successor that is none.

@@ -2,6 +2,7 @@
 
 use crate::THERE;
 use crate::line_of::{is_line_feed, line_at, push_quoted, push_shown};
+use crate::wanted::push_wanted;
 use racp_prices::OrderFault;
 use std::alloc::{AllocError, Global};
 use toml::{Table, Value};
@@ -42,7 +43,8 @@ pub fn push_order_finding(
     sizes: Sizes<'_>,
 ) -> Result<(), AllocError> {
     let Ok(order) = std::str::from_utf8(bytes) else {
-        return write!(text, "a text in UTF-8{THERE}bytes that are not UTF-8");
+        push_wanted(text, "a text in UTF-8")?;
+        return text.push_str("bytes that are not UTF-8");
     };
     match toml::table_from_str(alloc, order) {
         Ok(table) => push_table_finding(text, fault, &table, sizes),
@@ -67,10 +69,8 @@ fn push_no_toml(
     message: &str,
 ) -> Result<(), AllocError> {
     let line = line_number(bytes, start);
-    write!(
-        text,
-        "lines as 'deadline = 4' and 'prices = [10]'{THERE}line {line}: "
-    )?;
+    push_wanted(text, "lines as 'deadline = 4' and 'prices = [10]'")?;
+    write!(text, "line {line}: ")?;
     push_shown(text, line_at(bytes, line))?;
     write!(text, ": {message}")
 }
@@ -95,27 +95,32 @@ fn push_table_finding(
         OrderFault::Range => push_out_of_range(text, table),
         OrderFault::Count => push_wrong_count(text, table, sizes),
         OrderFault::Version => push_version(text, table),
-        _ => write!(text, "enough memory{THERE}"),
+        _ => push_wanted(text, "enough memory"),
     }
 }
 
 /// Adds the version of an order.
 fn push_version(text: &mut String, table: &Table) -> Result<(), AllocError> {
-    write!(text, "version = 2, or no version{THERE}")?;
+    push_wanted(text, "version = 2, or no version")?;
     push_value(text, "version", table.get("version"))
 }
 
 /// Adds the key that is missing, and one like it that is there.
 fn push_missing(text: &mut String, table: &Table) -> Result<(), AllocError> {
-    let key = if table.get("deadline").is_none() {
-        "deadline"
-    } else {
-        "prices"
-    };
+    let key = missing_key(table);
     write!(text, "the key {key}{THERE}no such key")?;
     match key_like(table, key) {
         Some(other) => push_key(text, ", but the key ", other),
         None => Ok(()),
+    }
+}
+
+/// The first key that has to be there and is not.
+fn missing_key(table: &Table) -> &'static str {
+    if table.get("deadline").is_none() {
+        "deadline"
+    } else {
+        "prices"
     }
 }
 
@@ -146,8 +151,7 @@ fn is_like(other: &str, key: &str) -> bool {
 /// Adds the keys of the version, and the first that is none of them.
 fn push_unknown(text: &mut String, table: &Table) -> Result<(), AllocError> {
     let has_version = table.get("version").is_some();
-    text.push_str(known_keys(has_version))?;
-    text.push_str(THERE)?;
+    push_wanted(text, known_keys(has_version))?;
     match unknown_key(table, has_version) {
         Some(key) => push_key(text, "the key ", key),
         None => text.push_str("the key"),
@@ -230,7 +234,7 @@ fn push_no_array(text: &mut String, table: &Table) -> Result<(), AllocError> {
             )?;
             push_array(text, key, table.get(key))
         }
-        None => write!(text, "whole numbers{THERE}"),
+        None => push_wanted(text, "whole numbers"),
     }
 }
 
@@ -336,7 +340,7 @@ fn push_out_of_array(text: &mut String, out: Option<(&str, usize, i64)>) -> Resu
                 "{key} from 0 to {most}{THERE}{number}, as number {place} of {key}"
             )
         }
-        None => write!(text, "numbers in their range{THERE}"),
+        None => push_wanted(text, "numbers in their range"),
     }
 }
 
@@ -372,7 +376,7 @@ fn first_out(value: Option<&Value>, most: i64) -> Option<(usize, i64)> {
 fn push_wrong_count(text: &mut String, table: &Table, sizes: Sizes<'_>) -> Result<(), AllocError> {
     match wrong_array(table, sizes) {
         Some((key, found)) => push_count(text, key, found, sizes),
-        None => write!(text, "a number for each resource or job{THERE}"),
+        None => push_wanted(text, "a number for each resource or job"),
     }
 }
 

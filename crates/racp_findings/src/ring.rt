@@ -1,7 +1,7 @@
 //! Jobs that wait for each other.
 
-use crate::head::is_precedence_title;
-use crate::line_of::{first_word, is_blank, is_line_feed};
+use crate::head::lines_of_head;
+use crate::line_of::{first_word, is_line_feed, is_space, without_return};
 use racp_text::number;
 use std::alloc::{AllocError, Global};
 
@@ -26,19 +26,17 @@ fn pairs_of(alloc: Global, body: &[u8]) -> Result<Vec<(u64, u64)>, AllocError> {
 
 /// Adds the pairs of the precedence part.
 fn push_pairs(pairs: &mut Vec<(u64, u64)>, body: &[u8]) -> Result<(), AllocError> {
+    let Some(lines) = lines_of_head(body) else {
+        return Ok(());
+    };
     let mut row = Row::Number;
-    for line in body.split(is_line_feed).skip_while(is_before).skip(2) {
+    for line in body.split(is_line_feed).skip(lines.saturating_add(2)) {
         if ends_precedence(line) {
             return Ok(());
         }
         row = push_line(pairs, line, row)?;
     }
     Ok(())
-}
-
-/// Whether a line is not the title of the precedence part.
-fn is_before(line: &&[u8]) -> bool {
-    !is_precedence_title(line)
 }
 
 /// Whether a line ends the precedence part.
@@ -50,7 +48,7 @@ fn ends_precedence(line: &[u8]) -> bool {
 /// Adds the pairs of a line, and says what the next number behind it is.
 fn push_line(pairs: &mut Vec<(u64, u64)>, line: &[u8], row: Row) -> Result<Row, AllocError> {
     let mut row = row;
-    for word in line.split(is_blank) {
+    for word in without_return(line).split(is_space) {
         if let Some(number) = number(word) {
             push_pair(pairs, row, number)?;
             row = row.behind(number);
