@@ -1,5 +1,5 @@
 -- The first words of a cause, in the pieces in which they are written.
-use Rattle.std.proofs.Common.{◌≡◌, ◌∙◌, ℕ, List, ◌++◌, ap, append_assoc, codes, length, take}
+use Rattle.std.proofs.Common.{◌≡◌, ◌∙◌, ℕ, List, [], ◌++◌, ap, append_assoc, codes, length, take}
 use Rattle.std.proofs.Math.Seq.{take-append_seam}
 use Rattle.std.specs.Fmt.{decimal}
 use Rattle.std.specs.Io.{StartsWith}
@@ -12,10 +12,11 @@ pub placed_pieces : (name place format : List ℕ) (number : ℕ) (fault rest : 
 unfolding placed_head
 placed_pieces name place format number fault rest = simp append_assoc
 
-pub order_pieces : (name : List ℕ) (fault : OrderFault) (rest : List ℕ) →
-    codes "racp: " ++ (name ++ (codes ": order " ++ (decimal (fault_number fault) ++ (codes " " ++ (fault_name fault ++ rest))))) ≡ order_head name fault ++ rest
-unfolding order_head
-order_pieces name fault rest = simp append_assoc
+-- an order is told of without a line
+pub order_placed : (name : List ℕ) (fault : OrderFault) →
+    placed_head name [] (codes "order") (fault_number fault) (fault_name fault) ≡ order_head name fault
+unfolding placed_head order_head
+order_placed name fault = simp append_assoc
 
 -- a text that is one text and then another begins with the first
 pub begins : (text head rest : List ℕ) → text ≡ head ++ rest → StartsWith text head

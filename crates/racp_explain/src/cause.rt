@@ -46,18 +46,23 @@ pub fn order_cause(
     net: &Input<'_>,
     order: &Input<'_>,
 ) -> Result<String, AllocError> {
-    let network = match read_sm(alloc, net.bytes) {
-        Ok(network) => network,
-        Err(fault) => return of_network(alloc, net, fault),
-    };
-    match read_order(
-        alloc,
-        order.bytes,
-        network.resource_count(),
-        network.job_count(),
-    ) {
-        Ok(terms) => of_opening(alloc, &network, order.name, &terms),
-        Err(fault) => of_order(alloc, net.name, &network, order, fault),
+    match read_sm(alloc, net.bytes) {
+        Ok(network) => of_terms(alloc, net.name, &network, order),
+        Err(fault) => of_network(alloc, net, fault),
+    }
+}
+
+/// What is wrong with the text of an order for a network, or why there is no plan for it.
+fn of_terms(
+    alloc: Global,
+    net: &str,
+    network: &Network,
+    order: &Input<'_>,
+) -> Result<String, AllocError> {
+    let (resources, jobs) = (network.resource_count(), network.job_count());
+    match read_order(alloc, order.bytes, resources, jobs) {
+        Ok(terms) => of_opening(alloc, network, order.name, &terms),
+        Err(fault) => of_order(alloc, net, network, order, fault),
     }
 }
 
@@ -88,12 +93,23 @@ fn of_plan(
     plan: &Input<'_>,
 ) -> Result<String, AllocError> {
     let (resources, jobs) = (network.resource_count(), network.job_count());
-    let terms = match read_order(alloc, order.bytes, resources, jobs) {
-        Ok(terms) => terms,
-        Err(fault) => return of_order(alloc, net, network, order, fault),
-    };
+    match read_order(alloc, order.bytes, resources, jobs) {
+        Ok(terms) => of_plan_text(alloc, network, &terms, plan),
+        Err(fault) => of_order(alloc, net, network, order, fault),
+    }
+}
+
+/// What is wrong with the text of a plan for a network and an order.
+fn of_plan_text(
+    alloc: Global,
+    network: &Network,
+    terms: &Order,
+    plan: &Input<'_>,
+) -> Result<String, AllocError>
+    requires { AreTermsOf network.now terms.now }
+{
     match read_plan(alloc, plan.bytes, network) {
-        Ok(read) => of_fault(alloc, network, &terms, plan.name, &read),
+        Ok(read) => of_fault(alloc, network, terms, plan.name, &read),
         Err(fault) => of_text(alloc, network, plan, fault),
     }
 }
@@ -176,7 +192,8 @@ fn of_order(
     };
     let mut rest = String::new(alloc);
     push_order(alloc, &mut rest, order.bytes, fault, sizes)?;
-    order_words(alloc, order.name, fault, rest.as_str())
+    let (number, kind) = (fault as u8, fault.name());
+    placed(alloc, order.name, "", "order", number, kind, rest.as_str())
 }
 
 /// Adds what is told of a fault of an order behind its name.
@@ -204,8 +221,9 @@ fn of_text(
 {
     let mut rest = String::new(alloc);
     push_text(&mut rest, network, plan.bytes, fault)?;
-    let (line, number, kind) = (fault.line, fault.kind as u8, fault.kind.name());
-    line_text(alloc, plan.name, line, "plan", number, kind, &rest)
+    let (number, kind) = (fault.kind as u8, fault.kind.name());
+    let line = fault.line;
+    line_text(alloc, plan.name, line, "plan", number, kind, rest.as_str())
 }
 
 /// Adds what is told of a fault of a plan text behind its name.
@@ -251,19 +269,6 @@ fn placed(
         (placed_head name.now place.now format.now number fault.now)) }
 {
     format!(in alloc; "racp: {name}{place}: {format} {number} {fault}{rest}")
-}
-
-/// The words `racp: NAME: order NUMBER FAULT`, and the rest.
-fn order_words(
-    alloc: Global,
-    name: &str,
-    fault: OrderFault,
-    rest: &str,
-) -> Result<String, AllocError>
-    ensures { IfOk result (λ text. StartsWith (string_bytes text) (order_head name.now fault)) }
-{
-    let (number, kind) = (fault as u8, fault.name());
-    format!(in alloc; "racp: {name}: order {number} {kind}{rest}")
 }
 
 /// The words `:LINE`, and nothing of no one line.

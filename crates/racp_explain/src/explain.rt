@@ -123,11 +123,14 @@ fn title_of(alloc: Global, subject: Subject) -> Result<String, AllocError> {
 
 /// Adds the words by which a subject is asked for.
 pub(crate) fn push_title(text: &mut String, subject: Subject) -> Result<(), AllocError> {
-    let format = subject.format();
-    let name = subject.name();
-    match subject.number() {
-        Some(number) => write!(text, "{format} {number} {name}"),
-        None if format == name => text.push_str(name),
-        None => write!(text, "{format} {name}"),
+    let (format, name) = (subject.format(), subject.name());
+    text.push_str(format)?;
+    if let Some(number) = subject.number() {
+        write!(text, " {number}")?;
+    }
+    if format == name {
+        Ok(())
+    } else {
+        write!(text, " {name}")
     }
 }
