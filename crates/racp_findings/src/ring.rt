@@ -17,15 +17,22 @@ pub(crate) fn ring_of(alloc: Global, body: &[u8], jobs: u64) -> Result<Vec<u64>,
     walk(alloc, &waits, &pairs, jobs)
 }
 
-/// The pairs of the precedence part: a job, and a successor of it.
-fn pairs_of(alloc: Global, body: &[u8]) -> Result<Vec<(u64, u64)>, AllocError> {
+/// A job, and a successor of it.
+#[derive(Drop)]
+struct Pair {
+    before: u64,
+    after: u64,
+}
+
+/// The pairs of the precedence part.
+fn pairs_of(alloc: Global, body: &[u8]) -> Result<Vec<Pair>, AllocError> {
     let mut pairs = Vec::new(alloc);
     push_pairs(&mut pairs, body)?;
     Ok(pairs)
 }
 
 /// Adds the pairs of the precedence part.
-fn push_pairs(pairs: &mut Vec<(u64, u64)>, body: &[u8]) -> Result<(), AllocError> {
+fn push_pairs(pairs: &mut Vec<Pair>, body: &[u8]) -> Result<(), AllocError> {
     let Some(lines) = lines_of_head(body) else {
         return Ok(());
     };
@@ -46,7 +53,7 @@ fn ends_precedence(line: &[u8]) -> bool {
 }
 
 /// Adds the pairs of a line, and says what the next number behind it is.
-fn push_line(pairs: &mut Vec<(u64, u64)>, line: &[u8], row: Row) -> Result<Row, AllocError> {
+fn push_line(pairs: &mut Vec<Pair>, line: &[u8], row: Row) -> Result<Row, AllocError> {
     let mut row = row;
     for word in without_return(line).split(is_space) {
         if let Some(number) = number(word) {
@@ -58,9 +65,12 @@ fn push_line(pairs: &mut Vec<(u64, u64)>, line: &[u8], row: Row) -> Result<Row, 
 }
 
 /// Adds the pair that this number makes, if any.
-fn push_pair(pairs: &mut Vec<(u64, u64)>, row: Row, number: u64) -> Result<(), AllocError> {
+fn push_pair(pairs: &mut Vec<Pair>, row: Row, number: u64) -> Result<(), AllocError> {
     if let Row::Successors(job, _) = row {
-        pairs.push((job, number))?;
+        pairs.push(Pair {
+            before: job,
+            after: number,
+        })?;
     }
     Ok(())
 }
@@ -94,7 +104,7 @@ impl Row {
 
 /// Which jobs wait for one that waits, by their numbers: those that are left when, round by round, the jobs that wait for
 /// none are let go, up to a round that lets go of none.
-fn waiting(alloc: Global, pairs: &[(u64, u64)], jobs: usize) -> Result<Vec<bool>, AllocError> {
+fn waiting(alloc: Global, pairs: &[Pair], jobs: usize) -> Result<Vec<bool>, AllocError> {
     let mut waits = vec![in alloc; true; jobs.saturating_add(1)]?;
     for _round in 0..jobs {
         let held = held_jobs(alloc, &waits, pairs)?;
@@ -106,11 +116,11 @@ fn waiting(alloc: Global, pairs: &[(u64, u64)], jobs: usize) -> Result<Vec<bool>
 }
 
 /// Which jobs are held: those with a job before them that waits.
-fn held_jobs(alloc: Global, waits: &[bool], pairs: &[(u64, u64)]) -> Result<Vec<bool>, AllocError> {
+fn held_jobs(alloc: Global, waits: &[bool], pairs: &[Pair]) -> Result<Vec<bool>, AllocError> {
     let mut held = vec![in alloc; false; waits.len()]?;
-    for &(before, after) in pairs {
-        if is_waiting(waits, before) {
-            hold(&mut held, after as usize);
+    for pair in pairs {
+        if is_waiting(waits, pair.before) {
+            hold(&mut held, pair.after as usize);
         }
     }
     Ok(held)
@@ -144,7 +154,7 @@ fn is_waiting(waits: &[bool], job: u64) -> bool {
 fn walk(
     alloc: Global,
     waits: &[bool],
-    pairs: &[(u64, u64)],
+    pairs: &[Pair],
     jobs: usize,
 ) -> Result<Vec<u64>, AllocError> {
     let mut path = Vec::new(alloc);
@@ -159,7 +169,7 @@ fn walk(
 fn push_path(
     path: &mut Vec<u64>,
     waits: &[bool],
-    pairs: &[(u64, u64)],
+    pairs: &[Pair],
     jobs: usize,
 ) -> Result<Option<usize>, AllocError> {
     let mut next = first_waiting(waits, jobs);
@@ -205,10 +215,10 @@ fn turned(alloc: Global, path: &[u64]) -> Result<Vec<u64>, AllocError> {
 }
 
 /// A job that waits, before this one.
-fn before(waits: &[bool], pairs: &[(u64, u64)], job: u64) -> Option<u64> {
-    for &(before, after) in pairs {
-        if after == job && is_waiting(waits, before) {
-            return Some(before);
+fn before(waits: &[bool], pairs: &[Pair], job: u64) -> Option<u64> {
+    for pair in pairs {
+        if pair.after == job && is_waiting(waits, pair.before) {
+            return Some(pair.before);
         }
     }
     None
