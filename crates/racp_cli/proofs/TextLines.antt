@@ -7,7 +7,8 @@ use Rattle.racp_prices.specs.Faults.{fault_number as order_fault_number, fault_n
 use Rattle.racp_prices.specs.declared.fault.OrderFault.{OrderFault}
 use Rattle.racp_plan.specs.Texts.{line, critical_line, start_lines}
 use Rattle.racp_plan.specs.TextFaults.{fault_number as text_fault_number, fault_name as text_fault_name, TextFault}
-use Rattle.racp_cli.specs.Texts.{early_text, refusal_line, order_refusal_line, plan_refusal_line, spaced, stopped_line}
+use Rattle.racp_cli.specs.Texts.{early_text, refusal_line, order_refusal_line, plan_refusal_line, stopped_line}
+use Rattle.racp_curve.specs.Texts.{spaced}
 
 -- the pieces of a refusal, and those of the text of early starts
 pub refusal_line_pieces : (fault : SmFault) → codes "refused sm " ++ (decimal (fault_number fault.kind) ++ (codes " " ++ (fault_name fault.kind ++ (codes " line " ++ (decimal fault.line ++ codes "\n"))))) ≡ refusal_line fault

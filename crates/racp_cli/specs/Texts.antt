@@ -1,11 +1,12 @@
 -- The lines that are written, in ASCII. Each ends with a line feed; numbers are decimal, without leading zeros.
-use Rattle.std.specs.Prelude.{ℕ, List, [], ◌∷◌, ◌++◌, codes}
+use Rattle.std.specs.Prelude.{ℕ, List, ◌++◌, codes}
 use Rattle.std.specs.Fmt.{decimal}
 use Rattle.racp_sm.specs.Faults.{fault_number, fault_name, SmFault}
 use Rattle.racp_prices.specs.Faults.{fault_number as order_fault_number, fault_name as order_fault_name}
 use Rattle.racp_prices.specs.declared.fault.OrderFault.{OrderFault}
 use Rattle.racp_plan.specs.Texts.{line, critical_line, start_lines}
 use Rattle.racp_plan.specs.TextFaults.{fault_number as text_fault_number, fault_name as text_fault_name, TextFault}
+use Rattle.racp_curve.specs.Texts.{spaced}
 use Rattle.racp_check.specs.declared.plan_fault.PlanFault.{PlanFault}
 use Rattle.racp_check.specs.declared.plan_fault.PlanFault.TheVariants.{Cost, Late, Order, Over, Ceiling, Early}
 
@@ -27,11 +28,6 @@ order_refusal_line fault = line (codes "refused order " ++ decimal (order_fault_
 unfoldable pub plan_refusal_line : TextFault → List ℕ
 plan_refusal_line fault = line (codes "refused plan " ++ decimal (text_fault_number fault.kind) ++ codes " " ++
     text_fault_name fault.kind ++ codes " line " ++ decimal fault.line)
-
--- each of these numbers behind a blank
-abbrev pub spaced : List ℕ → List ℕ
-spaced [] = []
-spaced (number ∷ numbers) = (codes " " ++ decimal number) ++ spaced numbers
 
 -- `stopped a1 a2 ..`, with the capacity of each resource
 unfoldable pub stopped_line : List ℕ → List ℕ

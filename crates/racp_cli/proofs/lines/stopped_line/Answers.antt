@@ -1,6 +1,6 @@
 use Rattle.std.proofs.Common.{◌≡◌, ◌<◌, ◌≤◌, [], ◌∷◌, ◌++◌, codes, length, get_or, arith, rules}
 use Rattle.std.specs.Fmt.{decimal}
-use Rattle.racp_cli.specs.Texts.{spaced}
+use Rattle.racp_curve.specs.Texts.{spaced}
 use Rattle.racp_cli.proofs.TextLines.{spaced_all, spaced_on, stopped_line_pieces}
 use Rattle.racp_cli.proofs.lines.stopped_line.Goals as goal
 

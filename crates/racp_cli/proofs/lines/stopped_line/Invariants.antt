@@ -1,5 +1,5 @@
 use Rattle.std.proofs.Common.{◌≡◌, ◌++◌, drop, codes}
-use Rattle.racp_cli.specs.Texts.{spaced}
+use Rattle.racp_curve.specs.Texts.{spaced}
 use Rattle.racp_cli.proofs.lines.stopped_line.Given as goal
 
 abbrev pub invariant-loop-place : goal.invariant-loop-place
