@@ -11,7 +11,7 @@ use std::alloc::{AllocError, Global};
 
 /// Why nothing says that the plan is right: a text that is refused, the first one; that memory ran out; or what is
 /// wrong with the plan.
-#[derive(Clone, Copy, PartialEq, Eq, Drop)]
+#[derive(Clone, Copy, Drop)]
 pub(crate) enum CheckFault {
     /// The network text is refused.
     Network(SmFault),
