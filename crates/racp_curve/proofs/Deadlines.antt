@@ -4,7 +4,8 @@ use Rattle.racp_model.specs.Project.{Project}
 use Rattle.racp_model.specs.Schedule.{EndsBy}
 use Rattle.racp_model.specs.Terms.{Terms, AreTermsOf, IsBefore, IsWithinCeilings}
 use Rattle.racp_model.specs.Plan.{IsEnough, FitsTerms}
-use Rattle.racp_curve.specs.Curves.{order_by, ArePlanned, NoneIsEnough}
+use Rattle.racp_lexfix.specs.Answers.{NoneIsEnough}
+use Rattle.racp_curve.specs.Curves.{order_by, ArePlanned}
 
 -- what is enough for a deadline is enough for each later one
 pub enough_later : (p : Project) (terms : Terms) (sooner later : ℕ) (capacities : List ℕ) → sooner ≤ later → IsEnough p (order_by sooner terms) capacities → IsEnough p (order_by later terms) capacities

@@ -11,10 +11,9 @@ use Rattle.racp_model.proofs.lemmas.Arcs.{precedes_in}
 use Rattle.racp_check.specs.Openings.{IsOpening}
 use Rattle.racp_check.specs.declared.opening.Opening.{Opening}
 use Rattle.racp_check.specs.declared.opening.Opening.TheVariants.{TooLong}
-use Rattle.racp_lexfix.specs.Answers.{IsAnswer}
+use Rattle.racp_lexfix.specs.Answers.{IsAnswer, NoneIsEnough}
 use Rattle.racp_lexfix.specs.declared.answer.Answer.{Answer}
 use Rattle.racp_lexfix.specs.declared.answer.Answer.TheVariants.{Plan as ThePlan, Impossible, Due, Ceiling}
-use Rattle.racp_curve.specs.Curves.{NoneIsEnough}
 use Rattle.racp_curve.specs.Following.{plan_in, IsPlanOrNone, IsRootOrNone}
 
 module _ (p : Project) (terms : Terms) (sound : IsSound p) where

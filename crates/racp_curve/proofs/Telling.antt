@@ -6,11 +6,11 @@ use Rattle.std.proofs.lemmas.Bool.{cases_lt}
 use Rattle.racp_model.specs.Project.{Project}
 use Rattle.racp_model.specs.Terms.{Terms}
 use Rattle.racp_model.proofs.lemmas.Relations.{member_first, member_later}
-use Rattle.racp_lexfix.specs.Answers.{IsStoppedAt, IsPlanStop}
+use Rattle.racp_lexfix.specs.Answers.{IsStoppedAt, IsPlanStop, NoneIsEnough}
 use Rattle.racp_lexfix.specs.declared.answer.PlanStop.{PlanStop}
 use Rattle.racp_lexfix.specs.declared.answer.PlanStop.TheVariants.{Stopped, Memory, NoThread}
 use Rattle.racp_curve.specs.declared.step.Step.{Step}
-use Rattle.racp_curve.specs.Curves.{order_by, ArePlanned, NoneIsEnough, first_deadline, AreSteps, AreNotAfterEnough, IsCurve, IsCurveStop}
+use Rattle.racp_curve.specs.Curves.{order_by, ArePlanned, first_deadline, AreSteps, AreNotAfterEnough, IsCurve, IsCurveStop}
 use Rattle.racp_curve.proofs.Deadlines.{enough_later}
 
 -- what is told of a stop follows from something else that is

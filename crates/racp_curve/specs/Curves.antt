@@ -3,7 +3,7 @@ use Rattle.std.specs.Prelude.{◌≡◌, ◌≢◌, ℕ, ◌+◌, ◌<◌, ◌�
 use Rattle.racp_model.specs.Project.{Project}
 use Rattle.racp_model.specs.Terms.{Terms, cost, IsBefore}
 use Rattle.racp_model.specs.Plan.{IsLeast, IsEnough}
-use Rattle.racp_lexfix.specs.Answers.{IsAnswer, IsPlanStop}
+use Rattle.racp_lexfix.specs.Answers.{IsAnswer, IsPlanStop, NoneIsEnough}
 use Rattle.racp_lexfix.specs.Laws.{IsNoPlan}
 use Rattle.racp_lexfix.specs.Stages.{AreFloorsOfEnough, IsLeastOfEnough}
 use Rattle.racp_lexfix.specs.declared.answer.PlanStop.{PlanStop}
@@ -25,10 +25,6 @@ order_by deadline terms = record {
 -- the capacities of the plan: of all that are enough the first, by cost and then lexicographically
 abbrev pub ArePlanned : Project → Terms → List ℕ → Type 0
 ArePlanned p terms = IsLeast (IsBefore terms) (IsEnough p terms)
-
--- no capacities are enough, so there is no plan
-abbrev pub NoneIsEnough : Project → Terms → Type 0
-NoneIsEnough p terms = (capacities : List ℕ) → IsEnough p terms capacities → ⊥
 
 -- a step that holds from its deadline up to an end, which it does not reach: for each deadline there its capacities are those of
 -- the plan, and its cost is theirs

@@ -6,9 +6,10 @@ use Rattle.racp_model.specs.Plan.{IsEnough}
 use Rattle.racp_model.specs.Window.{Bounds, IsRootWindow}
 use Rattle.racp_plan.specs.declared.plan.Plan.{Plan}
 use Rattle.racp_plan.specs.Plans.{IsPlanOf}
+use Rattle.racp_lexfix.specs.Answers.{NoneIsEnough}
 use Rattle.racp_lexfix.specs.declared.answer.Answer.{Answer}
 use Rattle.racp_lexfix.specs.declared.answer.Answer.TheVariants.{Plan as ThePlan, Impossible, Due, Ceiling}
-use Rattle.racp_curve.specs.Curves.{order_by, NoneIsEnough, first_deadline, AreOthersThanFirst, AreSteps, IsCurve, MayHearCost, MayHearFloors}
+use Rattle.racp_curve.specs.Curves.{order_by, first_deadline, AreOthersThanFirst, AreSteps, IsCurve, MayHearCost, MayHearFloors}
 use Rattle.racp_curve.specs.declared.step.Step.{Step}
 
 -- an asker may be told floors, and a least cost, of what is enough for each deadline up to the order's

@@ -3,7 +3,8 @@ use Rattle.std.specs.Prelude.{◌≡◌, ◌⊎◌, ℕ, ◌≤◌, List, Contai
 use Rattle.racp_model.specs.Project.{Project}
 use Rattle.racp_model.specs.Terms.{Terms, IsBefore}
 use Rattle.racp_model.specs.Plan.{IsEnough}
-use Rattle.racp_curve.specs.Curves.{order_by, ArePlanned, NoneIsEnough, IsCurve}
+use Rattle.racp_lexfix.specs.Answers.{NoneIsEnough}
+use Rattle.racp_curve.specs.Curves.{order_by, ArePlanned, IsCurve}
 use Rattle.racp_curve.specs.declared.step.Step.{Step}
 
 -- what is enough for a deadline is enough for each later one

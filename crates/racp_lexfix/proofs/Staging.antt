@@ -20,10 +20,10 @@ use Rattle.racp_candidates.specs.Box.{AreBounds, AreBoxQuestions}
 use Rattle.racp_bounds.specs.Floors.{AreFloors}
 use Rattle.racp_bounds.specs.Sharp.{IsSharpened, AreSharpened, AreSharpenedBefore, pair_count, IsUnsharpened}
 use Rattle.racp_bounds.specs.declared.sharp.Sharp.{Sharp}
-use Rattle.racp_lexfix.specs.Answers.{ceiling_series, AreAboveFloors, IsNotAfterEnough, IsStoppedAt, IsPlanStop}
+use Rattle.racp_lexfix.specs.Answers.{ceiling_series, AreAboveFloors, IsNotAfterEnough, NoneIsEnough, IsStoppedAt, IsPlanStop}
 use Rattle.racp_lexfix.specs.declared.answer.PlanStop.{PlanStop}
 use Rattle.racp_lexfix.specs.declared.answer.PlanStop.TheVariants.{Stopped, Memory, NoThread}
-use Rattle.racp_lexfix.specs.Stages.{AreFloorsAndRoofs, AreSharpFloorsAndRoofs, IsStoppedInBox, HasNoEnough, given_up, stopped_at}
+use Rattle.racp_lexfix.specs.Stages.{AreFloorsAndRoofs, AreSharpFloorsAndRoofs, IsStoppedInBox, given_up, stopped_at}
 use Rattle.racp_lexfix.proofs.Choosing.{first_reached, reached_first, yes_enough, enough_above, some_yes, peaks_least, reached_box, reached_boxed}
 use Rattle.racp_bounds.proofs.lemmas.Sharpened.{all_sharpened}
 
@@ -168,7 +168,7 @@ module _ (p : Project) (terms : Terms) (root : Bounds) (t : AreTermsOf p terms) 
   enough_yes capacities e = (e.admits.0, fits-answers p (release_of terms) (due_of terms) root capacities e.admits.0 h e.admits.1)
 
   -- where none are enough, the ceilings are the reason
-  pub over : HasNoEnough p terms → IsOverCeilings p terms
+  pub over : NoneIsEnough p terms → IsOverCeilings p terms
   over none = record { in_time = (root.lower, h.early, h.ends); none = none }
 
   module _ (sharp : Sharp) (roofs : List ℕ) (ends : AreSharpFloorsAndRoofs p terms root sharp roofs) (questions : List Question) (box : AreBoxQuestions terms sharp.floors roofs sharp.pairs.items root questions) where

@@ -11,13 +11,9 @@ use Rattle.racp_candidates.specs.Box.{AreBounds}
 use Rattle.racp_bounds.specs.Floors.{AreFloors}
 use Rattle.racp_bounds.specs.Sharp.{IsSharp}
 use Rattle.racp_bounds.specs.declared.sharp.Sharp.{Sharp}
-use Rattle.racp_lexfix.specs.Answers.{IsNotAfterEnough, ceiling_series}
+use Rattle.racp_lexfix.specs.Answers.{IsNotAfterEnough, NoneIsEnough, ceiling_series}
 use Rattle.racp_lexfix.specs.declared.answer.PlanStop.{PlanStop}
 use Rattle.racp_lexfix.specs.declared.answer.PlanStop.TheVariants.{Stopped, Memory, NoThread}
-
--- no capacities are enough
-abbrev pub HasNoEnough : Project → Terms → Type 0
-HasNoEnough p terms = (capacities : List ℕ) → IsEnough p terms capacities → ⊥
 
 -- the first floors, and roofs within the ceilings that admit
 pub record AreFloorsAndRoofs (p : Project) (terms : Terms) (root : Bounds) (floors roofs : List ℕ) : Type 0 where
@@ -30,7 +26,7 @@ pub record AreFloorsAndRoofs (p : Project) (terms : Terms) (root : Bounds) (floo
 abbrev pub IsBounded : Project → Terms → Bounds → (answered : ℕ) → Option (List ℕ × List ℕ) → Type 0
 IsBounded p terms root answered (Some ends) = AreFloorsAndRoofs p terms root ends.0 ends.1 ×
     (answered ≡ ceiling_series terms)
-IsBounded p terms root answered None = HasNoEnough p terms
+IsBounded p terms root answered None = NoneIsEnough p terms
 
 -- floors that are sharpened, and pairs that they refute, from some first floors on
 pub record AreSharpFloorsAndRoofs (p : Project) (terms : Terms) (root : Bounds) (sharp : Sharp) (roofs : List ℕ)
@@ -67,7 +63,7 @@ pub record MayBeTold (p : Project) (terms : Terms) (may_hear_floors : List ℕ �
 -- the capacities and the starts of the plan, or none where no capacities are enough
 abbrev pub IsChosen : Project → Terms → Option (List ℕ × List ℕ) → Type 0
 IsChosen p terms (Some chosen) = IsPlan p terms chosen.0 chosen.1
-IsChosen p terms None = HasNoEnough p terms
+IsChosen p terms None = NoneIsEnough p terms
 
 -- whether some starts in the window answer
 abbrev pub IsYesOrNo : Project → List ℕ → Bounds → Bool → Type 0

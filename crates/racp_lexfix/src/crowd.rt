@@ -190,6 +190,48 @@ impl<
         probe_of(outcome, is_over)
     }
 
+    /// What a glimpse at a question by one worker tells of it, or, where that leaves it open, a run of all workers about it and
+    /// about those behind it.
+    fn probe_by_all(
+        &mut self,
+        question: Question,
+        ahead: Option<VecDeque<Question>>,
+        most: Option<u64>,
+    ) -> Result<Probe, AskStop>
+        requires formed { IsFormed N.network question }
+        requires ahead { ForSome ahead (λ list. AreFormed N.network list.items) }
+        requires run { RunsDesks N.network P.QUIET (F.pre self.old.run) (F.post self.old.run) }
+        requires untold { self.old.told ≡ None }
+        ensures run { self.new.run ≡ self.old.run }
+        ensures answered { self.new.answered ≡ self.old.answered }
+        ensures told { self.new.told ≡ None }
+        ensures probed { IfOk result (IsProbed N.network question most) }
+        ensures stop { IfErr result (IsProbeStop (self.new.told)
+            ((self.new.left ≡ 0) ⊎ (P.QUIET ≡ false)) ⊤) }
+    {
+        let glimpse = self.probe_with(question.copy()?, None, 1, Some(glimpse_of(most)))?;
+        if !is_open(&glimpse) {
+            return Ok(glimpse);
+        }
+        self.probe_with(question, ahead, self.workers, most)
+    }
+
+    /// The questions that come next, where the nodes of a question have a bound: without one, those behind it could take any
+    /// time.
+    fn take_ahead(&mut self, most: Option<u64>) -> Option<VecDeque<Question>>
+        ensures formed { ForSome result (λ list. AreFormed N.network list.items) }
+        ensures run { self.new.run ≡ self.old.run }
+        ensures left { self.new.left ≡ self.old.left }
+        ensures answered { self.new.answered ≡ self.old.answered }
+        ensures told { self.new.told ≡ self.old.told }
+    {
+        let ahead = self.ahead.take();
+        match most {
+            Some(_) => ahead,
+            None => None,
+        }
+    }
+
     /// Answers a series by the run about it. Where that is open, it keeps what was reached.
     fn answer(&mut self, closed: Closed) -> Result<First, AskStop>
         ensures run { self.new.run ≡ self.old.run }
@@ -369,18 +411,11 @@ impl<
         if self.left == 0 {
             return Err(AskStop::Stopped { reached: None });
         }
-        let ahead = self.ahead.take();
-        if self.workers <= 1 {
-            return self.probe_with(question, None, 1, most);
-        }
-        let glimpse = self.probe_with(question.copy()?, None, 1, Some(glimpse_of(most)))?;
-        if !is_open(&glimpse) {
-            return Ok(glimpse);
-        }
-        // Without a bound on its nodes a question behind could take any time.
-        match most {
-            Some(_) => self.probe_with(question, ahead, self.workers, most),
-            None => self.probe_with(question, None, self.workers, most),
+        let ahead = self.take_ahead(most);
+        if self.workers > 1 {
+            self.probe_by_all(question, ahead, most)
+        } else {
+            self.probe_with(question, None, 1, most)
         }
     }
 
