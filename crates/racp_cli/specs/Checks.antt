@@ -23,6 +23,14 @@ pub record HasRightHead (network : Project) (terms : Terms) (plan : Plan) : Type
   pub deadline : plan.deadline ≡ terms.deadline
   pub critical : IsCriticalLength network (release_of terms) plan.critical
 
+-- what is right for a plan that was read: that nothing is wrong, that its head is wrong, or its first fault; memory may run out
+abbrev pub IsCheckOf : Project → Terms → Plan → Result ⊤ CheckFault → Type 0
+IsCheckOf network terms plan (Ok _) = HasRightHead network terms plan × IsChecked network terms plan (Ok tt)
+IsCheckOf network terms plan (Err Head) = HasRightHead network terms plan → ⊥
+IsCheckOf network terms plan (Err (Wrong fault)) = HasRightHead network terms plan × IsChecked network terms plan (Err fault)
+IsCheckOf network terms plan (Err OutOfMemory) = Unit {0}
+IsCheckOf network terms plan (Err _) = ⊥
+
 -- what is right for the texts of a network, an order and a plan: that nothing is wrong, or the first text that is refused,
 -- that the plan's head is wrong, or the first fault of the plan; memory may run out at any texts
 abbrev pub IsCheck : List ℕ → List ℕ → List ℕ → Result ⊤ CheckFault → Type 0

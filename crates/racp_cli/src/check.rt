@@ -2,7 +2,7 @@
 
 ghost use Rattle.std.specs.Prelude.{◌≡◌, ◌↔◌, IfOk, IsTrue, length};
 ghost use Rattle.racp_model.specs.Terms.{AreTermsOf};
-ghost use Rattle.racp_cli.specs.Checks.{HasRightHead, IsCheck, IsCheckAnswer, check_status, check_text};
+ghost use Rattle.racp_cli.specs.Checks.{HasRightHead, IsCheck, IsCheckAnswer, IsCheckOf, check_status, check_text};
 ghost use Rattle.racp_cli.specs.Verifies.{AreChecked};
 ghost use Rattle.racp_cli.specs.Streams.{IsCheckRun};
 
@@ -83,11 +83,24 @@ pub(crate) fn read_checked(
     let net = read_sm(alloc, net)?;
     let order = read_order(alloc, order, net.resource_count(), net.job_count())?;
     let plan = read_plan(alloc, plan, &net)?;
-    if !has_right_head(alloc, &net, &order, &plan)? {
+    match check_read(alloc, &net, &order, &plan) {
+        Ok(()) => Ok(Checked { net, order, plan }),
+        Err(fault) => Err(fault),
+    }
+}
+
+/// Checks a plan that was read.
+fn check_read(alloc: Global, net: &Network, order: &Order, plan: &Plan) -> Result<(), CheckFault>
+    requires terms { AreTermsOf net.now order.now }
+    requires capacities { length plan.now.capacities ≡ net.now.resources }
+    requires starts { length plan.now.starts ≡ length net.now.jobs }
+    ensures { IsCheckOf net.now order.now plan.now result }
+{
+    if !has_right_head(alloc, net, order, plan)? {
         return Err(CheckFault::Head);
     }
-    check_plan(&net, &order, &plan)?;
-    Ok(Checked { net, order, plan })
+    check_plan(net, order, plan)?;
+    Ok(())
 }
 
 /// Whether the plan names the order's deadline and the project's critical length.

@@ -1,4 +1,4 @@
-use Rattle.std.proofs.Common.{ℕ, List, [], ◌∷◌, inl, Ok, Err, IfOk}
+use Rattle.std.proofs.Common.{[], ◌∷◌, inl, Ok, Err}
 use Rattle.std.proofs.lemmas.Result.{err_from_is_err_and}
 use Rattle.racp_lexfix.specs.Printing.{IsCrowdPrinting}
 use Rattle.racp_cli.specs.Crowds.{IsCrowdAnswer}
