@@ -6,6 +6,7 @@ ghost use Rattle.racp.specs.Statuses.{IsStatusOfAnswer};
 use crate::failure::Failure;
 use crate::inputs::{opened, told, whole};
 use crate::run::{Making, check_of, cpm_of, plain, plan_of, verify_of};
+use crate::shown::Shown;
 use racp_cli::{CHECK_FAILED, IMPOSSIBLE, REFUSED, StreamFault};
 use racp_explain::{Input as Text, network_cause, order_cause, plan_cause, proof_cause};
 use racp_words::{OrderFiles, PlanFiles, ProofFiles, Request, Source};
@@ -118,9 +119,22 @@ fn check<R: Files + Print + Eprint + AllocGlobal>(
     let mut net = opened(rt, files.net)?;
     let mut order = opened(rt, files.order)?;
     let mut plan = opened(rt, files.plan)?;
-    let net = whole(rt.alloc(), &mut net, files.net)?;
-    let order = whole(rt.alloc(), &mut order, files.order)?;
-    let plan = whole(rt.alloc(), &mut plan, files.plan)?;
+    check_read(rt, files, &mut net, &mut order, &mut plan)
+}
+
+/// The same, of the open files.
+fn check_read<R: Print + Eprint + AllocGlobal, F: Read>(
+    rt: &R,
+    files: PlanFiles<'_>,
+    net: &mut F,
+    order: &mut F,
+    plan: &mut F,
+) -> Result<u8, Failure>
+    ensures { IfOk result IsStatusOfAnswer }
+{
+    let net = whole(rt.alloc(), net, files.net)?;
+    let order = whole(rt.alloc(), order, files.order)?;
+    let plan = whole(rt.alloc(), plan, files.plan)?;
     let (net, order) = (text(files.net, &net), text(files.order, &order));
     check_told(rt, &net, &order, &text(files.plan, &plan))
 }
@@ -151,27 +165,39 @@ fn verify<R: Files + Print + Eprint + AllocGlobal>(
 {
     let mut net = opened(rt, files.net)?;
     let mut order = opened(rt, files.order)?;
-    let mut plan = opened(rt, files.plan)?;
-    let mut proof = opened(rt, files.proof)?;
-    verify_read(rt, files, &mut net, &mut order, &mut plan, &mut proof)
+    verify_for(rt, files, &mut net, &mut order)
 }
 
-/// The same, of the open files.
-fn verify_read<R: Print + Eprint + AllocGlobal, F: Read>(
+/// The same, where the files of the network and of the order are open.
+fn verify_for<R: Files + Print + Eprint + AllocGlobal, F: Read>(
     rt: &R,
     files: ProofFiles<'_>,
     net: &mut F,
     order: &mut F,
-    plan: &mut F,
-    proof: &mut F,
+) -> Result<u8, Failure>
+    ensures { IfOk result IsStatusOfAnswer }
+{
+    let mut plan = opened(rt, files.plan)?;
+    let mut proof = opened(rt, files.proof)?;
+    verify_read(rt, files, net, order, &mut plan, &mut proof)
+}
+
+/// The same, of the open files.
+fn verify_read<R: Print + Eprint + AllocGlobal, F: Read, C: Read>(
+    rt: &R,
+    files: ProofFiles<'_>,
+    net: &mut F,
+    order: &mut F,
+    plan: &mut C,
+    proof: &mut C,
 ) -> Result<u8, Failure>
     ensures { IfOk result IsStatusOfAnswer }
 {
     let net = whole(rt.alloc(), net, files.net)?;
     let order = whole(rt.alloc(), order, files.order)?;
+    let (net, order) = (text(files.net, &net), text(files.order, &order));
     let plan = whole(rt.alloc(), plan, files.plan)?;
     let proof = whole(rt.alloc(), proof, files.proof)?;
-    let (net, order) = (text(files.net, &net), text(files.order, &order));
     let (plan, proof) = (text(files.plan, &plan), text(files.proof, &proof));
     verify_told(rt, &net, &order, &plan, &proof)
 }
@@ -208,6 +234,6 @@ fn is_told(status: u8) -> bool {
 /// Tells on standard error what is wrong; nothing where memory ran out for the words.
 fn tell(rt: &impl Eprint, cause: Result<String, AllocError>) {
     if let Ok(cause) = cause {
-        let _ = rt.eprint(&cause);
+        let _ = rt.eprint(Shown::of(&cause));
     }
 }

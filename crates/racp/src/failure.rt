@@ -7,6 +7,7 @@ ghost use Rattle.racp_cli.specs.Streams.{fault_status};
 ghost use Rattle.racp.specs.declared.failure.Failure.TheVariants as failures;
 ghost use Rattle.racp_cli.specs.declared.fault.StreamFault.TheVariants as streams;
 
+use crate::shown::Shown;
 use clap::Error;
 use clap::error::ErrorKind;
 use racp_cli::{DONE, StreamFault};
@@ -100,7 +101,7 @@ pub(crate) fn report<R: Print + Eprint>(rt: &R, failure: Failure) -> u8
         Failure::Stream(fault) => report_fault(rt, fault),
         Failure::Told(fault, words) => {
             let status = report_fault(rt, fault);
-            let _ = rt.eprintln(&words);
+            let _ = rt.eprintln(Shown::of(&words));
             status
         }
     }

@@ -39,6 +39,7 @@ mod limit;
 mod memory;
 mod progress;
 mod run;
+mod shown;
 mod tools;
 
 use std::io::IsTerminal;

@@ -21,9 +21,19 @@ pub(crate) fn mebibytes_used<F: Files>(rt: &F) -> u64 {
 
 /// How many pages the program uses.
 fn pages_used<F: Files>(rt: &F) -> Option<u64> {
-    let mut file = File::open(rt, STATE).ok()?;
     let mut bytes = [0u8; 128];
-    let count = file.read(&mut bytes).ok()?;
-    let text = str::from_utf8(bytes.get(..count)?).ok()?;
+    let count = read_state(rt, &mut bytes)?;
+    second_number(bytes.get(..count)?)
+}
+
+/// Reads what the system tells, and answers how many bytes that were.
+fn read_state<F: Files>(rt: &F, bytes: &mut [u8]) -> Option<usize> {
+    let mut file = File::open(rt, STATE).ok()?;
+    file.read(bytes).ok()
+}
+
+/// The second of some numbers with blanks between them.
+fn second_number(bytes: &[u8]) -> Option<u64> {
+    let text = str::from_utf8(bytes).ok()?;
     text.split_whitespace().nth(1)?.parse().ok()
 }

@@ -270,9 +270,21 @@ fn verify<R: Files + Print + AllocGlobal>(rt: &R, files: ProofFiles<'_>) -> Resu
 {
     let mut net = open(rt, files.net)?;
     let mut order = open(rt, files.order)?;
+    verify_for(rt, &mut net, &mut order, files)
+}
+
+/// The same, where the files of the network and of the order are open.
+fn verify_for<R: Files + Print + AllocGlobal, N: Read, O: Read>(
+    rt: &R,
+    net: &mut N,
+    order: &mut O,
+    files: ProofFiles<'_>,
+) -> Result<u8, StreamFault>
+    ensures { IfOk result IsStatusOfAnswer }
+{
     let mut plan = open(rt, files.plan)?;
     let mut proof = open(rt, files.proof)?;
-    verify_of(rt, &mut net, &mut order, &mut plan, &mut proof)
+    verify_of(rt, net, order, &mut plan, &mut proof)
 }
 
 /// Writes whether the plan that is read there is right, and the certificate shows that no capacities before its own are
