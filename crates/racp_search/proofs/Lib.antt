@@ -12,3 +12,4 @@ mod Entering
 mod Ending
 mod Leaving
 mod Resting
+mod Pursuing
