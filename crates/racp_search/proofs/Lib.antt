@@ -13,3 +13,4 @@ mod Ending
 mod Leaving
 mod Resting
 mod Pursuing
+mod Exploring

@@ -1,7 +1,7 @@
 -- The last frame of a stack is taken out: a window below it is searched next, or it is used up.
 use Rattle.std.proofs.Common.{◌≡◌, inl, inr, ◌∙◌, ℕ, zero, suc, ◌≤◌, List, [], ◌∷◌, ◌++◌, length, slice_set, take, drop, arith, refl, sym, subst, ap}
 use Rattle.std.proofs.lemmas.List.{append-nil, append_assoc, take-append-drop, take-set-le}
-use Rattle.std.proofs.Math.Seq.{take-append_seam}
+use Rattle.std.proofs.Math.Seq.{take-append_seam, take-length}
 use Rattle.racp_model.specs.Project.{Project}
 use Rattle.racp_model.specs.Window.{Bounds, IsNo}
 use Rattle.racp_cutset.specs.Covering.{SearchNode}
@@ -50,6 +50,11 @@ first_stay count old = (
   drop count old.records,
   ap (λ (xs : List SearchNode). record { records = xs; most = old.most }) (sym (take-append-drop count old.records)),
 )
+
+-- where the first ones are all, all stay
+pub all_stay : (count : ℕ) (old new : Kept) → count ≡ length old.records → StayKept (front count old) new → StayKept old new
+all_stay count old new is h =
+    subst (λ (xs : List SearchNode). StayKept (record { records = xs; most = old.most }) new) (ap (λ (n : ℕ). take n old.records) is ∙ take-length old.records) h
 
 -- the first ones of the first ones with others behind them
 first_of_first : (count : ℕ) (xs behind : List SearchNode) → (more : List SearchNode) × (take count (take count xs ++ behind) ≡ take count xs ++ more)
