@@ -1,5 +1,5 @@
 -- How a search ends that came to a halt.
-use Rattle.std.proofs.Common.{ℕ, List, Contains, refl, sym, subst, Bool, Option, Result, Ok, Err, IfOk, IsTrue, IsFalse}
+use Rattle.std.proofs.Common.{◌≡◌, ℕ, List, Contains, refl, sym, subst, Bool, Option, Result, Ok, Err, IfOk, IsTrue, IsFalse}
 use Rattle.std.specs.declared.alloc.AllocError.{AllocError}
 use Rattle.racp_model.specs.Project.{Project}
 use Rattle.racp_model.specs.Window.{Bounds}
@@ -58,3 +58,13 @@ module _ (p : Project) (capacities : List ℕ) (window : Bounds) (quantum : Opti
   finished_quiet halt (Err error) h e = tt
   finished_quiet (Ok halt) (Ok ended) h e = not_stopped halt ended h e
   finished_quiet (Err error) (Ok ended) h e = absurd e
+
+-- the same, where the halt is told by what it is
+module _ (p : Project) (capacities : List ℕ) (window : Bounds) (told : Result Halt AllocError) (at is : Halt) (came : told ≡ Ok at) (same : at ≡ is) where
+  pub finished_at : (ended : Ended) → IsEndOf p capacities window is ended → IsFinished p capacities window told ended
+  finished_at ended h =
+      subst (λ (halt : Result Halt AllocError). IsFinished p capacities window halt ended) (sym came) (subst (λ (halt : Halt). IsEndOf p capacities window halt ended) (sym same) h)
+
+  pub finished_there : (end : Result Ended AllocError) → IfOk end (IsEndOf p capacities window is) → IfOk end (IsFinished p capacities window told)
+  finished_there (Ok ended) h = finished_at ended h
+  finished_there (Err error) h = tt

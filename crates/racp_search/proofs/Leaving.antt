@@ -1,6 +1,7 @@
 -- What is left of a stack when a search is left: windows of frames, and the one in front.
-use Rattle.std.proofs.Common.{◌≡◌, ◌≢◌, inl, inr, ◌∙◌, ℕ, ◌<◌, List, [], ◌∷◌, ◌++◌, length, map, Contains, arith, refl, sym, subst, ap, true, ◌==◌}
-use Rattle.std.specs.Prelude.{remove, slice_index_or}
+use Rattle.std.proofs.Common.{◌≡◌, ◌≢◌, inl, inr, ◌∙◌, ℕ, ◌<◌, List, [], ◌∷◌, ◌++◌, length, map, Contains, Result, Ok, Err, IfOk, arith, refl, sym, subst, ap, true, ◌==◌}
+use Rattle.std.specs.Prelude.{OnOk, remove, slice_index_or}
+use Rattle.std.specs.declared.alloc.AllocError.{AllocError}
 use Rattle.std.proofs.lemmas.Bool.{eqb-true}
 use Rattle.std.proofs.lemmas.List.{append-nil, map-append}
 use Rattle.std.proofs.lemmas.List.Elements.{Contains-append_left, Contains-append_right, Contains-append_cases}
@@ -9,7 +10,7 @@ use Rattle.racp_model.specs.Window.{Bounds, LiesIn}
 use Rattle.racp_model.proofs.lemmas.Relations.{member_cases, member_first, member_later, no_member}
 use Rattle.racp_search.specs.DepthFirst.{SearchFrame, Part, LiesInPart, PartsCover, parts_of, front_of, last_window, AreOpenFrames, AreBelow, AreInside, IsBelow, IsBeneath, IsPartOf, IsHigher, IsSearchingNext, IsRestOfFrame}
 use Rattle.racp_search.specs.DepthFirst.Part.{all_of}
-use Rattle.racp_search.specs.Steps.{HasFirst, IsFrontWindow, IsLeft}
+use Rattle.racp_search.specs.Steps.{HasFirst, IsFirstLeft, IsFrontWindow, IsLeft}
 use Rattle.racp_search.proofs.Stacks.{part-of_part, below-whole, inside-sum}
 
 -- a window of the list is a part of the list
@@ -45,6 +46,17 @@ no-frames (x ∷ xs) e = absurd (omega (arith, e))
 pub first-out : (old new : List SearchFrame) (f : SearchFrame) → 0 < length old → f ≡ slice_index_or old 0 f → new ≡ remove old 0 → old ≡ f ∷ new
 first-out [] new f some is rest = absurd (omega (arith, some))
 first-out (x ∷ xs) new f some is rest = subst (λ (y : SearchFrame). x ∷ xs ≡ y ∷ new) (sym is) (subst (λ (ys : List SearchFrame). x ∷ xs ≡ x ∷ ys) (sym rest) refl)
+
+-- a first frame is there
+pub some_first : (capacities : List ℕ) (frames : List SearchFrame) → HasFirst capacities frames → 0 < length frames
+some_first capacities [] h = absurd h
+some_first capacities (frame ∷ frames) h = omega arith
+
+-- its windows were put behind others
+pub first_left : (p : Project) (capacities : List ℕ) (old new : List SearchFrame) (frame : SearchFrame) (old_rest more new_rest : List Bounds) (result : Result (Unit {0}) AllocError) → old ≡ frame ∷ new →
+    OnOk result (new_rest ≡ old_rest ++ more) → IsRestOfFrame p capacities frame more → IfOk result (λ x. IsFirstLeft p capacities old new old_rest new_rest)
+first_left p capacities old new frame old_rest more new_rest (Ok x) taken gathered left = record { frame = frame; more = more; taken = taken; gathered = gathered; left = left }
+first_left p capacities old new frame old_rest more new_rest (Err error) taken gathered left = tt
 
 module _ (p : Project) (capacities : List ℕ) (whole next : Bounds) where
   abbrev pub front : List SearchFrame → List Part
