@@ -1,5 +1,5 @@
 -- What is left of a stack when a search is left: windows of frames, and the one in front.
-use Rattle.std.proofs.Common.{◌≡◌, ◌≢◌, inl, inr, ◌∙◌, ℕ, ◌<◌, List, [], ◌∷◌, ◌++◌, length, map, Contains, Result, Ok, Err, IfOk, arith, refl, sym, subst, ap, true, ◌==◌}
+use Rattle.std.proofs.Common.{◌≡◌, ◌≢◌, inl, inr, ◌∙◌, ℕ, zero, suc, ◌<◌, List, [], ◌∷◌, ◌++◌, length, map, Contains, Result, Ok, Err, IfOk, arith, refl, sym, subst, ap, true, false, ◌==◌}
 use Rattle.std.specs.Prelude.{OnOk, remove, slice_index_or}
 use Rattle.std.specs.declared.alloc.AllocError.{AllocError}
 use Rattle.std.proofs.lemmas.Bool.{eqb-true}
@@ -38,6 +38,10 @@ pub none-there : (n : ℕ) → true ≡ (n == 0) → n ≡ 0
 none-there n e = eqb-true n 0 (sym e)
 
 -- lists without elements
+pub some-there : (n : ℕ) → false ≡ (n == 0) → 0 < n
+some-there zero e = absurd (cc e)
+some-there (suc n) e = omega arith
+
 pub no-frames : (xs : List SearchFrame) → length xs ≡ 0 → xs ≡ []
 no-frames [] e = refl
 no-frames (x ∷ xs) e = absurd (omega (arith, e))

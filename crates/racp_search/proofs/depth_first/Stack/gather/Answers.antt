@@ -1,5 +1,6 @@
-use Rattle.std.proofs.Common.{ap, length, arith}
-use Rattle.racp_search.proofs.Leaving.{no-frames, none-there, leaving-next, leaving-end}
+use Rattle.std.proofs.Common.{[], ◌∷◌, ap, length, arith}
+use Rattle.racp_search.specs.DepthFirst.Part.{all_of}
+use Rattle.racp_search.proofs.Leaving.{no-frames, none-there, some-there, first-there, leaving-next, leaving-end}
 use Rattle.racp_search.proofs.depth_first.Stack.gather.Goals as goal
 use Rattle.racp_search.proofs.depth_first.Stack.gather.Goals.{then-loop-self-test+else-not-is_empty, else-loop-self-test}
 
@@ -17,3 +18,9 @@ returns g c =
       | else-loop-self-test w ↦ λ none. absurd (omega (arith, c.loop-self.rest.ok.0, ap length none, w.loop-self-test.false))
     ])
     c.in_ok-push.ensures.items c.loop-self.invariant
+
+pub leave_first-requires : goal.leave_first-requires
+leave_first-requires g c = first-there g.N.OfNetwork.network c.args.subject.now.capacities c.loop-self.self.frames.items (all_of c.args.next.now.window ∷ []) (omega (arith, c.loop-self.self.frames.ok.0, some-there _ c.if-not-is_empty.ensures)) c.loop-self.invariant.opened
+
+pub loop-self-smaller : goal.loop-self-smaller
+loop-self-smaller g c = omega (arith, ap length c.in_ok-leave_first.ensures.taken, c.loop-self.self.frames.ok.0, c.leave_first.new.self.frames.ok.0)
