@@ -1,6 +1,7 @@
-use Rattle.std.proofs.Common.{◌∙◌, ap}
+use Rattle.std.proofs.Common.{◌≡◌, ◌∙◌, arith, ap, length, sym}
 use Rattle.racp_cutset.specs.Covering.{SearchNode}
-use Rattle.racp_search.proofs.Going.{gone-same, gone-again}
+use Rattle.racp_search.specs.DepthFirst.{SearchFrame, child_windows}
+use Rattle.racp_search.proofs.Going.{as-many, gone-same, gone-again}
 use Rattle.racp_search.proofs.frame.Frame.find_children.Goals as goal
 
 pub loop-self-init : goal.loop-self-init
@@ -20,3 +21,14 @@ returns-else-len-enough-clause-further g c = c.loop-self.invariant
 
 pub returns-after-loop-self-clause-further : goal.returns-after-loop-self-clause-further
 returns-after-loop-self-clause-further g c = c.loop-self.invariant
+
+pub find_child-requires-clause-more : goal.find_child-requires-clause-more
+find_child-requires-clause-more g c = sym (ap (λ (f : SearchFrame). f.more) c.self.view_is) ∙ c.loop-self-test.true
+
+pub returns-after-loop-self-clause-enough : goal.returns-after-loop-self-clause-enough
+returns-after-loop-self-clause-enough g c = λ more. absurd (cc (more, ap (λ (f : SearchFrame). f.more) c.self.view_is, c.loop-self-test.false))
+
+pub returns-else-len-enough-clause-enough : goal.returns-else-len-enough-clause-enough
+returns-else-len-enough-clause-enough g c =
+    let same : length (child_windows c.self.inside.children.items) ≡ length c.loop-self.self.windows = ap (λ (f : SearchFrame). length f.windows) c.self.view_is in
+    λ more. omega (arith, c.if-len-enough.false, c.len.ensures, c.self.inside.children.ok.0, as-many c.self.inside.children.items, same)
