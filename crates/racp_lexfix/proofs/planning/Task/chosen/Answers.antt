@@ -1,4 +1,4 @@
-use Rattle.std.proofs.Common.{◌≡◌, ◌+◌, ◌-◌, ◌<◌, List, ℕ, Option, arith, sym, subst}
+use Rattle.std.proofs.Common.{◌≡◌, ◌∙◌, ◌+◌, ◌-◌, ◌<◌, List, ℕ, Option, length, arith, ap, sym, subst}
 use Rattle.std.proofs.lemmas.Result.{err_from_is_err_and}
 use Rattle.racp_bounds.specs.Sharp.{pair_count}
 use Rattle.racp_lexfix.specs.Answers.{ceiling_series, IsStoppedAt, IsPlanStop}
@@ -91,3 +91,129 @@ cheapest-requires-clause-known g c =
       root = c.requires.root;
       sharp = record { first = c.in-Some.floors; ends = bounded.0; sharp_are = c.in-Ok.ensures.sharp };
     }
+
+pub floors_and_roofs-requires-clause-named : goal.floors_and_roofs-requires-clause-named
+floors_and_roofs-requires-clause-named g c = c.requires.named
+
+pub floors_and_roofs-requires-clause-terms : goal.floors_and_roofs-requires-clause-terms
+floors_and_roofs-requires-clause-terms g c = c.requires.terms
+
+pub floors_and_roofs-requires-clause-root : goal.floors_and_roofs-requires-clause-root
+floors_and_roofs-requires-clause-root g c = c.requires.root
+
+pub floors_and_roofs-requires-clause-floors : goal.floors_and_roofs-requires-clause-floors
+floors_and_roofs-requires-clause-floors g c = c.requires.heard.floors
+
+pub returns-in_err-floors-clause-network : goal.returns-in_err-floors-clause-network
+returns-in_err-floors-clause-network g c = c.floors_and_roofs.ensures.network
+
+pub returns-in_err-floors-clause-chosen : goal.returns-in_err-floors-clause-chosen
+returns-in_err-floors-clause-chosen g c = rw ((err_from_is_err_and c.from_residual.result c.from_residual.ensures.1).1) tt
+
+pub returns-in_err-floors-clause-stop : goal.returns-in_err-floors-clause-stop
+returns-in_err-floors-clause-stop g c =
+    let p = err_from_is_err_and c.from_residual.result c.from_residual.ensures.1 in
+    rw (p.1, p.2) c.in_err-floors.ensures.stop
+
+pub returns-in_default-clause-network : goal.returns-in_default-clause-network
+returns-in_default-clause-network g c = c.floors_and_roofs.ensures.network
+
+pub returns-in_default-clause-chosen : goal.returns-in_default-clause-chosen
+returns-in_default-clause-chosen g c = subst (λ (o : Option (List ℕ × List ℕ)). IsBounded c.args.self.now.net.now c.args.self.now.order.now c.args.root.now (g.A.Asker.answered c.floors_and_roofs.new.asker - g.A.Asker.answered c.args.asker.now) o) c.in_default.is c.in_ok-floors.ensures.bounded
+
+pub returns-in_default-clause-stop : goal.returns-in_default-clause-stop
+returns-in_default-clause-stop g c = tt
+
+pub sharpen-requires-clause-named : goal.sharpen-requires-clause-named
+sharpen-requires-clause-named g c = c.floors_and_roofs.ensures.network
+
+pub sharpen-requires-clause-root : goal.sharpen-requires-clause-root
+sharpen-requires-clause-root g c = record { lower = c.requires.root.early.places; upper = c.requires.root.late.places }
+
+pub sharpen-requires-clause-floors : goal.sharpen-requires-clause-floors
+sharpen-requires-clause-floors g c =
+    let bounded = subst (λ (o : Option (List ℕ × List ℕ)). IsBounded c.args.self.now.net.now c.args.self.now.order.now c.args.root.now (g.A.Asker.answered c.floors_and_roofs.new.asker - g.A.Asker.answered c.args.asker.now) o) c.in-Some.is c.in_ok-floors.ensures.bounded in
+    bounded.0.lowest.places
+
+pub sharpen-requires-clause-roofs : goal.sharpen-requires-clause-roofs
+sharpen-requires-clause-roofs g c =
+    let bounded = subst (λ (o : Option (List ℕ × List ℕ)). IsBounded c.args.self.now.net.now c.args.self.now.order.now c.args.root.now (g.A.Asker.answered c.floors_and_roofs.new.asker - g.A.Asker.answered c.args.asker.now) o) c.in-Some.is c.in_ok-floors.ensures.bounded in
+    bounded.0.most.places
+
+pub sharpen-requires-clause-bounds : goal.sharpen-requires-clause-bounds
+sharpen-requires-clause-bounds g c =
+    let bounded = subst (λ (o : Option (List ℕ × List ℕ)). IsBounded c.args.self.now.net.now c.args.self.now.order.now c.args.root.now (g.A.Asker.answered c.floors_and_roofs.new.asker - g.A.Asker.answered c.args.asker.now) o) c.in-Some.is c.in_ok-floors.ensures.bounded in
+    bounded.0.bounds
+
+pub sharpen-requires-clause-admits : goal.sharpen-requires-clause-admits
+sharpen-requires-clause-admits g c =
+    let bounded = subst (λ (o : Option (List ℕ × List ℕ)). IsBounded c.args.self.now.net.now c.args.self.now.order.now c.args.root.now (g.A.Asker.answered c.floors_and_roofs.new.asker - g.A.Asker.answered c.args.asker.now) o) c.in-Some.is c.in_ok-floors.ensures.bounded in
+    bounded.0.yes
+
+pub given_up-requires : goal.given_up-requires
+given_up-requires g c = tt
+
+pub returns-in-Err-clause-network : goal.returns-in-Err-clause-network
+returns-in-Err-clause-network g c = c.sharpen.ensures.network
+
+pub returns-in-Err-clause-chosen : goal.returns-in-Err-clause-chosen
+returns-in-Err-clause-chosen g c = tt
+
+pub copied-requires : goal.copied-requires
+copied-requires g c = tt
+
+pub returns-in_err-copied-clause-network : goal.returns-in_err-copied-clause-network
+returns-in_err-copied-clause-network g c = c.sharpen.ensures.network
+
+pub returns-in_err-copied-clause-chosen : goal.returns-in_err-copied-clause-chosen
+returns-in_err-copied-clause-chosen g c = rw ((err_from_is_err_and c.from_residual-in_err-copied.result c.from_residual-in_err-copied.ensures.1).1) tt
+
+pub returns-in_err-copied-clause-stop : goal.returns-in_err-copied-clause-stop
+returns-in_err-copied-clause-stop g c =
+    let p = err_from_is_err_and c.from_residual-in_err-copied.result c.from_residual-in_err-copied.ensures.1 in
+    rw (p.1, p.2) tt
+
+pub cheapest-requires-clause-named : goal.cheapest-requires-clause-named
+cheapest-requires-clause-named g c = c.sharpen.ensures.network
+
+pub cheapest-requires-clause-least : goal.cheapest-requires-clause-least
+cheapest-requires-clause-least g c = c.requires.heard.least
+
+pub returns-in_err-capacities-clause-network : goal.returns-in_err-capacities-clause-network
+returns-in_err-capacities-clause-network g c = c.cheapest.ensures.network
+
+pub returns-in_err-capacities-clause-chosen : goal.returns-in_err-capacities-clause-chosen
+returns-in_err-capacities-clause-chosen g c = rw ((err_from_is_err_and c.from_residual-in_err-capacities.result c.from_residual-in_err-capacities.ensures.1).1) tt
+
+pub as_slice-requires : goal.as_slice-requires
+as_slice-requires g c = tt
+
+pub cost_of-requires-clause-terms : goal.cost_of-requires-clause-terms
+cost_of-requires-clause-terms g c = c.requires.terms
+
+pub cost_of-requires-clause-capacities : goal.cost_of-requires-clause-capacities
+cost_of-requires-clause-capacities g c = ap length c.as_slice.ensures ∙ c.in_ok-capacities.ensures.cheapest.0.is.places
+
+pub least_starts-requires-clause-named : goal.least_starts-requires-clause-named
+least_starts-requires-clause-named g c = c.cheapest.ensures.network
+
+pub least_starts-requires-clause-capacities : goal.least_starts-requires-clause-capacities
+least_starts-requires-clause-capacities g c = c.in_ok-capacities.ensures.cheapest.0.is.places
+
+pub least_starts-requires-clause-root : goal.least_starts-requires-clause-root
+least_starts-requires-clause-root g c = record { lower = c.requires.root.early.places; upper = c.requires.root.late.places }
+
+pub returns-in-Ok-least_starts-clause-network : goal.returns-in-Ok-least_starts-clause-network
+returns-in-Ok-least_starts-clause-network g c = c.least_starts.ensures.network
+
+pub returns-in-Ok-least_starts-clause-stop : goal.returns-in-Ok-least_starts-clause-stop
+returns-in-Ok-least_starts-clause-stop g c = tt
+
+pub given_up-requires-in-Err-least_starts : goal.given_up-requires-in-Err-least_starts
+given_up-requires-in-Err-least_starts g c = tt
+
+pub returns-clause-network : goal.returns-clause-network
+returns-clause-network g c = c.least_starts.ensures.network
+
+pub returns-clause-chosen : goal.returns-clause-chosen
+returns-clause-chosen g c = tt
