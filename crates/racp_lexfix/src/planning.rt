@@ -1,6 +1,7 @@
 //! From the root window to the plan.
 
 ghost use Rattle.std.specs.Prelude.{ℕ, ◌-◌, List, IfOk, IfErr};
+ghost use Rattle.racp_model.specs.Path.{IsCriticalLength};
 ghost use Rattle.racp_model.specs.Terms.{AreTermsOf, release_of, due_of};
 ghost use Rattle.racp_model.specs.Window.{IsRootWindow};
 ghost use Rattle.racp_candidates.specs.Box.{AreBoxQuestions};
@@ -82,24 +83,45 @@ impl Task<'_> {
             (A.answered asker.new - A.answered asker.old) (A.told asker.new))
             (A.may_stop asker.new) (A.may_want_thread asker.new)) }
     {
-        let (net, order) = (self.net, self.order);
-        match opening_of(self.alloc, net, order)? {
-            Opening::Root { critical, window } => {
-                let Some((capacities, starts)) = self.chosen(&window, asker, kept)? else {
-                    return Ok(Answer::Ceiling);
-                };
-                let cost = cost_of(net, order, capacities.as_slice());
-                Ok(Answer::Plan(Plan {
-                    deadline: order.deadline,
-                    critical,
-                    cost,
-                    capacities,
-                    starts,
-                }))
-            }
+        match opening_of(self.alloc, self.net, self.order)? {
+            Opening::Root { critical, window } => self.within(critical, &window, asker, kept),
             Opening::TooLong { critical } => Ok(Answer::Impossible { longest: critical }),
             Opening::TooLate { job } => Ok(Answer::Due { job }),
         }
+    }
+
+    /// The plan within the root window, or that no capacities within the ceilings are enough, of a project with this critical
+    /// length. The sharpened floors and the refuted pairs are kept, once they are known.
+    fn within<A: Asker<AnySeries>>(
+        &self,
+        critical: u64,
+        root: &Window,
+        asker: &mut A,
+        kept: &mut Option<Sharp>,
+    ) -> Result<Answer, PlanStop>
+        requires named { A.about asker.old self.now.net.now }
+        requires terms { AreTermsOf self.now.net.now self.now.order.now }
+        requires critical { IsCriticalLength self.now.net.now (release_of self.now.order.now) critical }
+        requires root { IsRootWindow self.now.net.now (release_of self.now.order.now) (due_of self.now.order.now) root.now }
+        requires heard { MayBeTold self.now.net.now self.now.order.now A.may_hear_floors A.may_hear_cost }
+        ensures network { A.about asker.new self.now.net.now }
+        ensures answer { IfOk result (IsAnswer self.now.net.now self.now.order.now) }
+        ensures stop { IfErr result (IsPlanStop (IsStoppedAt self.now.net.now self.now.order.now
+            (A.answered asker.new - A.answered asker.old) (A.told asker.new))
+            (A.may_stop asker.new) (A.may_want_thread asker.new)) }
+    {
+        let order = self.order;
+        let Some((capacities, starts)) = self.chosen(root, asker, kept)? else {
+            return Ok(Answer::Ceiling);
+        };
+        let cost = cost_of(self.net, order, capacities.as_slice());
+        Ok(Answer::Plan(Plan {
+            deadline: order.deadline,
+            critical,
+            cost,
+            capacities,
+            starts,
+        }))
     }
 
     /// The capacities and the starts of the plan within the root window, or none where no capacities are enough. The
