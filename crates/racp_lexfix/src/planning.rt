@@ -150,7 +150,7 @@ impl Task<'_> {
             Ok(sharp) => sharp,
             Err((reached, stop)) => return Err(PlanStop::given_up(stop, reached)),
         };
-        *kept = Some(copied(alloc, &sharp)?);
+        keep(alloc, &sharp, kept)?;
         let vectors = VectorBox {
             task: *self,
             root,
@@ -166,12 +166,12 @@ impl Task<'_> {
     }
 }
 
-/// The same floors and pairs.
-fn copied(alloc: Global, sharp: &Sharp) -> Result<Sharp, AllocError> {
-    Ok(Sharp {
-        floors: sharp.floors.copy()?,
-        pairs: sharp.pairs.to_vec(alloc)?,
-    })
+/// Keeps the same floors and pairs.
+fn keep(alloc: Global, sharp: &Sharp, kept: &mut Option<Sharp>) -> Result<(), AllocError> {
+    let floors = sharp.floors.copy()?;
+    let pairs = sharp.pairs.to_vec(alloc)?;
+    *kept = Some(Sharp { floors, pairs });
+    Ok(())
 }
 
 /// The capacity vectors among which the first that is enough is looked for: those from the sharpened floors of a task, by

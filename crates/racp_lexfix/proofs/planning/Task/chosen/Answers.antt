@@ -159,18 +159,18 @@ returns-in-Err-clause-network g c = c.sharpen.ensures.network
 pub returns-in-Err-clause-chosen : goal.returns-in-Err-clause-chosen
 returns-in-Err-clause-chosen g c = tt
 
-pub copied-requires : goal.copied-requires
-copied-requires g c = tt
+pub keep-requires : goal.keep-requires
+keep-requires g c = tt
 
-pub returns-in_err-copied-clause-network : goal.returns-in_err-copied-clause-network
-returns-in_err-copied-clause-network g c = c.sharpen.ensures.network
+pub returns-in_err-keep-clause-network : goal.returns-in_err-keep-clause-network
+returns-in_err-keep-clause-network g c = c.sharpen.ensures.network
 
-pub returns-in_err-copied-clause-chosen : goal.returns-in_err-copied-clause-chosen
-returns-in_err-copied-clause-chosen g c = rw ((err_from_is_err_and c.from_residual-in_err-copied.result c.from_residual-in_err-copied.ensures.1).1) tt
+pub returns-in_err-keep-clause-chosen : goal.returns-in_err-keep-clause-chosen
+returns-in_err-keep-clause-chosen g c = rw ((err_from_is_err_and c.from_residual-in_err-keep.result c.from_residual-in_err-keep.ensures.1).1) tt
 
-pub returns-in_err-copied-clause-stop : goal.returns-in_err-copied-clause-stop
-returns-in_err-copied-clause-stop g c =
-    let p = err_from_is_err_and c.from_residual-in_err-copied.result c.from_residual-in_err-copied.ensures.1 in
+pub returns-in_err-keep-clause-stop : goal.returns-in_err-keep-clause-stop
+returns-in_err-keep-clause-stop g c =
+    let p = err_from_is_err_and c.from_residual-in_err-keep.result c.from_residual-in_err-keep.ensures.1 in
     rw (p.1, p.2) tt
 
 pub cheapest-requires-clause-named : goal.cheapest-requires-clause-named
