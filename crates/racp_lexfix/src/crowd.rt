@@ -1,6 +1,6 @@
 //! An asker that runs a desk of workers for each series.
 
-ghost use Rattle.std.specs.Prelude.{◌≡◌, ◌↔◌, ◌⊎◌, ⊤, false, ◌+◌, ◌*◌, ◌/◌, ◌≤◌, ◌∷◌, None, min, Contains, OnOk, OnErr, IfOk, IfErr, IfSome, IsTrue, option_map};
+ghost use Rattle.std.specs.Prelude.{◌≡◌, ◌↔◌, ◌⊎◌, ⊤, false, ◌+◌, ◌*◌, ◌/◌, ◌≤◌, ◌∷◌, None, Some, min, Contains, OnOk, OnErr, IfOk, IfErr, IfSome, IsTrue, option_map};
 ghost use Rattle.std.specs.Option.{ForSome};
 ghost use Rattle.racp_model.specs.Formed.{AreFormed, IsFormed};
 ghost use Rattle.racp_questions.specs.FirstYes.{IsProbed, IsProbeStop};
@@ -190,6 +190,22 @@ impl<
         probe_of(outcome, is_over)
     }
 
+    /// What a run of one worker about a question tells of it, with so many nodes.
+    fn glimpse_at(&mut self, question: &Question, nodes: u64) -> Result<Probe, AskStop>
+        requires formed { IsFormed N.network question.now }
+        requires run { RunsDesks N.network P.QUIET (F.pre self.old.run) (F.post self.old.run) }
+        requires untold { self.old.told ≡ None }
+        ensures run { self.new.run ≡ self.old.run }
+        ensures answered { self.new.answered ≡ self.old.answered }
+        ensures told { self.new.told ≡ None }
+        ensures probed { IfOk result (IsProbed N.network question.now (Some nodes)) }
+        ensures stop { IfErr result (IsProbeStop (self.new.told)
+            ((self.new.left ≡ 0) ⊎ (P.QUIET ≡ false)) ⊤) }
+    {
+        let copy = question.copy()?;
+        self.probe_with(copy, None, 1, Some(nodes))
+    }
+
     /// What a glimpse at a question by one worker tells of it, or, where that leaves it open, a run of all workers about it and
     /// about those behind it.
     fn probe_by_all(
@@ -209,7 +225,7 @@ impl<
         ensures stop { IfErr result (IsProbeStop (self.new.told)
             ((self.new.left ≡ 0) ⊎ (P.QUIET ≡ false)) ⊤) }
     {
-        let glimpse = self.probe_with(question.copy()?, None, 1, Some(glimpse_of(most)))?;
+        let glimpse = self.glimpse_at(&question, glimpse_of(most))?;
         if !is_open(&glimpse) {
             return Ok(glimpse);
         }
