@@ -1,0 +1,22 @@
+use Rattle.std.proofs.Common.{◌≡◌, ◌∙◌, ◌∷◌, [], length, refl, ap, arith, length-append}
+use Rattle.racp_desk.proofs.running.start.Goals.{else-loop-seat-test, then-loop-seat-test+in-Err, then-workers-gt0, else-workers-gt0}
+use Rattle.racp_desk.proofs.running.start.Goals as goal
+
+pub loop-seat-preserved : goal.loop-seat-preserved
+loop-seat-preserved g c = record {
+  parts = omega (arith, c.split_off-mine.ensures.parts_left, c.loop-seat.invariant.parts);
+  handles = (let long = ap (λ hs. length hs) c.push_reserved.ensures.items ∙ length-append c.loop-seat.handles.items (c.in-Ok.handle ∷ []) in omega (arith, long, c.loop-seat.invariant.handles));
+  room = (let same = c.push_reserved.ensures.capacity in omega (arith, same, c.loop-seat.invariant.room));
+}
+
+pub returns : goal.returns
+returns g c =
+    let started : c.loop-seat-test.share.parts ≡ c.loop-seat.share.parts = elim c.loop-seat-test.branch [
+      | else-loop-seat-test w ↦ rw w.share-is refl
+      | then-loop-seat-test+in-Err w ↦ rw w.share-is (omega (arith, w.split_off-mine.ensures.parts_left, w.refuse.ensures, w.join_share.ensures))
+    ] in
+    let worked : c.if-workers-gt0.share.parts ≡ c.loop-seat-test.share.parts = elim c.if-workers-gt0.branch [
+      | then-workers-gt0 w ↦ rw w.share-is (omega (arith, w.split_off-mine-then-workers-gt0.ensures.parts_left, w.join_share-then-workers-gt0.ensures))
+      | else-workers-gt0 w ↦ rw w.share-is refl
+    ] in
+    omega (arith, started, worked, c.loop-seat.invariant.parts, c.loop-seat.invariant.handles)
