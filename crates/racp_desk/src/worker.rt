@@ -463,7 +463,7 @@ fn go_on<'a, N: OfNetwork, M: Names, S: Series, G: Gate, P: Stop, R: Wait>(
     for _round in rt.forever() {
         match turn_over(rt, shared, seat, work, &mut course, local, mine) {
             Some(next) => work = next,
-            None => return,
+            None => return drop(course),
         }
     }
     unreachable!()

@@ -104,6 +104,6 @@ returns-clause-grown g c =
 
 pub returns-clause-parts : goal.returns-clause-parts
 returns-clause-parts g c = elim c.match-merged.branch [
-      | in-Taken w ↦ rw w.mine-is w.add.ensures.parts
-      | in-Stale w ↦ rw w.mine-is refl
-    ]
+  | in-Taken w ↦ rw w.mine-is w.add.ensures.parts
+  | in-Stale w ↦ rw w.mine-is refl
+]
