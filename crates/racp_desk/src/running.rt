@@ -180,6 +180,7 @@ fn end<N: OfNetwork, M: Names, S: Series>(
     let mut all = share;
     state.audit(&mut all);
     if !state.is_settled() && !was_ended(state.cause()) {
+        drop(state);
         return Err(if refused {
             DeskFault::NoThread
         } else {
