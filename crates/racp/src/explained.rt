@@ -51,16 +51,23 @@ fn cpm<R: Files + Input + Print + Eprint + AllocGlobal>(
 ) -> Result<u8, Failure>
     ensures { IfOk result IsStatusOfAnswer }
 {
+    let name = match &network {
+        Source::StandardInput => "standard input",
+        Source::File(path) => *path,
+    };
+    let bytes = network_read(rt, network, name)?;
+    cpm_told(rt, &text(name, &bytes))
+}
+
+/// All bytes of the network that is read there, with this name.
+fn network_read<R: Files + Input + AllocGlobal>(
+    rt: &R,
+    network: Source<'_>,
+    name: &str,
+) -> Result<Vec<u8>, Failure> {
     match network {
-        Source::StandardInput => {
-            let name = "standard input";
-            let bytes = whole(rt.alloc(), &mut rt.reader(), name)?;
-            cpm_told(rt, &text(name, &bytes))
-        }
-        Source::File(path) => {
-            let bytes = whole(rt.alloc(), &mut opened(rt, path)?, path)?;
-            cpm_told(rt, &text(path, &bytes))
-        }
+        Source::StandardInput => whole(rt.alloc(), &mut rt.reader(), name),
+        Source::File(path) => whole(rt.alloc(), &mut opened(rt, path)?, name),
     }
 }
 

@@ -14,6 +14,7 @@ use racp_cli::{
     StreamFault, check_over, cpm_over, crowd_over_by, prove_over, run_over_within, verify_over,
 };
 use racp_desk::Open;
+use racp_lexfix::Effort;
 use racp_words::{Crew, Memory, OrderFiles, PlanFiles, ProofFiles, Request, Source, Task, asked};
 use std::alloc::{AllocError, Global};
 use std::fs::File;
@@ -95,16 +96,17 @@ pub(crate) fn plain<
 >(rt: &R, request: Request<'_>, on_terminal: bool) -> Result<u8, Failure>
     ensures { IfOk result IsStatusOfAnswer }
 {
-    match request {
-        Request::Cpm(network) => Ok(cpm(rt, network)?),
+    let status = match request {
+        Request::Cpm(network) => cpm(rt, network),
         Request::Plan(files, memory, crew) => {
-            Ok(plan(rt, files, Making::of(memory, crew, on_terminal))?)
+            plan(rt, files, Making::of(memory, crew, on_terminal))
         }
-        Request::Prove(files) => Ok(prove(rt, files)?),
-        Request::Check(files) => Ok(check(rt, files)?),
-        Request::Verify(files) => Ok(verify(rt, files)?),
-        Request::Tool(asked) => tool(rt, asked),
-    }
+        Request::Prove(files) => prove(rt, files),
+        Request::Check(files) => check(rt, files),
+        Request::Verify(files) => verify(rt, files),
+        Request::Tool(asked) => return tool(rt, asked),
+    };
+    Ok(status?)
 }
 
 /// The words of the command line, of which the first is the program's name.
@@ -195,10 +197,17 @@ fn plan_by<
         observer: &listener,
     };
     let (status, effort) = crowd_over_by(rt, rt.alloc(), workers, net, order, &mut io::writer(rt))?;
-    if let (true, Some(effort)) = (crew.stats, effort) {
-        let _ = rt.eprintln(format_args!("stats pieces {} nodes {}", effort.pieces, effort.nodes));
+    if crew.stats {
+        tell_effort(rt, effort);
     }
     Ok(status)
+}
+
+/// Tells on standard error how much work was done; nothing where there was no answer.
+fn tell_effort(rt: &impl Eprint, effort: Option<Effort>) {
+    if let Some(effort) = effort {
+        let _ = rt.eprintln(format_args!("stats pieces {} nodes {}", effort.pieces, effort.nodes));
+    }
 }
 
 /// What counts and tells how far planning has come, where that is asked for.

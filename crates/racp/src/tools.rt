@@ -28,18 +28,16 @@ pub(crate) fn tool<R: Files + Print + AllocGlobal + Threads + Wait + Sync>(
 ) -> Result<u8, Failure>
     ensures { IfOk result IsStatusOfTool }
 {
-    match tool {
-        Tool::Show(files, look) => Ok(show(rt, files, look)?),
-        Tool::Curve(files, memory, None, is_drawn) => Ok(curve(rt, files, memory, is_drawn)?),
+    let status = match tool {
+        Tool::Show(files, look) => show(rt, files, look),
+        Tool::Curve(files, memory, None, is_drawn) => curve(rt, files, memory, is_drawn),
         Tool::Curve(files, memory, Some(workers), is_drawn) => {
-            Ok(curve_by(rt, files, memory, workers, is_drawn)?)
+            curve_by(rt, files, memory, workers, is_drawn)
         }
-        Tool::Order(net, terms) => {
-            let asked = asked_order(rt.alloc(), &terms)?;
-            Ok(order(rt, net, asked)?)
-        }
-        Tool::Explain(format, fault) => explain(rt, format, fault),
-    }
+        Tool::Order(net, terms) => order(rt, net, asked_order(rt.alloc(), &terms)?),
+        Tool::Explain(format, fault) => return explain(rt, format, fault),
+    };
+    Ok(status?)
 }
 
 /// Writes what the faults mean that these words name, or a list of all faults.
