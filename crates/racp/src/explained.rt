@@ -10,7 +10,7 @@ use crate::shown::Shown;
 use racp_cli::{CHECK_FAILED, IMPOSSIBLE, REFUSED, StreamFault};
 use racp_explain::{Input as Text, network_cause, order_cause, plan_cause, proof_cause};
 use racp_words::{OrderFiles, PlanFiles, ProofFiles, Request, Source};
-use std::alloc::AllocError;
+use std::alloc::{AllocError, Global};
 use std::io::Read;
 use std::rt::Files;
 use std::sync::Wait;
@@ -34,13 +34,21 @@ pub(crate) fn explained<
         other => plain(rt, other, on_terminal),
     };
     match answered {
-        Err(Failure::Stream(StreamFault::Write)) => Err(told(
-            rt.alloc(),
+        Ok(status) => Ok(status),
+        Err(failure) => Err(with_output(rt.alloc(), failure)),
+    }
+}
+
+/// A failure, with a word of standard output where that takes no more.
+fn with_output(alloc: Global, failure: Failure) -> Failure {
+    match failure {
+        Failure::Stream(StreamFault::Write) => told(
+            alloc,
             StreamFault::Write,
             "standard output",
             &"it takes no more: it is closed or full, or nobody reads the pipe",
-        )),
-        answered => answered,
+        ),
+        failure => failure,
     }
 }
 
@@ -93,8 +101,21 @@ fn plan<R: Clock + Files + Print + Eprint + AllocGlobal + Threads + Wait + Sync>
 {
     let mut net = opened(rt, files.net)?;
     let mut order = opened(rt, files.order)?;
-    let net = whole(rt.alloc(), &mut net, files.net)?;
-    let order = whole(rt.alloc(), &mut order, files.order)?;
+    plan_read(rt, files, &mut net, &mut order, making)
+}
+
+/// The same, of the open files.
+fn plan_read<R: Clock + Files + Print + Eprint + AllocGlobal + Threads + Wait + Sync, F: Read>(
+    rt: &R,
+    files: OrderFiles<'_>,
+    net: &mut F,
+    order: &mut F,
+    making: Making,
+) -> Result<u8, Failure>
+    ensures { IfOk result IsStatusOfAnswer }
+{
+    let net = whole(rt.alloc(), net, files.net)?;
+    let order = whole(rt.alloc(), order, files.order)?;
     let (net, order) = (text(files.net, &net), text(files.order, &order));
     plan_told(rt, &net, &order, making)
 }
@@ -141,9 +162,22 @@ fn check_read<R: Print + Eprint + AllocGlobal, F: Read>(
 {
     let net = whole(rt.alloc(), net, files.net)?;
     let order = whole(rt.alloc(), order, files.order)?;
-    let plan = whole(rt.alloc(), plan, files.plan)?;
     let (net, order) = (text(files.net, &net), text(files.order, &order));
-    check_told(rt, &net, &order, &text(files.plan, &plan))
+    check_beside(rt, &net, &order, files.plan, plan)
+}
+
+/// The same, where the network and the order are read.
+fn check_beside<R: Print + Eprint + AllocGlobal, F: Read>(
+    rt: &R,
+    net: &Text<'_>,
+    order: &Text<'_>,
+    name: &str,
+    plan: &mut F,
+) -> Result<u8, Failure>
+    ensures { IfOk result IsStatusOfAnswer }
+{
+    let plan = whole(rt.alloc(), plan, name)?;
+    check_told(rt, net, order, &text(name, &plan))
 }
 
 /// Whether the plan in these texts is right.
@@ -203,10 +237,24 @@ fn verify_read<R: Print + Eprint + AllocGlobal, F: Read, C: Read>(
     let net = whole(rt.alloc(), net, files.net)?;
     let order = whole(rt.alloc(), order, files.order)?;
     let (net, order) = (text(files.net, &net), text(files.order, &order));
+    verify_beside(rt, files, &net, &order, plan, proof)
+}
+
+/// The same, where the network and the order are read.
+fn verify_beside<R: Print + Eprint + AllocGlobal, C: Read>(
+    rt: &R,
+    files: ProofFiles<'_>,
+    net: &Text<'_>,
+    order: &Text<'_>,
+    plan: &mut C,
+    proof: &mut C,
+) -> Result<u8, Failure>
+    ensures { IfOk result IsStatusOfAnswer }
+{
     let plan = whole(rt.alloc(), plan, files.plan)?;
     let proof = whole(rt.alloc(), proof, files.proof)?;
     let (plan, proof) = (text(files.plan, &plan), text(files.proof, &proof));
-    verify_told(rt, &net, &order, &plan, &proof)
+    verify_told(rt, net, order, &plan, &proof)
 }
 
 /// Whether the plan in these texts is right, and the certificate proves it.

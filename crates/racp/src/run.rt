@@ -79,7 +79,19 @@ fn answer<R: Clock + Env + Files + Input + Print + Eprint + AllocGlobal + Thread
     ensures { IfOk result IsStatusOfAnswer }
 {
     let words = words(rt)?;
-    let Task { request, explains } = asked(rt.alloc(), words.as_slice())?;
+    let task = asked(rt.alloc(), words.as_slice())?;
+    answer_to(rt, task, terminals)
+}
+
+/// Writes the answer to a task, and a hint where a network is read from a terminal.
+fn answer_to<R: Clock + Files + Input + Print + Eprint + AllocGlobal + Threads + Wait + Sync>(
+    rt: &R,
+    task: Task<'_>,
+    terminals: Terminals,
+) -> Result<u8, Failure>
+    ensures { IfOk result IsStatusOfAnswer }
+{
+    let Task { request, explains } = task;
     if terminals.input && matches!(&request, Request::Cpm(Source::StandardInput)) {
         let _ = rt.eprintln(HINT);
     }
