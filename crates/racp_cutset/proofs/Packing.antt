@@ -1,5 +1,5 @@
 -- What is true of the node that a record keeps.
-use Rattle.std.proofs.Common.{◌≡◌, ◌↔◌, ◌∙◌, ℕ, ◌+◌, ◌<◌, ◌≤◌, inl, inr, List, length, slice_index, arith, ap, refl, sym, subst}
+use Rattle.std.proofs.Common.{◌≡◌, ◌↔◌, ◌∙◌, Bool, IsTrue, ℕ, ◌+◌, ◌<◌, ◌≤◌, inl, inr, List, length, slice_index, arith, ap, refl, sym, subst}
 use Rattle.std.proofs.lemmas.Bool.{cases_lt}
 use Rattle.std.proofs.lemmas.Bool.Decides.{nat_tests}
 use Rattle.std.proofs.lemmas.List.FromFn.{length-map-range_with_len, get_or-map-range_with_len}
@@ -180,3 +180,11 @@ pub told_covers : (p : Project) (capacities upper bounds started : List ℕ) (ti
     → (other : SearchNode) → Covers p t.0 other ↔ Covers p node other
 told_covers p capacities upper bounds started time t v node h same other =
     subst (λ (x : SearchNode). Covers p x other ↔ Covers p node other) (sym (told_is p capacities upper bounds started time t (settled p v) h ∙ ap (settled p) same)) (settled_covers p node other)
+
+-- a test of two rows is one of the rows of two nodes that they are, at so many places
+pub tells_rows : (places : ℕ) (high low own other : List ℕ) (told : Bool) → high ≡ own → low ≡ other → length high ≡ places
+    → (IsTrue told ↔ IsAtLeastRow high low) → (IsTrue told ↔ ((k : ℕ) → k < places → slice_index other k ≤ slice_index own k))
+tells_rows places high low own other told is_own is_other count tells =
+    subst (λ (xs : List ℕ). IsTrue told ↔ ((k : ℕ) → k < places → slice_index other k ≤ slice_index xs k)) is_own
+    (subst (λ (xs : List ℕ). IsTrue told ↔ ((k : ℕ) → k < places → slice_index xs k ≤ slice_index high k)) is_other
+    (subst (λ (n : ℕ). IsTrue told ↔ ((k : ℕ) → k < n → slice_index low k ≤ slice_index high k)) count tells))
