@@ -113,7 +113,7 @@ impl Reader {
             Step::L(job) => Ok(is_too_late(upper, early.as_slice(), job)),
             Step::C(node) => {
                 let (net, capacities) = (ground.net, ground.capacities);
-                let covered = is_covered(
+                is_covered(
                     alloc,
                     net,
                     capacities,
@@ -122,8 +122,7 @@ impl Reader {
                     &self.closed,
                     node,
                     &self.usual,
-                )?;
-                Ok(covered)
+                )
             }
             Step::D(time) => self.open(alloc, ground, lower, early, time),
         }
@@ -201,7 +200,9 @@ impl Reader {
             self.branches.push(branch)?;
             return Ok(Some(lower));
         }
-        self.close(alloc, ground, &branch)?;
+        let closed = self.close(alloc, ground, &branch);
+        drop(branch);
+        closed?;
         Ok(None)
     }
 

@@ -17,17 +17,17 @@ returns-in-Some c = (
   subst (λ (o : Option (Vec ℕ Global)). IsChildAnswer c.args.ground.now.net.now c.args.ground.now.capacities.now c.args.branch c.next_child.new.self o) c.in-Some.is c.in_ok-lower.ensures.child,
 )
 
-pub close-requires : goal.close-requires
-close-requires c = c.next_child.ensures.stays
+pub close-closed-requires : goal.close-closed-requires
+close-closed-requires c = c.next_child.ensures.stays
 
 pub returns : goal.returns
 returns c =
-    let is = c.in_ok-close.ensures in (
+    let is = c.in_ok-closed.ensures in (
       (
         is.0,
         is.1,
         is.2,
-        subst (λ (n : ℕ). IsKept c.args.self.now.closed n is.0 c.close.new.self.closed) c.next_child.ensures.number is.3,
+        subst (λ (n : ℕ). IsKept c.args.self.now.closed n is.0 c.close-closed.new.self.closed) c.next_child.ensures.number is.3,
         λ upper. subst (λ (v : SearchNode). IsRecordOf c.args.ground.now.net.now v is.0) (c.next_child.ensures.node c.args.ground.now.capacities.now upper) (is.4 upper),
       ),
       subst (λ (o : Option (Vec ℕ Global)). IsChildAnswer c.args.ground.now.net.now c.args.ground.now.capacities.now c.args.branch c.next_child.new.self o) c.in_default.is c.in_ok-lower.ensures.child,

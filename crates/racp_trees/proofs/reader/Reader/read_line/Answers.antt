@@ -1,5 +1,6 @@
 use Rattle.std.proofs.Common.{◌↔◌, ◌∙◌, ◌<◌, ◌≤◌, refl, sym, ℕ, List, All, IsTrue, length, slice_index, subst, ap, arith}
 use Rattle.std.specs.Prelude.{IfOk}
+use Rattle.std.proofs.lemmas.Result.{IfOk-weaker}
 use Rattle.racp_model.specs.Limits.{most_bound}
 use Rattle.racp_model.specs.Project.{IsNumber}
 use Rattle.racp_model.specs.Path.{IsEarly}
@@ -7,6 +8,7 @@ use Rattle.racp_delay.specs.Alternatives.{place}
 use Rattle.racp_trees.specs.Nodes.{IsCoveredHere}
 use Rattle.racp_trees.specs.Readers.{IsLineAnswer}
 use Rattle.racp_trees.specs.declared.step.Step.{Step}
+use Rattle.racp_trees.specs.declared.step.Step.TheVariants.{C}
 use Rattle.racp_trees.proofs.Starting.{early_small}
 use Rattle.racp_trees.proofs.Opening.{late_is}
 use Rattle.racp_trees.proofs.reader.Reader.read_line.Goals as goal
@@ -75,15 +77,16 @@ returns-in-L-clause-line c =
     subst (λ (s : Step). IsLineAnswer p a (record { lower = lower; upper = upper }) c.args.self.now s c.is_too_late.result c.args.self.now) (sym c.in-L.is)
     (refl, refl, late_is p a lower upper early h c.in-L.job c.is_too_late.result answer)
 
-pub returns-in_ok-covered-in-C-clause-line : goal.returns-in_ok-covered-in-C-clause-line
-returns-in_ok-covered-in-C-clause-line c =
+pub returns-in-C-clause-line : goal.returns-in-C-clause-line
+returns-in-C-clause-line c =
     let p = c.args.ground.now.net.now in
     let a : List ℕ = c.args.ground.now.capacities.now in
     let lower : List ℕ = c.args.lower.items in
     let upper : List ℕ = c.args.ground.now.root.now.upper in
-    subst (λ (s : Step). IsLineAnswer p a (record { lower = lower; upper = upper }) c.args.self.now s c.in_ok-covered-in-C.covered c.args.self.now) (sym c.in-C.is) (
+    subst (λ (s : Step). IfOk c.is_covered.result (λ yes'. IsLineAnswer p a (record { lower = lower; upper = upper }) c.args.self.now s yes' c.args.self.now)) (sym c.in-C.is)
+    (IfOk-weaker c.is_covered.result _ (λ yes'. IsLineAnswer p a (record { lower = lower; upper = upper }) c.args.self.now (C c.in-C.node) yes' c.args.self.now)
+    (λ yes' is. (
       refl,
       refl,
-      λ nodes are.
-          subst (λ (xs : List ℕ). IsTrue c.in_ok-covered-in-C.covered ↔ IsCoveredHere p a (record { lower = xs; upper = upper }) nodes c.in-C.node) c.deref-in-C.ensures.value (c.in_ok-covered-in-C.ensures upper nodes c.requires.root.upper are),
-    )
+      λ nodes are. subst (λ (xs : List ℕ). IsTrue yes' ↔ IsCoveredHere p a (record { lower = xs; upper = upper }) nodes c.in-C.node) c.deref-in-C.ensures.value (is upper nodes c.requires.root.upper are),
+    )) c.is_covered.ensures)
