@@ -4,7 +4,8 @@ use Rattle.std.specs.Global.{Global}
 use Rattle.std.specs.Prelude.{Option, Some, None, is_some, not}
 use Rattle.std.proofs.Math.Nat.{mul-le-mul_left, one-le-pow, pow-le-pow_right, pow-suc}
 use Rattle.std.proofs.lemmas.Bool.{cases_lt}
-use Rattle.std.proofs.lemmas.List.{get_or_default, length-append}
+use lib.ListN.{drop, take}
+use Rattle.std.proofs.lemmas.List.{get_or_default, length-append, take-append-le, take_all}
 use Rattle.std.proofs.lemmas.List.Elements.{Contains-append_cases, Contains-append_left, Contains-append_right}
 use Rattle.racp_model.specs.Project.{Project}
 use Rattle.racp_model.specs.Terms.{Terms, AreTermsOf, cost, IsBefore}
@@ -337,3 +338,7 @@ gap_told c blocks (Some low) true e gap = absurd (cc e)
 gap_told c blocks (Some low) false e gap = (λ yes'. absurd (never false refl yes'), λ enough. absurd (gap.above (enough low.items gap.places gap.within gap.before)))
 gap_told c blocks None true e enough = (λ yes'. enough, λ h. refl)
 gap_told c blocks None false e enough = absurd (cc e)
+
+-- a list that was written over another one of its length
+pub written_over : (n : ℕ) (new old : List ℕ) → length old ≡ n → length new ≡ length old → take n (new ++ drop (length new) old) ≡ new
+written_over n new old long same = take-append-le n new (drop (length new) old) (omega (arith, long, same)) ∙ take_all n new (omega (arith, long, same))
