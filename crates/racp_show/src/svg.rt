@@ -184,16 +184,25 @@ fn push_bar(
     deadline: u64,
     y: u64,
 ) -> Result<(), AllocError> {
+    let x = across(entry.start as u64, deadline);
+    let width = across(entry.end as u64, deadline).saturating_sub(x).max(1);
+    write!(
+        text,
+        "<rect x=\"{x}\" y=\"{y}\" width=\"{width}\" height=\"12\" fill=\"#4a7ebb\">"
+    )?;
+    push_title(text, entry, labels)
+}
+
+/// Adds the tooltip of a job's bar, and the end of the bar.
+fn push_title(
+    text: &mut String,
+    entry: &JobEntry<'_>,
+    labels: &[String],
+) -> Result<(), AllocError> {
     let start = entry.start;
     let end = entry.end;
-    let x = across(start as u64, deadline);
-    let width = across(end as u64, deadline).saturating_sub(x).max(1);
     let name = name_of(entry, labels);
-    writeln!(
-        text,
-        "<rect x=\"{x}\" y=\"{y}\" width=\"{width}\" height=\"12\" fill=\"#4a7ebb\">\
-         <title>{name}: {start} to {end}</title></rect>"
-    )
+    writeln!(text, "<title>{name}: {start} to {end}</title></rect>")
 }
 
 /// The whole name of a job, or its label where it has none.

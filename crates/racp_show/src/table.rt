@@ -1,6 +1,6 @@
 //! A plan as a table of comma-separated values.
 
-ghost use Rattle.std.specs.Prelude.{◌≡◌, ◌++◌, ◌∷◌, [], ◌<◌, IfOk, OnOk, length, map, decimal};
+ghost use Rattle.std.specs.Prelude.{◌≡◌, ◌++◌, ◌∷◌, [], ◌<◌, IfOk, OnOk, length, map, decimal, string_bytes};
 ghost use Rattle.csv.specs.Writing.{default_writer, row_text};
 ghost use Rattle.racp_model.specs.Plan.{FitsTerms};
 ghost use Rattle.racp_show.specs.Tables.{head_fields, job_fields, table_text};
@@ -78,10 +78,17 @@ fn numbered_row(
     ensures { IfOk result (λ row. row.items ≡
         row_text default_writer (decimal number ∷ (name.now ∷ (decimal start ∷ (decimal end ∷ []))))) }
 {
-    let number = format!(in alloc; "{number}")?;
-    let start = format!(in alloc; "{start}")?;
-    let end = format!(in alloc; "{end}")?;
+    let number = digits_of(alloc, number as u64)?;
+    let start = digits_of(alloc, start as u64)?;
+    let end = digits_of(alloc, end as u64)?;
     row_of(alloc, number.as_str(), name, start.as_str(), end.as_str())
+}
+
+/// The digits of a number.
+fn digits_of(alloc: Global, number: u64) -> Result<String, AllocError>
+    ensures { IfOk result (λ digits. string_bytes digits ≡ decimal number) }
+{
+    format!(in alloc; "{number}")
 }
 
 /// The row of four fields.
