@@ -50,3 +50,9 @@ returns-in-None c whole =
     making_ends p a root c.forget.new.self.reader c.args.text.now.items made.thin c.loop-alloc.lower.items c.loop-alloc.text.items is made.step made.little
     c.some_job_goes.ensures c.conflict_is_one.ensures made.read true made.answer c.make_line.new.self.reader refl made.branches made.closed made.number made.kept c.next_window.new.self c.make_line.new.text.items made.added
     (subst (λ (o : Option (Vec ℕ Global)). IsNextAnswer p a root c.make_line.new.self.reader c.next_window.new.self o) c.in-None.is c.in_ok-next.ensures.window) c.in_ok-next.ensures.ready c.args.self.now.reader c.forget.ensures.thinned c.requires.room
+
+pub make_line-requires-clause-lower : goal.make_line-requires-clause-lower
+make_line-requires-clause-lower c = (c.loop-alloc.invariant.reading []).low
+
+pub make_line-requires-clause-small : goal.make_line-requires-clause-small
+make_line-requires-clause-small c = (c.loop-alloc.invariant.reading []).small

@@ -3,7 +3,7 @@ use Rattle.std.specs.Global.{Global}
 use Rattle.racp_model.specs.Window.{Bounds}
 use Rattle.racp_trees.specs.Readers.{IsNextAnswer}
 use Rattle.racp_trees.specs.declared.reader.Reader.{Reader}
-use Rattle.racp_trees.proofs.Advancing.{tree_missing, tree_fails, tree_more, tree_ends, line_ready, line_shorter}
+use Rattle.racp_trees.proofs.Advancing.{tree_first, tree_missing, tree_fails, tree_more, tree_ends, line_ready, line_shorter}
 use Rattle.racp_trees.proofs.reader.Reader.read_tree.Goals as goal
 
 pub returns-then-not-branch : goal.returns-then-not-branch
@@ -51,3 +51,16 @@ returns-in-None c =
 pub returns : goal.returns
 returns c =
     tree_missing c.args.ground.now.net.now c.args.ground.now.capacities.now c.args.ground.now.root.now c.args.self.now c.args.text.now c.loop-step.self c.loop-step.lower.items c.loop-step.rest.now c.loop-step.invariant c.in_default.ensures
+
+pub loop-step-init : goal.loop-step-init
+loop-step-init c =
+    tree_first c.args.ground.now.net.now c.args.ground.now.capacities.now c.args.ground.now.root.now c.args.self.now c.args.text.now c.in_ok-lower.lower.items c.requires.ready (cc (c.in_ok-lower.ensures, c.lower.ensures.bounds)) c.requires.root.lower c.lower.ensures.small
+
+pub read_line-requires-clause-lower : goal.read_line-requires-clause-lower
+read_line-requires-clause-lower c = c.loop-step.invariant.low
+
+pub read_line-requires-clause-small : goal.read_line-requires-clause-small
+read_line-requires-clause-small c = c.loop-step.invariant.small
+
+pub read_line-requires-clause-ready : goal.read_line-requires-clause-ready
+read_line-requires-clause-ready c = c.loop-step.invariant.ready
