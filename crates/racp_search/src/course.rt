@@ -69,6 +69,6 @@ impl<N: OfNetwork> Course<N> {
     pub(crate) fn keep(&mut self, search: OpenSearch<N>)
         ensures { self.new ≡ record { order = self.old.order; first = self.old.first; begun = Some search } }
     {
-        self.begun = Some(search);
+        drop(self.begun.replace(search));
     }
 }

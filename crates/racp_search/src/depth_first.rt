@@ -41,9 +41,11 @@ pub(crate) fn search<N: OfNetwork, S: Stop>(
     ensures kept { StayKept local.old local.new }
 {
     let first = local.kept_count();
-    let (_, mut stack, next) = OpenSearch::new(alloc, subject, 0)?.into_parts();
+    let (question, mut stack, next) = OpenSearch::new(alloc, subject, 0)?.into_parts();
     let halt = stack.go_on(subject, next, quantum, nodes, local, first, stop);
-    stack.finish(alloc, subject, halt)
+    let ended = stack.finish(alloc, subject, halt);
+    drop((question, stack));
+    ended
 }
 
 /// The same over at most so many nodes, without leaving windows. Goes on with the search that the course has open, where
@@ -71,14 +73,17 @@ pub(crate) fn search_further<N: OfNetwork, S: Stop>(
     let first = course.first();
     let open = course.start(alloc, subject)?;
     let (question, mut stack, next) = open.into_parts();
-    match stack.go_on(subject, next, Some(most), nodes, local, first, stop)? {
-        Halt::Found(starts) => Ok(Progress::Decided(Ended::found(alloc, starts))),
-        Halt::Nothing => Ok(Progress::Decided(Ended::nothing(alloc))),
-        Halt::Left(next, stopped) => {
+    let ended = match stack.go_on(subject, next, Some(most), nodes, local, first, stop) {
+        Ok(Halt::Left(next, stopped)) => {
             course.keep(OpenSearch::of(question, stack, next));
-            Ok(Progress::Open(stopped))
+            return Ok(Progress::Open(stopped));
         }
-    }
+        Ok(Halt::Found(starts)) => Ok(Progress::Decided(Ended::found(alloc, starts))),
+        Ok(Halt::Nothing) => Ok(Progress::Decided(Ended::nothing(alloc))),
+        Err(error) => Err(error),
+    };
+    drop((question, stack));
+    ended
 }
 
 /// Whether as many nodes were entered as the quantum allows.
@@ -181,6 +186,7 @@ impl<N: OfNetwork> OpenSearch<N> {
         if self.is_of(subject.question()) {
             return Ok(self);
         }
+        drop(self);
         OpenSearch::new(alloc, subject, order)
     }
 
@@ -272,12 +278,12 @@ impl<N: OfNetwork> Stack<N> {
 
     /// How a search ended that came to a halt.
     fn finish(
-        self,
+        &mut self,
         alloc: Global,
         subject: &Subject<N>,
         halt: Result<Halt, AllocError>,
     ) -> Result<Ended, AllocError>
-        requires { IfOk halt (IsHaltOf N.network subject.now.capacities subject.now.window self.frames.items) }
+        requires { IfOk halt (IsHaltOf N.network subject.now.capacities subject.now.window self.old.frames.items) }
         ensures { IfOk result (IsFinished N.network subject.now.capacities subject.now.window halt) }
     {
         match halt {
@@ -364,7 +370,14 @@ impl<N: OfNetwork> Stack<N> {
         ensures kept { StayKept (front count local.old) local.new }
     {
         while let Some(mut frame) = self.frames.pop() {
-            if let Some(window) = frame.next_child(&mut self.workspace, subject)? {
+            let child = match frame.next_child(&mut self.workspace, subject) {
+                Ok(child) => child,
+                Err(error) => {
+                    drop(frame);
+                    return Err(error);
+                }
+            };
+            if let Some(window) = child {
                 let from = frame.time();
                 self.frames.push(frame)?;
                 return Ok(Some(Next { window, from }));
@@ -377,18 +390,17 @@ impl<N: OfNetwork> Stack<N> {
     /// Leaves a search: answers the windows that are left of the first frames, of as many as make enough, and the window of
     /// the frame behind those, or the one that is searched next.
     fn leave(
-        self,
+        &mut self,
         alloc: Global,
         subject: &Subject<N>,
         next: Next,
         stopped: bool,
     ) -> Result<Ended, AllocError>
         requires { IsSearchingNext N.network subject.now.capacities subject.now.window
-            self.frames.items next.window next.from }
+            self.old.frames.items next.window next.from }
         ensures { IfOk result (IsEndOf N.network subject.now.capacities subject.now.window (Left next stopped)) }
     {
-        let mut stack = self;
-        let rest = stack.gather(alloc, subject, &next)?;
+        let rest = self.gather(alloc, subject, &next)?;
         Ok(Ended::left(rest, stopped))
     }
 

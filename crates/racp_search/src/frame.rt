@@ -94,6 +94,13 @@ impl<N: OfNetwork> Frame<N> {
         (self.node, self.children, self.last)
     }
 
+    /// The child windows that were made and not taken.
+    fn into_children(self) -> Vec<Child>
+        ensures windows { child_windows result.items ≡ self.windows }
+    {
+        self.children
+    }
+
     /// The next child window to be searched; `None` where none is left.
     pub(crate) fn next_child(
         &mut self,
@@ -224,11 +231,16 @@ impl<N: OfNetwork> Frame<N> {
     {
         let jobs = subject.network().job_count();
         let enough = self.children.len().saturating_add(jobs);
-        self.find_children(workspace, subject, enough)?;
-        if self.more {
-            return self.put_off_each(alloc, workspace, subject);
+        if let Err(error) = self.find_children(workspace, subject, enough) {
+            drop(self);
+            return Err(error);
         }
-        windows_of(alloc, self.children)
+        if self.more {
+            let rest = self.put_off_each(alloc, workspace, subject);
+            drop(self);
+            return rest;
+        }
+        windows_of(alloc, self.into_children())
     }
 
     /// For each active job the window in which it alone is put off.
@@ -306,9 +318,15 @@ fn first_frame<N: OfNetwork>(
         return Ok(bare_frame(&mut workspace.spare, node, conflict.active));
     }
     let (net, capacities) = (subject.network(), subject.capacities());
-    workspace.all.find(net, capacities, &conflict)?;
+    if let Err(error) = workspace.all.find(net, capacities, &conflict) {
+        drop(node);
+        return Err(error);
+    }
     let mut frame = bare_frame(&mut workspace.spare, node, conflict.active);
-    frame.take_all(&mut workspace.spare, subject, workspace.all.lists())?;
+    if let Err(error) = frame.take_all(&mut workspace.spare, subject, workspace.all.lists()) {
+        drop(frame);
+        return Err(error);
+    }
     Ok(frame)
 }
 

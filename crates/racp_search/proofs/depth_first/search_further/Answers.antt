@@ -5,6 +5,7 @@ use Rattle.racp_search.specs.DepthFirst.{IsSearchingNext}
 use Rattle.racp_search.proofs.Popping.{first_stay}
 use Rattle.racp_search.proofs.Pursuing.{decided_found, decided_nothing, halfway, left_next, kept_open}
 use Rattle.racp_search.proofs.depth_first.search_further.Goals as goal
+use Rattle.racp_search.proofs.depth_first.search_further.Goals.{in-Ok-Found, in-Ok-Nothing, in-Err}
 
 pub go_on-requires-clause-nodes : goal.go_on-requires-clause-nodes
 go_on-requires-clause-nodes g c = c.requires.nodes
@@ -17,8 +18,8 @@ go_on-requires-clause-state g c = subst (λ (q : Question). IsSearchingNext g.N.
 
 pub of-requires : goal.of-requires
 of-requires g c =
-    subst (λ (q : Question). IsSearchingNext g.N.OfNetwork.network q.capacities q.window c.go_on.new.self.frames.items c.in-Left.next.window c.in-Left.next.from) (sym (c.into_parts-question.ensures.question ∙ c.in_ok-open.ensures.start))
-    (left_next g.N.OfNetwork.network c.args.subject.now.capacities c.args.subject.now.window c.args.most c.go_on.new.nodes g.S.Stop.QUIET c.go_on.new.self.frames.items c.in_ok-starts.field-0 c.in-Left.next c.in-Left.stopped c.in_ok-starts.ensures.halt c.in-Left.is)
+    subst (λ (q : Question). IsSearchingNext g.N.OfNetwork.network q.capacities q.window c.go_on.new.self.frames.items c.in-Ok-Left.next.window c.in-Ok-Left.next.from) (sym (c.into_parts-question.ensures.question ∙ c.in_ok-open.ensures.start))
+    (left_next g.N.OfNetwork.network c.args.subject.now.capacities c.args.subject.now.window c.args.most c.go_on.new.nodes g.S.Stop.QUIET c.go_on.new.self.frames.items c.in-Ok-Left.field-0 c.in-Ok-Left.next c.in-Ok-Left.stopped c.in-Ok-Left.ensures.halt c.in-Ok-Left.field-0-is)
 
 pub returns-in_err-open-clause-kept : goal.returns-in_err-open-clause-kept
 returns-in_err-open-clause-kept g c = first_stay c.args.course.now.first c.args.local.now
@@ -26,44 +27,34 @@ returns-in_err-open-clause-kept g c = first_stay c.args.course.now.first c.args.
 pub returns-in_err-open-clause-nodes : goal.returns-in_err-open-clause-nodes
 returns-in_err-open-clause-nodes g c = omega (arith, c.requires.nodes)
 
-pub returns-in_err-starts-clause-kept : goal.returns-in_err-starts-clause-kept
-returns-in_err-starts-clause-kept g c = subst (λ (n : ℕ). StayKept (front n c.args.local.now) c.go_on.new.local) c.first-first.ensures c.go_on.ensures.kept
+pub returns-in-Ok-Left-clause-progress : goal.returns-in-Ok-Left-clause-progress
+returns-in-Ok-Left-clause-progress g c = halfway g.N.OfNetwork.network c.args.subject.now.capacities c.args.subject.now.window c.args.most c.go_on.new.nodes g.S.Stop.QUIET c.go_on.new.self.frames.items c.in-Ok-Left.field-0 c.in-Ok-Left.next c.in-Ok-Left.stopped c.in-Ok-Left.ensures.halt c.in-Ok-Left.field-0-is
 
-pub returns-in_err-starts-clause-nodes : goal.returns-in_err-starts-clause-nodes
-returns-in_err-starts-clause-nodes g c = c.go_on.ensures.nodes
+pub returns-in-Ok-Left-clause-nodes : goal.returns-in-Ok-Left-clause-nodes
+returns-in-Ok-Left-clause-nodes g c = c.go_on.ensures.nodes
 
-pub returns-in-Found-clause-progress : goal.returns-in-Found-clause-progress
-returns-in-Found-clause-progress g c = decided_found g.N.OfNetwork.network c.args.subject.now.capacities c.args.subject.now.window c.args.most c.go_on.new.nodes g.S.Stop.QUIET c.go_on.new.self.frames.items c.in_ok-starts.field-0 c.in-Found.starts c.found.result c.in_ok-starts.ensures.halt c.in-Found.is c.found.ensures.found c.found.ensures.rest c.found.ensures.stopped
+pub returns-in-Ok-Left-clause-course : goal.returns-in-Ok-Left-clause-course
+returns-in-Ok-Left-clause-course g c = kept_open c.args.course.now c.start.new.self c.keep.new.self c.of.result c.args.subject.now c.start.ensures.course c.keep.ensures (c.of.ensures ∙ (c.into_parts-question.ensures.question ∙ c.in_ok-open.ensures.start))
 
-pub returns-in-Found-clause-nodes : goal.returns-in-Found-clause-nodes
-returns-in-Found-clause-nodes g c = c.go_on.ensures.nodes
+pub returns-in-Ok-Left-clause-kept : goal.returns-in-Ok-Left-clause-kept
+returns-in-Ok-Left-clause-kept g c = subst (λ (n : ℕ). StayKept (front n c.args.local.now) c.go_on.new.local) c.first-first.ensures c.go_on.ensures.kept
 
-pub returns-in-Found-clause-course : goal.returns-in-Found-clause-course
-returns-in-Found-clause-course g c = c.start.ensures.course
+pub returns-clause-progress : goal.returns-clause-progress
+returns-clause-progress g c = elim c.match-go_on.branch [
+  | in-Ok-Found w ↦ rw w.ended-is (decided_found g.N.OfNetwork.network c.args.subject.now.capacities c.args.subject.now.window c.args.most c.go_on.new.nodes g.S.Stop.QUIET c.go_on.new.self.frames.items w.in-Ok-Found.field-0 w.in-Ok-Found.starts w.found.result w.in-Ok-Found.ensures.halt w.in-Ok-Found.field-0-is w.found.ensures.found w.found.ensures.rest w.found.ensures.stopped)
+  | in-Ok-Nothing w ↦ rw w.ended-is (decided_nothing g.N.OfNetwork.network c.args.subject.now.capacities c.args.subject.now.window c.args.most c.go_on.new.nodes g.S.Stop.QUIET c.go_on.new.self.frames.items w.in-Ok-Nothing.field-0 w.nothing.result w.in-Ok-Nothing.ensures.halt w.in-Ok-Nothing.field-0-is w.nothing.ensures.found w.nothing.ensures.rest w.nothing.ensures.stopped)
+  | in-Err w ↦ rw w.ended-is tt
+]
 
-pub returns-in-Found-clause-kept : goal.returns-in-Found-clause-kept
-returns-in-Found-clause-kept g c = subst (λ (n : ℕ). StayKept (front n c.args.local.now) c.go_on.new.local) c.first-first.ensures c.go_on.ensures.kept
+pub returns-clause-nodes : goal.returns-clause-nodes
+returns-clause-nodes g c = c.go_on.ensures.nodes
 
-pub returns-in-Nothing-clause-progress : goal.returns-in-Nothing-clause-progress
-returns-in-Nothing-clause-progress g c = decided_nothing g.N.OfNetwork.network c.args.subject.now.capacities c.args.subject.now.window c.args.most c.go_on.new.nodes g.S.Stop.QUIET c.go_on.new.self.frames.items c.in_ok-starts.field-0 c.nothing.result c.in_ok-starts.ensures.halt c.in-Nothing.is c.nothing.ensures.found c.nothing.ensures.rest c.nothing.ensures.stopped
+pub returns-clause-course : goal.returns-clause-course
+returns-clause-course g c = elim c.match-go_on.branch [
+  | in-Ok-Found w ↦ rw w.ended-is c.start.ensures.course
+  | in-Ok-Nothing w ↦ rw w.ended-is c.start.ensures.course
+  | in-Err w ↦ rw w.ended-is c.start.ensures.course
+]
 
-pub returns-in-Nothing-clause-nodes : goal.returns-in-Nothing-clause-nodes
-returns-in-Nothing-clause-nodes g c = c.go_on.ensures.nodes
-
-pub returns-in-Nothing-clause-course : goal.returns-in-Nothing-clause-course
-returns-in-Nothing-clause-course g c = c.start.ensures.course
-
-pub returns-in-Nothing-clause-kept : goal.returns-in-Nothing-clause-kept
-returns-in-Nothing-clause-kept g c = subst (λ (n : ℕ). StayKept (front n c.args.local.now) c.go_on.new.local) c.first-first.ensures c.go_on.ensures.kept
-
-pub returns-in-Left-clause-progress : goal.returns-in-Left-clause-progress
-returns-in-Left-clause-progress g c = halfway g.N.OfNetwork.network c.args.subject.now.capacities c.args.subject.now.window c.args.most c.go_on.new.nodes g.S.Stop.QUIET c.go_on.new.self.frames.items c.in_ok-starts.field-0 c.in-Left.next c.in-Left.stopped c.in_ok-starts.ensures.halt c.in-Left.is
-
-pub returns-in-Left-clause-nodes : goal.returns-in-Left-clause-nodes
-returns-in-Left-clause-nodes g c = c.go_on.ensures.nodes
-
-pub returns-in-Left-clause-course : goal.returns-in-Left-clause-course
-returns-in-Left-clause-course g c = kept_open c.args.course.now c.start.new.self c.keep.new.self c.of.result c.args.subject.now c.start.ensures.course c.keep.ensures (c.of.ensures ∙ (c.into_parts-question.ensures.question ∙ c.in_ok-open.ensures.start))
-
-pub returns-in-Left-clause-kept : goal.returns-in-Left-clause-kept
-returns-in-Left-clause-kept g c = subst (λ (n : ℕ). StayKept (front n c.args.local.now) c.go_on.new.local) c.first-first.ensures c.go_on.ensures.kept
+pub returns-clause-kept : goal.returns-clause-kept
+returns-clause-kept g c = subst (λ (n : ℕ). StayKept (front n c.args.local.now) c.go_on.new.local) c.first-first.ensures c.go_on.ensures.kept

@@ -21,7 +21,7 @@ take_all-requires-clause-some g c =
 pub returns : goal.returns
 returns g c =
     let is = frame_of g.N.OfNetwork.network c.args.node c.args.conflict.active c.bare_frame-frame.result c.args.subject.now.capacities c.args.node.window c.branching_loses_nothing.ensures c.some_job_goes.ensures c.requires.active c.requires.same refl c.bare_frame-frame.ensures in
-    frame-gone g.N.OfNetwork.network c.args.subject.now.capacities c.args.node.window c.bare_frame-frame.result c.take_all.new.self is c.in_ok-take_all.ensures
+    frame-gone g.N.OfNetwork.network c.args.subject.now.capacities c.args.node.window c.bare_frame-frame.result c.take_all.new.self is c.in_default-take_all.ensures
 
 pub returns-then-not-are_few : goal.returns-then-not-are_few
 returns-then-not-are_few g c =

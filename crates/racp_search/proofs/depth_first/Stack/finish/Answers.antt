@@ -7,7 +7,7 @@ use Rattle.racp_search.proofs.Ending.{finished_at, finished_there}
 use Rattle.racp_search.proofs.depth_first.Stack.finish.Goals as goal
 
 pub leave-requires : goal.leave-requires
-leave-requires g c = subst (IsHaltOf g.N.OfNetwork.network c.args.subject.now.capacities c.args.subject.now.window c.args.self.frames.items) c.in-Ok-Left.field-0-is (subst (λ (halt : Result Halt AllocError). IfOk halt (IsHaltOf g.N.OfNetwork.network c.args.subject.now.capacities c.args.subject.now.window c.args.self.frames.items)) c.in-Ok-Left.is c.requires)
+leave-requires g c = subst (IsHaltOf g.N.OfNetwork.network c.args.subject.now.capacities c.args.subject.now.window c.args.self.now.frames.items) c.in-Ok-Left.field-0-is (subst (λ (halt : Result Halt AllocError). IfOk halt (IsHaltOf g.N.OfNetwork.network c.args.subject.now.capacities c.args.subject.now.window c.args.self.now.frames.items)) c.in-Ok-Left.is c.requires)
 
 pub returns-in-Ok-Found : goal.returns-in-Ok-Found
 returns-in-Ok-Found g c = finished_at g.N.OfNetwork.network c.args.subject.now.capacities c.args.subject.now.window c.args.halt c.in-Ok-Found.field-0 (Found c.in-Ok-Found.starts) c.in-Ok-Found.is c.in-Ok-Found.field-0-is c.found.result (c.found.ensures.found, c.found.ensures.rest, c.found.ensures.stopped)
