@@ -341,13 +341,20 @@ impl<N: OfNetwork> Stack<N> {
                 return Ok(None);
             }
         };
-        match look_at(&mut workspace.spare, net, capacities, &window, from)? {
-            Glance::Refuted => {
+        match look_at(&mut workspace.spare, net, capacities, &window, from) {
+            Ok(Glance::Refuted) => {
                 workspace.spare.give_window(window);
                 Ok(None)
             }
-            Glance::Found(starts) => Ok(Some(starts)),
-            Glance::Conflict(starts, first) => {
+            Ok(Glance::Found(starts)) => {
+                drop(window);
+                Ok(Some(starts))
+            }
+            Err(error) => {
+                drop(window);
+                Err(error)
+            }
+            Ok(Glance::Conflict(starts, first)) => {
                 if let Some(frame) = expand(workspace, subject, window, starts, first, local)? {
                     self.frames.push(frame)?;
                 }
