@@ -1,5 +1,5 @@
 -- Times of some jobs are raised, one job after another.
-use Rattle.std.proofs.Common.{◌≡◌, ◌≢◌, ◌⊎◌, inl, inr, ◌∙◌, ℕ, ◌+◌, ◌<◌, ◌≤◌, max, List, [], ◌∷◌, ◌++◌, length, slice_index, take, set, Contains, arith, refl, sym, subst, ap, length-set}
+use Rattle.std.proofs.Common.{◌≡◌, ◌≢◌, ◌⊎◌, inl, inr, ◌∙◌, ℕ, ◌+◌, ◌<◌, ◌≤◌, max, List, [], ◌∷◌, ◌++◌, length, slice_index, take, set, zero, suc, Contains, arith, refl, sym, subst, ap, length-set}
 use Rattle.std.proofs.lemmas.List.{take_more}
 use Rattle.std.proofs.lemmas.List.Elements.{Contains-append_left, Contains-append_right, Contains-append_cases}
 use Rattle.std.proofs.lemmas.Bool.{cases_lt}
@@ -82,3 +82,10 @@ raising-skip old gone end now k job place h l is_item is_job inside high =
     let e : take (k + 1) gone ≡ take k gone ++ job ∷ [] = take_more gone k 0 l ∙ ap (λ x. take k gone ++ x ∷ []) is_item in
     subst (λ (xs : List ℕ). IsRaising old xs end now) (sym e)
     (raising-more old (take k gone) end now now job place h is_job inside refl (omega arith) (λ i ne. refl))
+
+-- as many as a list has of the list and others behind it are the list
+pub front-whole : (xs rest : List ℕ) (n : ℕ) → length xs ≡ n → take n (xs ++ rest) ≡ xs
+front-whole [] rest zero same = refl
+front-whole [] rest (suc n) same = absurd (omega arith)
+front-whole (x ∷ xs) rest zero same = absurd (omega arith)
+front-whole (x ∷ xs) rest (suc n) same = ap (λ (l : List ℕ). x ∷ l) (front-whole xs rest n (omega arith))
