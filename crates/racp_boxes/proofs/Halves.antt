@@ -10,7 +10,7 @@ use Rattle.racp_model.proofs.lemmas.Lists.{at_set}
 use Rattle.racp_model.proofs.lemmas.Sums.{sum_below-lt}
 use Rattle.racp_candidates.specs.Box.{IsBetween}
 use Rattle.racp_boxes.specs.Enough.{IsAtMost}
-use Rattle.racp_boxes.specs.Searched.{AreHalved, IsBetterKnown, IsCut, IsCutAnswer, IsKnown, IsSearched, IsSpan, IsSubject, IsTold, IsWidest, SaysRefuted}
+use Rattle.racp_boxes.specs.Searched.{AreHalved, IsBetterKnown, IsCut, IsCutAnswer, IsKnown, IsLeftOf, IsPart, IsSearched, IsSpan, IsSubject, IsTold, IsWidest, SaysRefuted}
 use Rattle.racp_boxes.specs.declared.halving.Span.{Span}
 use Rattle.racp_boxes.specs.declared.known.Known.{Known}
 use Rattle.racp_boxes.specs.declared.known.Told.{Told}
@@ -174,3 +174,15 @@ widest_some low high answer k h is = subst (IsWidest (length low) low high) is h
 
 pub widest_none : (low high : List ℕ) (answer : Option ℕ) → IsWidest (length low) low high answer → answer ≡ None → (k : ℕ) → k < length low → slice_index high k ≤ slice_index low k
 widest_none low high answer h is = subst (IsWidest (length low) low high) is h
+
+-- what is left of a box, by the variant
+pub left_some : (s : Subject) (span : Span) (old new : Known) (answer : Option (List ℕ × ℕ)) (cut : List ℕ) (k : ℕ) → IsLeftOf s span old new answer → answer ≡ Some (cut, k) → IsPart s span old new (cut, k)
+left_some s span old new answer cut k h is = subst (IsLeftOf s span old new) is h
+
+pub left_none : (s : Subject) (span : Span) (old new : Known) (answer : Option (List ℕ × ℕ)) → IsLeftOf s span old new answer → answer ≡ None → IsSearched s span old new
+left_none s span old new answer h is = subst (IsLeftOf s span old new) is h
+
+-- its halves have all that is of interest
+pub left-halves : (s : Subject) → IsSubject s → (span : Span) → IsSpan s span → (old : Known) → IsKnown s old → (new : Known) (cut : List ℕ) (k : ℕ) → IsPart s span old new (cut, k) → (halves : Span × Span) → AreHalved span.low cut k halves →
+    AreHalves s span new.best halves
+left-halves s t span is_span old h new cut k left halves are = halved-halves s t span is_span old h cut left.cut new left.better k (omega (arith, left.resource, is_span.low)) halves are

@@ -116,6 +116,18 @@ IsCutAnswer p terms low high best (Some cut) = IsCut p terms low high best cut
 IsCutAnswer p terms low high best None =
     (vector : List ℕ) → IsBetween low high vector → IsBefore terms vector best → ⊥
 
+-- cut high numbers of a box, and a resource, by place, of which the box then has several numbers of units
+pub record IsPart (s : Subject) (span : Span) (old new : Known) (part : List ℕ × ℕ) : Type 0 where
+  pub better : IsBetterKnown s old new
+  pub cut : IsCut s.net.now s.order.now span.low span.high old.best part.0
+  pub resource : part.1 < length span.low
+  pub several : slice_index span.low part.1 < slice_index part.0 part.1
+
+-- what is left of a box once its high vector was asked for: these, or nothing, where the box was searched by that
+abbrev pub IsLeftOf : Subject → Span → (old new : Known) → Option (List ℕ × ℕ) → Type 0
+IsLeftOf s span old new (Some part) = IsPart s span old new part
+IsLeftOf s span old new None = IsSearched s span old new
+
 -- the most units of resource k, up to a roof, of a vector that stands before the best one and is at or above a low one
 pub record IsMostBefore (p : Project) (terms : Terms) (low best : List ℕ) (k roof units : ℕ) : Type 0 where
   pub from : slice_index low k ≤ units

@@ -6,7 +6,7 @@ ghost use Rattle.racp_model.specs.Plan.{IsLeast};
 ghost use Rattle.racp_model.specs.Terms.{AreTermsOf, IsBefore};
 ghost use Rattle.racp_questions.specs.FirstYes.{IsProbeStop};
 ghost use Rattle.racp_boxes.specs.Enough.{AreFloorsOf, IsAtMost, IsEnoughWithin, IsLeastCost};
-ghost use Rattle.racp_boxes.specs.Searched.{AreHalved, AreSpans, CostAtLeast, HasAllBelow, IsBetterKnown, IsKnown, IsSearched, IsSpan, IsSubject, IsTold, IsWidest};
+ghost use Rattle.racp_boxes.specs.Searched.{AreHalved, AreSpans, CostAtLeast, HasAllBelow, IsBetterKnown, IsKnown, IsLeftOf, IsSearched, IsSpan, IsSubject, IsTold, IsWidest};
 
 use crate::cut::cut;
 use crate::known::{Known, Told};
@@ -125,29 +125,58 @@ fn search<A: Asker<AnySeries>>(
     ensures answered { A.answered asker.new ≡ A.answered asker.old }
     ensures stop { IfErr result (IsProbeStop (A.told asker.new) (A.may_stop asker.new) (A.may_want_thread asker.new)) }
 {
-    let (net, order) = (subject.net, subject.order);
-    let Span { low, high } = span;
-    asker.hear_cost(cost_of(net, order, low.as_slice()).min(rest));
-    let Some(high) = cut(alloc, net, order, known, &low, &high)? else {
+    let Some((high, k)) = cut_and_ask(alloc, subject, known, &span, pending, rest, asker)? else {
         return Ok(());
     };
-    let lane = widest(order, &low, &high);
-    let most = most_nodes(lane);
-    let told = ask_about(alloc, subject, known, pending, &high, most, asker)?;
-    if told.is_refuted() {
-        return Ok(());
-    }
-    let Some(k) = lane else {
-        return Ok(());
-    };
-    let (below, above) = halved(low, high, k)?;
-    let other = cost_of(net, order, above.low.as_slice());
+    let (below, above) = halved(span.low, high, k)?;
+    let other = cost_of(subject.net, subject.order, above.low.as_slice());
     let rest_of_below = rest.min(known.cost).min(other);
     push_copy(pending, &above)?;
     search(alloc, subject, known, below, pending, rest_of_below, asker)?;
     let _ = pending.pop();
     let rest_of_above = rest.min(known.cost);
     search(alloc, subject, known, above, pending, rest_of_above, asker)
+}
+
+/// Cuts a box, and asks for its high vector: the high numbers that are left and the resource, by place, along which the
+/// box is then to be halved. `None` where no vector of the box that stands before the best one is left to be found. The
+/// asker is told what all vectors within the roofs, with which some starts fit, cost at least.
+fn cut_and_ask<A: Asker<AnySeries>>(
+    alloc: Global,
+    subject: &Subject,
+    known: &mut Known,
+    span: &Span,
+    pending: &Vec<Span>,
+    rest: u64,
+    asker: &mut A,
+) -> Result<Option<(Capacities, usize)>, AskStop>
+    requires named { A.about asker.old subject.now.net.now }
+    requires subject { IsSubject subject.now }
+    requires span { IsSpan subject.now span.now }
+    requires known { IsKnown subject.now known.old }
+    requires pending { AreSpans subject.now pending.now.items }
+    requires rest { HasAllBelow subject.now span.now rest }
+    requires heard { (least : ℕ) → CostAtLeast subject.now least → A.may_hear_cost least }
+    ensures network { A.about asker.new subject.now.net.now }
+    ensures left { IfOk result (IsLeftOf subject.now span.now known.old known.new) }
+    ensures answered { A.answered asker.new ≡ A.answered asker.old }
+    ensures stop { IfErr result (IsProbeStop (A.told asker.new) (A.may_stop asker.new) (A.may_want_thread asker.new)) }
+{
+    let (net, order) = (subject.net, subject.order);
+    asker.hear_cost(cost_of(net, order, span.low.as_slice()).min(rest));
+    let Some(high) = cut(alloc, net, order, known, &span.low, &span.high)? else {
+        return Ok(None);
+    };
+    let lane = widest(order, &span.low, &high);
+    let most = most_nodes(lane);
+    let told = ask_about(alloc, subject, known, pending, &high, most, asker)?;
+    if told.is_refuted() {
+        return Ok(None);
+    }
+    let Some(k) = lane else {
+        return Ok(None);
+    };
+    Ok(Some((high, k)))
 }
 
 /// Asks for a vector, over a few nodes at first. Where that is open the asker is told what is asked for next, and asked
