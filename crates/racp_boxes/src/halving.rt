@@ -128,7 +128,7 @@ fn search<A: Asker<AnySeries>>(
     let Some((high, k)) = cut_and_ask(alloc, subject, known, &span, pending, rest, asker)? else {
         return Ok(());
     };
-    let (below, above) = halved(span.low, high, k)?;
+    let (below, above) = halved(span, high, k)?;
     let other = cost_of(subject.net, subject.order, above.low.as_slice());
     let rest_of_below = rest.min(known.cost).min(other);
     push_copy(pending, &above)?;
@@ -279,8 +279,7 @@ fn first_question(
         let Some(k) = widest(subject.order, &part.low, &high) else {
             return Ok(None);
         };
-        let Span { low, high: _ } = part;
-        let (below, _) = halved(low, high, k)?;
+        let (below, _) = halved(part, high, k)?;
         part = below;
     }
     Ok(None)
@@ -306,21 +305,22 @@ fn question_unless_refuted(
     }))
 }
 
-/// The two halves of a box along the resource at place `k`: that with fewer units, and the other one.
-fn halved(low: Capacities, high: Capacities, k: usize) -> Result<(Span, Span), AllocError>
-    requires low { k < length low }
-    requires high { length high ≡ length low }
-    requires several { slice_index low k < slice_index high k }
-    ensures { IfOk result (AreHalved low high k) }
+/// The two halves of a box, cut to these high numbers, along the resource at place `k`: that with fewer units, and the
+/// other one.
+fn halved(span: Span, high: Capacities, k: usize) -> Result<(Span, Span), AllocError>
+    requires low { k < length span.low }
+    requires high { length high ≡ length span.low }
+    requires several { slice_index span.low k < slice_index high k }
+    ensures { IfOk result (AreHalved span.low high k) }
 {
-    let middle = middle_of(low.as_slice(), high.as_slice(), k);
+    let middle = middle_of(span.low.as_slice(), high.as_slice(), k);
     prove!(middle < high.as_slice()[k]);
     let below = Span {
-        low: low.copy()?,
+        low: span.low.copy()?,
         high: high.copy()?.with_units(k, middle),
     };
     let above = Span {
-        low: low.with_units(k, middle + 1),
+        low: span.low.with_units(k, middle + 1),
         high,
     };
     Ok((below, above))
