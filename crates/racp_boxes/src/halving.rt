@@ -271,12 +271,15 @@ fn first_question(
             &part.high,
         )?
         else {
+            drop(part);
             return Ok(None);
         };
         if !known.is_enough(&high) {
+            drop(part);
             return question_unless_refuted(subject, known, high);
         }
         let Some(k) = widest(subject.order, &part.low, &high) else {
+            drop(part);
             return Ok(None);
         };
         let (below, _) = halved(part, high, k)?;
