@@ -5,7 +5,7 @@ use Rattle.racp_model.specs.Terms.{cost, IsBefore}
 use Rattle.racp_model.proofs.lemmas.Costs.{cheaper-before}
 use Rattle.racp_candidates.specs.Box.{IsBetween}
 use Rattle.racp_boxes.specs.Enough.{AreFloorsOf}
-use Rattle.racp_boxes.specs.Searched.{CostAtLeast, HasAllBelow, IsKnown, IsSearched, IsSpan, IsSubject}
+use Rattle.racp_boxes.specs.Searched.{CostAtLeast, HasAllBelow, IsEnough, IsKnown, IsSearched, IsSpan, IsSubject}
 use Rattle.racp_boxes.specs.declared.halving.Span.{Span}
 use Rattle.racp_boxes.specs.declared.known.Known.{Known}
 use Rattle.racp_boxes.specs.declared.subject.Subject.{Subject}
@@ -20,6 +20,10 @@ module _ (s : Subject) (t : IsSubject s) where
     above = λ k l. are.below vector e k (omega (arith, l, are.places));
     below = λ k l. e.within k (omega (arith, l, are.places));
   }
+
+  -- these vectors are a box
+  pub whole-span : (floors : List ℕ) → AreFloorsOf s.net.now s.root.now floors s.roofs.now → IsEnough s s.roofs.now → IsSpan s (record { low = floors; high = s.roofs.now })
+  whole-span floors are enough = record { low = are.places; high = enough.places; bounds = are.below s.roofs.now enough; within = enough.within }
 
   -- a vector of a box costs at least what the low one does
   low-cost : (span : Span) (vector : List ℕ) → length span.low ≡ s.net.now.resources → IsBetween span.low span.high vector → cost s.order.now span.low ≤ cost s.order.now vector

@@ -1,5 +1,5 @@
 -- What is known after a question.
-use Rattle.std.proofs.Common.{◌≡◌, ℕ, ◌<◌, ◌≤◌, List, [], ◌∷◌, ◌++◌, length, slice_index, Contains, Option, inl, inr, arith, sym, subst, ◌∙◌}
+use Rattle.std.proofs.Common.{◌≡◌, ℕ, ◌<◌, ◌≤◌, List, [], ◌∷◌, ◌++◌, length, slice_index, Contains, Option, inl, inr, arith, ap, sym, subst, ◌∙◌}
 use Rattle.racp_model.specs.Project.{Project}
 use Rattle.racp_model.specs.Schedule.{ArePeaks}
 use Rattle.racp_model.specs.Terms.{cost, IsBefore}
@@ -26,6 +26,18 @@ more_answers p units more starts window above a = record {
 -- so units at most refuted ones are a no
 pub fewer_no : (p : Project) (units more : List ℕ) (window : Bounds) → IsAtMost p units more → IsNo p more window → IsNo p units window
 fewer_no p units more window above is_no starts a = is_no starts (more_answers p units more starts window above a)
+
+-- at first the roofs are known, and no vectors with which nothing fits
+pub known-roofs : (s : Subject) (known : Known) → IsEnough s s.roofs.now → known.best ≡ s.roofs.now → known.cost ≡ cost s.order.now s.roofs.now → known.refuted.items ≡ [] → IsKnown s known
+known-roofs s known enough best priced none = record {
+  enough = subst (IsEnough s) (sym best) enough;
+  priced = priced ∙ ap (cost s.order.now) (sym best);
+  places = λ other h. absurd (empty other h);
+  refuted = λ other h. absurd (empty other h);
+}
+  where
+    empty : (other : List ℕ) → Contains known.refuted.items other → ⊥
+    empty other h = (let e : length known.refuted.items ≡ 0 = ap length none in omega (arith, e, h.1))
 
 module _ (s : Subject) (t : IsSubject s) (old : Known) (h : IsKnown s old) where
   -- a vector at most a refuted one is refuted

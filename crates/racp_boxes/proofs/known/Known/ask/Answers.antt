@@ -1,7 +1,8 @@
-use Rattle.std.proofs.Common.{◌≡◌, refl}
+use Rattle.std.proofs.Common.{◌≡◌, refl, subst}
 use Rattle.racp_model.specs.Window.{IsNo}
 use Rattle.racp_candidates.specs.Questions.{question_of}
-use Rattle.racp_boxes.proofs.Learning.{known-refutes, known-enough, known-kept, known-learnt, learnt-enough, told_no, told_yes}
+use Rattle.racp_questions.specs.FirstYes.{IsProbed}
+use Rattle.racp_boxes.proofs.Learning.{known-refutes, known-enough, known-kept, known-learnt, known-same, learnt-enough, told_no, told_yes}
 use Rattle.racp_boxes.proofs.known.Known.ask.Goals as goal
 
 pub returns-then-refutes-clause-told : goal.returns-then-refutes-clause-told
@@ -29,3 +30,18 @@ pub returns-in_ok-peaks-in-Yes-clause-told : goal.returns-in_ok-peaks-in-Yes-cla
 returns-in_ok-peaks-in-Yes-clause-told g c =
     learnt-enough c.args.subject.now c.requires.subject c.args.self.now c.requires.known c.args.units.now c.in-Yes.starts c.in_ok-peaks-in-Yes.field-0 c.learn.new.self c.requires.units c.requires.within
     (told_yes c.args.subject.now.net.now (question_of c.args.units.now c.args.subject.now.root.now) c.args.most _ c.in-Yes.starts c.in_ok-probe.ensures.probed c.in-Yes.is) c.in_ok-peaks-in-Yes.ensures c.learn.ensures
+
+pub returns-then-refutes-clause-better : goal.returns-then-refutes-clause-better
+returns-then-refutes-clause-better g c = known-same c.args.subject.now c.requires.subject c.args.self.now c.requires.known
+
+pub returns-then-is_enough-clause-better : goal.returns-then-is_enough-clause-better
+returns-then-is_enough-clause-better g c = known-same c.args.subject.now c.requires.subject c.args.self.now c.requires.known
+
+pub returns-in-Open-clause-better : goal.returns-in-Open-clause-better
+returns-in-Open-clause-better g c = known-same c.args.subject.now c.requires.subject c.args.self.now c.requires.known
+
+pub returns-in_ok-keep-in-No-clause-told : goal.returns-in_ok-keep-in-No-clause-told
+returns-in_ok-keep-in-No-clause-told g c = told_no c.args.subject.now.net.now (question_of c.args.units.now c.args.subject.now.root.now) c.args.most _ c.in_ok-probe.ensures.probed c.in-No.is
+
+pub returns-in-Open-clause-told : goal.returns-in-Open-clause-told
+returns-in-Open-clause-told g c = subst (IsProbed c.args.subject.now.net.now (question_of c.args.units.now c.args.subject.now.root.now) c.args.most) c.in-Open.is c.in_ok-probe.ensures.probed
