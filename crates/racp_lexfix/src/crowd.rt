@@ -410,6 +410,7 @@ impl<
         self.told = None;
         let left = self.left;
         if left == 0 {
+            drop(series);
             return Err(AskStop::Stopped { reached: None });
         }
         let quantum = quantum_for(None);
@@ -425,6 +426,7 @@ impl<
     ) -> Result<Probe, AskStop> {
         self.told = None;
         if self.left == 0 {
+            drop(question);
             return Err(AskStop::Stopped { reached: None });
         }
         let ahead = self.take_ahead(most);
