@@ -75,9 +75,16 @@ impl<N: OfNetwork, S: Series> Asker<S> for Alone<N> {
         let answered = self.answered.checked_add(1).ok_or(AskStop::Memory)?;
         let mut core: Core<N, S> = Core::new(self.alloc, net, series);
         'questions: loop {
-            if !settle_next(self.alloc, net, &self.board, &mut self.local, &mut core)? {
-                self.answered = answered;
-                return Ok(first_of(core));
+            match settle_next(self.alloc, net, &self.board, &mut self.local, &mut core) {
+                Ok(true) => {}
+                Ok(false) => {
+                    self.answered = answered;
+                    return Ok(first_of(core));
+                }
+                Err(stop) => {
+                    drop(core);
+                    return Err(stop);
+                }
             }
         }
     }

@@ -256,7 +256,10 @@ impl<
         ensures answered { OnOk result (self.new.answered ≡ self.old.answered + 1) }
         ensures unanswered { OnErr result (self.new.answered ≡ self.old.answered) }
     {
-        let answered = self.answered.checked_add(1).ok_or(AskStop::Memory)?;
+        let Some(answered) = self.answered.checked_add(1) else {
+            drop(closed);
+            return Err(AskStop::Memory);
+        };
         let Closed {
             outcome,
             reached,

@@ -279,9 +279,14 @@ fn print_order_by<G: Gate + Sync, P: Stop + Sync, O: Observer, R: Threads + Wait
     ensures { (text : List ℕ) → IsReading text (Ok net.now) → IsCrowdPrinting text order_text.now result }
 {
     let order = read_order(alloc, order_text, net.resource_count(), net.job_count())?;
-    let order = &order;
-    let task = Task { alloc, net, order };
-    Ok(print_plan_by(rt, &task, crew)?)
+    let task = Task {
+        alloc,
+        net,
+        order: &order,
+    };
+    let printed = print_plan_by(rt, &task, crew);
+    drop(order);
+    Ok(printed?)
 }
 
 /// The text of the plan of an order, or of why there is none, made by workers, and how much work they did.
@@ -299,7 +304,9 @@ fn print_plan_by<G: Gate + Sync, P: Stop + Sync, O: Observer, R: Threads + Wait 
     ensures stop { IfErr result (IsCrowdStop task.now.net.now task.now.order.now) }
 {
     let (answer, effort) = plan_by::<Brand, G, P, O, R>(rt, task, crew)?;
-    Ok((print_answer(task.alloc, task.order, &answer)?, effort))
+    let printed = print_answer(task.alloc, task.order, &answer);
+    drop(answer);
+    Ok((printed?, effort))
 }
 
 /// The plan of an order, or why there is none, made by workers, and how much work they did: by runs of a desk over one
