@@ -227,6 +227,7 @@ impl<
     {
         let glimpse = self.glimpse_at(&question, glimpse_of(most))?;
         if !is_open(&glimpse) {
+            drop(question);
             return Ok(glimpse);
         }
         self.probe_with(question, ahead, self.workers, most)

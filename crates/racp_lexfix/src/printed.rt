@@ -236,9 +236,14 @@ fn print_order(
     ensures { (text : List ℕ) → IsReading text (Ok net.now) → IsPrinting text order_text.now result }
 {
     let order = read_order(alloc, order_text, net.resource_count(), net.job_count())?;
-    let order = &order;
-    let task = Task { alloc, net, order };
-    Ok(print_plan(&task, mebibytes)?)
+    let task = Task {
+        alloc,
+        net,
+        order: &order,
+    };
+    let printed = print_plan(&task, mebibytes);
+    drop(order);
+    Ok(printed?)
 }
 
 /// The text of the plan of an order, or of why there is none, made on the calling thread.
@@ -250,7 +255,9 @@ fn print_plan(task: &Task, mebibytes: usize) -> Result<Printed, PlanStop>
     ensures stop { IfErr result (λ stop. stop ≡ Memory) }
 {
     let answer = plan_named::<Brand>(task, mebibytes)?;
-    Ok(print_answer(task.alloc, task.order, &answer)?)
+    let printed = print_answer(task.alloc, task.order, &answer);
+    drop(answer);
+    Ok(printed?)
 }
 
 /// The plan of an order, or why there is none, made on the calling thread. The network is the one that `N` names.

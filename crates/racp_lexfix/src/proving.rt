@@ -49,9 +49,14 @@ fn prove_order(alloc: Global, net: &Network, order_text: &[u8]) -> Result<Printe
     ensures { (text : List ℕ) → IsReading text (Ok net.now) → IsProving text order_text.now result }
 {
     let order = read_order(alloc, order_text, net.resource_count(), net.job_count())?;
-    let order = &order;
-    let task = Task { alloc, net, order };
-    Ok(prove_plan(&task)?)
+    let task = Task {
+        alloc,
+        net,
+        order: &order,
+    };
+    let printed = prove_plan(&task);
+    drop(order);
+    Ok(printed?)
 }
 
 /// A certificate for the plan of an order, or why there is none.
