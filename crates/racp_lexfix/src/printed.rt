@@ -269,7 +269,9 @@ fn plan_named<N: OfNetwork>(task: &Task, mebibytes: usize) -> Result<Answer, Pla
     ensures stop { IfErr result (λ stop. stop ≡ Memory) }
 {
     let mut alone: Alone<N> = Alone::within(task.alloc, task.net, mebibytes)?;
-    plan(task.alloc, task.net, task.order, &mut alone)
+    let planned = plan(task.alloc, task.net, task.order, &mut alone);
+    drop(alone);
+    planned
 }
 
 /// The answer to the text of an order for a network, made by workers, and how much work they did.

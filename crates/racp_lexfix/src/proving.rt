@@ -93,7 +93,9 @@ fn plan_with_floors<N: OfNetwork>(
     ensures stop { IfErr result (λ stop. stop ≡ Memory) }
 {
     let mut alone: Alone<N> = Alone::new(task.alloc, task.net)?;
-    task.plan_and_keep(&mut alone, sharp)
+    let planned = task.plan_and_keep(&mut alone, sharp);
+    drop(alone);
+    planned
 }
 
 /// The text and the status for an answer: a certificate for the plan, or why there is no plan.
