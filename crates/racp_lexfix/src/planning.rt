@@ -205,7 +205,6 @@ impl VectorBox<'_> {
             Ok(first) => first,
             Err(stop) => return Err(PlanStop::given_up(stop, self.sharp.floors)),
         };
-        drop(self);
         let series = One::new(alloc, &first, root)?;
         match asker.first(net, AnySeries::One(series)) {
             Ok(_) => Ok(first),
@@ -228,7 +227,6 @@ impl VectorBox<'_> {
             Ok(first) => first,
             Err(stop) => return Err(PlanStop::stopped_at(stop, self.sharp.floors)),
         };
-        drop(self);
         match first {
             First::Yes { starts, .. } => Ok(peaks(alloc, net, &starts)?),
             First::None => unreachable!(),
