@@ -33,5 +33,5 @@ returns-in-Ok-read_order-clause-read c =
     let is = Ok c.in-Ok-read_order.order in record {
       is_network = c.in-Ok.ensures;
       is_order = subst (λ (resources : ℕ). IsOrder resources (length c.in-Ok.net.jobs) order is) c.resource_count.ensures.count
-      (subst (λ (jobs : ℕ). IsOrder c.resource_count.result jobs order is) c.job_count.ensures.count c.in-Ok-read_order.ensures.read);
+          (subst (λ (jobs : ℕ). IsOrder c.resource_count.result jobs order is) c.job_count.ensures.count c.in-Ok-read_order.ensures.read);
     }
