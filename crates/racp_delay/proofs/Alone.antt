@@ -3,13 +3,13 @@ use Rattle.std.proofs.Common.{◌≡◌, ℕ, ◌≤◌, inl, inr, List, [], ◌
 use Rattle.racp_model.specs.Project.{Project, number}
 use Rattle.racp_model.specs.Window.{Bounds, LiesIn}
 use Rattle.racp_model.proofs.lemmas.Relations.{member_cases, member_first, member_later, no_member}
+use Rattle.racp_model.proofs.lemmas.Decided.{member_decided}
 use Rattle.racp_delay.specs.Alternatives.{Splits}
 use Rattle.racp_delay.specs.Alternatives.Splits.{none, goes, stays}
 use Rattle.racp_delay.specs.Branching.{IsConflict, end_of}
 use Rattle.racp_delay.specs.Laws.{EachJobAloneCovers, LiesInSomeChild, LiesWhereOneGoes}
 use Rattle.racp_delay.proofs.Splitting.{splits-none}
 use Rattle.racp_delay.proofs.Subsets.{gone_in, kept_in}
-use Rattle.racp_delay.proofs.Each.{is_member}
 use Rattle.racp_delay.proofs.Children.{has_child}
 use Rattle.racp_delay.proofs.Branching.{loses_nothing}
 use Rattle.racp_delay.proofs.Rising.{some_goes}
@@ -52,7 +52,7 @@ lies_alone p capacities early t active window starts conflict lies b (job ∷ mo
       some_stay = λ none. b.some_stay (no_members b.kept (λ i c. no_member i (subst (λ (xs : List ℕ). Contains xs i) none (alone.2 i c))));
       lies = λ c is. record {
         places = lies.places;
-        above = λ i l. elim (is_member (number i) (job ∷ [])) [
+        above = λ i l. elim (member_decided (number i) (job ∷ [])) [
           | inl here ↦
               let goes_i : Contains b.gone (number i) = elim (member_cases job [] (number i) here) [ inl same ↦ subst (λ x. Contains b.gone x) same goes_job | inr none' ↦ absurd (no_member (number i) none') ] in
               let some = child.1.first.some in

@@ -6,11 +6,12 @@ use Rattle.racp_model.specs.Schedule.{IsActive, use_of, usage, IsWithinCapacitie
 use Rattle.racp_model.specs.Window.{Bounds, LiesIn}
 use Rattle.racp_model.proofs.lemmas.Usage.{use_of-idle}
 use Rattle.racp_model.proofs.lemmas.Sums.{sum_below-bound}
+use Rattle.racp_model.proofs.lemmas.Decided.{member_decided}
 use Rattle.racp_delay.specs.Alternatives.{place, Splits, CanRun, IsMinimalDelayingAlternative}
 use Rattle.racp_delay.specs.Found.{Each}
 use Rattle.racp_delay.specs.Branching.{IsConflict, IsActiveSet, IsFirstEnd, IsChild, end_of}
 use Rattle.racp_delay.specs.Laws.{BranchingLosesNothing, ChildrenCover, ChildIsInside}
-use Rattle.racp_delay.proofs.Each.{each-map, each-both, each-member, is_member, each-members, some-each, some_not_empty, least_of, Some_of, ascends}
+use Rattle.racp_delay.proofs.Each.{each-map, each-both, each-member, each-members, some-each, some_not_empty, least_of, Some_of, ascends}
 use Rattle.racp_delay.proofs.Splitting.{each-kept, each-gone, some-splits, split_by, ascends-kept, stays_not_empty}
 use Rattle.racp_delay.proofs.Tight.{minimal-from_tight, minimal_inside}
 use Rattle.racp_delay.proofs.ActiveLoads.{IsActiveJob, each-active, load-active}
@@ -123,7 +124,7 @@ lies_in_child p early gone kept starts window child c off lies = record {
 }
   where
     above : (i : ℕ) → i < length p.jobs → slice_index child.lower i ≤ slice_index starts i
-    above i l = elim (is_member (number i) gone) [
+    above i l = elim (member_decided (number i) gone) [
       | inl goes ↦
           let later : c.end ≤ slice_index starts (place (number i)) = each-member (λ job. c.end ≤ slice_index starts (place job)) gone (number i) (off c.end c.first) goes in
           let e : place (number i) ≡ i = omega arith in
@@ -154,7 +155,7 @@ cover p capacities window early t active children is_early conflict has starts a
 -- a child lies inside its window
 pub child_inside : ChildIsInside
 child_inside p early window gone kept child c = record {
-  lower = λ i l. elim (is_member (number i) gone) [
+  lower = λ i l. elim (member_decided (number i) gone) [
     | inl goes ↦ omega (arith, c.raised i l goes)
     | inr stays ↦ omega (arith, c.same i l stays)
   ];

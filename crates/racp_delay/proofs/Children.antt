@@ -3,9 +3,10 @@ use Rattle.std.proofs.Common.{◌≡◌, ◌≢◌, ◌⊎◌, inl, inr, ℕ, �
 use Rattle.std.specs.List.{range_with_len}
 use Rattle.std.proofs.lemmas.List.FromFn.{get_or-map-range_with_len}
 use Rattle.racp_model.specs.Project.{Project, number}
+use Rattle.racp_model.proofs.lemmas.Decided.{member_decided}
 use Rattle.racp_delay.specs.Branching.{IsFirstEnd, end_of}
 use Rattle.racp_delay.specs.Laws.{EachHasChild}
-use Rattle.racp_delay.proofs.Each.{each-member, each-members, least_of, some-each, is_member, Some_of}
+use Rattle.racp_delay.proofs.Each.{each-member, each-members, least_of, some-each, Some_of}
 
 -- the first of two numbers where something holds, the second where it does not
 pub pick : {A : Type 0} → A ⊎ (A → ⊥) → ℕ → ℕ → ℕ
@@ -38,13 +39,13 @@ first_end_of p early kept some =
 pub has_child : EachHasChild
 has_child p early window gone kept some =
     let end = first_end_of p early kept some in
-    let bound : ℕ → ℕ = λ i. pick (is_member (number i) gone) (max (slice_index window.lower i) end.0) (slice_index window.lower i) in (
+    let bound : ℕ → ℕ = λ i. pick (member_decided (number i) gone) (max (slice_index window.lower i) end.0) (slice_index window.lower i) in (
       record { lower = map bound (range_with_len 0 (length p.jobs)); upper = window.upper },
       record {
         end = end.0;
         first = end.1;
-        raised = λ i l goes. get_or-map-range_with_len bound 0 (length p.jobs) i i 0 l (omega arith) ∙ pick-in (is_member (number i) gone) (max (slice_index window.lower i) end.0) (slice_index window.lower i) goes;
-        same = λ i l stays. get_or-map-range_with_len bound 0 (length p.jobs) i i 0 l (omega arith) ∙ pick-out (is_member (number i) gone) (max (slice_index window.lower i) end.0) (slice_index window.lower i) stays;
+        raised = λ i l goes. get_or-map-range_with_len bound 0 (length p.jobs) i i 0 l (omega arith) ∙ pick-in (member_decided (number i) gone) (max (slice_index window.lower i) end.0) (slice_index window.lower i) goes;
+        same = λ i l stays. get_or-map-range_with_len bound 0 (length p.jobs) i i 0 l (omega arith) ∙ pick-out (member_decided (number i) gone) (max (slice_index window.lower i) end.0) (slice_index window.lower i) stays;
         upper = refl;
       },
     )

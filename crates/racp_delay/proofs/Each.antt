@@ -5,7 +5,7 @@ use Rattle.std.proofs.lemmas.List.{get_or_default}
 use Rattle.std.proofs.lemmas.List.Elements.{All-from_get_or}
 use Rattle.std.proofs.lemmas.List.Kept.{AllPairs-from_increasing}
 use Rattle.std.specs.List.Sorted.{IsStrictlyIncreasing}
-use Rattle.racp_model.proofs.lemmas.Relations.{member_cases, member_later, member_first, member_after, no_member, rising_tail}
+use Rattle.racp_model.proofs.lemmas.Relations.{member_after, rising_tail}
 use Rattle.racp_delay.specs.Found.{Each}
 
 -- of two lists in one, the first
@@ -99,17 +99,3 @@ ascends xs h = by_pairs xs (AllPairs-from_increasing xs h)
       each-members (λ z. y < z) ys (λ z c. member_after (λ a b. a < b) y ys z rising c),
       by_pairs ys (rising_tail (λ a b. a < b) y ys rising),
     )
-
--- a number is a member or not
-pub is_member : (x : ℕ) (xs : List ℕ) → Contains xs x ⊎ (Contains xs x → ⊥)
-is_member x [] = inr (no_member x)
-is_member x (y ∷ ys) = elim (is_member x ys) [
-  | inl later ↦ inl (member_later y ys x later)
-  | inr not_later ↦ elim (cases_lt x y) [
-    | inl less ↦ inr (λ c. elim (member_cases y ys x c) [ inl same ↦ absurd (omega arith) | inr later ↦ not_later later ])
-    | inr more ↦ elim (cases_lt y x) [
-      | inl greater ↦ inr (λ c. elim (member_cases y ys x c) [ inl same ↦ absurd (omega arith) | inr later ↦ not_later later ])
-      | inr most ↦ inl (member_first y ys x (omega arith))
-    ]
-  ]
-]

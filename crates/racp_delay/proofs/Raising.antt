@@ -10,11 +10,12 @@ use Rattle.racp_model.specs.Path.{IsAtLeast, IsEarly}
 use Rattle.racp_model.proofs.lemmas.Lists.{row, row_places, row-at}
 use Rattle.racp_model.proofs.lemmas.Sums.{sum_below-mono}
 use Rattle.racp_model.proofs.lemmas.Usage.{use_of-active, use_of-idle, active_cases, use_of-request}
+use Rattle.racp_model.proofs.lemmas.Decided.{member_decided}
 use Rattle.racp_delay.specs.Alternatives.{place, Splits, load}
 use Rattle.racp_delay.specs.Found.{Each}
 use Rattle.racp_delay.specs.Branching.{IsActiveSet, IsChild}
 use Rattle.racp_delay.specs.Laws.{AreRaisedPast, RaisingLowersUsage, NoConflictBefore, NoConflictThen}
-use Rattle.racp_delay.proofs.Each.{is_member, each-member, each-map, ascends}
+use Rattle.racp_delay.proofs.Each.{each-member, each-map, ascends}
 use Rattle.racp_delay.proofs.Splitting.{each-kept, ascends-kept}
 use Rattle.racp_delay.proofs.ActiveLoads.{IsActiveJob, each-active, sum-within_load}
 use Rattle.racp_delay.proofs.Branching.{in_set}
@@ -102,7 +103,7 @@ conflict-ends p early t active gone kept window child set s c =
 
 -- the lower bounds of a child are raised to after the conflict of its window
 pub child-past : (p : Project) (early : List ℕ) (t : ℕ) (active gone kept : List ℕ) (window child : Bounds) → IsActiveSet p early t active → Splits active gone kept → IsChild p early window gone kept child → AreRaisedPast p t (slice_index window.lower) (slice_index child.lower)
-child-past p early t active gone kept window child set s c i l = elim (is_member (number i) gone) [
+child-past p early t active gone kept window child set s c i l = elim (member_decided (number i) gone) [
   | inl goes ↦ inr (omega (arith, c.raised i l goes), omega (arith, conflict-ends p early t active gone kept window child set s c, c.raised i l goes))
   | inr rests ↦ inl (c.same i l rests)
 ]

@@ -1,5 +1,5 @@
 -- Times of some jobs are raised, one job after another.
-use Rattle.std.proofs.Common.{◌≡◌, ◌≢◌, ◌⊎◌, inl, inr, ◌∙◌, ℕ, ◌+◌, ◌<◌, ◌≤◌, max, List, [], ◌∷◌, ◌++◌, length, slice_index, get_or, All, take, set, zero, suc, Contains, arith, refl, sym, subst, ap, length-set}
+use Rattle.std.proofs.Common.{◌≡◌, ◌≢◌, ◌⊎◌, inl, inr, ◌∙◌, ℕ, ◌+◌, ◌<◌, ◌≤◌, max, List, [], ◌∷◌, ◌++◌, length, slice_index, get_or, All, take, set, zero, Contains, arith, refl, sym, subst, ap, length-set}
 use Rattle.std.proofs.lemmas.List.{take_more}
 use Rattle.std.proofs.lemmas.List.Elements.{Contains-append_left, Contains-append_right, Contains-append_cases}
 use Rattle.std.proofs.lemmas.Bool.{cases_lt}
@@ -7,6 +7,7 @@ use Rattle.std.proofs.lemmas.Grind.{get_or_default_zero}
 use Rattle.racp_model.specs.Project.{number}
 use Rattle.racp_model.proofs.lemmas.Lists.{at_set}
 use Rattle.racp_model.proofs.lemmas.Relations.{member_cases, member_first, no_member}
+use Rattle.racp_model.proofs.lemmas.Decided.{member_decided}
 use Rattle.racp_search.specs.Children.{IsRaised}
 
 -- each time is the old one, or raised; that of the jobs so far is raised, and that of the others is the old one
@@ -84,34 +85,13 @@ raising-skip old gone end now k job place h l is_item is_job inside high =
     subst (λ (xs : List ℕ). IsRaising old xs end now) (sym e)
     (raising-more old (take k gone) end now now job place h is_job inside refl (omega arith) (λ i ne. refl))
 
--- as many as a list has of the list and others behind it are the list
-pub front-whole : (xs rest : List ℕ) (n : ℕ) → length xs ≡ n → take n (xs ++ rest) ≡ xs
-front-whole [] rest zero same = refl
-front-whole [] rest (suc n) same = absurd (omega arith)
-front-whole (x ∷ xs) rest zero same = absurd (omega arith)
-front-whole (x ∷ xs) rest (suc n) same = ap (λ (l : List ℕ). x ∷ l) (front-whole xs rest n (omega arith))
-
--- a number is a member or not
-is_member : (x : ℕ) (xs : List ℕ) → Contains xs x ⊎ (Contains xs x → ⊥)
-is_member x [] = inr (no_member x)
-is_member x (y ∷ ys) = elim (is_member x ys) [
-  | inl later ↦ inl (Contains-append_right (y ∷ []) ys x later)
-  | inr not_later ↦ elim (cases_lt x y) [
-    | inl less ↦ inr (λ c. elim (member_cases y ys x c) [ inl same ↦ absurd (omega arith) | inr later ↦ not_later later ])
-    | inr more ↦ elim (cases_lt y x) [
-      | inl greater ↦ inr (λ c. elim (member_cases y ys x c) [ inl same ↦ absurd (omega arith) | inr later ↦ not_later later ])
-      | inr most ↦ inl (member_first y ys x (omega arith))
-    ]
-  ]
-]
-
 -- raised times keep a bound that the old ones and the time keep
 pub raised-small : (old gone new : List ℕ) (end most : ℕ) → IsRaised old gone end new → end ≤ most → All (λ x. x ≤ most) old → All (λ x. x ≤ most) new
 raised-small old gone new end most h at small k d inside =
     let l : k < length old = omega (arith, inside, h.places) in
     let e : get_or new k d ≡ get_or new k 0 = get_or_default_zero new k d inside in
     let s : get_or old k 0 ≤ most = small k 0 l in
-    elim (is_member (number k) gone) [
+    elim (member_decided (number k) gone) [
       | inl has ↦ omega (arith, e, h.raised k l has, s, at)
       | inr none ↦ omega (arith, e, h.same k l none, s)
     ]

@@ -1,7 +1,8 @@
 -- What holds or does not hold: by tests of numbers, and for each of finitely many numbers.
-use Rattle.std.proofs.Common.{◌≡◌, ◌⊎◌, ℕ, zero, suc, ◌<◌, ◌≤◌, inl, inr, arith}
+use Rattle.std.proofs.Common.{◌≡◌, ◌⊎◌, ℕ, zero, suc, ◌<◌, ◌≤◌, List, [], ◌∷◌, Contains, inl, inr, arith}
 use Rattle.std.proofs.lemmas.Bool.{cases_lt, cases_eq}
 use Rattle.racp_model.proofs.lemmas.Lists.{below_suc}
+use Rattle.racp_model.proofs.lemmas.Relations.{member_cases, member_first, member_later, no_member}
 
 -- it holds or it does not
 abbrev pub Decided : Type 0 → Type 0
@@ -27,6 +28,14 @@ le_decided m n = elim (cases_lt n m) [
 
 pub same_decided : (m n : ℕ) → Decided (m ≡ n)
 same_decided = cases_eq
+
+-- for a number and a list
+pub member_decided : (x : ℕ) (xs : List ℕ) → Decided (Contains xs x)
+member_decided x [] = inr (no_member x)
+member_decided x (y ∷ ys) = elim (same_decided y x) [
+  | inl same ↦ inl (member_first y ys x same)
+  | inr other ↦ decided_by (member_later y ys x) (λ c. elim (member_cases y ys x c) [ inl same ↦ absurd (other same) | inr later ↦ later ]) (member_decided x ys)
+]
 
 -- and for each number below n
 pub each_decided : (P : ℕ → Type 0) (n : ℕ) → ((k : ℕ) → k < n → Decided (P k)) → Decided ((k : ℕ) → k < n → P k)
