@@ -561,7 +561,11 @@ fn is_shown<N: OfNetwork, R: Wait>(rt: &R, alloc: Global, net: &Network, steps: 
     requires named { net.now ≡ N.network }
 {
     match Board::<N>::new(alloc, net) {
-        Ok(board) => follows(rt, alloc, net, &board, steps),
+        Ok(board) => {
+            let followed = follows(rt, alloc, net, &board, steps);
+            drop(board);
+            followed
+        }
         Err(_) => false,
     }
 }
@@ -614,7 +618,11 @@ fn push_sixty<N: OfNetwork + Send + Sync, R: Threads + Wait + Sync>(
     requires named { net.now ≡ N.network }
 {
     match Board::<N>::new(alloc, net) {
-        Ok(board) => push_in_threads(rt, alloc, net, &board),
+        Ok(board) => {
+            let pushed = push_in_threads(rt, alloc, net, &board);
+            drop(board);
+            pushed
+        }
         Err(_) => false,
     }
 }

@@ -231,6 +231,7 @@ fn count_answers_behind_one<N: OfNetwork>(
         _ => None,
     };
     let _ = finding.into_found();
+    drop(local);
     count
 }
 
@@ -240,7 +241,11 @@ fn count_left_of<N: OfNetwork>(alloc: Global, net: &Network, asked: Question) ->
     requires formed { IsFormed net.now asked }
 {
     match Board::<N>::new(alloc, net) {
-        Ok(board) => count_answers_behind_one(alloc, net, asked, &board),
+        Ok(board) => {
+            let count = count_answers_behind_one(alloc, net, asked, &board);
+            drop(board);
+            count
+        }
         Err(_) => None,
     }
 }
@@ -300,6 +305,7 @@ fn searched_named<N: OfNetwork>(
     let finding = explore(alloc, net, piece, quantum, &board, &mut local, &stop);
     let told = shown_by(&finding);
     let _ = finding.into_found();
+    drop((local, board));
     Some(told)
 }
 
@@ -356,6 +362,7 @@ fn is_shorter_again<N: OfNetwork>(alloc: Global, net: &Network, asked: Question)
     let second = explore(alloc, net, piece, None, &board, &mut local, &Never);
     let again = second.nodes();
     let _ = second.into_found();
+    drop((local, board));
     !found && again < nodes
 }
 
@@ -456,7 +463,9 @@ fn searched_over<N: OfNetwork>(
     let mut local: Local<N> = Local::new(alloc, net);
     let mut course: Course<N> = Course::new(0);
     course.turn_to(order);
-    searched_on(alloc, net, asked, most, board, &mut local, &mut course)
+    let pursued = searched_on(alloc, net, asked, most, board, &mut local, &mut course);
+    drop((local, course));
+    pursued
 }
 
 /// The same, over a board of its own.
@@ -472,7 +481,11 @@ fn searched_in_parts<N: OfNetwork>(
     requires few { most ≤ 100 }
 {
     match Board::<N>::new(alloc, net) {
-        Ok(board) => searched_over(alloc, net, asked, order, most, &board),
+        Ok(board) => {
+            let pursued = searched_over(alloc, net, asked, order, most, &board);
+            drop(board);
+            pursued
+        }
         Err(_) => None,
     }
 }
