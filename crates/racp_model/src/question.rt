@@ -5,7 +5,7 @@ use crate::window::Window;
 use std::alloc::AllocError;
 
 /// Do some starts in the window keep precedence and the capacities?
-#[derive(Clone, Drop)]
+#[derive(Drop)]
 pub struct Question {
     /// How many units there are of each resource.
     pub capacities: Capacities,
@@ -14,7 +14,7 @@ pub struct Question {
 }
 
 impl Question {
-    /// The same question once more. `Clone` does the same, but does not promise that it is the same.
+    /// The same question once more.
     ///
     /// # Errors
     ///
