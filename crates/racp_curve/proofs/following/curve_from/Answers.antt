@@ -10,3 +10,6 @@ follow-requires-clause-next g c = subst (λ (steps : List Step). IsNext c.args.g
 pub returns-in-Ok-clause-curve : goal.returns-in-Ok-clause-curve
 returns-in-Ok-clause-curve g c =
     (c.in-Ok.ensures.curve, curve_some c.args.ground.now.net.now c.args.ground.now.order.now c.follow.new.steps.items c.args.plan.capacities c.in-Ok.ensures.curve c.requires.plan.is_plan.vector.is)
+
+pub returns-in-Err-clause-stop : goal.returns-in-Err-clause-stop
+returns-in-Err-clause-stop g c = c.in-Err.ensures.stop
