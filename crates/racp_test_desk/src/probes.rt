@@ -143,10 +143,12 @@ fn holds<N: OfNetwork + Send + Sync, R: Threads + Wait + Sync>(
     let Ok(board): Result<Board<N>, AllocError> = Board::new(alloc, net) else {
         return false;
     };
-    match asked(alloc, net, row.second) {
+    let holds = match asked(alloc, net, row.second) {
         Ok(question) => tell::<N, R>(rt, alloc, net, &board, question, row),
         Err(_) => false,
-    }
+    };
+    drop(board);
+    holds
 }
 
 /// The same, of the six jobs.

@@ -75,9 +75,11 @@ pub(crate) fn run_with<
         turns,
         second: _,
     } = numbers;
-    match run(
+    let closed = run(
         rt, alloc, net, series, workers, quantum, turns, &board, gate, stop,
-    ) {
+    );
+    drop(board);
+    match closed {
         Ok(closed) => Some(end_of(&closed)),
         Err(_) => None,
     }

@@ -130,7 +130,10 @@ fn plays<N: OfNetwork, M: Names>(
     };
     let followed = follows(alloc, net, &mut state, &mut all, script.rows);
     state.audit(&mut all);
-    followed && ends(&state.close(all), script)
+    let closed = state.close(all);
+    let ended = ends(&closed, script);
+    drop(closed);
+    followed && ended
 }
 
 fn holds<N: OfNetwork>(alloc: Global, net: &Network, script: &Script) -> bool

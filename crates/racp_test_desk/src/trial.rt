@@ -168,10 +168,12 @@ fn explored<N: OfNetwork>(alloc: Global, net: &Network, held: &Held, how: How) -
     };
     let stop = AtCall::each(matches!(how, How::Stopped));
     let most = Some(1_000_000);
-    match again(alloc, net, held, seat) {
+    let finding = match again(alloc, net, held, seat) {
         Ok(piece) => Some(explore(alloc, net, piece, most, &board, &mut local, &stop)),
         Err(_) => None,
-    }
+    };
+    drop((local, board));
+    finding
 }
 
 fn hand<N: OfNetwork, M: Names>(
