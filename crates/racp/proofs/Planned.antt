@@ -1,7 +1,6 @@
 -- The status of a plan, and that of a certificate, is that of an answer.
 use Rattle.std.proofs.Common.{ℕ, Bool, List, [], ◌∷◌, Option, Ok, Err, IfOk, inl, inr}
 use Rattle.std.specs.Prelude.{Result}
-use Rattle.racp_cli.specs.Crowds.{IsCrowdAnswer}
 use Rattle.racp_cli.specs.Plans.{IsPlanAnswer}
 use Rattle.racp_cli.specs.Proofs.{IsProofAnswer, IsProofRun}
 use Rattle.racp_cli.specs.Verifies.{IsVerifyAnswer}
@@ -13,13 +12,6 @@ use Rattle.racp_cli.specs.ShowAnswers.{IsShowAnswer, IsShowRun}
 use Rattle.racp_cli.specs.declared.order.Asked.{Asked}
 use Rattle.racp_cli.specs.declared.show.Look.{Look}
 use Rattle.racp.specs.Statuses.{IsStatusOfAnswer, IsStatusOfTool}
-
--- what workers answer to two texts
-pub by_workers : (inputs : List (List ℕ)) (status : ℕ) (text : List ℕ) → ToTwo IsCrowdAnswer inputs status text → IsStatusOfAnswer status
-by_workers [] status text answer = absurd answer
-by_workers (net ∷ []) status text answer = absurd answer
-by_workers (net ∷ (order ∷ [])) status text answer = inr (inl (net, order, text, answer))
-by_workers (net ∷ (order ∷ (other ∷ inputs))) status text answer = absurd answer
 
 -- what one thread answers
 on_one_thread : (inputs : List (List ℕ)) (status : ℕ) (text : List ℕ) → ToTwo IsPlanAnswer inputs status text → IsStatusOfAnswer status

@@ -208,7 +208,9 @@ fn plan_by<
         stop: &limit,
         observer: &listener,
     };
-    let (status, effort) = crowd_over_by(rt, rt.alloc(), workers, net, order, &mut io::writer(rt))?;
+    let made = crowd_over_by(rt, rt.alloc(), workers, net, order, &mut io::writer(rt));
+    drop(limit);
+    let (status, effort) = made?;
     if crew.stats {
         tell_effort(rt, effort);
     }
