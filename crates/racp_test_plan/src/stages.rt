@@ -190,10 +190,9 @@ fn sharpens<N: OfNetwork>(
     match Tired::<N>::new(alloc, net, wanted.series) {
         Ok(mut asker) => {
             let least = Capacities::new(least);
-            is_sharp(
-                &sharpen(alloc, net, window, least, most, &mut asker),
-                wanted,
-            )
+            let found = sharpen(alloc, net, window, least, most, &mut asker);
+            drop(asker);
+            is_sharp(&found, wanted)
         }
         Err(_) => false,
     }
@@ -213,7 +212,9 @@ fn tells<N: OfNetwork>(
     let Ok(mut asker) = Tired::<N>::new(alloc, net, series) else {
         return false;
     };
-    match plan(alloc, net, order, &mut asker) {
+    let planned = plan(alloc, net, order, &mut asker);
+    drop(asker);
+    match planned {
         Err(PlanStop::Stopped { not_before }) => not_before.as_slice() == units,
         _ => false,
     }
