@@ -1,5 +1,7 @@
 -- Core usage: it is greatest at some late start, and no starts in the window avoid it.
-use Rattle.std.proofs.Common.{◌≡◌, ℕ, ◌+◌, ◌<◌, ◌≤◌, List, length, slice_index, arith, subst}
+use Rattle.std.proofs.Common.{◌≡◌, ℕ, ◌+◌, ◌<◌, ◌≤◌, List, length, slice_index, nat_cmp, inl, inr, arith, rules, ap, subst}
+use Rattle.std.specs.Ordering.{ord_max}
+use Rattle.std.proofs.lemmas.Bool.{cases_lt}
 use Rattle.racp_model.specs.Project.{Project, duration, request}
 use Rattle.racp_model.specs.Plan.{IsLeast}
 use Rattle.racp_model.specs.Window.{Bounds}
@@ -22,3 +24,22 @@ greatest_core p root k most n late same all h = record {
       subst P same (h.is j (omega (arith, l, all))));
   least = λ other at less. h.least other (λ j l. at (slice_index late j)) less;
 }
+
+-- the greatest of the first values, and of one more
+pub greatest_next : (f : ℕ → ℕ) (most n value next : ℕ) → value ≡ f n → next ≡ ord_max nat_cmp most value →
+    IsLeast ◌<◌ (λ units. (j : ℕ) → j < n → f j ≤ units) most → IsLeast ◌<◌ (λ units. (j : ℕ) → j < n + 1 → f j ≤ units) next
+greatest_next f most n value next is greater h =
+    let at : most ≤ next = search (rules, greater) in
+    let above : value ≤ next = search (rules, greater) in
+    record {
+      is = λ j l. elim (cases_lt j n) [
+        | inl before ↦ omega (arith, h.is j before, at)
+        | inr after ↦
+            let same : j ≡ n = omega (arith, l, after) in
+            omega (arith, ap f same, is, above)
+      ];
+      least = λ other all less. elim (cases_lt other most) [
+        | inl lesser ↦ h.least other (λ j l. all j (omega (arith, l))) lesser
+        | inr more ↦ search (rules, all n (omega arith), is, greater, less, more)
+      ];
+    }

@@ -42,3 +42,9 @@ pub gives_up : (may_stop may_want_thread left : Type 0) (stop : AskStop) → lef
 gives_up may_stop may_want_thread left (Stopped reached) some may = (may, some)
 gives_up may_stop may_want_thread left Memory some may = tt
 gives_up may_stop may_want_thread left NoThread some may = may
+
+-- what is left where a part is left
+pub gives_up_within : (may_stop may_want_thread part left : Type 0) (stop : AskStop) → (part → left) → MayGiveUp (may_stop × part) may_want_thread stop → MayGiveUp (may_stop × left) may_want_thread stop
+gives_up_within may_stop may_want_thread part left (Stopped reached) more may = (may.0, more may.1)
+gives_up_within may_stop may_want_thread part left Memory more may = tt
+gives_up_within may_stop may_want_thread part left NoThread more may = may
