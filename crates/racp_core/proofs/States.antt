@@ -57,28 +57,32 @@ state_back p m places more piece windows row out back rest settled h = record {
   undecided = open_set m.least m.asked piece.index row places more out.0 (busy_there m piece out) h.undecided settled;
 }
 
--- so it does where the code looks at its place
-pub state_put : (p : Project) (m now : Machine) (places more : List ℕ) (piece : SearchPiece) (at index : ℕ) (opens : Bool) (windows : List Bounds) (row new : QuestionRow) → m ≡ now → index ≡ piece.index → IsPlaceIn now.asked piece at →
-    opens ≡ is_before now.least index → row ≡ slice_index_or m.asked index row → IsBack (slice_index_or row.out at no_out) (if opens then windows else []) row new →
-    (IsTrue (is_before m.least piece.index) → IsRestOf p piece.question.capacities piece.question.window windows) → IsRemovedIfDone (slice_set m.asked index new) places index more → IsState p m places → IsState p (record m { asked = slice_set m.asked index new }) more
-state_put p m now places more piece at index opens windows row new same e place is here back rest settled h =
-    subst (λ (k : ℕ). IsState p (record m { asked = slice_set m.asked k new }) more) (sym e)
-    (state_back p m places more piece windows new (place_out m piece at there) moved rest (subst (λ (k : ℕ). IsRemovedIfDone (slice_set m.asked k new) places k more) e settled) h)
-  where
-    there : IsPlaceIn m.asked piece at
-    there = subst (λ (x : Machine). IsPlaceIn x.asked piece at) (sym same) place
+-- what the code does where a piece comes back
+module _ (m now : Machine) (piece : SearchPiece) (at index : ℕ) (opens : Bool) (windows : List Bounds) (row new : QuestionRow) (same : m ≡ now) (e : index ≡ piece.index) (place : IsPlaceIn now.asked piece at) (is : opens ≡ is_before now.least index)
+    (here : row ≡ slice_index_or m.asked index row) (back : IsBack (slice_index_or row.out at no_out) (if opens then windows else []) row new) where
+  put_place : IsPlaceIn m.asked piece at
+  put_place = subst (λ (x : Machine). IsPlaceIn x.asked piece at) (sym same) place
 
-    test : opens ≡ is_before m.least piece.index
-    test = is ∙ (ap (λ (x : Machine). is_before x.least index) (sym same) ∙ ap (λ (k : ℕ). is_before m.least k) e)
+  put_back : IsBack (out_of piece) (windows_before m.least piece.index windows) (row_at m.asked piece.index) new
+  put_back =
+      let there = put_place in
+      let test : opens ≡ is_before m.least piece.index = is ∙ (ap (λ (x : Machine). is_before x.least index) (sym same) ∙ ap (λ (k : ℕ). is_before m.least k) e) in
+      let old : row ≡ row_at m.asked piece.index = get_or_read m.asked index row (let l = there.index in omega (arith, e, l)) here no_row ∙ ap (λ (k : ℕ). row_at m.asked k) e in
+      subst (λ (o : PieceOut). IsBack o (windows_before m.least piece.index windows) (row_at m.asked piece.index) new) there.place.is
+      (subst (λ (r : QuestionRow). IsBack (slice_index_or r.out at no_out) (windows_before m.least piece.index windows) r new) old
+      (subst (λ (b : Bool). IsBack (slice_index_or row.out at no_out) (if b then windows else []) row new) test back))
 
-    old : row ≡ row_at m.asked piece.index
-    old = get_or_read m.asked index row (let l = there.index in omega (arith, e, l)) here no_row ∙ ap (λ (k : ℕ). row_at m.asked k) e
+  pub state_put : (p : Project) (places more : List ℕ) → (IsTrue (is_before m.least piece.index) → IsRestOf p piece.question.capacities piece.question.window windows) → IsRemovedIfDone (slice_set m.asked index new) places index more → IsState p m places →
+      IsState p (record m { asked = slice_set m.asked index new }) more
+  state_put p places more rest settled h =
+      subst (λ (k : ℕ). IsState p (record m { asked = slice_set m.asked k new }) more) (sym e)
+      (state_back p m places more piece windows new (place_out m piece at put_place) put_back rest (subst (λ (k : ℕ). IsRemovedIfDone (slice_set m.asked k new) places k more) e settled) h)
 
-    moved : IsBack (out_of piece) (windows_before m.least piece.index windows) (row_at m.asked piece.index) new
-    moved =
-        subst (λ (o : PieceOut). IsBack o (windows_before m.least piece.index windows) (row_at m.asked piece.index) new) there.place.is
-        (subst (λ (r : QuestionRow). IsBack (slice_index_or r.out at no_out) (windows_before m.least piece.index windows) r new) old
-        (subst (λ (b : Bool). IsBack (slice_index_or row.out at no_out) (if b then windows else []) row new) test back))
+  pub put_step : IsReturned now piece windows (record m { asked = slice_set m.asked index new })
+  put_step = subst (λ (x : Machine). IsReturned x piece windows (record m { asked = slice_set m.asked index new })) same (record {
+    out = place_out m piece at put_place;
+    row = (new, put_back, ap (λ (k : ℕ). record m { asked = slice_set m.asked k new }) e);
+  })
 
 -- the window of a piece that is out is what is left of it
 pub whole_left : (p : Project) (m : Machine) (places : List ℕ) (piece : SearchPiece) → IsOut m piece → IsState p m places → IsTrue (is_before m.least piece.index) → IsRestOf p piece.question.capacities piece.question.window (piece.question.window ∷ [])
@@ -124,6 +128,9 @@ answered_all old piece starts new h =
     (same_trans old.asked (slice_set old.asked piece.index h.row.0) new.asked (set_same old.asked piece.index h.row.0 h.out.0 h.row.1.0) (shut_same piece.index (slice_set old.asked piece.index h.row.0) new.asked h.row.2))
 
 -- a row is written as it was read
+pub written_as_read : (asked : List QuestionRow) (index : ℕ) (row new : QuestionRow) → index < length asked → row ≡ slice_index_or asked index row → new ≡ row → slice_set asked index new ≡ asked
+written_as_read asked index row new l here same = set_read asked index new (same ∙ get_or_read asked index row l here no_row) l
+
 pub state_read : (p : Project) (m : Machine) (places : List ℕ) (index : ℕ) (row new : QuestionRow) → index < length m.asked → row ≡ slice_index_or m.asked index row → new ≡ row → IsState p m places → IsState p (record m { asked = slice_set m.asked index new }) places
 state_read p m places index row new l here same h = state_same p m places index new (same ∙ get_or_read m.asked index row l here no_row) l h
 
