@@ -1,6 +1,6 @@
 //! A question that was asked, with its open windows and the pieces of it that are out.
 
-ghost use Rattle.std.specs.Prelude.{◌≡◌, ◌↔◌, ◌+◌, ◌<◌, ◌≤◌, [], ◌∷◌, None, length, vec_capacity, slice_index_or, if◌then◌else◌, IsTrue, IfOk, IfErr, OnOk, OnErr, IfSome, IfNone, Contains};
+ghost use Rattle.std.specs.Prelude.{◌≡◌, ◌↔◌, ◌+◌, ◌<◌, ◌≤◌, [], ◌∷◌, ◌++◌, None, length, vec_capacity, slice_index_or, if◌then◌else◌, IsTrue, IfOk, IfErr, OnOk, OnErr, IfSome, IfNone, Contains};
 ghost use Rattle.racp_search.specs.Truth.{rest_windows};
 ghost use Rattle.racp_core.specs.Machine.{IsDone};
 ghost use Rattle.racp_core.specs.Steps.{IsBack, out_of, shut, listed};
@@ -164,14 +164,7 @@ impl Row {
         let (piece, rest, _found) = finding.into_parts();
         let question = piece.into_question::<Row>();
         let _ = self.out.swap_remove(at);
-        match rest {
-            Rest::Whole => self.ready.push_reserved(question.window),
-            Rest::Windows(windows) => {
-                let mut windows = windows;
-                let fits = self.ready.append(&mut windows).is_ok();
-                prove!(fits);
-            }
-        }
+        open_rest(&mut self.ready, question.window, rest);
         Ok(())
     }
 
@@ -227,6 +220,23 @@ fn make_room(ready: &mut Vec<Window>, out: &Vec<Out>, rest: &Rest) -> Result<(),
                 return Ok(());
             }
             ready.reserve(windows.len() + out.len())
+        }
+    }
+}
+
+/// Puts what is left of a window behind the open ones, for which there is room.
+fn open_rest(ready: &mut Vec<Window>, window: Window, rest: Rest)
+    requires { length ready.old.items + listed rest < vec_capacity ready.old }
+    ensures items { ready.new.items ≡ ready.old.items ++ rest_windows window rest }
+    ensures length { length ready.new.items ≤ length ready.old.items + listed rest + 1 }
+    ensures room { vec_capacity ready.old ≤ vec_capacity ready.new }
+{
+    match rest {
+        Rest::Whole => ready.push_reserved(window),
+        Rest::Windows(windows) => {
+            let mut windows = windows;
+            let fits = ready.append(&mut windows).is_ok();
+            prove!(fits);
         }
     }
 }

@@ -5,10 +5,12 @@ ghost use Rattle.std.specs.List.{slice_get};
 ghost use Rattle.racp_questions.specs.FirstYes.{IsReached};
 ghost use Rattle.racp_core.specs.Machine.{all_questions};
 ghost use Rattle.racp_core.specs.Replies.{IsVerdict, IsKnown, IsOutcome, IsOutcomeKnown, reached_by, capacities_at};
+ghost use Rattle.racp_core.specs.Truth.{IsState};
 
-use super::Core;
+use super::{Core, LeastYes};
 use crate::replies::{Outcome, Verdict};
 use crate::row::Row;
+use crate::undecided::Undecided;
 use racp_model::{Capacities, OfNetwork};
 use racp_questions::Series;
 
@@ -46,13 +48,12 @@ impl<N: OfNetwork, S: Series> Core<N, S> {
         ensures capacities { result.1 ≡ reached_by self result.0 }
         ensures reached { IsReached N.network (all_questions self) result.1 }
     {
-        let Core {
+        let Known {
             rows,
             undecided,
             least,
             ended,
-            ..
-        } = self;
+        } = self.into_known();
         if let Some(first_open) = undecided.first() {
             return (
                 Outcome::Open { first_open },
@@ -79,6 +80,37 @@ impl<N: OfNetwork, S: Series> Core<N, S> {
             }
         }
     }
+
+    /// What is known, without the series. All else is dropped here, and not at each way out of `into_answer`.
+    fn into_known(self) -> Known
+        ensures rows { result.rows.items ≡ self.asked }
+        ensures least { result.least ≡ self.least }
+        ensures ended { result.ended ≡ self.ended }
+        ensures state { IsState N.network self result.undecided }
+    {
+        let Core {
+            rows,
+            undecided,
+            least,
+            ended,
+            ..
+        } = self;
+        Known {
+            rows,
+            undecided,
+            least,
+            ended,
+        }
+    }
+}
+
+/// What is known of the questions that were asked.
+#[derive(Drop)]
+struct Known {
+    rows: Vec<Row>,
+    undecided: Undecided,
+    least: Option<LeastYes>,
+    ended: bool,
 }
 
 /// The capacities of the question at a place, or of the last one where there is none.

@@ -52,8 +52,7 @@ pub returns-else-branch-clause-step : goal.returns-else-branch-clause-step
 returns-else-branch-clause-step g c =
     let i = c.self.inside in
     let m : Machine = record { asked = i.rows.items; to_come = option_to_list i.next ++ g.S.Series.questions i.series; least = i.least; taken = i.taken; ended = i.ended; halted = i.halted } in
-    let opening = subst (λ (b : Bool). IsOpenedIf c.fetch.new.next i.rows.items i.undecided b c.open.new.next c.open.new.rows.items c.open.new.undecided) c.if-branch.false c.in_ok-open.ensures.ok in
-    (
+    let opening = subst (λ (b : Bool). IsOpenedIf c.fetch.new.next i.rows.items i.undecided b c.open.new.next c.open.new.rows.items c.open.new.undecided) c.if-branch.false c.in_ok-open.ensures.ok in (
       subst (λ (x : Machine). x.halted ≡ false) c.self.view_is c.if-self.false,
       subst (λ (x : Machine). x.least ≡ None) c.self.view_is (none_from i.least (sym c.if-is_some.ensures)),
       subst (λ (x : Machine). x.to_come ≡ []) c.self.view_is (come_none g.N.OfNetwork.network m i.undecided c.open.new.undecided c.fetch.new.next c.open.new.next (g.S.Series.questions c.fetch.new.series) c.open.new.rows.items c.in_ok-fetch.ensures.same c.in_ok-fetch.ensures.ended opening),
@@ -102,4 +101,4 @@ returns-then-branch-clause-questions g c =
     let m : Machine = record { asked = i.rows.items; to_come = option_to_list i.next ++ g.S.Series.questions i.series; least = i.least; taken = i.taken; ended = i.ended; halted = i.halted } in
     let opening = subst (λ (b : Bool). IsOpenedIf c.fetch.new.next i.rows.items i.undecided b c.open.new.next c.open.new.rows.items c.open.new.undecided) c.if-branch.true c.in_ok-open.ensures.ok in
     opened_all g.N.OfNetwork.network m i.undecided c.open.new.undecided c.fetch.new.next c.open.new.next (g.S.Series.questions c.fetch.new.series) c.open.new.rows.items (none_from i.least (sym c.if-is_some.ensures)) c.in_ok-fetch.ensures.same opening
-        ∙ ap all_questions c.self.view_is
+    ∙ ap all_questions c.self.view_is
