@@ -69,3 +69,41 @@ returns-in_err-is_refuted-clause-stop g c =
     omega (arith, c.in_err-is_refuted.ensures.unanswered, c.loop-l.invariant.answered, fewer_pairs c.args.net.now.resources c.loop-k.k c.loop-l.l (omega (arith, c.loop-l.auto.l)) last) in
     let p = err_from_is_err_and c.from_residual.result c.from_residual.ensures.1 in
     rw (p.1, p.2) (gives_up (g.A.Asker.may_stop c.is_refuted.new.asker) (g.A.Asker.may_want_thread c.is_refuted.new.asker) (g.A.Asker.answered c.is_refuted.new.asker - g.A.Asker.answered c.args.asker.now < pair_count c.args.net.now.resources) c.in_err-is_refuted.field-0.0 left c.in_err-is_refuted.ensures.stop)
+
+pub returns-in_err-is_refuted-clause-network : goal.returns-in_err-is_refuted-clause-network
+returns-in_err-is_refuted-clause-network g c = c.is_refuted.ensures.network
+
+pub returns-in_err-is_refuted-clause-refuted : goal.returns-in_err-is_refuted-clause-refuted
+returns-in_err-is_refuted-clause-refuted g c = rw ((err_from_is_err_and c.from_residual.result c.from_residual.ensures.1).1) tt
+
+pub returns-in_err-is_refuted-clause-answered : goal.returns-in_err-is_refuted-clause-answered
+returns-in_err-is_refuted-clause-answered g c = rw ((err_from_is_err_and c.from_residual.result c.from_residual.ensures.1).1) tt
+
+pub returns-in_err-is_refuted-clause-no_fewer : goal.returns-in_err-is_refuted-clause-no_fewer
+returns-in_err-is_refuted-clause-no_fewer g c = omega (arith, c.in_err-is_refuted.ensures.unanswered, c.loop-l.invariant.answered)
+
+pub returns-in_err-add_pair-clause-network : goal.returns-in_err-add_pair-clause-network
+returns-in_err-add_pair-clause-network g c = c.is_refuted.ensures.network
+
+pub returns-in_err-add_pair-clause-refuted : goal.returns-in_err-add_pair-clause-refuted
+returns-in_err-add_pair-clause-refuted g c = rw ((err_from_is_err_and c.from_residual-in_err-add_pair.result c.from_residual-in_err-add_pair.ensures.1).1) tt
+
+pub returns-in_err-add_pair-clause-answered : goal.returns-in_err-add_pair-clause-answered
+returns-in_err-add_pair-clause-answered g c = rw ((err_from_is_err_and c.from_residual-in_err-add_pair.result c.from_residual-in_err-add_pair.ensures.1).1) tt
+
+pub returns-in_err-add_pair-clause-no_fewer : goal.returns-in_err-add_pair-clause-no_fewer
+returns-in_err-add_pair-clause-no_fewer g c = omega (arith, c.in_ok-is_refuted.ensures.answered, c.loop-l.invariant.answered)
+
+pub returns-in_err-add_pair-clause-stop : goal.returns-in_err-add_pair-clause-stop
+returns-in_err-add_pair-clause-stop g c =
+    let p = err_from_is_err_and c.from_residual-in_err-add_pair.result c.from_residual-in_err-add_pair.ensures.1 in
+    rw (p.1, p.2) tt
+
+pub returns-clause-network : goal.returns-clause-network
+returns-clause-network g c = c.loop-k.invariant.network
+
+pub returns-clause-no_fewer : goal.returns-clause-no_fewer
+returns-clause-no_fewer g c = omega (arith, c.loop-k.invariant.answered)
+
+pub returns-clause-stop : goal.returns-clause-stop
+returns-clause-stop g c = tt
