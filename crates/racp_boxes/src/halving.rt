@@ -58,10 +58,7 @@ pub fn first_enough<A: Asker<AnySeries>>(
     ensures stop { IfErr result (IsProbeStop (A.told asker.new) (A.may_stop asker.new) (A.may_want_thread asker.new)) }
 {
     let mut known = Known::of(alloc, net, order, roofs)?;
-    let whole = Span {
-        low: floors.copy()?,
-        high: roofs.copy()?,
-    };
+    let whole = Span::of(floors, roofs)?;
     let subject = Subject {
         net,
         order,
@@ -89,14 +86,20 @@ struct Span {
 }
 
 impl Span {
+    /// From copies of these vectors.
+    fn of(low: &Capacities, high: &Capacities) -> Result<Self, AllocError>
+        ensures { IfOk result (λ span. span ≡ record { low = low.now; high = high.now }) }
+    {
+        let low = low.copy()?;
+        let high = high.copy()?;
+        Ok(Span { low, high })
+    }
+
     /// A copy.
     fn copy(&self) -> Result<Self, AllocError>
         ensures { IfOk result (λ copy. copy ≡ self.now) }
     {
-        Ok(Span {
-            low: self.low.copy()?,
-            high: self.high.copy()?,
-        })
+        Span::of(&self.low, &self.high)
     }
 }
 

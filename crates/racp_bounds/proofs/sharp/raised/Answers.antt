@@ -1,5 +1,4 @@
-use Rattle.std.proofs.Common.{◌≡◌, ℕ, ◌+◌, List, Some, slice_index, arith, sym, subst, ap, refl}
-use Rattle.std.proofs.lemmas.Result.{err_from_is_err_and}
+use Rattle.std.proofs.Common.{◌≡◌, ℕ, ◌+◌, List, Some, slice_index, arith, sym, subst, ap}
 use Rattle.racp_model.specs.Formed.{AreFormed}
 use Rattle.racp_questions.specs.FirstYes.{IsFirstYes}
 use Rattle.racp_candidates.specs.Questions.{single_questions}
@@ -33,49 +32,3 @@ returns-clause-sharp g c =
     let units : slice_index c.args.floors.now c.args.k + c.in-Yes.index ≡ c.units_at.result = omega (arith, floor, c.units_at.ensures) in
     subst (IsSharpened c.args.net.now c.args.root.now c.args.floors.now c.args.roofs.now c.args.k) units
     (first_sharpened c.args.net.now c.args.root.now c.args.floors.now c.args.roofs.now c.args.k c.in-Yes.index first)
-
-pub returns-in_err-singles-clause-network : goal.returns-in_err-singles-clause-network
-returns-in_err-singles-clause-network g c = c.requires.named
-
-pub returns-in_err-singles-clause-sharp : goal.returns-in_err-singles-clause-sharp
-returns-in_err-singles-clause-sharp g c = rw ((err_from_is_err_and c.from_residual.result c.from_residual.ensures.1).1) tt
-
-pub returns-in_err-singles-clause-answered : goal.returns-in_err-singles-clause-answered
-returns-in_err-singles-clause-answered g c = rw ((err_from_is_err_and c.from_residual.result c.from_residual.ensures.1).1) tt
-
-pub returns-in_err-singles-clause-unanswered : goal.returns-in_err-singles-clause-unanswered
-returns-in_err-singles-clause-unanswered g c = rw ((err_from_is_err_and c.from_residual.result c.from_residual.ensures.1).1) refl
-
-pub returns-in_err-singles-clause-stop : goal.returns-in_err-singles-clause-stop
-returns-in_err-singles-clause-stop g c =
-    let p = err_from_is_err_and c.from_residual.result c.from_residual.ensures.1 in
-    rw (p.1, p.2) tt
-
-pub returns-in_err-index-clause-network : goal.returns-in_err-index-clause-network
-returns-in_err-index-clause-network g c = c.first.ensures.network
-
-pub returns-in_err-index-clause-sharp : goal.returns-in_err-index-clause-sharp
-returns-in_err-index-clause-sharp g c = rw ((err_from_is_err_and c.from_residual-in_err-index.result c.from_residual-in_err-index.ensures.1).1) tt
-
-pub returns-in_err-index-clause-answered : goal.returns-in_err-index-clause-answered
-returns-in_err-index-clause-answered g c = rw ((err_from_is_err_and c.from_residual-in_err-index.result c.from_residual-in_err-index.ensures.1).1) tt
-
-pub returns-in_err-index-clause-unanswered : goal.returns-in_err-index-clause-unanswered
-returns-in_err-index-clause-unanswered g c = rw ((err_from_is_err_and c.from_residual-in_err-index.result c.from_residual-in_err-index.ensures.1).1) c.in_err-index.ensures.unanswered
-
-pub returns-in_err-index-clause-stop : goal.returns-in_err-index-clause-stop
-returns-in_err-index-clause-stop g c =
-    let p = err_from_is_err_and c.from_residual-in_err-index.result c.from_residual-in_err-index.ensures.1 in
-    rw (p.1, p.2) c.in_err-index.ensures.stop.0
-
-pub returns-clause-network : goal.returns-clause-network
-returns-clause-network g c = c.first.ensures.network
-
-pub returns-clause-answered : goal.returns-clause-answered
-returns-clause-answered g c = c.in_ok-index.ensures.answered
-
-pub returns-clause-unanswered : goal.returns-clause-unanswered
-returns-clause-unanswered g c = tt
-
-pub returns-clause-stop : goal.returns-clause-stop
-returns-clause-stop g c = tt

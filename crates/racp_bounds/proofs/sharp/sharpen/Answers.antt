@@ -49,36 +49,3 @@ returns-in-Err-refuted_pairs-clause-refusal g c =
           gives_up_within (g.A.Asker.may_stop c.refuted_pairs.new.asker) (g.A.Asker.may_want_thread c.refuted_pairs.new.asker) (g.A.Asker.answered c.refuted_pairs.new.asker - before < pair_count c.args.net.now.resources)
           (answered < c.args.net.now.resources + pair_count c.args.net.now.resources) c.in-Err-refuted_pairs.stop (λ part. omega (arith, part, before_is, no_fewer, last, count, end)) c.in-Err-refuted_pairs.ensures.stop;
     }
-
-pub returns-in-Err-clause-network : goal.returns-in-Err-clause-network
-returns-in-Err-clause-network g c = c.raised.ensures.network
-
-pub returns-in-Err-clause-sharp : goal.returns-in-Err-clause-sharp
-returns-in-Err-clause-sharp g c = tt
-
-pub returns-in-Err-clause-answered : goal.returns-in-Err-clause-answered
-returns-in-Err-clause-answered g c = tt
-
-pub returns-in-Err-clause-no_fewer : goal.returns-in-Err-clause-no_fewer
-returns-in-Err-clause-no_fewer g c = omega (arith, c.in-Err.ensures.unanswered, c.loop-k.invariant.answered)
-
-pub returns-in-Err-refuted_pairs-clause-network : goal.returns-in-Err-refuted_pairs-clause-network
-returns-in-Err-refuted_pairs-clause-network g c = c.refuted_pairs.ensures.network
-
-pub returns-in-Err-refuted_pairs-clause-sharp : goal.returns-in-Err-refuted_pairs-clause-sharp
-returns-in-Err-refuted_pairs-clause-sharp g c = tt
-
-pub returns-in-Err-refuted_pairs-clause-answered : goal.returns-in-Err-refuted_pairs-clause-answered
-returns-in-Err-refuted_pairs-clause-answered g c = tt
-
-pub returns-in-Err-refuted_pairs-clause-no_fewer : goal.returns-in-Err-refuted_pairs-clause-no_fewer
-returns-in-Err-refuted_pairs-clause-no_fewer g c = omega (arith, c.refuted_pairs.ensures.no_fewer, c.loop-k.invariant.answered)
-
-pub returns-in-Ok-refuted_pairs-clause-network : goal.returns-in-Ok-refuted_pairs-clause-network
-returns-in-Ok-refuted_pairs-clause-network g c = c.refuted_pairs.ensures.network
-
-pub returns-in-Ok-refuted_pairs-clause-no_fewer : goal.returns-in-Ok-refuted_pairs-clause-no_fewer
-returns-in-Ok-refuted_pairs-clause-no_fewer g c = omega (arith, c.refuted_pairs.ensures.no_fewer, c.loop-k.invariant.answered)
-
-pub returns-in-Ok-refuted_pairs-clause-refusal : goal.returns-in-Ok-refuted_pairs-clause-refusal
-returns-in-Ok-refuted_pairs-clause-refusal g c = tt

@@ -1,6 +1,6 @@
-use Rattle.std.proofs.Common.{◌≡◌, min, arith, rules, ◌∙◌}
+use Rattle.std.proofs.Common.{◌≡◌, min, arith, rules}
 use Rattle.racp_model.specs.Terms.{cost}
-use Rattle.std.proofs.lemmas.Result.{IfOk-weaker, err_from_is_err_and}
+use Rattle.std.proofs.lemmas.Result.{IfOk-weaker}
 use Rattle.racp_boxes.specs.Searched.{AreSpans, HasAllBelow, IsSearched}
 use Rattle.racp_boxes.proofs.Cheapest.{above-has_all, below-has_all}
 use Rattle.racp_boxes.proofs.Foreseeing.{spans-popped, spans-pushed}
@@ -53,95 +53,3 @@ returns-clause-searched g t c =
     searched-both s c.requires.subject c.args.span c.requires.span c.args.known.now c.requires.known (c.in_ok-below.below, c.in_ok-below.above) c.cut_and_ask.new.known c.search.new.known c.search-2.new.known
     left.better are c.in_ok-search.ensures.searched then)
     c.search-2.ensures.searched
-
-pub returns-in_err-high-clause-network : goal.returns-in_err-high-clause-network
-returns-in_err-high-clause-network g t c = c.cut_and_ask.ensures.network
-
-pub returns-in_err-high-clause-answered : goal.returns-in_err-high-clause-answered
-returns-in_err-high-clause-answered g t c = c.cut_and_ask.ensures.answered
-
-pub returns-in_err-high-clause-searched : goal.returns-in_err-high-clause-searched
-returns-in_err-high-clause-searched g t c = rw ((err_from_is_err_and c.from_residual.result c.from_residual.ensures.1).1) tt
-
-pub returns-in_err-high-clause-pending : goal.returns-in_err-high-clause-pending
-returns-in_err-high-clause-pending g t c = rw ((err_from_is_err_and c.from_residual.result c.from_residual.ensures.1).1) tt
-
-pub returns-in_err-high-clause-stop : goal.returns-in_err-high-clause-stop
-returns-in_err-high-clause-stop g t c =
-    let p = err_from_is_err_and c.from_residual.result c.from_residual.ensures.1 in
-    rw (p.1, p.2) c.in_err-high.ensures.stop
-
-pub returns-in_default-clause-network : goal.returns-in_default-clause-network
-returns-in_default-clause-network g t c = c.cut_and_ask.ensures.network
-
-pub returns-in_default-clause-answered : goal.returns-in_default-clause-answered
-returns-in_default-clause-answered g t c = c.cut_and_ask.ensures.answered
-
-pub returns-in_default-clause-stop : goal.returns-in_default-clause-stop
-returns-in_default-clause-stop g t c = tt
-
-pub returns-in_default-clause-pending : goal.returns-in_default-clause-pending
-returns-in_default-clause-pending g t c = c.requires.pending
-
-pub returns-in_err-below-clause-network : goal.returns-in_err-below-clause-network
-returns-in_err-below-clause-network g t c = c.cut_and_ask.ensures.network
-
-pub returns-in_err-below-clause-answered : goal.returns-in_err-below-clause-answered
-returns-in_err-below-clause-answered g t c = c.cut_and_ask.ensures.answered
-
-pub returns-in_err-below-clause-searched : goal.returns-in_err-below-clause-searched
-returns-in_err-below-clause-searched g t c = rw ((err_from_is_err_and c.from_residual-in_err-below.result c.from_residual-in_err-below.ensures.1).1) tt
-
-pub returns-in_err-below-clause-pending : goal.returns-in_err-below-clause-pending
-returns-in_err-below-clause-pending g t c = rw ((err_from_is_err_and c.from_residual-in_err-below.result c.from_residual-in_err-below.ensures.1).1) tt
-
-pub returns-in_err-below-clause-stop : goal.returns-in_err-below-clause-stop
-returns-in_err-below-clause-stop g t c =
-    let p = err_from_is_err_and c.from_residual-in_err-below.result c.from_residual-in_err-below.ensures.1 in
-    rw (p.1, p.2) (tt, tt)
-
-pub returns-in_err-push_copy-clause-network : goal.returns-in_err-push_copy-clause-network
-returns-in_err-push_copy-clause-network g t c = c.cut_and_ask.ensures.network
-
-pub returns-in_err-push_copy-clause-answered : goal.returns-in_err-push_copy-clause-answered
-returns-in_err-push_copy-clause-answered g t c = c.cut_and_ask.ensures.answered
-
-pub returns-in_err-push_copy-clause-searched : goal.returns-in_err-push_copy-clause-searched
-returns-in_err-push_copy-clause-searched g t c = rw ((err_from_is_err_and c.from_residual-in_err-push_copy.result c.from_residual-in_err-push_copy.ensures.1).1) tt
-
-pub returns-in_err-push_copy-clause-pending : goal.returns-in_err-push_copy-clause-pending
-returns-in_err-push_copy-clause-pending g t c = rw ((err_from_is_err_and c.from_residual-in_err-push_copy.result c.from_residual-in_err-push_copy.ensures.1).1) tt
-
-pub returns-in_err-push_copy-clause-stop : goal.returns-in_err-push_copy-clause-stop
-returns-in_err-push_copy-clause-stop g t c =
-    let p = err_from_is_err_and c.from_residual-in_err-push_copy.result c.from_residual-in_err-push_copy.ensures.1 in
-    rw (p.1, p.2) (tt, tt)
-
-pub returns-in_err-search-clause-network : goal.returns-in_err-search-clause-network
-returns-in_err-search-clause-network g t c = c.search.ensures.network
-
-pub returns-in_err-search-clause-answered : goal.returns-in_err-search-clause-answered
-returns-in_err-search-clause-answered g t c = c.search.ensures.answered ∙ c.cut_and_ask.ensures.answered
-
-pub returns-in_err-search-clause-searched : goal.returns-in_err-search-clause-searched
-returns-in_err-search-clause-searched g t c = rw ((err_from_is_err_and c.from_residual-in_err-search.result c.from_residual-in_err-search.ensures.1).1) tt
-
-pub returns-in_err-search-clause-pending : goal.returns-in_err-search-clause-pending
-returns-in_err-search-clause-pending g t c = rw ((err_from_is_err_and c.from_residual-in_err-search.result c.from_residual-in_err-search.ensures.1).1) tt
-
-pub returns-in_err-search-clause-stop : goal.returns-in_err-search-clause-stop
-returns-in_err-search-clause-stop g t c =
-    let p = err_from_is_err_and c.from_residual-in_err-search.result c.from_residual-in_err-search.ensures.1 in
-    rw (p.1, p.2) c.in_err-search.ensures.stop
-
-pub returns-clause-network : goal.returns-clause-network
-returns-clause-network g t c = c.search-2.ensures.network
-
-pub returns-clause-answered : goal.returns-clause-answered
-returns-clause-answered g t c = c.search-2.ensures.answered ∙ (c.search.ensures.answered ∙ c.cut_and_ask.ensures.answered)
-
-pub returns-clause-stop : goal.returns-clause-stop
-returns-clause-stop g t c = c.search-2.ensures.stop
-
-pub returns-clause-pending : goal.returns-clause-pending
-returns-clause-pending g t c = c.search-2.ensures.pending

@@ -1,5 +1,4 @@
-use Rattle.std.proofs.Common.{◌≡◌, None, min, arith, refl}
-use Rattle.std.proofs.lemmas.Result.{err_from_is_err_and}
+use Rattle.std.proofs.Common.{◌≡◌, None, min, arith}
 use Rattle.racp_model.specs.Terms.{cost}
 use Rattle.racp_boxes.proofs.Cheapest.{told-least}
 use Rattle.racp_boxes.proofs.Halves.{cut_some, enough_not_before, refuted_no, searched-one, searched-refuted, widest_none, widest_some}
@@ -38,67 +37,3 @@ returns-clause-left g c =
     let is_cut = cut_some s.net.now s.order.now span.low span.high c.args.known.now.best c.in_ok-high.field-0 c.in-Some.high c.in_ok-high.ensures c.in-Some.is in
     let lane = widest_some span.low c.in-Some.high c.widest-lane.result c.in-Some-lane.k c.widest-lane.ensures c.in-Some-lane.is in
     record { better = c.in_ok-told.ensures.better; cut = is_cut; resource = lane.0; several = lane.1 }
-
-pub returns-in_err-high-clause-network : goal.returns-in_err-high-clause-network
-returns-in_err-high-clause-network g c = c.requires.named
-
-pub returns-in_err-high-clause-answered : goal.returns-in_err-high-clause-answered
-returns-in_err-high-clause-answered g c = refl
-
-pub returns-in_err-high-clause-left : goal.returns-in_err-high-clause-left
-returns-in_err-high-clause-left g c = rw ((err_from_is_err_and c.from_residual.result c.from_residual.ensures.1).1) tt
-
-pub returns-in_err-high-clause-stop : goal.returns-in_err-high-clause-stop
-returns-in_err-high-clause-stop g c =
-    let p = err_from_is_err_and c.from_residual.result c.from_residual.ensures.1 in
-    rw (p.1, p.2) (tt, tt)
-
-pub returns-in_default-clause-network : goal.returns-in_default-clause-network
-returns-in_default-clause-network g c = c.requires.named
-
-pub returns-in_default-clause-answered : goal.returns-in_default-clause-answered
-returns-in_default-clause-answered g c = refl
-
-pub returns-in_default-clause-stop : goal.returns-in_default-clause-stop
-returns-in_default-clause-stop g c = tt
-
-pub returns-in_err-told-clause-network : goal.returns-in_err-told-clause-network
-returns-in_err-told-clause-network g c = c.ask_about.ensures.network
-
-pub returns-in_err-told-clause-answered : goal.returns-in_err-told-clause-answered
-returns-in_err-told-clause-answered g c = c.ask_about.ensures.answered
-
-pub returns-in_err-told-clause-left : goal.returns-in_err-told-clause-left
-returns-in_err-told-clause-left g c = rw ((err_from_is_err_and c.from_residual-in_err-told.result c.from_residual-in_err-told.ensures.1).1) tt
-
-pub returns-in_err-told-clause-stop : goal.returns-in_err-told-clause-stop
-returns-in_err-told-clause-stop g c =
-    let p = err_from_is_err_and c.from_residual-in_err-told.result c.from_residual-in_err-told.ensures.1 in
-    rw (p.1, p.2) c.in_err-told.ensures.stop
-
-pub returns-then-is_refuted-clause-network : goal.returns-then-is_refuted-clause-network
-returns-then-is_refuted-clause-network g c = c.ask_about.ensures.network
-
-pub returns-then-is_refuted-clause-answered : goal.returns-then-is_refuted-clause-answered
-returns-then-is_refuted-clause-answered g c = c.ask_about.ensures.answered
-
-pub returns-then-is_refuted-clause-stop : goal.returns-then-is_refuted-clause-stop
-returns-then-is_refuted-clause-stop g c = tt
-
-pub returns-in_default-lane-clause-network : goal.returns-in_default-lane-clause-network
-returns-in_default-lane-clause-network g c = c.ask_about.ensures.network
-
-pub returns-in_default-lane-clause-answered : goal.returns-in_default-lane-clause-answered
-returns-in_default-lane-clause-answered g c = c.ask_about.ensures.answered
-
-pub returns-in_default-lane-clause-stop : goal.returns-in_default-lane-clause-stop
-returns-in_default-lane-clause-stop g c = tt
-
-pub returns-clause-network : goal.returns-clause-network
-returns-clause-network g c = c.ask_about.ensures.network
-
-pub returns-clause-answered : goal.returns-clause-answered
-returns-clause-answered g c = c.ask_about.ensures.answered
-
-pub returns-clause-stop : goal.returns-clause-stop
-returns-clause-stop g c = tt
