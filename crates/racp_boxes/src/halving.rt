@@ -136,7 +136,7 @@ fn search<A: Asker<AnySeries>>(
     let rest_of_below = rest.min(known.cost).min(other);
     push_copy(pending, &above)?;
     search(alloc, subject, known, below, pending, rest_of_below, asker)?;
-    let _ = pending.pop();
+    drop(pending.pop());
     let rest_of_above = rest.min(known.cost);
     search(alloc, subject, known, above, pending, rest_of_above, asker)
 }
@@ -274,6 +274,7 @@ fn first_question(
             &part.high,
         )?
         else {
+            // Dropped here, in one call, as at the two ways out below.
             drop(part);
             return Ok(None);
         };

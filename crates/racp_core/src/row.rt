@@ -154,7 +154,7 @@ impl Row {
         ensures err { IfErr result (λ e. (self.new ≡ self.old) × (e.0 ≡ finding) × (0 < listed finding.rest)) }
     {
         if !opens {
-            let _ = finding.into_found();
+            drop(finding.into_found());
             self.close(at);
             return Ok(());
         }
@@ -163,7 +163,7 @@ impl Row {
         }
         let (piece, rest, _found) = finding.into_parts();
         let question = piece.into_question::<Row>();
-        let _ = self.out.swap_remove(at);
+        drop(self.out.swap_remove(at));
         open_rest(&mut self.ready, question.window, rest);
         Ok(())
     }
@@ -177,7 +177,7 @@ impl Row {
             self.close(at);
             return;
         }
-        let _ = self.out.swap_remove(at);
+        drop(self.out.swap_remove(at));
         self.ready.push_reserved(window);
     }
 
@@ -186,7 +186,7 @@ impl Row {
         requires { at < length self.old.out }
         ensures { IsBack (slice_index_or self.old.out at no_out) [] self.old self.new }
     {
-        let _ = self.out.swap_remove(at);
+        drop(self.out.swap_remove(at));
     }
 
     /// Discards the open windows.

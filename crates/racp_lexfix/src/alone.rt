@@ -82,6 +82,7 @@ impl<N: OfNetwork, S: Series> Asker<S> for Alone<N> {
                     return Ok(first_of(core));
                 }
                 Err(stop) => {
+                    // Dropped in one call, before the way out.
                     drop(core);
                     return Err(stop);
                 }
@@ -114,7 +115,7 @@ fn probe_of<N: OfNetwork>(finding: Finding<N>) -> Result<Probe, AskStop>
     ensures err { IfErr result (λ stop. stop ≡ Memory) }
 {
     if finding.short() {
-        let _ = finding.into_found();
+        drop(finding.into_found());
         return Err(AskStop::Memory);
     }
     let open = is_left(finding.rest());
@@ -156,7 +157,7 @@ fn settle_next<N: OfNetwork, S: Series>(
     let kept = make_room(local);
     let finding = explore(alloc, net, piece, None, board, local, &Never);
     if finding.short() {
-        let _ = finding.into_found();
+        drop(finding.into_found());
         return Err(AskStop::Memory);
     }
     if finding.found().is_none() {
@@ -202,7 +203,7 @@ fn hand_in<N: OfNetwork, S: Series>(
         Ok(Merged::Taken) => Ok(more),
         Ok(Merged::Stale) => unreachable!(),
         Err((finding, error)) => {
-            let _ = finding.into_found();
+            drop(finding.into_found());
             Err(error)
         }
     }

@@ -258,6 +258,7 @@ impl<
         ensures unanswered { OnErr result (self.new.answered ≡ self.old.answered) }
     {
         let Some(answered) = self.answered.checked_add(1) else {
+            // Dropped in one call, before the way out.
             drop(closed);
             return Err(AskStop::Memory);
         };
@@ -414,6 +415,7 @@ impl<
         self.told = None;
         let left = self.left;
         if left == 0 {
+            // Dropped in one call, before the way out.
             drop(series);
             return Err(AskStop::Stopped { reached: None });
         }

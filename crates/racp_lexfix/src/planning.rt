@@ -158,6 +158,8 @@ impl Task<'_> {
             roofs: &roofs,
         };
         let capacities = vectors.cheapest(asker)?;
+        // Dropped here once, not at each way out below.
+        drop(roofs);
         asker.hear_cost(cost_of(net, self.order, capacities.as_slice()));
         match least_starts(alloc, net, &capacities, root, asker) {
             Ok(starts) => Ok(Some((capacities, starts))),
@@ -205,6 +207,8 @@ impl VectorBox<'_> {
             Ok(first) => first,
             Err(stop) => return Err(PlanStop::given_up(stop, self.sharp.floors)),
         };
+        // Dropped here once, not at each way out below.
+        drop(self);
         let series = One::new(alloc, &first, root)?;
         match asker.first(net, AnySeries::One(series)) {
             Ok(_) => Ok(first),
@@ -227,6 +231,8 @@ impl VectorBox<'_> {
             Ok(first) => first,
             Err(stop) => return Err(PlanStop::stopped_at(stop, self.sharp.floors)),
         };
+        // Dropped here once, not at each way out below.
+        drop(self);
         match first {
             First::Yes { starts, .. } => Ok(peaks(alloc, net, &starts)?),
             First::None => unreachable!(),

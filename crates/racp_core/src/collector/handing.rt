@@ -32,18 +32,20 @@ impl<N: OfNetwork, S: Series> Core<N, S> {
             (0 < listed finding.rest)) }
     {
         let Some(at) = self.place(finding.piece()) else {
-            let _ = finding.into_found();
+            drop(finding.into_found());
             return Ok(Merged::Stale);
         };
         if finding.found().is_none() {
             self.put(at, finding)?;
             return Ok(Merged::Taken);
         }
-        let (piece, _rest, found) = finding.into_parts();
+        let (piece, rest, found) = finding.into_parts();
+        // Dropped here, so that no way out below takes it apart.
+        drop(rest);
         if let Some(starts) = found {
             self.put_yes(at, &piece, starts);
         }
-        let _ = piece.into_question::<Row>();
+        drop(piece.into_question::<Row>());
         Ok(Merged::Taken)
     }
 
@@ -59,7 +61,7 @@ impl<N: OfNetwork, S: Series> Core<N, S> {
                 Merged::Taken
             }
             None => {
-                let _ = piece.into_question::<Row>();
+                drop(piece.into_question::<Row>());
                 Merged::Stale
             }
         }
