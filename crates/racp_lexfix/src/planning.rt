@@ -158,8 +158,6 @@ impl Task<'_> {
             roofs: &roofs,
         };
         let capacities = vectors.cheapest(asker)?;
-        // Dropped here once, not at each way out below.
-        drop(roofs);
         asker.hear_cost(cost_of(net, self.order, capacities.as_slice()));
         match least_starts(alloc, net, &capacities, root, asker) {
             Ok(starts) => Ok(Some((capacities, starts))),

@@ -1,5 +1,4 @@
 use Rattle.std.proofs.Common.{◌≡◌, [], subst}
-use Rattle.racp_model.specs.Window.{Bounds}
 use Rattle.racp_search.specs.Truth.{rest_windows}
 use Rattle.racp_search.specs.declared.finding.Rest.{Rest}
 use Rattle.racp_lexfix.proofs.Probing.{some_left}
