@@ -227,6 +227,7 @@ impl<
     {
         let glimpse = self.glimpse_at(&question, glimpse_of(most))?;
         if !is_open(&glimpse) {
+            // Dropped in one call, before the way out.
             drop(question);
             return Ok(glimpse);
         }
@@ -432,6 +433,7 @@ impl<
     ) -> Result<Probe, AskStop> {
         self.told = None;
         if self.left == 0 {
+            // Dropped in one call, before the way out.
             drop(question);
             return Err(AskStop::Stopped { reached: None });
         }

@@ -229,8 +229,6 @@ impl VectorBox<'_> {
             Ok(first) => first,
             Err(stop) => return Err(PlanStop::stopped_at(stop, self.sharp.floors)),
         };
-        // Dropped here once, not at each way out below.
-        drop(self);
         match first {
             First::Yes { starts, .. } => Ok(peaks(alloc, net, &starts)?),
             First::None => unreachable!(),

@@ -242,6 +242,7 @@ fn print_order(
         order: &order,
     };
     let printed = print_plan(&task, mebibytes);
+    // Dropped before the way out by `?`, so that it is not taken apart there.
     drop(order);
     Ok(printed?)
 }
@@ -256,6 +257,7 @@ fn print_plan(task: &Task, mebibytes: usize) -> Result<Printed, PlanStop>
 {
     let answer = plan_named::<Brand>(task, mebibytes)?;
     let printed = print_answer(task.alloc, task.order, &answer);
+    // Dropped before the way out by `?`, so that it is not taken apart there.
     drop(answer);
     Ok(printed?)
 }
@@ -294,6 +296,7 @@ fn print_order_by<G: Gate + Sync, P: Stop + Sync, O: Observer, R: Threads + Wait
         order: &order,
     };
     let printed = print_plan_by(rt, &task, crew);
+    // Dropped before the way out by `?`, so that it is not taken apart there.
     drop(order);
     Ok(printed?)
 }
@@ -314,6 +317,7 @@ fn print_plan_by<G: Gate + Sync, P: Stop + Sync, O: Observer, R: Threads + Wait 
 {
     let (answer, effort) = plan_by::<Brand, G, P, O, R>(rt, task, crew)?;
     let printed = print_answer(task.alloc, task.order, &answer);
+    // Dropped before the way out by `?`, so that it is not taken apart there.
     drop(answer);
     Ok((printed?, effort))
 }

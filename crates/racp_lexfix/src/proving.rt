@@ -55,6 +55,7 @@ fn prove_order(alloc: Global, net: &Network, order_text: &[u8]) -> Result<Printe
         order: &order,
     };
     let printed = prove_plan(&task);
+    // Dropped before the way out by `?`, so that it is not taken apart there.
     drop(order);
     Ok(printed?)
 }

@@ -1,4 +1,4 @@
-use Rattle.std.proofs.Common.{◌≡◌, ◌∙◌, List, ℕ, Option, Some, None, length, ap, sym, subst, arith}
+use Rattle.std.proofs.Common.{◌≡◌, ◌∙◌, List, ℕ, Option, Some, length, ap, sym, subst, arith}
 use Rattle.racp_questions.specs.FirstYes.{IsReached}
 use Rattle.racp_core.specs.Machine.{KnownYes, QuestionRow, all_questions}
 use Rattle.racp_core.specs.Replies.{IsFirstOpen, capacities_at}
