@@ -1,9 +1,13 @@
 -- The greatest finish, and what it says of the critical length and of root windows.
-use Rattle.std.proofs.Common.{◌≡◌, ℕ, ◌<◌, ◌≤◌, List, Some, None, arith, subst, refl}
+use Rattle.std.proofs.Common.{◌≡◌, ◌==◌, Less, Equal, Greater, Bool, ℕ, ◌<◌, ◌≤◌, inl, inr, List, Option, Some, None, true, false, true≢false, cond, nat_cmp, lt-ltb, le-ltb, arith, sym, subst, refl}
+use Rattle.std.proofs.lemmas.Bool.{cases_lt}
+use Rattle.std.specs.Option.{is_some}
+use Rattle.std.specs.Ordering.{is_lt, ord_max}
+use Rattle.racp_model.specs.Schedule.{EndsBy}
 use Rattle.racp_model.specs.Project.{Project, IsSound}
-use Rattle.racp_model.specs.Path.{IsEarly, IsCriticalLength}
+use Rattle.racp_model.specs.Path.{IsEarly, IsCriticalLength, IsFirstLate}
 use Rattle.racp_model.specs.Window.{Bounds, IsRootWindow}
-use Rattle.racp_cpm.specs.Ends.{IsLastEnd, HasNoRoot}
+use Rattle.racp_cpm.specs.Ends.{IsLastEnd, HasNoRoot, IsFirstLateAnswer}
 use Rattle.racp_cpm.specs.Laws.{NoRootIsTooLong, NoRootIsNoSchedule}
 use Rattle.racp_cpm.proofs.lemmas.LastEnds.{some_last_end}
 use Rattle.racp_cpm.proofs.Paths.{critical_is}
@@ -41,3 +45,27 @@ no_schedule_exactly p release due None h = (
   λ none. refl,
 )
 no_schedule_exactly p release due (Some root) h = (λ e. cc, λ none. absurd (none root.lower h.early.precedence (record { released = h.early.above; ends = h.ends })))
+
+-- an answer that names a late job names the first one
+pub late_found : (p : Project) (due : ℕ → ℕ) (starts : List ℕ) (found : Option ℕ) → true ≡ is_some found → IsFirstLateAnswer p due starts found → (i : ℕ) × IsFirstLate p due starts i
+late_found p due starts None some h = absurd (true≢false some)
+late_found p due starts (Some job) some h = (h.0, h.2)
+
+-- one that names none says that each ends in time
+pub none_found : (p : Project) (due : ℕ → ℕ) (starts : List ℕ) (found : Option ℕ) → false ≡ is_some found → IsFirstLateAnswer p due starts found → EndsBy p due starts
+none_found p due starts None none h = h
+none_found p due starts (Some job) none h = absurd (true≢false (sym none))
+
+-- what holds of the greater of two numbers, either of which may be that
+pub greater_is : (P : ℕ → Type 0) (a b : ℕ) → (b ≤ a → P a) → (a ≤ b → P b) → P (ord_max nat_cmp a b)
+greater_is P a b first second = elim (cases_lt b a) [
+  | inl less ↦ subst (λ (t : Bool). P (picked t)) (sym (lt-ltb b a less)) (first (omega (arith, less)))
+  | inr more ↦ subst (λ (t : Bool). P (picked t)) (sym (le-ltb b a more)) (later (b == a) (second more))
+]
+  where
+    picked : Bool → ℕ
+    picked t = cond (is_lt (cond t Less (cond (b == a) Equal Greater))) a b
+
+    later : (t : Bool) → P b → P (cond (is_lt (cond t Equal Greater)) a b)
+    later true h = h
+    later false h = h
