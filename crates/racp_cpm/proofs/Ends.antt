@@ -1,8 +1,6 @@
 -- The greatest finish, and what it says of the critical length and of root windows.
-use Rattle.std.proofs.Common.{◌≡◌, ◌==◌, Less, Equal, Greater, Bool, ℕ, ◌<◌, ◌≤◌, inl, inr, List, Option, Some, None, true, false, true≢false, cond, nat_cmp, lt-ltb, le-ltb, arith, sym, subst, refl}
-use Rattle.std.proofs.lemmas.Bool.{cases_lt}
+use Rattle.std.proofs.Common.{◌≡◌, ℕ, ◌<◌, ◌≤◌, List, Option, Some, None, true, false, true≢false, arith, sym, subst, refl}
 use Rattle.std.specs.Option.{is_some}
-use Rattle.std.specs.Ordering.{is_lt, ord_max}
 use Rattle.racp_model.specs.Schedule.{EndsBy}
 use Rattle.racp_model.specs.Project.{Project, IsSound}
 use Rattle.racp_model.specs.Path.{IsEarly, IsCriticalLength, IsFirstLate}
@@ -55,17 +53,3 @@ late_found p due starts (Some job) some h = (h.0, h.2)
 pub none_found : (p : Project) (due : ℕ → ℕ) (starts : List ℕ) (found : Option ℕ) → false ≡ is_some found → IsFirstLateAnswer p due starts found → EndsBy p due starts
 none_found p due starts None none h = h
 none_found p due starts (Some job) none h = absurd (true≢false (sym none))
-
--- what holds of the greater of two numbers, either of which may be that
-pub greater_is : (P : ℕ → Type 0) (a b : ℕ) → (b ≤ a → P a) → (a ≤ b → P b) → P (ord_max nat_cmp a b)
-greater_is P a b first second = elim (cases_lt b a) [
-  | inl less ↦ subst (λ (t : Bool). P (picked t)) (sym (lt-ltb b a less)) (first (omega (arith, less)))
-  | inr more ↦ subst (λ (t : Bool). P (picked t)) (sym (le-ltb b a more)) (later (b == a) (second more))
-]
-  where
-    picked : Bool → ℕ
-    picked t = cond (is_lt (cond t Less (cond (b == a) Equal Greater))) a b
-
-    later : (t : Bool) → P b → P (cond (is_lt (cond t Equal Greater)) a b)
-    later true h = h
-    later false h = h

@@ -4,6 +4,7 @@ pub mod Lists
 pub mod Rows
 pub mod Zeros
 pub mod Sums
+pub mod Greater
 pub mod Usage
 pub mod CoreTimes
 pub mod Parts

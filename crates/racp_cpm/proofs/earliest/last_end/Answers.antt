@@ -1,7 +1,7 @@
 use Rattle.std.proofs.Common.{◌≡◌, ◌+◌, ◌<◌, ◌≤◌, ℕ, List, length, slice_index, arith, subst}
 use Rattle.racp_model.specs.Project.{duration}
 use Rattle.racp_model.proofs.lemmas.Lists.{below_suc}
-use Rattle.racp_cpm.proofs.Ends.{greater_is}
+use Rattle.racp_model.proofs.lemmas.Greater.{greater_is}
 use Rattle.racp_cpm.specs.Ends.{IsLastEnd}
 use Rattle.racp_cpm.proofs.Paths.{critical_is}
 use Rattle.racp_cpm.proofs.earliest.last_end.Goals as goal
