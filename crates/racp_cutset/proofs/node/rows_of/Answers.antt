@@ -1,4 +1,4 @@
-use Rattle.std.proofs.Common.{◌≤◌, All, List, ℕ, length, slice_index, arith, ap}
+use Rattle.std.proofs.Common.{◌≤◌, All, List, ℕ, slice_index, arith, ap}
 use Rattle.racp_cutset.proofs.Nodes.{early_small}
 use Rattle.racp_cutset.proofs.node.rows_of.Goals as goal
 
