@@ -1,0 +1,6 @@
+use Rattle.std.proofs.Common.{List, ℕ, ap, set}
+use Rattle.racp_delay.specs.Alternatives.{place}
+use Rattle.racp_delay.proofs.profile.Profile.move_job.Goals as goal
+
+pub returns : goal.returns
+returns c = ap (λ (starts : List ℕ). set starts (place c.args.job) c.args.start) c.self.view_is
