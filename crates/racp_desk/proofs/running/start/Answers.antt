@@ -20,3 +20,15 @@ returns g c =
       | else-workers-gt0 w ↦ rw w.share-is refl
     ] in
     omega (arith, started, worked, c.loop-seat.invariant.parts, c.loop-seat.invariant.handles)
+
+pub split_off-mine-requires-clause-given_backed : goal.split_off-mine-requires-clause-given_backed
+split_off-mine-requires-clause-given_backed g c = λ _. refl
+
+pub split_off-mine-requires-clause-has_amount : goal.split_off-mine-requires-clause-has_amount
+split_off-mine-requires-clause-has_amount g c = omega arith
+
+pub split_off-mine-requires-then-workers-gt0-clause-given_backed : goal.split_off-mine-requires-then-workers-gt0-clause-given_backed
+split_off-mine-requires-then-workers-gt0-clause-given_backed g c = λ _. refl
+
+pub split_off-mine-requires-then-workers-gt0-clause-has_amount : goal.split_off-mine-requires-then-workers-gt0-clause-has_amount
+split_off-mine-requires-then-workers-gt0-clause-has_amount g c = omega arith
