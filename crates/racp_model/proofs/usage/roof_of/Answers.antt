@@ -10,6 +10,6 @@ loop-i-preserved c =
     let step = sum_below-step i (λ j. request net j c.args.k) in
     let small = request-small net i c.args.k c.job_count-i-end.ensures.sound (omega (arith, c.loop-i-test.true, c.job_count-i-end.ensures.count)) c.requires in
     record {
-      sum = omega (arith, step, c.loop-i.invariant.sum, c.request-sum.ensures);
-      small = omega (arith, small, c.loop-i.invariant.small, c.request-sum.ensures);
+      sum = omega (arith, step, c.loop-i.invariant.sum);
+      small = omega (arith, small, c.loop-i.invariant.small);
     }
