@@ -1,5 +1,6 @@
-ghost use Rattle.std.specs.Prelude.{◌≡◌, ◌≢◌, ℕ, List, ◌<◌, ◌≤◌, [], ◌∷◌, IfOk, IsTrue, true, length};
+ghost use Rattle.std.specs.Prelude.{◌≡◌, ◌≢◌, ℕ, List, ◌<◌, ◌≤◌, [], ◌∷◌, IfOk, IsTrue, true, length, slice_index};
 ghost use Rattle.racp_model.specs.Formed.{HasBounds};
+ghost use Rattle.racp_model.specs.Path.{IsEarly};
 ghost use Rattle.racp_delay.specs.Alternatives.{AreAlternatives, IsMinimalDelayingAlternative, job_lists};
 ghost use Rattle.racp_search.specs.DepthFirst.{HasActive, IsFrameOf, IsGoneOn, IsNextToLookAt, IsRestOfFrame, IsTakenUp, child_windows, steps_left};
 ghost use Rattle.racp_search.specs.Glances.{HasConflict, IsExpanded};
@@ -284,21 +285,38 @@ pub(crate) fn expand<N: OfNetwork>(
     ensures expanded { IfOk result (IsExpanded N.network subject.now.capacities window) }
     ensures kept { local.new ≡ local.old }
 {
-    let net = subject.network();
     let spare = &mut workspace.spare;
+    let node: Node<N> = node_of(spare, subject, window, starts, conflict.time)?;
+    if local.find(subject.board(), &node).is_some() {
+        spare.give_node(node);
+        return Ok(None);
+    }
+    prove!(node.question().window.lower().len() == subject.network().job_count());
+    Ok(Some(first_frame(workspace, subject, node, conflict)?))
+}
+
+/// The node of a window, its early starts and a time.
+fn node_of<N: OfNetwork>(
+    spare: &mut Spare,
+    subject: &Subject<N>,
+    window: Window,
+    starts: Starts,
+    time: u32,
+) -> Result<Node<N>, AllocError>
+    requires bounds { HasBounds N.network window }
+    requires early { IsEarly N.network (slice_index window.lower) starts }
+    ensures capacities { IfOk result (λ node. node.capacities ≡ subject.now.capacities) }
+    ensures window { IfOk result (λ node. node.window ≡ window) }
+    ensures early { IfOk result (λ node. node.early ≡ starts) }
+    ensures time { IfOk result (λ node. node.time ≡ time) }
+{
     let capacities = spare.row_of(subject.capacities().as_slice())?;
     let question = Question {
         capacities: Capacities::new(capacities),
         window,
     };
     let rows = (spare.row(), spare.row());
-    let node = Node::reusing(net, question, starts, rows, conflict.time)?;
-    if local.find(subject.board(), &node).is_some() {
-        spare.give_node(node);
-        return Ok(None);
-    }
-    prove!(node.question().window.lower().len() == net.job_count());
-    Ok(Some(first_frame(workspace, subject, node, conflict)?))
+    Node::reusing(subject.network(), question, starts, rows, time)
 }
 
 /// The frame of a node at its conflict. Its child windows are made at once where few jobs are active.

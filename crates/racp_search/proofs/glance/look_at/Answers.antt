@@ -1,4 +1,4 @@
-use Rattle.std.proofs.Common.{◌≡◌, ◌<◌, ◌≤◌, ℕ, List, arith, ap, length, slice_index, subst}
+use Rattle.std.proofs.Common.{◌<◌, ◌≤◌, ℕ, List, arith, ap, length, slice_index, subst}
 use Rattle.racp_model.specs.Path.{IsEarly}
 use Rattle.racp_delay.specs.Branching.{IsConflictAnswer}
 use Rattle.racp_search.proofs.glance.look_at.Goals as goal
