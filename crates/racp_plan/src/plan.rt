@@ -2,7 +2,7 @@ use racp_model::{Capacities, Starts};
 
 /// A plan: how many units there are of each resource, when each job starts, and what a planner says of them. Contracts
 /// see the capacities and the starts as lists.
-#[derive(Clone, Drop)]
+#[derive(Drop)]
 pub struct Plan {
     /// The deadline of the order, in time units.
     pub deadline: u32,
