@@ -83,9 +83,13 @@ pub(crate) fn read_checked(
     let net = read_sm(alloc, net)?;
     let order = read_order(alloc, order, net.resource_count(), net.job_count())?;
     let plan = read_plan(alloc, plan, &net)?;
-    match check_read(alloc, &net, &order, &plan) {
-        Ok(()) => Ok(Checked { net, order, plan }),
-        Err(fault) => Err(fault),
+    let found = Checked { net, order, plan };
+    match check_read(alloc, &found.net, &found.order, &found.plan) {
+        Ok(()) => Ok(found),
+        Err(fault) => {
+            drop(found);
+            Err(fault)
+        }
     }
 }
 

@@ -71,8 +71,10 @@ fn verify(
     ensures { IsVerify net.now order.now plan.now proof.now result }
 {
     let found = read_checked(alloc, net, order, plan)?;
-    let proved = check_proof(alloc, &found.net, &found.order, &found.plan, proof)?;
-    Ok(proved)
+    let proved = check_proof(alloc, &found.net, &found.order, &found.plan, proof);
+    // Dropped here once, not at each way out.
+    drop(found);
+    Ok(proved?)
 }
 
 /// The status that tells of an outcome.

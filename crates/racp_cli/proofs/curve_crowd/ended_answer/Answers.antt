@@ -1,5 +1,6 @@
 use Rattle.std.proofs.Common.{◌≡◌, refl, rules}
 use Rattle.racp_plan.specs.Texts.{line}
+use Rattle.racp_cli.specs.CurveAnswers.{stopped_text}
 use Rattle.racp_cli.specs.Texts.{no_thread_line}
 use Rattle.racp_cli.proofs.curve_crowd.ended_answer.Goals as goal
 
@@ -8,3 +9,8 @@ unfolding no_thread_line line
 returns-in_ok-to_vec-in-NoThread c =
     let text : no_thread_line ≡ c.in_ok-to_vec-in-NoThread.field-0.items = search rules in
     rw c.in-NoThread.is (refl, text)
+
+pub returns-in_ok-text-in-Stopped : goal.returns-in_ok-text-in-Stopped
+returns-in_ok-text-in-Stopped c =
+    let text : stopped_text c.args.is_drawn c.args.steps.now c.in-Stopped.not_before ≡ c.in_ok-text-in-Stopped.text.items = search rules in
+    rw c.in-Stopped.is (refl, text)

@@ -1,4 +1,4 @@
-use Rattle.std.proofs.Common.{◌⊎◌, inl, inr, ℕ, List, length, Ok, Err, subst}
+use Rattle.std.proofs.Common.{inl, inr, ℕ, length, Ok, Err, subst}
 use Rattle.std.proofs.lemmas.Result.{IfOk-weaker}
 use Rattle.racp_prices.specs.Orders.{IsOrder, IsOrderOrMemory}
 use Rattle.racp_cli.specs.Responses.{IsNetworkRefused, IsOrderRefused, IsRefusedText}
