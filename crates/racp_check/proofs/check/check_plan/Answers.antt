@@ -3,7 +3,7 @@ use Rattle.racp_model.specs.Project.{number}
 use Rattle.racp_model.specs.Schedule.{EndsBy, KeepsPrecedence, IsWithinCapacities}
 use Rattle.racp_model.specs.Path.{IsFirstLate}
 use Rattle.racp_model.specs.Terms.{release_of, due_of, cost, IsWithinCeilings}
-use Rattle.racp_check.specs.PlanFaults.{HasRightCost, IsFirstBroken, IsFirstOver, IsFirstAboveCeiling}
+use Rattle.racp_check.specs.PlanFaults.{HasRightCost, IsFirstBroken, IsFirstOver, IsFirstAboveCeiling, IsFirstEarly}
 use Rattle.racp_check.proofs.check.check_plan.Goals as goal
 
 pub returns : goal.returns
@@ -67,3 +67,18 @@ returns-in-Some-first_above_ceiling c =
     subst (λ (s : List ℕ). IsWithinCapacities p capacities s) c.as_slice-starts.ensures (subst (λ (a : List ℕ). IsWithinCapacities p a c.as_slice-starts.result.now) c.as_slice-capacities.ensures c.in_default-first_over.ensures) in
     let above = c.in-Some-first_above_ceiling.ensures in
     (right, ends, keeps, within, (above.0, above.1, subst (λ (a : List ℕ). IsFirstAboveCeiling p terms a above.0) c.as_slice-capacities.ensures above.2))
+
+pub returns-in-Some-first_early : goal.returns-in-Some-first_early
+returns-in-Some-first_early c =
+    let p = c.args.net.now in
+    let terms = c.args.order.now in
+    let capacities : List ℕ = c.args.plan.now.capacities in
+    let starts : List ℕ = c.args.plan.now.starts in
+    let right : HasRightCost terms c.args.plan.now = c.if-plan-cost_of.false ∙ (c.cost_of.ensures ∙ ap (λ (a : List ℕ). cost terms a) c.as_slice-capacities.ensures) in
+    let ends : EndsBy p (due_of terms) starts = subst (λ (s : List ℕ). EndsBy p (due_of terms) s) c.as_slice-starts.ensures c.in_default.ensures in
+    let keeps : KeepsPrecedence p starts = subst (λ (s : List ℕ). KeepsPrecedence p s) c.as_slice-starts.ensures c.in_default-first_broken.ensures in
+    let within : IsWithinCapacities p capacities starts =
+    subst (λ (s : List ℕ). IsWithinCapacities p capacities s) c.as_slice-starts.ensures (subst (λ (a : List ℕ). IsWithinCapacities p a c.as_slice-starts.result.now) c.as_slice-capacities.ensures c.in_default-first_over.ensures) in
+    let below : IsWithinCeilings terms capacities = subst (λ (a : List ℕ). IsWithinCeilings terms a) c.as_slice-capacities.ensures c.in_default-first_above_ceiling.ensures in
+    let early = c.in-Some-first_early.ensures in
+    (right, ends, keeps, within, below, (early.0, early.1, subst (λ (s : List ℕ). IsFirstEarly p (release_of terms) s early.0) c.as_slice-starts.ensures early.2))
