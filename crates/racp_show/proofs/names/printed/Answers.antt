@@ -8,10 +8,10 @@ use Rattle.racp_show.proofs.names.printed.Goals as goal
 pub loop-letter-preserved-in-Continue-1 : goal.loop-letter-preserved-in-Continue-1
 loop-letter-preserved-in-Continue-1 c =
     c.in_ok-push.ensures.bytes ∙ ap (λ bytes. bytes ++ encode_utf8 c.in-Some.letter) c.loop-letter.invariant
-    ∙ sym (with_letter c.loop-letter.yielded c.in-Some.letter cc)
+    ∙ sym (with_letter c.loop-letter.yielded c.in-Some.letter (sym c.is_control.ensures ∙ c.if-not-is_control.true))
 
 pub loop-letter-preserved : goal.loop-letter-preserved
-loop-letter-preserved c = c.loop-letter.invariant ∙ sym (without_letter c.loop-letter.yielded c.in-Some.letter cc)
+loop-letter-preserved c = c.loop-letter.invariant ∙ sym (without_letter c.loop-letter.yielded c.in-Some.letter (sym c.is_control.ensures ∙ c.if-not-is_control.false))
 
 pub returns : goal.returns
 returns c =
