@@ -1,4 +1,0 @@
-use Rattle.racp_test_desk.proofs.probes.holds_of_six.Given as goal
-
-abbrev pub ghosts-holds : goal.ghosts-holds
-ghosts-holds g a = record { network = a.net.now }

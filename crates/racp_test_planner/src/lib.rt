@@ -1,0 +1,19 @@
+//! Tests of series of questions, of the search, of records of refuted nodes, of the collector, of workers and of plans.
+#![tactic(auto)]
+
+#[cfg(test)]
+mod collector;
+#[cfg(test)]
+mod desk;
+#[cfg(test)]
+mod plans;
+#[cfg(test)]
+mod records;
+#[cfg(test)]
+mod searches;
+#[cfg(test)]
+mod series;
+#[cfg(test)]
+mod stages;
+#[cfg(test)]
+mod tired;
