@@ -44,6 +44,7 @@ pub(crate) fn search<N: OfNetwork, S: Stop>(
     let (question, mut stack, next) = OpenSearch::new(alloc, subject, 0)?.into_parts();
     let halt = stack.go_on(subject, next, quantum, nodes, local, first, stop);
     let ended = stack.finish(alloc, subject, halt);
+    // Dropped here once, not at each way out.
     drop((question, stack));
     ended
 }
@@ -82,6 +83,7 @@ pub(crate) fn search_further<N: OfNetwork, S: Stop>(
         Ok(Halt::Nothing) => Ok(Progress::Decided(Ended::nothing(alloc))),
         Err(error) => Err(error),
     };
+    // Dropped here once, not at each way out.
     drop((question, stack));
     ended
 }
@@ -186,6 +188,7 @@ impl<N: OfNetwork> OpenSearch<N> {
         if self.is_of(subject.question()) {
             return Ok(self);
         }
+        // Dropped by a call, which is proved once.
         drop(self);
         OpenSearch::new(alloc, subject, order)
     }
@@ -347,10 +350,12 @@ impl<N: OfNetwork> Stack<N> {
                 Ok(None)
             }
             Ok(Glance::Found(starts)) => {
+                // Dropped by a call, which is proved once.
                 drop(window);
                 Ok(Some(starts))
             }
             Err(error) => {
+                // Dropped by a call, which is proved once.
                 drop(window);
                 Err(error)
             }
@@ -380,6 +385,7 @@ impl<N: OfNetwork> Stack<N> {
             let child = match frame.next_child(&mut self.workspace, subject) {
                 Ok(child) => child,
                 Err(error) => {
+                    // Dropped by a call, which is proved once.
                     drop(frame);
                     return Err(error);
                 }
