@@ -2,7 +2,6 @@ ghost use Rattle.std.specs.Prelude.{◌≡◌};
 ghost use Rattle.racp_prices.specs.Faults.{fault_name};
 
 use std::alloc::{AllocError, AllocFailed};
-use std::fmt;
 use thiserror::Error;
 
 /// Why a text is no order: the first rule that it breaks, in the order in which the rules are tested. The number that is
@@ -10,20 +9,28 @@ use thiserror::Error;
 #[derive(Debug, Clone, Copy, PartialEq, Eq, Drop, Error)]
 pub enum OrderFault {
     /// The text is not UTF-8, or not TOML.
+    #[error("the text is not TOML")]
     NotToml = 1,
     /// `deadline` or `prices` is missing.
+    #[error("the deadline or the prices are missing")]
     Missing = 2,
     /// There is a key that orders of this version do not have.
+    #[error("there is an unknown key")]
     Unknown = 3,
     /// Something else stands where a whole number, or an array of whole numbers, has to.
+    #[error("something is not a whole number, or not an array of them")]
     NotWhole = 4,
     /// A number is below 0 or above its limit.
+    #[error("a number is out of range")]
     Range = 5,
     /// An array has another number of elements than there are resources, or jobs.
+    #[error("an array has the wrong number of elements")]
     Count = 6,
     /// Memory ran out.
+    #[error("out of memory")]
     Memory = 7,
     /// The version is not 2.
+    #[error("the version is unknown")]
     Version = 8,
 }
 
@@ -42,26 +49,6 @@ impl OrderFault {
             OrderFault::Memory => "Memory",
             OrderFault::Version => "Version",
         }
-    }
-
-    /// What is wrong, in words.
-    fn text(self) -> &'static str {
-        match self {
-            OrderFault::NotToml => "the text is not TOML",
-            OrderFault::Missing => "the deadline or the prices are missing",
-            OrderFault::Unknown => "there is an unknown key",
-            OrderFault::NotWhole => "something is not a whole number, or not an array of them",
-            OrderFault::Range => "a number is out of range",
-            OrderFault::Count => "an array has the wrong number of elements",
-            OrderFault::Memory => "out of memory",
-            OrderFault::Version => "the version is unknown",
-        }
-    }
-}
-
-impl fmt::Display for OrderFault {
-    fn fmt<W: fmt::Write>(&self, f: &mut fmt::Formatter<W>) -> fmt::Result {
-        f.write_str(self.text())
     }
 }
 
