@@ -209,6 +209,7 @@ fn plan_by<
         observer: &listener,
     };
     let made = crowd_over_by(rt, rt.alloc(), workers, net, order, &mut io::writer(rt));
+    // Dropped here once, not at each way out.
     drop(limit);
     let (status, effort) = made?;
     if crew.stats {

@@ -5,9 +5,8 @@ use Rattle.std.proofs.Math.Nat.{mul-le-mul_right}
 use Rattle.std.proofs.lemmas.Bool.{cases_lt}
 use Rattle.std.proofs.lemmas.Grind.{div_ceil_times}
 use Rattle.racp_model.specs.Project.{Project, IsSound, duration, request}
-use Rattle.racp_model.specs.Schedule.{roof}
+use Rattle.racp_model.specs.Schedule.{roof, energy}
 use Rattle.racp_model.proofs.lemmas.Sums.{sum_below-mono, sum_below-bound, sum_below-times, request-small}
-use Rattle.racp_bounds.specs.Floors.{energy}
 
 -- a quotient that is rounded up is the least number of times that is enough
 pub div_ceil-le : (a b units : ℕ) → 0 < b → a ≤ units * b → div_ceil a b ≤ units

@@ -1,5 +1,4 @@
 pub mod lemmas
-mod Sums
 mod Cores
 mod Energy
 mod Used

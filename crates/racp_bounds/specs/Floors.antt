@@ -1,15 +1,11 @@
 -- Floors and roofs: how many units of each resource there have to be at the least, and how many are ever of use.
-use Rattle.std.specs.Prelude.{◌≡◌, ℕ, ◌*◌, ◌<◌, ◌≤◌, List, length, slice_index}
+use Rattle.std.specs.Prelude.{◌≡◌, ℕ, ◌<◌, ◌≤◌, List, length, slice_index}
 use Rattle.std.specs.Int.{div_ceil}
 use Rattle.racp_model.specs.Project.{Project, duration, request}
-use Rattle.racp_model.specs.Schedule.{sum_below, roof}
+use Rattle.racp_model.specs.Schedule.{energy, roof}
 use Rattle.racp_model.specs.Plan.{IsLeast}
 use Rattle.racp_model.specs.Window.{Bounds}
 use Rattle.racp_model.specs.Core.{core_usage}
-
--- the energy of resource k: the sum, over all jobs, of duration times request
-abbrev pub energy : Project → ℕ → ℕ
-energy p k = sum_below (length p.jobs) (λ i. duration p i * request p i k)
 
 -- so many units of resource k are at or above the requests of the jobs that run for some time
 abbrev pub IsAtRequests : Project → ℕ → ℕ → Type 0

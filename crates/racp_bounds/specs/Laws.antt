@@ -1,14 +1,14 @@
 -- Laws of floors and roofs. Each is the contract of a public function.
 use Rattle.std.specs.Prelude.{◌≡◌, ℕ, ◌<◌, ◌≤◌, min, List, length, slice_index}
 use Rattle.racp_model.specs.Project.{Project}
-use Rattle.racp_model.specs.Schedule.{IsActive, EndsBy, Admits, sum_below, usage}
+use Rattle.racp_model.specs.Schedule.{IsActive, EndsBy, Admits, sum_below, usage, energy}
 use Rattle.racp_model.specs.Terms.{Terms, AreTermsOf, release_of, due_of, IsBefore}
 use Rattle.racp_model.specs.Plan.{IsLeast, IsEnough}
 use Rattle.racp_model.specs.Window.{Bounds, LiesIn, IsRootWindow}
 use Rattle.racp_prices.specs.Units.{AreMostUnits}
 use Rattle.racp_candidates.specs.Box.{IsInBox}
 use Rattle.racp_model.specs.Core.{IsCoreTime}
-use Rattle.racp_bounds.specs.Floors.{energy, AreFloors, AreRoofs}
+use Rattle.racp_bounds.specs.Floors.{AreFloors, AreRoofs}
 use Rattle.racp_bounds.specs.Sharp.{AreSharpened, AreRefutedPairs, AreSharpenedBefore}
 
 -- over all times before the deadline, starts that end by it use the energy

@@ -1,11 +1,10 @@
 ghost use Rattle.std.specs.Prelude.{◌≡◌, ◌<◌, ◌≤◌, IfOk, length};
-ghost use Rattle.racp_model.specs.Project.{IsSound};
 ghost use Rattle.racp_model.specs.Schedule.{EndsBy};
 ghost use Rattle.racp_model.specs.Plan.{IsLeast};
 ghost use Rattle.racp_model.specs.Core.{core_use, core_usage};
-ghost use Rattle.racp_bounds.specs.Floors.{energy, IsAtRequests, IsAtEnergy, IsAtCore, IsFloor, AreFloors};
+ghost use Rattle.racp_bounds.specs.Floors.{IsAtRequests, IsAtEnergy, IsAtCore, IsFloor, AreFloors};
 
-use racp_model::{Capacities, Network, Window};
+use racp_model::{Capacities, Network, Window, energy_of};
 use std::alloc::{AllocError, Global};
 use std::cmp::max;
 
@@ -77,20 +76,6 @@ fn energy_over(net: &Network, root: &Window, deadline: u32, k: usize) -> u32
         return 0;
     }
     energy_of(net, k).div_ceil(deadline as u64) as u32
-}
-
-/// The energy of a resource.
-#[tactic(auto, using(crate::proofs::Sums::energies))]
-fn energy_of(net: &Network, k: usize) -> u64
-    requires { k < net.now.resources }
-    ensures energy { result ≡ energy net.now k }
-    ensures sound { IsSound net.now }
-{
-    let mut sum = 0;
-    for i in 0..net.job_count() {
-        sum += net.duration(i) as u64 * net.request(i, k) as u64;
-    }
-    sum
 }
 
 /// The greatest core usage. A core usage is greatest where the core time of some job begins, at its late start, so only

@@ -1,5 +1,5 @@
 -- What is known after a question.
-use Rattle.std.proofs.Common.{◌≡◌, ℕ, ◌<◌, ◌≤◌, List, [], ◌∷◌, ◌++◌, length, slice_index, Contains, Option, inl, inr, arith, ap, sym, subst, ◌∙◌}
+use Rattle.std.proofs.Common.{◌≡◌, ℕ, ◌<◌, ◌≤◌, List, [], length, slice_index, Contains, Option, inl, inr, arith, ap, sym, subst, ◌∙◌}
 use Rattle.racp_model.specs.Project.{Project}
 use Rattle.racp_model.specs.Schedule.{ArePeaks}
 use Rattle.racp_model.specs.Terms.{cost, IsBefore}

@@ -172,7 +172,7 @@ fn cut_and_ask<A: Asker<AnySeries>>(
     };
     let lane = widest(order, &span.low, &high);
     let most = most_nodes(lane);
-    let told = ask_about(alloc, subject, known, pending, &high, most, asker)?;
+    let told = ask_about(alloc, subject, known, &high, most, pending, asker)?;
     if told.is_refuted() {
         return Ok(None);
     }
@@ -188,16 +188,16 @@ fn ask_about<A: Asker<AnySeries>>(
     alloc: Global,
     subject: &Subject,
     known: &mut Known,
-    pending: &Vec<Span>,
     units: &Capacities,
     most: Option<u64>,
+    pending: &Vec<Span>,
     asker: &mut A,
 ) -> Result<Told, AskStop>
     requires named { A.about asker.old subject.now.net.now }
     requires subject { IsSubject subject.now }
+    requires known { IsKnown subject.now known.old }
     requires units { length units.now ≡ subject.now.net.now.resources }
     requires within { IsAtMost subject.now.net.now units.now subject.now.roofs.now }
-    requires known { IsKnown subject.now known.old }
     requires pending { AreSpans subject.now pending.now.items }
     ensures network { A.about asker.new subject.now.net.now }
     ensures better { IfOk result (λ _. IsBetterKnown subject.now known.old known.new) }
@@ -274,15 +274,17 @@ fn first_question(
             &part.high,
         )?
         else {
-            // Dropped here, in one call, as at the two ways out below.
+            // Dropped here once, not at each way out.
             drop(part);
             return Ok(None);
         };
         if !known.is_enough(&high) {
+            // Dropped here once, not at each way out.
             drop(part);
             return question_unless_refuted(subject, known, high);
         }
         let Some(k) = widest(subject.order, &part.low, &high) else {
+            // Dropped here once, not at each way out.
             drop(part);
             return Ok(None);
         };

@@ -1,5 +1,5 @@
 -- What a certificate of a plan shows.
-use Rattle.std.specs.Prelude.{ℕ, ◌≤◌, List, length}
+use Rattle.std.specs.Prelude.{ℕ, ◌≤◌, List}
 use Rattle.racp_model.specs.Project.{Project}
 use Rattle.racp_model.specs.Path.{IsCriticalLength}
 use Rattle.racp_model.specs.Terms.{Terms, IsBefore, release_of}

@@ -87,7 +87,7 @@ pub(crate) fn read_checked(
     match check_read(alloc, &found.net, &found.order, &found.plan) {
         Ok(()) => Ok(found),
         Err(fault) => {
-            // Dropped by a call, which is proved once.
+            // Dropped here once, not at each way out.
             drop(found);
             Err(fault)
         }

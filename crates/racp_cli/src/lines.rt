@@ -1,13 +1,13 @@
 //! The texts that are written, line by line.
 
-ghost use Rattle.std.specs.Prelude.{◌≡◌, ◌++◌, IfOk, OnOk, codes};
+ghost use Rattle.std.specs.Prelude.{◌≡◌, ◌++◌, IfOk, codes};
 ghost use Rattle.std.specs.Fmt.{decimal};
 ghost use Rattle.racp_plan.specs.Texts.{line};
 ghost use Rattle.racp_cli.specs.Texts.{early_text, order_refusal_line, plan_fault_line, plan_refusal_line, refusal_line, stopped_line};
 
 use racp_check::PlanFault;
 use racp_plan::TextFault;
-use racp_plan::lines::push_starts;
+use racp_plan::lines::{push_number, push_starts};
 use racp_prices::OrderFault;
 use racp_sm::SmFault;
 use std::alloc::{AllocError, Global};
@@ -52,13 +52,6 @@ pub(crate) fn stopped_line(alloc: Global, capacities: &[u32]) -> Result<Vec<u8>,
     }
     text.push(b'\n')?;
     Ok(text)
-}
-
-/// Adds a number behind a blank.
-fn push_number(alloc: Global, text: &mut Vec<u8>, number: u32) -> Result<(), AllocError>
-    ensures { OnOk result (text.new.items ≡ text.old.items ++ (codes " " ++ decimal number)) }
-{
-    text.extend_from_slice(format!(in alloc; " {number}")?.as_bytes())
 }
 
 /// The line that says why a plan text is refused.

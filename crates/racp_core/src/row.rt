@@ -154,6 +154,7 @@ impl Row {
         ensures err { IfErr result (λ e. (self.new ≡ self.old) × (e.0 ≡ finding) × (0 < listed finding.rest)) }
     {
         if !opens {
+            // Dropped here once, not at each way out.
             drop(finding.into_found());
             self.close(at);
             return Ok(());

@@ -3,8 +3,7 @@ use Rattle.std.proofs.Common.{◌≡◌, ℕ, ◌≤◌, List, length, arith}
 use Rattle.racp_model.specs.Project.{Project}
 use Rattle.racp_model.specs.Schedule.{EndsBy}
 use Rattle.racp_model.specs.Terms.{Terms, AreTermsOf, IsBefore, IsWithinCeilings}
-use Rattle.racp_model.specs.Plan.{IsEnough, FitsTerms}
-use Rattle.racp_lexfix.specs.Answers.{NoneIsEnough}
+use Rattle.racp_model.specs.Plan.{IsEnough, FitsTerms, NoneIsEnough}
 use Rattle.racp_curve.specs.Curves.{order_by, ArePlanned}
 
 -- what is enough for a deadline is enough for each later one

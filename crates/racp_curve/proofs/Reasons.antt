@@ -6,12 +6,12 @@ use Rattle.racp_model.specs.Project.{Project, IsSound, duration}
 use Rattle.racp_model.specs.Schedule.{KeepsPrecedence, EndsBy, IsInTime}
 use Rattle.racp_model.specs.Path.{IsChain, span}
 use Rattle.racp_model.specs.Terms.{Terms, release_of, due_of}
-use Rattle.racp_model.specs.Plan.{IsTooLong, IsTooLateAt}
+use Rattle.racp_model.specs.Plan.{IsTooLong, IsTooLateAt, NoneIsEnough}
 use Rattle.racp_model.proofs.lemmas.Arcs.{precedes_in}
 use Rattle.racp_check.specs.Openings.{IsOpening}
 use Rattle.racp_check.specs.declared.opening.Opening.{Opening}
 use Rattle.racp_check.specs.declared.opening.Opening.TheVariants.{TooLong}
-use Rattle.racp_lexfix.specs.Answers.{IsAnswer, NoneIsEnough}
+use Rattle.racp_lexfix.specs.Answers.{IsAnswer}
 use Rattle.racp_lexfix.specs.declared.answer.Answer.{Answer}
 use Rattle.racp_lexfix.specs.declared.answer.Answer.TheVariants.{Plan as ThePlan, Impossible, Due, Ceiling}
 use Rattle.racp_curve.specs.Following.{plan_in, IsPlanOrNone, IsRootOrNone}

@@ -4,9 +4,10 @@ use Rattle.std.specs.Prelude.{⊤}
 use Rattle.std.specs.List.{Contains}
 use Rattle.std.proofs.lemmas.Bool.{cases_lt}
 use Rattle.racp_model.specs.Project.{Project}
+use Rattle.racp_model.specs.Plan.{NoneIsEnough}
 use Rattle.racp_model.specs.Terms.{Terms}
 use Rattle.racp_model.proofs.lemmas.Relations.{member_first, member_later}
-use Rattle.racp_lexfix.specs.Answers.{IsStoppedAt, IsPlanStop, NoneIsEnough}
+use Rattle.racp_lexfix.specs.Answers.{IsStoppedAt, IsPlanStop}
 use Rattle.racp_lexfix.specs.declared.answer.PlanStop.{PlanStop}
 use Rattle.racp_lexfix.specs.declared.answer.PlanStop.TheVariants.{Stopped, Memory, NoThread}
 use Rattle.racp_curve.specs.declared.step.Step.{Step}

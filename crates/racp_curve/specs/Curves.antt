@@ -2,8 +2,8 @@
 use Rattle.std.specs.Prelude.{◌≡◌, ◌≢◌, ℕ, ◌+◌, ◌<◌, ◌≤◌, List, [], ◌∷◌, ⊤}
 use Rattle.racp_model.specs.Project.{Project}
 use Rattle.racp_model.specs.Terms.{Terms, cost, IsBefore}
-use Rattle.racp_model.specs.Plan.{IsLeast, IsEnough}
-use Rattle.racp_lexfix.specs.Answers.{IsAnswer, IsPlanStop, NoneIsEnough}
+use Rattle.racp_model.specs.Plan.{IsLeast, IsEnough, NoneIsEnough}
+use Rattle.racp_lexfix.specs.Answers.{IsAnswer, IsPlanStop}
 use Rattle.racp_lexfix.specs.Laws.{IsNoPlan}
 use Rattle.racp_lexfix.specs.Stages.{AreFloorsOfEnough, IsLeastOfEnough}
 use Rattle.racp_lexfix.specs.declared.answer.PlanStop.{PlanStop}

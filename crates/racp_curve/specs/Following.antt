@@ -2,11 +2,10 @@
 use Rattle.std.specs.Prelude.{◌≡◌, ℕ, ◌+◌, ◌<◌, ◌≤◌, List, Option, Some, None}
 use Rattle.racp_model.specs.Project.{Project}
 use Rattle.racp_model.specs.Terms.{Terms, release_of, due_of}
-use Rattle.racp_model.specs.Plan.{IsEnough}
+use Rattle.racp_model.specs.Plan.{IsEnough, NoneIsEnough}
 use Rattle.racp_model.specs.Window.{Bounds, IsRootWindow}
 use Rattle.racp_plan.specs.declared.plan.Plan.{Plan}
 use Rattle.racp_plan.specs.Plans.{IsPlanOf}
-use Rattle.racp_lexfix.specs.Answers.{NoneIsEnough}
 use Rattle.racp_lexfix.specs.declared.answer.Answer.{Answer}
 use Rattle.racp_lexfix.specs.declared.answer.Answer.TheVariants.{Plan as ThePlan, Impossible, Due, Ceiling}
 use Rattle.racp_curve.specs.Curves.{order_by, first_deadline, AreOthersThanFirst, AreSteps, IsCurve, MayHearCost, MayHearFloors}

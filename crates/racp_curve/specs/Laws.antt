@@ -2,8 +2,7 @@
 use Rattle.std.specs.Prelude.{◌≡◌, ◌⊎◌, ℕ, ◌≤◌, List, Contains}
 use Rattle.racp_model.specs.Project.{Project}
 use Rattle.racp_model.specs.Terms.{Terms, IsBefore}
-use Rattle.racp_model.specs.Plan.{IsEnough}
-use Rattle.racp_lexfix.specs.Answers.{NoneIsEnough}
+use Rattle.racp_model.specs.Plan.{IsEnough, NoneIsEnough}
 use Rattle.racp_curve.specs.Curves.{order_by, ArePlanned, IsCurve}
 use Rattle.racp_curve.specs.declared.step.Step.{Step}
 

@@ -11,7 +11,8 @@ use crate::following::{curve, out_of_memory};
 use crate::ground::Ground;
 use crate::step::{CurveAnswer, CurveStop};
 use racp_candidates::AnySeries;
-use racp_desk::{Boards, Closed, DeskFault, Gate};
+use racp_cutset::MemoryLimit;
+use racp_desk::{Boards, Closed, DeskFault, Gate, RunLimits};
 use racp_lexfix::{Crew, Crowd, Unheard};
 use racp_model::{Network, OfNetwork};
 use racp_prices::Order;
@@ -65,7 +66,11 @@ fn curve_by<N: OfNetwork + Send + Sync, G: Gate + Sync, P: Stop + Sync, R: Threa
         stop,
         observer: _,
     } = crew;
-    let boards: Boards<N> = match Boards::within(alloc, net, memory, workers) {
+    let limit = MemoryLimit {
+        mebibytes: memory,
+        workers,
+    };
+    let boards: Boards<N> = match Boards::within(alloc, net, limit) {
         Ok(boards) => boards,
         Err(_) => return Err(out_of_memory(alloc)),
     };
@@ -73,11 +78,10 @@ fn curve_by<N: OfNetwork + Send + Sync, G: Gate + Sync, P: Stop + Sync, R: Threa
         workers,
         turns,
         Unheard,
-        |series: AnySeries, workers: usize, quantum: u64, turns: u64| -> Result<Closed, DeskFault>
-            requires { (net.now ≡ N.network) × AreFormed net.now (any_questions series) ×
-                (workers ≤ 64) × (quantum ≤ 1000000) × (turns ≤ 1000000000000) }
-            ensures { IfOk result (IsRunClosed net.entry.now (any_questions series) turns P.QUIET) }
-        { boards.run(rt, alloc, net, series, workers, quantum, turns, gate, stop) },
+        |series: AnySeries, limits: RunLimits| -> Result<Closed, DeskFault>
+            requires { (net.now ≡ N.network) × AreFormed net.now (any_questions series) }
+            ensures { IfOk result (IsRunClosed net.entry.now (any_questions series) limits.turns P.QUIET) }
+        { boards.run(rt, alloc, net, series, limits, gate, stop) },
     );
     curve(alloc, net, order, &mut crowd)
 }

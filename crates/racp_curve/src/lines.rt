@@ -5,6 +5,7 @@ ghost use Rattle.std.specs.Fmt.{decimal};
 ghost use Rattle.racp_curve.specs.Texts.{curve_text, spaced, step_line, step_lines};
 
 use crate::step::Step;
+use racp_plan::lines::push_number;
 use std::alloc::{AllocError, Global};
 
 /// The text of a curve, in ASCII: the lines of its steps, and the line `end`.
@@ -63,11 +64,4 @@ fn push_numbers(alloc: Global, text: &mut Vec<u8>, numbers: &[u32]) -> Result<()
         push_number(alloc, text, *number)?;
     }
     Ok(())
-}
-
-/// Adds a number behind a blank.
-fn push_number(alloc: Global, text: &mut Vec<u8>, number: u32) -> Result<(), AllocError>
-    ensures { OnOk result (text.new.items ≡ text.old.items ++ (codes " " ++ decimal number)) }
-{
-    text.extend_from_slice(format!(in alloc; " {number}")?.as_bytes())
 }

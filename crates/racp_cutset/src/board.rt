@@ -3,7 +3,7 @@ ghost use Rattle.racp_cutset.specs.Kept.{AreShares, most_records};
 
 use crate::local::Local;
 use crate::nogood::Nogood;
-use crate::shares::{DEFAULT_MEMORY, Shares, most_records, shares_of};
+use crate::shares::{DEFAULT_MEMORY, MemoryLimit, Shares, most_records, shares_of};
 use racp_model::{Network, OfNetwork};
 use std::alloc::{AllocError, Global};
 use std::sync::{Mutex, Wait};
@@ -42,24 +42,17 @@ impl<N: OfNetwork> Board<N> {
         )
     }
 
-    /// A board without records, for 1 to 64 workers. What it takes and what all own parts keep take at most about so
-    /// many mebibytes, up to 1,048,576, with the places of the records in the index of each worker.
+    /// A board without records. What it takes and what all own parts keep take at most about as much memory as the limit
+    /// says, with the places of the records in the index of each worker.
     ///
     /// # Errors
     ///
     /// Memory was refused.
-    pub fn within(
-        alloc: Global,
-        net: &Network,
-        mebibytes: usize,
-        workers: usize,
-    ) -> Result<Self, AllocError>
-        requires named { net.now ≡ N.network }
-        requires memory { mebibytes ≤ 1048576 }
-        requires workers { workers ≤ 64 }
-        ensures { IfOk result (λ board. AreShares net.now mebibytes workers board.limit board.own) }
+    pub fn within(alloc: Global, net: &Network, limit: MemoryLimit) -> Result<Self, AllocError>
+        requires { net.now ≡ N.network }
+        ensures { IfOk result (λ board. AreShares net.now limit.mebibytes limit.workers board.limit board.own) }
     {
-        Board::of_shares(alloc, shares_of(net, mebibytes, workers))
+        Board::of_shares(alloc, shares_of(net, limit))
     }
 
     /// A board without records, which takes so many.

@@ -73,4 +73,4 @@ pub use local::Local;
 pub use node::Node;
 pub use nogood::Nogood;
 pub use rows::started_before;
-pub use shares::{DEFAULT_MEMORY, most_records};
+pub use shares::{DEFAULT_MEMORY, MemoryLimit, most_records};

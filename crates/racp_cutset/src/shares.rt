@@ -27,6 +27,17 @@ pub fn most_records(net: &Network, mebibytes: usize) -> usize
     mebibytes * NUMBERS / record_numbers(net)
 }
 
+/// How much memory the records of a run take at most, about, and how many workers share it.
+#[derive(Clone, Copy)]
+pub struct MemoryLimit {
+    /// How many mebibytes, up to 1,048,576.
+    pub mebibytes: usize,
+    /// How many workers, 1 to 64.
+    pub workers: usize,
+    pub ghost mebibytes_few: { mebibytes ≤ 1048576 },
+    pub ghost workers_few: { workers ≤ 64 },
+}
+
 /// The most records that a board takes, and that each own part keeps.
 #[derive(Clone, Copy)]
 pub(crate) struct Shares {
@@ -34,13 +45,12 @@ pub(crate) struct Shares {
     pub(crate) own: usize,
 }
 
-/// The parts of so many mebibytes, up to 1,048,576, for the records of 1 to 64 workers. Of several workers the board has one
-/// half and the own parts the other; one worker shares nothing.
-pub(crate) fn shares_of(net: &Network, mebibytes: usize, workers: usize) -> Shares
-    requires memory { mebibytes ≤ 1048576 }
-    requires workers { workers ≤ 64 }
-    ensures { AreShares net.now mebibytes workers result.shared result.own }
+/// The parts of the memory for records. Of several workers the board has one half and the own parts the other; one worker
+/// shares nothing.
+pub(crate) fn shares_of(net: &Network, limit: MemoryLimit) -> Shares
+    ensures { AreShares net.now limit.mebibytes limit.workers result.shared result.own }
 {
+    let MemoryLimit { mebibytes, workers } = limit;
     if workers < 2 {
         return Shares {
             shared: 0,

@@ -1,15 +1,16 @@
 //! Runs one behind the other, whose workers share their records.
 
-ghost use Rattle.std.specs.Prelude.{◌≡◌, ◌≤◌, IfOk, IsTrue};
+ghost use Rattle.std.specs.Prelude.{◌≡◌, IfOk, IsTrue};
 ghost use Rattle.std.specs.Sync.Mutex.{mutex_guard_value};
 ghost use Rattle.racp_cutset.specs.Kept.{AreShares};
 ghost use Rattle.racp_model.specs.Formed.{AreFormed};
 ghost use Rattle.racp_desk.specs.Closing.{IsRunClosed};
 
 use crate::gate::Gate;
+use crate::limits::RunLimits;
 use crate::running::{DeskFault, run};
 use crate::state::Closed;
-use racp_cutset::Board;
+use racp_cutset::{Board, MemoryLimit};
 use racp_model::{Network, OfNetwork};
 use racp_questions::Series;
 use racp_search::Stop;
@@ -21,44 +22,32 @@ use std::thread::Threads;
 #[derive(Drop)]
 struct Lent<N: OfNetwork> {
     board: Board<N>,
-    mebibytes: usize,
-    workers: usize,
-    ghost within: { AreShares N.network mebibytes workers board.limit board.own },
+    limit: MemoryLimit,
+    ghost within: { AreShares N.network limit.mebibytes limit.workers board.limit board.own },
 }
 
 impl<N: OfNetwork> Lent<N> {
-    /// A board without records, for so many workers and mebibytes.
+    /// A board without records, for so many workers and so much memory.
     ///
     /// # Errors
     ///
     /// Memory was refused.
-    fn new(
-        alloc: Global,
-        net: &Network,
-        mebibytes: usize,
-        workers: usize,
-    ) -> Result<Self, AllocError>
-        requires named { net.now ≡ N.network }
-        requires memory { mebibytes ≤ 1048576 }
-        requires workers { workers ≤ 64 }
-        ensures { IfOk result (λ lent. (lent.mebibytes ≡ mebibytes) × (lent.workers ≡ workers)) }
+    fn new(alloc: Global, net: &Network, limit: MemoryLimit) -> Result<Self, AllocError>
+        requires { net.now ≡ N.network }
+        ensures { IfOk result (λ lent. lent.limit ≡ limit) }
     {
-        let board = Board::within(alloc, net, mebibytes, workers)?;
-        Ok(Lent {
-            board,
-            mebibytes,
-            workers,
-        })
+        let board = Board::within(alloc, net, limit)?;
+        Ok(Lent { board, limit })
     }
 
-    /// Whether it is for so many workers and mebibytes, and has room. One worker shares nothing: its board is always full, and
-    /// holds its own part of the records.
-    fn serves(&self, mebibytes: usize, workers: usize) -> bool
-        ensures { IsTrue result → (self.now.mebibytes ≡ mebibytes) × (self.now.workers ≡ workers) }
+    /// Whether it is for so many workers and so much memory, and has room. One worker shares nothing: its board is always full,
+    /// and holds its own part of the records.
+    fn serves(&self, limit: MemoryLimit) -> bool
+        ensures { IsTrue result → (self.now.limit.mebibytes ≡ limit.mebibytes) × (self.now.limit.workers ≡ limit.workers) }
     {
-        self.mebibytes == mebibytes
-            && self.workers == workers
-            && (workers < 2 || !self.board.is_full())
+        self.limit.mebibytes == limit.mebibytes
+            && self.limit.workers == limit.workers
+            && (limit.workers < 2 || !self.board.is_full())
     }
 }
 
@@ -67,35 +56,24 @@ impl<N: OfNetwork> Lent<N> {
 #[derive(Drop)]
 pub struct Boards<N: OfNetwork> {
     lent: Mutex<Lent<N>>,
-    mebibytes: usize,
-    workers: usize,
-    ghost memory_most: { mebibytes ≤ 1048576 },
-    ghost workers_few: { workers ≤ 64 },
+    limit: MemoryLimit,
 }
 
 impl<N: OfNetwork> Boards<N> {
-    /// A board without records, for runs of at most so many workers, 1 to 64. What it takes and what they keep of their own
-    /// takes at most about so many mebibytes, up to 1,048,576.
+    /// A board without records, for runs of at most so many workers. What it takes and what they keep of their own takes at
+    /// most about so much memory.
     ///
     /// # Errors
     ///
     /// Memory was refused.
-    pub fn within(
-        alloc: Global,
-        net: &Network,
-        mebibytes: usize,
-        workers: usize,
-    ) -> Result<Self, AllocError>
-        requires named { net.now ≡ N.network }
-        requires memory { mebibytes ≤ 1048576 }
-        requires workers { workers ≤ 64 }
-        ensures { IfOk result (λ boards. (boards.mebibytes ≡ mebibytes) × (boards.workers ≡ workers)) }
+    pub fn within(alloc: Global, net: &Network, limit: MemoryLimit) -> Result<Self, AllocError>
+        requires { net.now ≡ N.network }
+        ensures { IfOk result (λ boards. boards.limit ≡ limit) }
     {
-        let lent = Lent::new(alloc, net, mebibytes, workers)?;
+        let lent = Lent::new(alloc, net, limit)?;
         Ok(Boards {
             lent: Mutex::new(lent),
-            mebibytes,
-            workers,
+            limit,
         })
     }
 
@@ -111,20 +89,20 @@ impl<N: OfNetwork> Boards<N> {
         net: &Network,
     ) -> Result<MutexGuard<'a, Lent<N>>, AllocError>
         requires named { net.now ≡ N.network }
-        ensures { IfOk result (λ lent. AreShares net.now self.now.mebibytes self.now.workers
+        ensures { IfOk result (λ lent. AreShares net.now self.now.limit.mebibytes self.now.limit.workers
             (mutex_guard_value lent).board.limit (mutex_guard_value lent).board.own) }
     {
         let mut lent = self.lent.lock(rt);
-        if !lent.serves(self.mebibytes, self.workers) {
-            *lent = Lent::new(alloc, net, self.mebibytes, self.workers)?;
+        if !lent.serves(self.limit) {
+            *lent = Lent::new(alloc, net, self.limit)?;
         }
         Ok(lent)
     }
 }
 
 impl<N: OfNetwork + Send + Sync> Boards<N> {
-    /// Lets so many workers answer a series of questions about the network, as `run` does, with what those of the runs before
-    /// have found. Waits for a run that has not ended.
+    /// Lets workers answer a series of questions about the network, as `run` does, as far as the limits let them, with what
+    /// those of the runs before have found. Waits for a run that has not ended.
     ///
     /// # Errors
     ///
@@ -135,18 +113,13 @@ impl<N: OfNetwork + Send + Sync> Boards<N> {
         alloc: Global,
         net: &Network,
         series: S,
-        workers: usize,
-        quantum: u64,
-        turns: u64,
+        limits: RunLimits,
         gate: &G,
         stop: &P,
     ) -> Result<Closed, DeskFault>
         requires named { net.now ≡ N.network }
         requires formed { AreFormed net.now (S.questions series) }
-        requires workers { workers ≤ 64 }
-        requires quantum { quantum ≤ 1000000 }
-        requires turns { turns ≤ 1000000000000 }
-        ensures { IfOk result (IsRunClosed net.now (S.questions series) turns P.QUIET) }
+        ensures { IfOk result (IsRunClosed net.now (S.questions series) limits.turns P.QUIET) }
     {
         let Ok(lent) = self.next(rt, alloc, net) else {
             return Err(DeskFault::Memory);
@@ -156,9 +129,9 @@ impl<N: OfNetwork + Send + Sync> Boards<N> {
             alloc,
             net,
             series,
-            workers,
-            quantum,
-            turns,
+            limits.workers,
+            limits.quantum,
+            limits.turns,
             &lent.board,
             gate,
             stop,

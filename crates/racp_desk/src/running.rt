@@ -6,6 +6,7 @@ ghost use Rattle.racp_desk.specs.Closing.{IsRunClosed, IsEnding};
 
 use crate::gate::Gate;
 use crate::leads::Leads;
+use crate::limits::RunLimits;
 use crate::log::Cause;
 use crate::state::{Closed, Names, State};
 use crate::watch::Hint;
@@ -90,11 +91,11 @@ fn start<
     shared: &'s Shared<'s, N, M, S, G, P>,
     all: Share<M>,
 ) -> Result<Started<M>, AllocError>
-    requires { all.parts ≡ shared.now.job.workers + 1 }
+    requires { all.parts ≡ shared.now.job.limits.workers + 1 }
     ensures { IfOk result (λ started.
-        started.share.parts + length started.handles.items ≡ shared.now.job.workers + 1) }
+        started.share.parts + length started.handles.items ≡ shared.now.job.limits.workers + 1) }
 {
-    let workers = shared.job.workers;
+    let workers = shared.job.limits.workers;
     let mut share = all;
     let mut handles = Vec::with_capacity(shared.job.alloc, workers)?;
     for seat in 1..workers {
@@ -146,18 +147,18 @@ fn in_scope<
     P: Stop + Sync,
     R: Threads + Wait + Sync,
 >(rt: &'a R, shared: &'a Shared<'a, N, M, S, G, P>, all: Share<M>) -> Result<Joined<M>, AllocError>
-    requires { all.parts ≡ shared.now.job.workers + 1 }
-    ensures { IfOk result (λ joined. joined.share.parts ≡ shared.now.job.workers + 1) }
+    requires { all.parts ≡ shared.now.job.limits.workers + 1 }
+    ensures { IfOk result (λ joined. joined.share.parts ≡ shared.now.job.limits.workers + 1) }
 {
     thread::scope(
         thread::scope_env(),
         rt,
         move |scope| -> Result<Joined<M>, AllocError>
-            requires { all.parts ≡ shared.now.job.workers + 1 }
-            ensures { IfOk result (λ joined. joined.share.parts ≡ shared.entry.now.job.workers + 1) }
+            requires { all.parts ≡ shared.now.job.limits.workers + 1 }
+            ensures { IfOk result (λ joined. joined.share.parts ≡ shared.entry.now.job.limits.workers + 1) }
         {
             let started = start(scope, rt, shared, all)?;
-            Ok(join_all(rt, started, shared.job.workers))
+            Ok(join_all(rt, started, shared.job.limits.workers))
         },
     )
 }
@@ -180,6 +181,7 @@ fn end<N: OfNetwork, M: Names, S: Series>(
     let mut all = share;
     state.audit(&mut all);
     if !state.is_settled() && !was_ended(state.cause()) {
+        // Dropped here once, not at each way out.
         drop(state);
         return Err(if refused {
             DeskFault::NoThread
@@ -212,11 +214,11 @@ impl<N: OfNetwork + Send + Sync, G: Gate + Sync, P: Stop + Sync> Job<'_, N, G, P
     ) -> Result<Closed, DeskFault>
         requires formed { AreFormed N.network (S.questions series) }
         requires series { S.questions series ≡ M.series }
-        requires turns { self.turns ≡ M.turns }
+        requires turns { self.limits.turns ≡ M.turns }
         requires quiet { P.QUIET ≡ M.quiet }
         requires ledger { blank.name ≡ M.name }
         requires whole { blank.parts ≡ M.parts }
-        requires parts { blank.parts ≡ self.workers + 1 }
+        requires parts { blank.parts ≡ self.limits.workers + 1 }
         ensures { IfOk result (IsRunClosed N.network M.series M.turns M.quiet) }
     {
         let (total, all) = blank.open::<M>();
@@ -273,9 +275,11 @@ pub fn run<
     let job = Job {
         alloc,
         net,
-        workers,
-        quantum,
-        turns,
+        limits: RunLimits {
+            workers,
+            quantum,
+            turns,
+        },
         board,
         gate,
         stop,

@@ -7,6 +7,7 @@ ghost use Rattle.racp_desk.specs.Turns.{IsFormedTurn, IsFormedHeld};
 
 use crate::gate::Gate;
 use crate::leads::Leads;
+use crate::limits::RunLimits;
 use crate::log::Cause;
 use crate::state::{Names, State};
 use crate::watch::{Hint, UserOrHint, Watch};
@@ -19,22 +20,16 @@ use std::alloc::Global;
 use std::sync::ledger::Share;
 use std::sync::{Condvar, Mutex, MutexGuard, Wait};
 
-/// What a run is about, beside its series: how many workers and turns there are, how many nodes a piece is searched at
-/// most, and what all workers use.
+/// What a run is about, beside its series: how far it goes, and what all workers use.
 #[derive(Drop)]
 pub(crate) struct Job<'a, N: OfNetwork, G: Gate, P: Stop> {
     pub(crate) alloc: Global,
     pub(crate) net: &'a Network,
-    pub(crate) workers: usize,
-    pub(crate) quantum: u64,
-    pub(crate) turns: u64,
+    pub(crate) limits: RunLimits,
     pub(crate) board: &'a Board<N>,
     pub(crate) gate: &'a G,
     pub(crate) stop: &'a P,
     pub(crate) ghost named: { net.now ≡ N.network },
-    pub(crate) ghost workers_few: { workers ≤ 64 },
-    pub(crate) ghost quantum_small: { quantum ≤ 1000000 },
-    pub(crate) ghost turns_few: { turns ≤ 1000000000000 },
 }
 
 /// What all workers share.
@@ -45,7 +40,7 @@ pub(crate) struct Shared<'a, N: OfNetwork, M: Names, S: Series, G: Gate, P: Stop
     pub(crate) leads: Leads<N>,
     pub(crate) desk: Mutex<State<N, M, S>>,
     pub(crate) idle: Condvar,
-    pub(crate) ghost turns_is: { job.turns ≡ M.turns },
+    pub(crate) ghost turns_is: { job.limits.turns ≡ M.turns },
     pub(crate) ghost quiet_is: { P.QUIET ≡ M.quiet },
 }
 
@@ -166,7 +161,14 @@ fn work_from<'a, 'b, N: OfNetwork, M: Names, S: Series, G: Gate, P: Stop, R: Wai
     let mut state = state;
     for _round in rt.forever() {
         let is_out = shared.leads.has_before(rt, shared.hint.least());
-        match next_turn(&mut *state, job.workers, job.turns, is_out, seat, mine) {
+        match next_turn(
+            &mut *state,
+            job.limits.workers,
+            job.limits.turns,
+            is_out,
+            seat,
+            mine,
+        ) {
             Turn::Search(piece) => {
                 tell(rt, shared, &piece);
                 return Some(Held::Own(piece));
@@ -191,7 +193,7 @@ fn tell<'a, N: OfNetwork, M: Names, S: Series, G: Gate, P: Stop, R: Wait>(
 )
     requires { IsFormed N.network piece.now.question }
 {
-    if shared.job.workers > 1 {
+    if shared.job.limits.workers > 1 {
         shared.leads.post(rt, piece);
         shared.idle.notify_all();
     }
@@ -219,7 +221,11 @@ fn search<'a, N: OfNetwork, M: Names, S: Series, G: Gate, P: Stop, R: Wait>(
     requires { IsFormed N.network piece.question }
 {
     let job = &shared.job;
-    let quantum = job.quantum;
+    let RunLimits {
+        workers,
+        quantum,
+        ..
+    } = job.limits;
     let watch = Watch {
         reasons: UserOrHint::new(job.stop, &shared.hint, piece.index()),
     };
@@ -227,11 +233,11 @@ fn search<'a, N: OfNetwork, M: Names, S: Series, G: Gate, P: Stop, R: Wait>(
     let mut nodes = 0;
     let mut piece = piece;
     for _round in rt.forever() {
-        let most = slice_of(job.workers, quantum - nodes);
+        let most = slice_of(workers, quantum - nodes);
         let finding = pursue(
             job.alloc, job.net, piece, nodes, most, job.board, local, course, &watch,
         );
-        if job.workers > 1 {
+        if workers > 1 {
             publish(rt, job.board, local);
         }
         nodes = finding.nodes();
@@ -463,6 +469,7 @@ fn go_on<'a, N: OfNetwork, M: Names, S: Series, G: Gate, P: Stop, R: Wait>(
     for _round in rt.forever() {
         match turn_over(rt, shared, seat, work, &mut course, local, mine) {
             Some(next) => work = next,
+            // Dropped here once, not at each way out.
             None => return drop(course),
         }
     }
@@ -488,7 +495,7 @@ fn turn_over<'a, N: OfNetwork, M: Names, S: Series, G: Gate, P: Stop, R: Wait>(
     let (piece, is_own) = enter(shared.job.gate, seat, work);
     course.turn_to(order_at(seat, is_own));
     let Searched { finding, by_user } = search(rt, shared, piece, course, local);
-    if shared.job.workers < 2 && is_refuted(&finding) {
+    if shared.job.limits.workers < 2 && is_refuted(&finding) {
         local.forget_behind(course.first());
     }
     if is_own || is_decided(&finding) {

@@ -5,7 +5,7 @@ use Rattle.std.proofs.lemmas.List.{length-set, set-get_or}
 use Rattle.racp_model.specs.Project.{Project}
 use Rattle.racp_model.specs.Schedule.{ArePeaks}
 use Rattle.racp_model.specs.Terms.{Terms, AreTermsOf, release_of, due_of, IsLexBefore, IsBefore}
-use Rattle.racp_model.specs.Plan.{IsLeast, IsEnough, IsPlan, IsOverCeilings}
+use Rattle.racp_model.specs.Plan.{IsLeast, IsEnough, IsPlan, IsOverCeilings, NoneIsEnough}
 use Rattle.racp_model.specs.Window.{Bounds, Answers, IsYes, IsRootWindow}
 use Rattle.racp_model.specs.declared.question.Question.{Question}
 use Rattle.racp_model.proofs.lemmas.Lists.{at_set}
@@ -20,7 +20,7 @@ use Rattle.racp_candidates.specs.Box.{AreBounds, AreBoxQuestions}
 use Rattle.racp_bounds.specs.Floors.{AreFloors}
 use Rattle.racp_bounds.specs.Sharp.{IsSharpened, AreSharpened, AreSharpenedBefore, pair_count, IsUnsharpened}
 use Rattle.racp_bounds.specs.declared.sharp.Sharp.{Sharp}
-use Rattle.racp_lexfix.specs.Answers.{ceiling_series, AreAboveFloors, IsNotAfterEnough, NoneIsEnough, IsStoppedAt, IsPlanStop}
+use Rattle.racp_lexfix.specs.Answers.{ceiling_series, AreAboveFloors, IsNotAfterEnough, IsStoppedAt, IsPlanStop}
 use Rattle.racp_lexfix.specs.declared.answer.PlanStop.{PlanStop}
 use Rattle.racp_lexfix.specs.declared.answer.PlanStop.TheVariants.{Stopped, Memory, NoThread}
 use Rattle.racp_lexfix.specs.Stages.{AreFloorsAndRoofs, AreSharpFloorsAndRoofs, IsStoppedInBox, given_up, stopped_at}

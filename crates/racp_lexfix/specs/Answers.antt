@@ -23,10 +23,6 @@ IsAnswer p terms Ceiling = IsOverCeilings p terms
 abbrev pub ceiling_series : Terms → ℕ
 ceiling_series terms = if is_some terms.ceilings then 1 else 0
 
--- no capacities are enough, so there is no plan
-abbrev pub NoneIsEnough : Project → Terms → Type 0
-NoneIsEnough p terms = (capacities : List ℕ) → IsEnough p terms capacities → ⊥
-
 -- no capacities that are enough stand before these
 pub record IsNotAfterEnough (p : Project) (terms : Terms) (capacities : List ℕ) : Type 0 where
   pub places : length capacities ≡ p.resources

@@ -1,5 +1,5 @@
 -- What an asker with workers is handed, and what it answers.
-use Rattle.std.specs.Prelude.{◌≡◌, ◌⊎◌, ℕ, zero, suc, ◌≤◌, Bool, true, false, List, [], Option, Some, None, Result, Ok, Err, IfOk, Contains, ⊤}
+use Rattle.std.specs.Prelude.{◌≡◌, ◌⊎◌, ℕ, zero, suc, Bool, true, false, List, [], Option, Some, None, Result, Ok, Err, IfOk, Contains, ⊤}
 use Rattle.racp_model.specs.Project.{Project}
 use Rattle.racp_model.specs.Formed.{AreFormed}
 use Rattle.racp_model.specs.declared.question.Question.{Question}
@@ -13,6 +13,7 @@ use Rattle.racp_candidates.specs.AnySeries.{any_questions}
 use Rattle.racp_candidates.specs.declared.any_series.AnySeries.{AnySeries}
 use Rattle.racp_core.specs.declared.replies.Outcome.{Outcome}
 use Rattle.racp_core.specs.declared.replies.Outcome.TheVariants.{First as FirstOutcome, NoYes, Open}
+use Rattle.racp_desk.specs.declared.limits.RunLimits.{RunLimits}
 use Rattle.racp_desk.specs.declared.log.Cause.TheVariants.{Stop}
 use Rattle.racp_desk.specs.declared.log.Entry.{Entry}
 use Rattle.racp_desk.specs.declared.log.Entry.TheVariants.{Halted}
@@ -21,14 +22,12 @@ use Rattle.racp_desk.specs.declared.state.Closed.{Closed}
 use Rattle.racp_desk.specs.Closing.{IsRunClosed}
 
 -- a call runs desks about a project, with such a stop: it may be called with each series of questions of the project's
--- form, and what it answers is the end of a run about that series by so many workers, with so many nodes in a turn and so
--- many turns
-pub record RunsDesks (p : Project) (quiet : Bool) (pre : AnySeries → ℕ → ℕ → ℕ → Type 0)
-    (post : AnySeries → ℕ → ℕ → ℕ → Result Closed DeskFault → Type 0) : Type 0 where
-  pub may_run : (series : AnySeries) (workers quantum turns : ℕ) → AreFormed p (any_questions series) → workers ≤ 64 →
-      quantum ≤ 1000000 → turns ≤ 1000000000000 → pre series workers quantum turns
-  pub closes : (series : AnySeries) (workers quantum turns : ℕ) (result : Result Closed DeskFault) →
-      post series workers quantum turns result → IfOk result (IsRunClosed p (any_questions series) turns quiet)
+-- form, and what it answers is the end of a run about that series within such limits
+pub record RunsDesks (p : Project) (quiet : Bool) (pre : AnySeries → RunLimits → Type 0)
+    (post : AnySeries → RunLimits → Result Closed DeskFault → Type 0) : Type 0 where
+  pub may_run : (series : AnySeries) (limits : RunLimits) → AreFormed p (any_questions series) → pre series limits
+  pub closes : (series : AnySeries) (limits : RunLimits) (result : Result Closed DeskFault) →
+      post series limits result → IfOk result (IsRunClosed p (any_questions series) limits.turns quiet)
 
 -- memory was refused, or a worker could not be started
 abbrev pub IsFault : AskStop → Type 0

@@ -2,7 +2,7 @@
 use Rattle.std.specs.Prelude.{◌≡◌, ℕ, ◌<◌, ◌≤◌, List, length, slice_index, Option, Some, None, IfSome, Bool, true, false}
 use Rattle.racp_model.specs.Project.{Project}
 use Rattle.racp_model.specs.Terms.{Terms, cost}
-use Rattle.racp_model.specs.Plan.{IsPlan, IsEnough}
+use Rattle.racp_model.specs.Plan.{IsPlan, IsEnough, NoneIsEnough}
 use Rattle.racp_model.specs.Window.{Bounds, IsYes, IsNo}
 use Rattle.racp_prices.specs.Units.{AreMostUnits}
 use Rattle.racp_questions.specs.declared.asker.AskStop.{AskStop}
@@ -11,7 +11,7 @@ use Rattle.racp_candidates.specs.Box.{AreBounds}
 use Rattle.racp_bounds.specs.Floors.{AreFloors}
 use Rattle.racp_bounds.specs.Sharp.{IsSharp}
 use Rattle.racp_bounds.specs.declared.sharp.Sharp.{Sharp}
-use Rattle.racp_lexfix.specs.Answers.{IsNotAfterEnough, NoneIsEnough, ceiling_series}
+use Rattle.racp_lexfix.specs.Answers.{IsNotAfterEnough, ceiling_series}
 use Rattle.racp_lexfix.specs.declared.answer.PlanStop.{PlanStop}
 use Rattle.racp_lexfix.specs.declared.answer.PlanStop.TheVariants.{Stopped, Memory, NoThread}
 

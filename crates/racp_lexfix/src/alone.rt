@@ -82,7 +82,7 @@ impl<N: OfNetwork, S: Series> Asker<S> for Alone<N> {
                     return Ok(first_of(core));
                 }
                 Err(stop) => {
-                    // Dropped in one call, before the way out.
+                    // Dropped here once, not at each way out.
                     drop(core);
                     return Err(stop);
                 }
@@ -115,6 +115,7 @@ fn probe_of<N: OfNetwork>(finding: Finding<N>) -> Result<Probe, AskStop>
     ensures err { IfErr result (λ stop. stop ≡ Memory) }
 {
     if finding.short() {
+        // Dropped here once, not at each way out.
         drop(finding.into_found());
         return Err(AskStop::Memory);
     }
@@ -157,6 +158,7 @@ fn settle_next<N: OfNetwork, S: Series>(
     let kept = make_room(local);
     let finding = explore(alloc, net, piece, None, board, local, &Never);
     if finding.short() {
+        // Dropped here once, not at each way out.
         drop(finding.into_found());
         return Err(AskStop::Memory);
     }
@@ -203,6 +205,7 @@ fn hand_in<N: OfNetwork, S: Series>(
         Ok(Merged::Taken) => Ok(more),
         Ok(Merged::Stale) => unreachable!(),
         Err((finding, error)) => {
+            // Dropped here once, not at each way out.
             drop(finding.into_found());
             Err(error)
         }

@@ -14,7 +14,7 @@ ghost use Rattle.racp_lexfix.specs.Crowds.{IsAnsweredBy, IsFault, IsOver, RunsDe
 use crate::observer::Observer;
 use racp_candidates::{AnySeries, Listed, One};
 use racp_core::Outcome;
-use racp_desk::{Cause, Closed, DeskFault, Entry};
+use racp_desk::{Cause, Closed, DeskFault, Entry, RunLimits};
 use racp_model::{Capacities, Network, OfNetwork, Question};
 use racp_questions::{AskStop, Asker, First, Probe};
 use racp_search::Stop;
@@ -38,7 +38,7 @@ pub struct Effort {
 }
 
 /// Answers series of questions about the network that `N` names, each by a run of a desk, and counts the turns over all
-/// of them: a turn is a piece that is taken. It is handed a call that runs a desk about a series with so many turns and
+/// of them: a turn is a piece that is taken. It is handed a call that runs a desk about a series within limits and with
 /// a stop `P`. It stops only where no turn is left, or where its stop is not quiet. What it is told of planning it tells an
 /// observer. Several workers that search a question with a bound on its nodes also search those that come next: what they
 /// refute of these is a record, by which such a question takes one node when it is asked.
@@ -47,7 +47,7 @@ pub struct Crowd<
     N: OfNetwork,
     P: Stop,
     O: Observer + Drop,
-    F: Fn(AnySeries, usize, u64, u64) -> Result<Closed, DeskFault> + Drop,
+    F: Fn(AnySeries, RunLimits) -> Result<Closed, DeskFault> + Drop,
 > {
     run: F,
     observer: O,
@@ -71,7 +71,7 @@ impl<
     N: OfNetwork,
     P: Stop,
     O: Observer + Drop,
-    F: Fn(AnySeries, usize, u64, u64) -> Result<Closed, DeskFault> + Drop,
+    F: Fn(AnySeries, RunLimits) -> Result<Closed, DeskFault> + Drop,
 > Crowd<N, P, O, F> {
     /// An asker with so many turns, which runs a desk of so many workers by this call.
     pub fn new(workers: usize, turns: u64, observer: O, run: F) -> Self
@@ -113,29 +113,20 @@ impl<
         }
     }
 
-    /// Runs a desk of so many workers about a series with so many nodes of a piece in a turn and so many of the turns that
-    /// are left, and counts its work.
-    fn closed(
-        &mut self,
-        series: AnySeries,
-        workers: usize,
-        quantum: u64,
-        turns: u64,
-    ) -> Result<Closed, AskStop>
-        requires workers { workers ≤ 64 }
-        requires quantum { quantum ≤ 1000000 }
-        requires turns { turns ≤ self.old.left }
+    /// Runs a desk about a series within limits, with some of the turns that are left, and counts its work.
+    fn closed(&mut self, series: AnySeries, limits: RunLimits) -> Result<Closed, AskStop>
+        requires turns { limits.turns ≤ self.old.left }
         requires formed { AreFormed N.network (any_questions series) }
         requires run { RunsDesks N.network P.QUIET (F.pre self.old.run) (F.post self.old.run) }
         ensures run { self.new.run ≡ self.old.run }
         ensures answered { self.new.answered ≡ self.old.answered }
         ensures told { self.new.told ≡ self.old.told }
-        ensures closed { IfOk result (IsRunClosed N.network (any_questions series) turns P.QUIET) }
+        ensures closed { IfOk result (IsRunClosed N.network (any_questions series) limits.turns P.QUIET) }
         ensures left { IfOk result (λ closed. self.new.left + closed.pieces ≡ self.old.left) }
         ensures nodes { IfOk result (λ closed. self.new.nodes ≡ self.old.nodes + closed.nodes) }
         ensures err { IfErr result IsFault }
     {
-        let closed = match (self.run)(series, workers, quantum, turns) {
+        let closed = match (self.run)(series, limits) {
             Ok(closed) => closed,
             Err(DeskFault::Memory) => return Err(AskStop::Memory),
             Err(DeskFault::NoThread) => return Err(AskStop::NoThread),
@@ -183,8 +174,13 @@ impl<
     {
         let quantum = quantum_for(most);
         let turns = turns_for(quantum, most, count_with(&ahead), self.left);
+        let limits = RunLimits {
+            workers,
+            quantum,
+            turns,
+        };
         let series = series_of(question, ahead)?;
-        let closed = self.closed(series, workers, quantum, turns)?;
+        let closed = self.closed(series, limits)?;
         let Closed { outcome, log, .. } = closed;
         let is_over = self.is_over(most, &log);
         probe_of(outcome, is_over)
@@ -204,34 +200,6 @@ impl<
     {
         let copy = question.copy()?;
         self.probe_with(copy, None, 1, Some(nodes))
-    }
-
-    /// What a glimpse at a question by one worker tells of it, or, where that leaves it open, a run of all workers about it and
-    /// about those behind it.
-    fn probe_by_all(
-        &mut self,
-        question: Question,
-        ahead: Option<VecDeque<Question>>,
-        most: Option<u64>,
-    ) -> Result<Probe, AskStop>
-        requires formed { IsFormed N.network question }
-        requires ahead { ForSome ahead (λ list. AreFormed N.network list.items) }
-        requires run { RunsDesks N.network P.QUIET (F.pre self.old.run) (F.post self.old.run) }
-        requires untold { self.old.told ≡ None }
-        ensures run { self.new.run ≡ self.old.run }
-        ensures answered { self.new.answered ≡ self.old.answered }
-        ensures told { self.new.told ≡ None }
-        ensures probed { IfOk result (IsProbed N.network question most) }
-        ensures stop { IfErr result (IsProbeStop (self.new.told)
-            ((self.new.left ≡ 0) ⊎ (P.QUIET ≡ false)) ⊤) }
-    {
-        let glimpse = self.glimpse_at(&question, glimpse_of(most))?;
-        if !is_open(&glimpse) {
-            // Dropped in one call, before the way out.
-            drop(question);
-            return Ok(glimpse);
-        }
-        self.probe_with(question, ahead, self.workers, most)
     }
 
     /// The questions that come next, where the nodes of a question have a bound: without one, those behind it could take any
@@ -259,7 +227,7 @@ impl<
         ensures unanswered { OnErr result (self.new.answered ≡ self.old.answered) }
     {
         let Some(answered) = self.answered.checked_add(1) else {
-            // Dropped in one call, before the way out.
+            // Dropped here once, not at each way out.
             drop(closed);
             return Err(AskStop::Memory);
         };
@@ -397,7 +365,7 @@ impl<
     N: OfNetwork,
     P: Stop,
     O: Observer + Drop,
-    F: Fn(AnySeries, usize, u64, u64) -> Result<Closed, DeskFault> + Drop,
+    F: Fn(AnySeries, RunLimits) -> Result<Closed, DeskFault> + Drop,
 > Asker<AnySeries> for Crowd<N, P, O, F> {
     ghost use Rattle.std.specs.Prelude.{◌≡◌, ◌⊎◌, ⊤, false};
     ghost use Rattle.racp_lexfix.specs.Crowds.{RunsDesks};
@@ -414,14 +382,18 @@ impl<
 
     fn first(&mut self, _net: &Network, series: AnySeries) -> Result<First, AskStop> {
         self.told = None;
-        let left = self.left;
-        if left == 0 {
-            // Dropped in one call, before the way out.
+        let turns = self.left;
+        if turns == 0 {
+            // Dropped here once, not at each way out.
             drop(series);
             return Err(AskStop::Stopped { reached: None });
         }
-        let quantum = quantum_for(None);
-        let closed = self.closed(series, self.workers, quantum, left)?;
+        let limits = RunLimits {
+            workers: self.workers,
+            quantum: quantum_for(None),
+            turns,
+        };
+        let closed = self.closed(series, limits)?;
         self.answer(closed)
     }
 
@@ -433,16 +405,21 @@ impl<
     ) -> Result<Probe, AskStop> {
         self.told = None;
         if self.left == 0 {
-            // Dropped in one call, before the way out.
+            // Dropped here once, not at each way out.
             drop(question);
             return Err(AskStop::Stopped { reached: None });
         }
         let ahead = self.take_ahead(most);
-        if self.workers > 1 {
-            self.probe_by_all(question, ahead, most)
-        } else {
-            self.probe_with(question, None, 1, most)
+        if self.workers < 2 {
+            return self.probe_with(question, None, 1, most);
         }
+        let glimpse = self.glimpse_at(&question, glimpse_of(most))?;
+        if !is_open(&glimpse) {
+            // Dropped here once, not at each way out.
+            drop((question, ahead));
+            return Ok(glimpse);
+        }
+        self.probe_with(question, ahead, self.workers, most)
     }
 
     fn foresee(&mut self, _net: &Network, ahead: VecDeque<Question>) {

@@ -84,44 +84,23 @@ impl Task<'_> {
             (A.may_stop asker.new) (A.may_want_thread asker.new)) }
     {
         match opening_of(self.alloc, self.net, self.order)? {
-            Opening::Root { critical, window } => self.within(critical, &window, asker, kept),
+            Opening::Root { critical, window } => {
+                let Some((capacities, starts)) = self.chosen(&window, asker, kept)? else {
+                    return Ok(Answer::Ceiling);
+                };
+                let order = self.order;
+                let cost = cost_of(self.net, order, capacities.as_slice());
+                Ok(Answer::Plan(Plan {
+                    deadline: order.deadline,
+                    critical,
+                    cost,
+                    capacities,
+                    starts,
+                }))
+            }
             Opening::TooLong { critical } => Ok(Answer::Impossible { longest: critical }),
             Opening::TooLate { job } => Ok(Answer::Due { job }),
         }
-    }
-
-    /// The plan within the root window, or that no capacities within the ceilings are enough, of a project with this critical
-    /// length. The sharpened floors and the refuted pairs are kept, once they are known.
-    fn within<A: Asker<AnySeries>>(
-        &self,
-        critical: u64,
-        root: &Window,
-        asker: &mut A,
-        kept: &mut Option<Sharp>,
-    ) -> Result<Answer, PlanStop>
-        requires named { A.about asker.old self.now.net.now }
-        requires terms { AreTermsOf self.now.net.now self.now.order.now }
-        requires critical { IsCriticalLength self.now.net.now (release_of self.now.order.now) critical }
-        requires root { IsRootWindow self.now.net.now (release_of self.now.order.now) (due_of self.now.order.now) root.now }
-        requires heard { MayBeTold self.now.net.now self.now.order.now A.may_hear_floors A.may_hear_cost }
-        ensures network { A.about asker.new self.now.net.now }
-        ensures answer { IfOk result (IsAnswer self.now.net.now self.now.order.now) }
-        ensures stop { IfErr result (IsPlanStop (IsStoppedAt self.now.net.now self.now.order.now
-            (A.answered asker.new - A.answered asker.old) (A.told asker.new))
-            (A.may_stop asker.new) (A.may_want_thread asker.new)) }
-    {
-        let order = self.order;
-        let Some((capacities, starts)) = self.chosen(root, asker, kept)? else {
-            return Ok(Answer::Ceiling);
-        };
-        let cost = cost_of(self.net, order, capacities.as_slice());
-        Ok(Answer::Plan(Plan {
-            deadline: order.deadline,
-            critical,
-            cost,
-            capacities,
-            starts,
-        }))
     }
 
     /// The capacities and the starts of the plan within the root window, or none where no capacities are enough. The
@@ -205,7 +184,7 @@ impl VectorBox<'_> {
             Ok(first) => first,
             Err(stop) => return Err(PlanStop::given_up(stop, self.sharp.floors)),
         };
-        // Dropped here once, not at each way out below.
+        // Dropped here once, not at each way out.
         drop(self);
         let series = One::new(alloc, &first, root)?;
         match asker.first(net, AnySeries::One(series)) {

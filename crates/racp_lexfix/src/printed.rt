@@ -17,8 +17,8 @@ use crate::lines::answer_lines;
 use crate::observer::{Observer, Pricing, Unheard};
 use crate::planning::{Task, plan};
 use racp_candidates::AnySeries;
-use racp_cutset::DEFAULT_MEMORY;
-use racp_desk::{Boards, Closed, DeskFault, Gate};
+use racp_cutset::{DEFAULT_MEMORY, MemoryLimit};
+use racp_desk::{Boards, Closed, DeskFault, Gate, RunLimits};
 use racp_model::{Network, OfNetwork};
 use racp_prices::{Order, OrderFault, read_order};
 use racp_search::Stop;
@@ -242,7 +242,7 @@ fn print_order(
         order: &order,
     };
     let printed = print_plan(&task, mebibytes);
-    // Dropped before the way out by `?`, so that it is not taken apart there.
+    // Dropped here once, not at each way out.
     drop(order);
     Ok(printed?)
 }
@@ -257,7 +257,7 @@ fn print_plan(task: &Task, mebibytes: usize) -> Result<Printed, PlanStop>
 {
     let answer = plan_named::<Brand>(task, mebibytes)?;
     let printed = print_answer(task.alloc, task.order, &answer);
-    // Dropped before the way out by `?`, so that it is not taken apart there.
+    // Dropped here once, not at each way out.
     drop(answer);
     Ok(printed?)
 }
@@ -272,6 +272,7 @@ fn plan_named<N: OfNetwork>(task: &Task, mebibytes: usize) -> Result<Answer, Pla
 {
     let mut alone: Alone<N> = Alone::within(task.alloc, task.net, mebibytes)?;
     let planned = plan(task.alloc, task.net, task.order, &mut alone);
+    // Dropped here once, not at each way out.
     drop(alone);
     planned
 }
@@ -296,7 +297,7 @@ fn print_order_by<G: Gate + Sync, P: Stop + Sync, O: Observer, R: Threads + Wait
         order: &order,
     };
     let printed = print_plan_by(rt, &task, crew);
-    // Dropped before the way out by `?`, so that it is not taken apart there.
+    // Dropped here once, not at each way out.
     drop(order);
     Ok(printed?)
 }
@@ -317,7 +318,7 @@ fn print_plan_by<G: Gate + Sync, P: Stop + Sync, O: Observer, R: Threads + Wait 
 {
     let (answer, effort) = plan_by::<Brand, G, P, O, R>(rt, task, crew)?;
     let printed = print_answer(task.alloc, task.order, &answer);
-    // Dropped before the way out by `?`, so that it is not taken apart there.
+    // Dropped here once, not at each way out.
     drop(answer);
     Ok((printed?, effort))
 }
@@ -341,21 +342,20 @@ fn plan_by<
 {
     let (alloc, net, order) = (task.alloc, task.net, task.order);
     crew.observer.hear_deadline(order.deadline);
-    let boards: Boards<N> = Boards::within(alloc, net, crew.memory, crew.workers)?;
+    let limit = MemoryLimit {
+        mebibytes: crew.memory,
+        workers: crew.workers,
+    };
+    let boards: Boards<N> = Boards::within(alloc, net, limit)?;
     let pricing = Pricing::new(net, order, crew.observer);
     let mut crowd: Crowd<N, P, Pricing<'_, O>, _> = Crowd::new(
         crew.workers,
         crew.turns,
         pricing,
-        |series: AnySeries, workers: usize, quantum: u64, turns: u64| -> Result<Closed, DeskFault>
-            requires { (net.now ≡ N.network) × AreFormed net.now (any_questions series) ×
-                (workers ≤ 64) × (quantum ≤ 1000000) × (turns ≤ 1000000000000) }
-            ensures { IfOk result (IsRunClosed net.entry.now (any_questions series) turns P.QUIET) }
-        {
-            boards.run(
-                rt, alloc, net, series, workers, quantum, turns, crew.gate, crew.stop,
-            )
-        },
+        |series: AnySeries, limits: RunLimits| -> Result<Closed, DeskFault>
+            requires { (net.now ≡ N.network) × AreFormed net.now (any_questions series) }
+            ensures { IfOk result (IsRunClosed net.entry.now (any_questions series) limits.turns P.QUIET) }
+        { boards.run(rt, alloc, net, series, limits, crew.gate, crew.stop) },
     );
     plan_with(task, &mut crowd)
 }
@@ -365,7 +365,7 @@ fn plan_with<
     N: OfNetwork,
     P: Stop,
     O: Observer + Drop,
-    F: Fn(AnySeries, usize, u64, u64) -> Result<Closed, DeskFault> + Drop,
+    F: Fn(AnySeries, RunLimits) -> Result<Closed, DeskFault> + Drop,
 >(task: &Task, crowd: &mut Crowd<N, P, O, F>) -> Result<(Answer, Effort), PlanStop>
     requires named { task.now.net.now ≡ N.network }
     requires terms { AreTermsOf task.now.net.now task.now.order.now }

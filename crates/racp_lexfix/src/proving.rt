@@ -55,7 +55,7 @@ fn prove_order(alloc: Global, net: &Network, order_text: &[u8]) -> Result<Printe
         order: &order,
     };
     let printed = prove_plan(&task);
-    // Dropped before the way out by `?`, so that it is not taken apart there.
+    // Dropped here once, not at each way out.
     drop(order);
     Ok(printed?)
 }
@@ -95,6 +95,7 @@ fn plan_with_floors<N: OfNetwork>(
 {
     let mut alone: Alone<N> = Alone::new(task.alloc, task.net)?;
     let planned = task.plan_and_keep(&mut alone, sharp);
+    // Dropped here once, not at each way out.
     drop(alone);
     planned
 }

@@ -20,6 +20,10 @@ pub record IsEnough (p : Project) (terms : Terms) (capacities : List ℕ) : Type
   pub ceilings : IsWithinCeilings terms capacities
   pub admits : Admits p (release_of terms) (due_of terms) capacities
 
+-- no capacities are enough, so there is no plan
+abbrev pub NoneIsEnough : Project → Terms → Type 0
+NoneIsEnough p terms = (capacities : List ℕ) → IsEnough p terms capacities → ⊥
+
 -- the plan: of all capacities that are enough the first, by cost and then lexicographically, and of all starts that fit
 -- them the lexicographically least
 pub record IsPlan (p : Project) (terms : Terms) (capacities starts : List ℕ) : Type 0 where
@@ -40,4 +44,4 @@ pub record IsTooLateAt (p : Project) (terms : Terms) (i : ℕ) : Type 0 where
 -- impossible by the ceilings: the early finishes are in time, but no capacities within the ceilings are enough
 pub record IsOverCeilings (p : Project) (terms : Terms) : Type 0 where
   pub in_time : (early : List ℕ) × IsEarly p (release_of terms) early × EndsBy p (due_of terms) early
-  pub none : (capacities : List ℕ) → IsEnough p terms capacities → ⊥
+  pub none : NoneIsEnough p terms

@@ -1,5 +1,5 @@
 -- Schedules: which start vectors keep precedence, are in time, and fit capacities (Möhring 1984).
-use Rattle.std.specs.Prelude.{◌≡◌, ℕ, zero, suc, ◌+◌, ◌<◌, ◌≤◌, ◌&&◌, Bool, List, length, slice_index, nat_le, nat_lt, if◌then◌else◌}
+use Rattle.std.specs.Prelude.{◌≡◌, ℕ, zero, suc, ◌+◌, ◌*◌, ◌<◌, ◌≤◌, ◌&&◌, Bool, List, length, slice_index, nat_le, nat_lt, if◌then◌else◌}
 use Rattle.racp_model.specs.Project.{Project, duration, request, Precedes}
 
 -- the sum f 0 + f 1 + .. + f (n - 1)
@@ -60,6 +60,10 @@ Admits p release due capacities = (starts : List ℕ) × FitsInTime p release du
 -- the roof of resource k: the sum of all requests of it. No schedule ever uses more
 abbrev pub roof : Project → ℕ → ℕ
 roof p k = sum_below (length p.jobs) (λ i. request p i k)
+
+-- the energy of resource k: the sum, over all jobs, of duration times request
+abbrev pub energy : Project → ℕ → ℕ
+energy p k = sum_below (length p.jobs) (λ i. duration p i * request p i k)
 
 -- the peak of resource k: the most units of it that the jobs use at a time
 pub record IsPeak (p : Project) (starts : List ℕ) (k peak : ℕ) : Type 0 where

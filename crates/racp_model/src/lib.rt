@@ -67,5 +67,5 @@ pub use named::OfNetwork;
 pub use network::Network;
 pub use question::Question;
 pub use starts::Starts;
-pub use usage::{peaks, roof_of, usage_at};
+pub use usage::{energy_of, peaks, roof_of, usage_at};
 pub use window::Window;

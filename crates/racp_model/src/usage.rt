@@ -1,7 +1,8 @@
 //! How many units of a resource the jobs use together: at a time, at the most, and at the very most.
 
-ghost use Rattle.std.specs.Prelude.{◌≡◌, ℕ, ◌+◌, ◌<◌, IfOk, length, slice_index};
-ghost use Rattle.racp_model.specs.Schedule.{use_of, usage, roof, IsPeak, ArePeaks};
+ghost use Rattle.std.specs.Prelude.{◌≡◌, ℕ, ◌+◌, ◌<◌, ◌≤◌, IfOk, length, slice_index};
+ghost use Rattle.racp_model.specs.Project.{IsSound};
+ghost use Rattle.racp_model.specs.Schedule.{use_of, usage, roof, energy, IsPeak, ArePeaks};
 
 use crate::capacities::Capacities;
 use crate::network::Network;
@@ -79,6 +80,22 @@ pub fn roof_of(net: &Network, k: usize) -> u32
     let mut sum = 0;
     for i in 0..net.job_count() {
         sum += net.request(i, k);
+    }
+    sum
+}
+
+/// The energy of the resource at place `k`, from 0: the sum, over all jobs, of duration times request, in units times time
+/// units. Takes no memory.
+#[tactic(auto, using(crate::proofs::lemmas::Sums::energies))]
+pub fn energy_of(net: &Network, k: usize) -> u64
+    requires { k < net.now.resources }
+    ensures energy { result ≡ energy net.now k }
+    ensures small { result ≤ 51200000000 }
+    ensures sound { IsSound net.now }
+{
+    let mut sum = 0;
+    for i in 0..net.job_count() {
+        sum += net.duration(i) as u64 * net.request(i, k) as u64;
     }
     sum
 }

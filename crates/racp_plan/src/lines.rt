@@ -1,6 +1,7 @@
 //! The lines of a plan's text.
 
 ghost use Rattle.std.specs.Prelude.{◌≡◌, ◌++◌, OnOk, IfOk, codes};
+ghost use Rattle.std.specs.Fmt.{decimal};
 ghost use Rattle.racp_plan.specs.Texts.{capacity_lines, cost_line, critical_line, deadline_line, start_lines};
 ghost use Rattle.racp_plan.specs.PlanReading.{words_for};
 ghost use Rattle.racp_plan.specs.Steps.{number_line, number_lines};
@@ -40,6 +41,17 @@ pub fn push_starts(alloc: Global, text: &mut Vec<u8>, starts: &[u32]) -> Result<
     ensures { OnOk result (text.new.items ≡ text.old.items ++ start_lines 1 starts.now) }
 {
     push_lines(alloc, text, "start", starts)
+}
+
+/// Adds a number behind a blank.
+///
+/// # Errors
+///
+/// Where memory was refused.
+pub fn push_number(alloc: Global, text: &mut Vec<u8>, number: u32) -> Result<(), AllocError>
+    ensures { OnOk result (text.new.items ≡ text.old.items ++ (codes " " ++ decimal number)) }
+{
+    text.extend_from_slice(format!(in alloc; " {number}")?.as_bytes())
 }
 
 /// Adds a line for each number: this word, the number of the resource or job, from 1, and the number.

@@ -69,7 +69,7 @@ impl<N: OfNetwork> Course<N> {
     pub(crate) fn keep(&mut self, search: OpenSearch<N>)
         ensures { self.new ≡ record { order = self.old.order; first = self.old.first; begun = Some search } }
     {
-        // Dropped by a call, which is proved once.
+        // Dropped here once, not at each way out.
         drop(self.begun.replace(search));
     }
 }

@@ -188,7 +188,7 @@ impl<N: OfNetwork> OpenSearch<N> {
         if self.is_of(subject.question()) {
             return Ok(self);
         }
-        // Dropped by a call, which is proved once.
+        // Dropped here once, not at each way out.
         drop(self);
         OpenSearch::new(alloc, subject, order)
     }
@@ -350,12 +350,12 @@ impl<N: OfNetwork> Stack<N> {
                 Ok(None)
             }
             Ok(Glance::Found(starts)) => {
-                // Dropped by a call, which is proved once.
+                // Dropped here once, not at each way out.
                 drop(window);
                 Ok(Some(starts))
             }
             Err(error) => {
-                // Dropped by a call, which is proved once.
+                // Dropped here once, not at each way out.
                 drop(window);
                 Err(error)
             }
@@ -385,7 +385,7 @@ impl<N: OfNetwork> Stack<N> {
             let child = match frame.next_child(&mut self.workspace, subject) {
                 Ok(child) => child,
                 Err(error) => {
-                    // Dropped by a call, which is proved once.
+                    // Dropped here once, not at each way out.
                     drop(frame);
                     return Err(error);
                 }

@@ -233,13 +233,13 @@ impl<N: OfNetwork> Frame<N> {
         let jobs = subject.network().job_count();
         let enough = self.children.len().saturating_add(jobs);
         if let Err(error) = self.find_children(workspace, subject, enough) {
-            // Dropped by a call, which is proved once.
+            // Dropped here once, not at each way out.
             drop(self);
             return Err(error);
         }
         if self.more {
             let rest = self.put_off_each(alloc, workspace, subject);
-            // Dropped by a call, which is proved once.
+            // Dropped here once, not at each way out.
             drop(self);
             return rest;
         }
@@ -339,13 +339,13 @@ fn first_frame<N: OfNetwork>(
     }
     let (net, capacities) = (subject.network(), subject.capacities());
     if let Err(error) = workspace.all.find(net, capacities, &conflict) {
-        // Dropped by a call, which is proved once.
+        // Dropped here once, not at each way out.
         drop(node);
         return Err(error);
     }
     let mut frame = bare_frame(&mut workspace.spare, node, conflict.active);
     if let Err(error) = frame.take_all(&mut workspace.spare, subject, workspace.all.lists()) {
-        // Dropped by a call, which is proved once.
+        // Dropped here once, not at each way out.
         drop(frame);
         return Err(error);
     }

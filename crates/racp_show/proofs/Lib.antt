@@ -1,6 +1,5 @@
 mod Spans
 mod Greatest
-mod Works
 mod Adding
 mod Rows
 mod Fitting

@@ -1,13 +1,14 @@
 -- A plan as a chart: what is drawn of each job and of each resource.
 use Rattle.std.specs.Prelude.{◌≡◌, ℕ, ◌+◌, ◌*◌, ◌<◌, List, length, slice_index, slice_index_or}
 use Rattle.racp_model.specs.Project.{Project, duration}
+use Rattle.racp_model.specs.Schedule.{energy}
 use Rattle.racp_plan.specs.declared.plan.Plan.{Plan}
 use Rattle.racp_show.specs.declared.scale.Scale.{Scale}
 use Rattle.racp_show.specs.declared.chart.JobRow.{JobRow}
 use Rattle.racp_show.specs.declared.chart.ResourceRow.{ResourceRow}
 use Rattle.racp_show.specs.declared.chart.Chart.{Chart}
 use Rattle.racp_show.specs.Scales.{IsScale, IsBar}
-use Rattle.racp_show.specs.Uses.{IsGreatestUsage, work, percent}
+use Rattle.racp_show.specs.Uses.{IsGreatestUsage, percent}
 
 -- the row of the job at place i: when it starts and ends, and how that is drawn
 pub record IsJobRow (p : Project) (starts : List ℕ) (scale : Scale) (i : ℕ) (row : JobRow) : Type 0 where
@@ -30,7 +31,7 @@ pub record AreLevels (p : Project) (starts : List ℕ) (scale : Scale) (k : ℕ)
 pub record IsResourceRow (p : Project) (plan : Plan) (deadline : ℕ) (scale : Scale) (k : ℕ)
     (row : ResourceRow) : Type 0 where
   pub units : row.capacity ≡ slice_index plan.capacities k
-  pub busy_is : row.busy ≡ percent (work p k) (slice_index plan.capacities k * deadline)
+  pub busy_is : row.busy ≡ percent (energy p k) (slice_index plan.capacities k * deadline)
   pub usage : AreLevels p plan.starts scale k row.levels.items
 
 -- a row for each resource

@@ -1,7 +1,7 @@
 -- What the jobs use of a resource over time.
-use Rattle.std.specs.Prelude.{◌≡◌, ℕ, ◌*◌, ◌/◌, ◌<◌, ◌≤◌, ◌==◌, List, AllPairs, fold, length, nat_le, if◌then◌else◌}
-use Rattle.racp_model.specs.Project.{Project, duration, request}
-use Rattle.racp_model.specs.Schedule.{sum_below, usage}
+use Rattle.std.specs.Prelude.{◌≡◌, ℕ, ◌*◌, ◌/◌, ◌<◌, ◌≤◌, ◌==◌, List, AllPairs, fold, nat_le, if◌then◌else◌}
+use Rattle.racp_model.specs.Project.{Project}
+use Rattle.racp_model.specs.Schedule.{usage}
 use Rattle.racp_show.specs.declared.usage.Step.{Step}
 
 -- the greatest usage of resource k at the times from `from` to before `to`
@@ -18,10 +18,6 @@ units_at steps t = fold (λ units step. if nat_le step.from t then step.units el
 pub record AreSteps (p : Project) (starts : List ℕ) (k : ℕ) (steps : List Step) : Type 0 where
   pub rising : AllPairs (λ a b. a.from < b.from) steps
   pub each : (t : ℕ) → units_at steps t ≡ usage p starts k t
-
--- the work on resource k: the sum, over all jobs, of duration times request
-abbrev pub work : Project → ℕ → ℕ
-work p k = sum_below (length p.jobs) (λ i. duration p i * request p i k)
 
 -- a part in percent of the whole, rounded down, and 0 of nothing
 abbrev pub percent : ℕ → ℕ → ℕ

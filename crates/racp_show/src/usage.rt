@@ -1,12 +1,12 @@
 //! What the jobs of a plan use of a resource over time.
 
 ghost use Rattle.std.specs.Prelude.{◌≡◌, ℕ, ◌+◌, ◌*◌, ◌<◌, ◌≤◌, IfOk, length, slice_index};
-ghost use Rattle.racp_model.specs.Project.{IsSound, duration};
-ghost use Rattle.racp_model.specs.Schedule.{EndsBy, usage};
-ghost use Rattle.racp_show.specs.Uses.{AreSteps, IsGreatestUsage, percent, work};
+ghost use Rattle.racp_model.specs.Project.{duration};
+ghost use Rattle.racp_model.specs.Schedule.{EndsBy, energy, usage};
+ghost use Rattle.racp_show.specs.Uses.{AreSteps, IsGreatestUsage, percent};
 ghost use Rattle.racp_show.specs.Changes.{IsNextChange};
 
-use racp_model::{Network, usage_at};
+use racp_model::{Network, energy_of, usage_at};
 use serde::Serialize;
 use std::alloc::{AllocError, Global};
 use std::cmp::{max, min};
@@ -114,23 +114,9 @@ fn sooner(next: u32, time: u32, other: u32) -> u32
 /// percent of the capacity times the deadline, rounded down; 0 where that is 0. Takes no memory.
 pub fn busy_percent(net: &Network, k: usize, capacity: u32, deadline: u32) -> u64
     requires { k < net.now.resources }
-    ensures { result ≡ percent (work net.now k) (capacity * deadline) }
+    ensures { result ≡ percent (energy net.now k) (capacity * deadline) }
 {
     let whole = capacity as u64 * deadline as u64;
-    let part = work_on(net, k);
+    let part = energy_of(net, k);
     if whole == 0 { 0 } else { 100 * part / whole }
-}
-
-/// The work on a resource.
-#[tactic(auto, using(crate::proofs::Works::works))]
-fn work_on(net: &Network, k: usize) -> u64
-    requires { k < net.now.resources }
-    ensures work { result ≡ work net.now k }
-    ensures small { result ≤ 51200000000 }
-{
-    let mut sum = 0;
-    for i in 0..net.job_count() {
-        sum += net.duration(i) as u64 * net.request(i, k) as u64;
-    }
-    sum
 }

@@ -201,6 +201,7 @@ impl Reader {
             return Ok(Some(lower));
         }
         let closed = self.close(alloc, ground, &branch);
+        // Dropped here once, not at each way out.
         drop(branch);
         closed?;
         Ok(None)

@@ -1,10 +1,11 @@
 //! The lines of a certificate.
 
-ghost use Rattle.std.specs.Prelude.{◌≡◌, ◌≤◌, ◌++◌, ◌∷◌, [], All, OnOk, codes};
+ghost use Rattle.std.specs.Prelude.{◌≡◌, ◌≤◌, ◌++◌, ◌∷◌, [], All, OnOk};
 ghost use Rattle.std.specs.Fmt.{decimal};
 ghost use Rattle.racp_trees.specs.Texts.{most_number, step_line, vector_line};
 
 use crate::step::Step;
+use racp_plan::lines::push_number;
 use std::alloc::{AllocError, Global};
 
 /// Adds the line of a node.
@@ -46,11 +47,4 @@ pub(crate) fn push_vector(
     }
     text.push(b'\n')?;
     Ok(())
-}
-
-/// Adds a number behind a blank.
-fn push_number(alloc: Global, text: &mut Vec<u8>, number: u32) -> Result<(), AllocError>
-    ensures { OnOk result (text.new.items ≡ text.old.items ++ (codes " " ++ decimal number)) }
-{
-    text.extend_from_slice(format!(in alloc; " {number}")?.as_bytes())
 }

@@ -2,7 +2,7 @@
 use Rattle.std.proofs.Common.{ℕ, ◌<◌, ◌≤◌, inl, inr, List, length, slice_index, arith}
 use Rattle.std.proofs.lemmas.Bool.{cases_lt}
 use Rattle.racp_model.specs.Project.{Project, duration, request}
-use Rattle.racp_model.specs.Schedule.{IsActive, EndsBy, FitsInTime, Admits, use_of, usage}
+use Rattle.racp_model.specs.Schedule.{IsActive, EndsBy, FitsInTime, Admits, use_of, usage, energy}
 use Rattle.racp_model.specs.Window.{Bounds, LiesIn, IsRootWindow}
 use Rattle.racp_model.proofs.lemmas.Sums.{sum_below-mono, sum_below-bound, sum_below-term}
 use Rattle.racp_model.proofs.lemmas.Usage.{use_of-active, usage-roof}
@@ -10,7 +10,7 @@ use Rattle.racp_model.proofs.lemmas.CoreTimes.{active_at_core, core_use-use}
 use Rattle.racp_model.proofs.lemmas.Cuts.{cut_admitting}
 use Rattle.racp_cpm.proofs.lemmas.Roots.{root_in_time}
 use Rattle.racp_model.specs.Core.{core_use}
-use Rattle.racp_bounds.specs.Floors.{energy, IsAtBounds, IsFloor, AreRoofs}
+use Rattle.racp_bounds.specs.Floors.{IsAtBounds, IsFloor, AreRoofs}
 use Rattle.racp_bounds.specs.Laws.{CoreIsActive, AdmittingIsAboveFloors, CutToRoofsAdmits, FloorsAreBelowRoofs}
 use Rattle.racp_bounds.proofs.Energy.{div_ceil-le}
 use Rattle.racp_bounds.proofs.Used.{energy_used}

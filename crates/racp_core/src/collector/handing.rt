@@ -32,6 +32,7 @@ impl<N: OfNetwork, S: Series> Core<N, S> {
             (0 < listed finding.rest)) }
     {
         let Some(at) = self.place(finding.piece()) else {
+            // Dropped here once, not at each way out.
             drop(finding.into_found());
             return Ok(Merged::Stale);
         };
@@ -40,11 +41,12 @@ impl<N: OfNetwork, S: Series> Core<N, S> {
             return Ok(Merged::Taken);
         }
         let (piece, rest, found) = finding.into_parts();
-        // Dropped here, so that no way out below takes it apart.
+        // Dropped here once, not at each way out.
         drop(rest);
         if let Some(starts) = found {
             self.put_yes(at, &piece, starts);
         }
+        // Dropped here once, not at each way out.
         drop(piece.into_question::<Row>());
         Ok(Merged::Taken)
     }
@@ -61,6 +63,7 @@ impl<N: OfNetwork, S: Series> Core<N, S> {
                 Merged::Taken
             }
             None => {
+                // Dropped here once, not at each way out.
                 drop(piece.into_question::<Row>());
                 Merged::Stale
             }

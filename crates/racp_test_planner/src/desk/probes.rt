@@ -1,6 +1,6 @@
 //! What workers tell of one question.
 
-ghost use Rattle.std.specs.Prelude.{◌≡◌, ◌≤◌, false, IfOk};
+ghost use Rattle.std.specs.Prelude.{◌≡◌, false, IfOk};
 ghost use Rattle.racp_model.specs.Formed.{AreFormed, IsFormed};
 ghost use Rattle.racp_candidates.specs.AnySeries.{any_questions};
 ghost use Rattle.racp_desk.specs.Closing.{IsRunClosed};
@@ -8,7 +8,7 @@ ghost use Rattle.racp_desk.specs.Closing.{IsRunClosed};
 use crate::desk::stops::AtCall;
 use racp_candidates::AnySeries;
 use racp_cutset::Board;
-use racp_desk::{Closed, DeskFault, Open, run};
+use racp_desk::{Closed, DeskFault, Open, RunLimits, run};
 use racp_lexfix::{Crowd, Unheard};
 use racp_model::{Network, OfNetwork, Question};
 use racp_questions::{AskStop, Asker, Probe};
@@ -108,11 +108,15 @@ fn tell<N: OfNetwork + Send + Sync, R: Threads + Wait + Sync>(
         2,
         turns,
         Unheard,
-        |series: AnySeries, workers: usize, quantum: u64, turns: u64| -> Result<Closed, DeskFault>
-            requires { (net.now ≡ N.network) × AreFormed net.now (any_questions series) ×
-                (workers ≤ 64) × (quantum ≤ 1000000) × (turns ≤ 1000000000000) }
-            ensures { IfOk result (IsRunClosed net.entry.now (any_questions series) turns false) }
+        |series: AnySeries, limits: RunLimits| -> Result<Closed, DeskFault>
+            requires { (net.now ≡ N.network) × AreFormed net.now (any_questions series) }
+            ensures { IfOk result (IsRunClosed net.entry.now (any_questions series) limits.turns false) }
         {
+            let RunLimits {
+                workers,
+                quantum,
+                turns,
+            } = limits;
             run(
                 rt, alloc, net, series, workers, quantum, turns, board, &Open, stop,
             )

@@ -4,7 +4,7 @@ abbrev pub ghosts-run_named-M-Ledger : goal.ghosts-run_named-M-Ledger
 ghosts-run_named-M-Ledger g a = record { name = a.blank.name; parts = a.blank.parts }
 
 abbrev pub ghosts-run_named-M-Rules : goal.ghosts-run_named-M-Rules
-ghosts-run_named-M-Rules g a = record { turns = a.self.turns; quiet = g.P.Stop.QUIET }
+ghosts-run_named-M-Rules g a = record { turns = a.self.limits.turns; quiet = g.P.Stop.QUIET }
 
 abbrev pub ghosts-run_named-M-Names : goal.ghosts-run_named-M-Names
 ghosts-run_named-M-Names g a = record { series = g.S.Series.questions a.series }

@@ -8,7 +8,7 @@ pub next_turn-requires-clause-turns : goal.next_turn-requires-clause-turns
 next_turn-requires-clause-turns g c = c.args.shared.now.turns_is
 
 pub next_turn-requires-clause-workers : goal.next_turn-requires-clause-workers
-next_turn-requires-clause-workers g c = c.args.shared.now.job.workers_few
+next_turn-requires-clause-workers g c = c.args.shared.now.job.limits.workers_few
 
 pub tell-requires : goal.tell-requires
 tell-requires g c = c.in-Search.ensures.formed

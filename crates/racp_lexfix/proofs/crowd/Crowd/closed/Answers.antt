@@ -9,8 +9,8 @@ use Rattle.racp_lexfix.proofs.crowd.Crowd.closed.Goals as goal
 pub count-requires-clause-pieces : goal.count-requires-clause-pieces
 count-requires-clause-pieces g c =
     let questions = any_questions c.args.series in
-    let closed : IsRunClosed g.N.OfNetwork.network questions c.args.turns g.P.Stop.QUIET c.in-Ok.closed =
-    subst (λ (r : Result Closed DeskFault). IfOk r (IsRunClosed g.N.OfNetwork.network questions c.args.turns g.P.Stop.QUIET)) c.in-Ok.is
-    (c.requires.run.closes c.args.series c.args.workers c.args.quantum c.args.turns c.run.result c.run.ensures) in
-    let few : c.in-Ok.closed.pieces ≤ c.args.turns = pieces_few g.N.OfNetwork.network questions c.args.turns g.P.Stop.QUIET c.in-Ok.closed closed in
+    let closed : IsRunClosed g.N.OfNetwork.network questions c.args.limits.turns g.P.Stop.QUIET c.in-Ok.closed =
+    subst (λ (r : Result Closed DeskFault). IfOk r (IsRunClosed g.N.OfNetwork.network questions c.args.limits.turns g.P.Stop.QUIET)) c.in-Ok.is
+    (c.requires.run.closes c.args.series c.args.limits c.run.result c.run.ensures) in
+    let few : c.in-Ok.closed.pieces ≤ c.args.limits.turns = pieces_few g.N.OfNetwork.network questions c.args.limits.turns g.P.Stop.QUIET c.in-Ok.closed closed in
     omega (arith, few, c.requires.turns)

@@ -1,7 +1,11 @@
-use Rattle.std.proofs.Common.{subst}
+use Rattle.std.proofs.Common.{◌∙◌, length, ap, subst}
 use Rattle.std.proofs.lemmas.Result.{err_from_is_err_and}
 use Rattle.racp_check.specs.Openings.{IsOpening}
 use Rattle.racp_check.specs.declared.opening.Opening.TheVariants.{Root}
+use Rattle.racp_model.specs.Terms.{Terms, cost}
+use Rattle.racp_model.specs.Plan.{IsPlan, NoneIsEnough}
+use Rattle.racp_lexfix.specs.Stages.{IsChosen}
+use Rattle.racp_lexfix.proofs.Staging.{over}
 use Rattle.racp_lexfix.proofs.planning.Task.plan_and_keep.Goals as goal
 
 pub opening_of-requires : goal.opening_of-requires
@@ -18,24 +22,19 @@ returns-in_err-critical-clause-stop g c =
     let p = err_from_is_err_and c.from_residual.result c.from_residual.ensures.1 in
     rw (p.1, p.2) tt
 
-pub within-requires-clause-named : goal.within-requires-clause-named
-within-requires-clause-named g c = c.requires.named
+pub chosen-requires-clause-named : goal.chosen-requires-clause-named
+chosen-requires-clause-named g c = c.requires.named
 
-pub within-requires-clause-terms : goal.within-requires-clause-terms
-within-requires-clause-terms g c = c.requires.terms
+pub chosen-requires-clause-terms : goal.chosen-requires-clause-terms
+chosen-requires-clause-terms g c = c.requires.terms
 
-pub within-requires-clause-heard : goal.within-requires-clause-heard
-within-requires-clause-heard g c = c.requires.heard
+pub chosen-requires-clause-heard : goal.chosen-requires-clause-heard
+chosen-requires-clause-heard g c = c.requires.heard
 
-pub within-requires-clause-root : goal.within-requires-clause-root
-within-requires-clause-root g c =
+pub chosen-requires-clause-root : goal.chosen-requires-clause-root
+chosen-requires-clause-root g c =
     let opening : IsOpening c.args.self.now.net.now c.args.self.now.order.now (Root c.in-Root.critical c.in-Root.window) = subst (IsOpening c.args.self.now.net.now c.args.self.now.order.now) c.in-Root.is c.in_ok-critical.ensures in
     opening.window_is
-
-pub within-requires-clause-critical : goal.within-requires-clause-critical
-within-requires-clause-critical g c =
-    let opening : IsOpening c.args.self.now.net.now c.args.self.now.order.now (Root c.in-Root.critical c.in-Root.window) = subst (IsOpening c.args.self.now.net.now c.args.self.now.order.now) c.in-Root.is c.in_ok-critical.ensures in
-    opening.length
 
 pub returns-in-TooLong-clause-network : goal.returns-in-TooLong-clause-network
 returns-in-TooLong-clause-network g c = c.requires.named
@@ -55,11 +54,50 @@ returns-in-TooLate-clause-answer g c = subst (IsOpening c.args.self.now.net.now 
 pub returns-in-TooLate-clause-stop : goal.returns-in-TooLate-clause-stop
 returns-in-TooLate-clause-stop g c = tt
 
-pub returns-in-Root-clause-network : goal.returns-in-Root-clause-network
-returns-in-Root-clause-network g c = c.within.ensures.network
+pub returns-in_err-capacities-in-Root-clause-network : goal.returns-in_err-capacities-in-Root-clause-network
+returns-in_err-capacities-in-Root-clause-network g c = c.chosen.ensures.network
 
-pub returns-in-Root-clause-answer : goal.returns-in-Root-clause-answer
-returns-in-Root-clause-answer g c = c.within.ensures.answer
+pub returns-in_err-capacities-in-Root-clause-answer : goal.returns-in_err-capacities-in-Root-clause-answer
+returns-in_err-capacities-in-Root-clause-answer g c = rw ((err_from_is_err_and c.from_residual-in_err-capacities-in-Root.result c.from_residual-in_err-capacities-in-Root.ensures.1).1) tt
 
-pub returns-in-Root-clause-stop : goal.returns-in-Root-clause-stop
-returns-in-Root-clause-stop g c = c.within.ensures.stop
+pub returns-in_err-capacities-in-Root-clause-stop : goal.returns-in_err-capacities-in-Root-clause-stop
+returns-in_err-capacities-in-Root-clause-stop g c =
+    let p = err_from_is_err_and c.from_residual-in_err-capacities-in-Root.result c.from_residual-in_err-capacities-in-Root.ensures.1 in
+    rw (p.1, p.2) c.in_err-capacities-in-Root.ensures.stop
+
+pub returns-in_default-clause-network : goal.returns-in_default-clause-network
+returns-in_default-clause-network g c = c.chosen.ensures.network
+
+pub returns-in_default-clause-answer : goal.returns-in_default-clause-answer
+returns-in_default-clause-answer g c =
+    let opening : IsOpening c.args.self.now.net.now c.args.self.now.order.now (Root c.in-Root.critical c.in-Root.window) = subst (IsOpening c.args.self.now.net.now c.args.self.now.order.now) c.in-Root.is c.in_ok-critical.ensures in
+    let none : NoneIsEnough c.args.self.now.net.now c.args.self.now.order.now = subst (IsChosen c.args.self.now.net.now c.args.self.now.order.now) c.in_default.is c.in_ok-capacities-in-Root.ensures.chosen in
+    over c.args.self.now.net.now c.args.self.now.order.now c.in-Root.window c.requires.terms opening.window_is none
+
+pub returns-in_default-clause-stop : goal.returns-in_default-clause-stop
+returns-in_default-clause-stop g c = tt
+
+pub cost_of-cost-requires-clause-terms : goal.cost_of-cost-requires-clause-terms
+cost_of-cost-requires-clause-terms g c = c.requires.terms
+
+pub cost_of-cost-requires-clause-capacities : goal.cost_of-cost-requires-clause-capacities
+cost_of-cost-requires-clause-capacities g c =
+    let plan : IsPlan c.args.self.now.net.now c.args.self.now.order.now c.in-Some.capacities c.in-Some.starts = subst (IsChosen c.args.self.now.net.now c.args.self.now.order.now) c.in-Some.is c.in_ok-capacities-in-Root.ensures.chosen in
+    ap length c.as_slice.ensures ∙ plan.vector.is.places
+
+pub returns-in-Some-clause-network : goal.returns-in-Some-clause-network
+returns-in-Some-clause-network g c = c.chosen.ensures.network
+
+pub returns-in-Some-clause-answer : goal.returns-in-Some-clause-answer
+returns-in-Some-clause-answer g c =
+    let opening : IsOpening c.args.self.now.net.now c.args.self.now.order.now (Root c.in-Root.critical c.in-Root.window) = subst (IsOpening c.args.self.now.net.now c.args.self.now.order.now) c.in-Root.is c.in_ok-critical.ensures in
+    let plan : IsPlan c.args.self.now.net.now c.args.self.now.order.now c.in-Some.capacities c.in-Some.starts = subst (IsChosen c.args.self.now.net.now c.args.self.now.order.now) c.in-Some.is c.in_ok-capacities-in-Root.ensures.chosen in
+    record {
+      is_plan = plan;
+      deadline = ap (λ (terms : Terms). terms.deadline) c.order.view_is;
+      cost = c.cost_of-cost.ensures ∙ ap (cost c.args.self.now.order.now) c.as_slice.ensures;
+      critical = opening.length;
+    }
+
+pub returns-in-Some-clause-stop : goal.returns-in-Some-clause-stop
+returns-in-Some-clause-stop g c = tt

@@ -1,7 +1,7 @@
 use Rattle.std.proofs.Common.{◌≡◌, ◌*◌, ◌≤◌}
 use Rattle.racp_model.specs.Project.{duration, request}
 use Rattle.racp_model.specs.Schedule.{sum_below}
-use Rattle.racp_bounds.proofs.floor.energy_of.Given as goal
+use Rattle.racp_model.proofs.usage.energy_of.Given as goal
 
 abbrev pub invariant-loop-i : goal.invariant-loop-i
 invariant-loop-i l = record {

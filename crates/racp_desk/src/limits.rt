@@ -1,0 +1,17 @@
+//! How far a run goes.
+
+ghost use Rattle.std.specs.Prelude.{◌≤◌};
+
+/// How many workers a run has, and how far it goes at most.
+#[derive(Clone, Copy)]
+pub struct RunLimits {
+    /// How many workers there are, 1 to 64.
+    pub workers: usize,
+    /// How many nodes of a piece are searched in a turn, up to 1,000,000.
+    pub quantum: u64,
+    /// How many turns there are, up to 1,000,000,000,000. A turn is a piece that is taken.
+    pub turns: u64,
+    pub ghost workers_few: { workers ≤ 64 },
+    pub ghost quantum_small: { quantum ≤ 1000000 },
+    pub ghost turns_few: { turns ≤ 1000000000000 },
+}
