@@ -19,7 +19,7 @@ static char kind;
 static long left;
 static int told = -1;
 
-// A system call with three arguments; what it answers is below 0 where it failed.
+// A system call with three arguments; what it answers is below 0 if it failed.
 static long call(long number, long first, long second, long third) {
     long result;
     __asm__ volatile("syscall" : "=a"(result) : "a"(number), "D"(first), "S"(second), "d"(third) : "rcx", "r11", "memory");

@@ -1,7 +1,7 @@
 #!/usr/bin/env python3
 """The problem for CBC: a mixed integer program over times, in LP format, from the paths of a network and an order.
 
-`s3_7` is 1 where job 3 has started by time 7, else 0, for each time from its earliest start to before its latest; `a2` is the
+`s3_7` is 1 if job 3 has started by time 7, else 0, for each time from its earliest start to before its latest; `a2` is the
 capacity of resource 2.
 """
 
@@ -25,14 +25,14 @@ def model(planned):
 
 
 def has_started(planned, factor, job, time):
-    """A term that is the factor where the job has started by that time, else 0."""
+    """A term that is the factor if the job has started by that time, else 0."""
     if time < planned.earliest[job]:
         return factor, 0
     return factor, 1 if time >= planned.latest[job] else f"s{job}_{time}"
 
 
 def rule(terms):
-    """The line which says that the terms, factors of names or of 0 or 1, are at most 0 together; or none where there is no
+    """The line which says that the terms, factors of names or of 0 or 1, are at most 0 together; or none if there is no
     name in them."""
     most = -sum(factor * name for factor, name in terms if isinstance(name, int))
     named = [f"{factor:+d} {name}" for factor, name in terms if isinstance(name, str)]

@@ -26,14 +26,14 @@ class Literals:
             table[key] = f"x{number}"
 
     def has_started(self, factor, job, time):
-        """A term that is the factor where the job has started by that time, else 0."""
+        """A term that is the factor if the job has started by that time, else 0."""
         if time < self.planned.earliest[job]:
             return factor, 0
         return factor, self.started.get((job, time), 1)
 
 
 def rule(terms, least):
-    """The line which says that the terms, factors of literals or of 0 or 1, are at least so many together; or none where that
+    """The line which says that the terms, factors of literals or of 0 or 1, are at least this many together; or none if that
     is always so."""
     least -= sum(factor * name for factor, name in terms if isinstance(name, int))
     factors = {}
@@ -56,7 +56,7 @@ def model(planned):
 
 
 def order_rules(planned, literals):
-    """What has started by a time has started by the next; there is a unit only where there is the one before."""
+    """What has started by a time has started by the next; there is a unit only if there is the one before."""
     for job, time in literals.started:
         yield rule([literals.has_started(1, job, time + 1), literals.has_started(-1, job, time)], 0)
     for (resource, unit), name in literals.units.items():
