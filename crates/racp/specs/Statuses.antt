@@ -18,7 +18,7 @@ use Rattle.racp_cli.specs.declared.fault.StreamFault.TheVariants as stream
 use Rattle.racp.specs.declared.failure.Failure.{Failure}
 use Rattle.racp.specs.declared.failure.Failure.TheVariants.{Words, NotText, Option as OptionIs, Stream, Told}
 
--- the status where the library of the command line stops: help and the version are written, or writing them fails; memory
+-- the status if the library of the command line stops: help and the version are written, or writing them fails; memory
 -- runs out; or the words are refused
 abbrev pub IsStatusOfKind : ErrorKind → ℕ → Type 0
 IsStatusOfKind DisplayHelp status = (status ≡ 0) ⊎ (status ≡ fault_status stream.Write)

@@ -17,7 +17,7 @@ use std::sync::Wait;
 use std::thread::Threads;
 use std::time::Clock;
 
-/// Writes the answer to a request; where it is no plan, no `ok` and no `verified`, what is wrong goes to standard error.
+/// Writes the answer to a request; if it is no plan, no `ok` and no `verified`, what is wrong goes to standard error.
 /// `on_terminal` says whether standard error is a terminal.
 pub(crate) fn explained<
     R: Clock + Files + Input + Print + Eprint + AllocGlobal + Threads + Wait + Sync,
@@ -39,7 +39,7 @@ pub(crate) fn explained<
     }
 }
 
-/// A failure, with a word of standard output where that takes no more.
+/// A failure, with a word of standard output if that takes no more.
 fn with_output(alloc: Global, failure: Failure) -> Failure {
     match failure {
         Failure::Stream(StreamFault::Write) => told(
@@ -104,7 +104,7 @@ fn plan<R: Clock + Files + Print + Eprint + AllocGlobal + Threads + Wait + Sync>
     plan_read(rt, files, &mut net, &mut order, making)
 }
 
-/// The same, of the open files.
+/// Writes the plan of these open files, each read whole before the next, and what is wrong with them.
 fn plan_read<R: Clock + Files + Print + Eprint + AllocGlobal + Threads + Wait + Sync, F: Read>(
     rt: &R,
     files: OrderFiles<'_>,
@@ -150,7 +150,7 @@ fn check<R: Files + Print + Eprint + AllocGlobal>(
     check_read(rt, files, &mut net, &mut order, &mut plan)
 }
 
-/// The same, of the open files.
+/// Writes whether the plan in these open files is right; the network and the order are read whole first.
 fn check_read<R: Print + Eprint + AllocGlobal, F: Read>(
     rt: &R,
     files: PlanFiles<'_>,
@@ -166,7 +166,7 @@ fn check_read<R: Print + Eprint + AllocGlobal, F: Read>(
     check_beside(rt, &net, &order, files.plan, plan)
 }
 
-/// The same, where the network and the order are read.
+/// Writes whether the plan in a file, which is read whole, is right for the texts of a network and an order.
 fn check_beside<R: Print + Eprint + AllocGlobal, F: Read>(
     rt: &R,
     net: &Text<'_>,
@@ -209,7 +209,8 @@ fn verify<R: Files + Print + Eprint + AllocGlobal>(
     verify_for(rt, files, &mut net, &mut order)
 }
 
-/// The same, where the files of the network and of the order are open.
+/// Writes whether a plan is right and its certificate proves it, for the open files of the network and of the order;
+/// the files of the plan and of the certificate are opened here.
 fn verify_for<R: Files + Print + Eprint + AllocGlobal, F: Read>(
     rt: &R,
     files: ProofFiles<'_>,
@@ -223,7 +224,8 @@ fn verify_for<R: Files + Print + Eprint + AllocGlobal, F: Read>(
     verify_read(rt, files, net, order, &mut plan, &mut proof)
 }
 
-/// The same, of the open files.
+/// Writes whether the plan in these open files is right and the certificate proves it; the network and the order are
+/// read whole first.
 fn verify_read<R: Print + Eprint + AllocGlobal, F: Read, C: Read>(
     rt: &R,
     files: ProofFiles<'_>,
@@ -240,7 +242,8 @@ fn verify_read<R: Print + Eprint + AllocGlobal, F: Read, C: Read>(
     verify_beside(rt, files, &net, &order, plan, proof)
 }
 
-/// The same, where the network and the order are read.
+/// Writes whether the plan and the certificate in two open files, which are read whole, are right for the texts of a
+/// network and an order.
 fn verify_beside<R: Print + Eprint + AllocGlobal, C: Read>(
     rt: &R,
     files: ProofFiles<'_>,
@@ -286,7 +289,7 @@ fn is_told(status: u8) -> bool {
     status == IMPOSSIBLE || status == REFUSED || status == CHECK_FAILED
 }
 
-/// Tells on standard error what is wrong; nothing where memory ran out for the words.
+/// Tells on standard error what is wrong; nothing if memory ran out for the words.
 fn tell(rt: &impl Eprint, cause: Result<String, AllocError>) {
     if let Ok(cause) = cause {
         let _ = rt.eprint(Shown::of(&cause));

@@ -84,7 +84,7 @@ impl From<AllocError> for Failure {
 }
 
 /// Tells why no answer is written, and answers the status. Help and the version go to standard output, all else to
-/// standard error; where that takes no text, the status alone tells.
+/// standard error; if that takes no text, the status alone tells.
 pub(crate) fn report<R: Print + Eprint>(rt: &R, failure: Failure) -> u8
     ensures { IsStatusOf failure result }
 {

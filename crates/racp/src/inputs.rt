@@ -2,14 +2,12 @@
 
 use crate::failure::Failure;
 use racp_cli::StreamFault;
+use racp_text::MOST_TEXT_BYTES;
 use std::alloc::Global;
 use std::fmt::Display;
 use std::fs::File;
 use std::io::{ErrorKind, Read};
 use std::rt::Files;
-
-/// How many bytes are read of one input at most.
-const INPUT_LIMIT: usize = 16_777_216;
 
 /// The file with this path, for reading; or which it is, and what the system says of it.
 pub(crate) fn opened<R: Files + AllocGlobal>(rt: &R, path: &str) -> Result<R::File, Failure> {
@@ -24,10 +22,10 @@ pub(crate) fn whole<I: Read>(alloc: Global, input: &mut I, name: &str) -> Result
     let mut bytes = Vec::new(alloc);
     match input
         .by_ref()
-        .take(INPUT_LIMIT as u64 + 1)
+        .take(MOST_TEXT_BYTES as u64 + 1)
         .read_to_end(&mut bytes)
     {
-        Ok(_) if bytes.len() <= INPUT_LIMIT => Ok(bytes),
+        Ok(_) if bytes.len() <= MOST_TEXT_BYTES => Ok(bytes),
         Ok(_) => Err(told(
             alloc,
             StreamFault::TooLong,

@@ -4,9 +4,9 @@ use crate::progress::Progress;
 use racp_search::Stop;
 use std::time::{Clock, Duration, Instant};
 
-/// Stops planning when so much time has passed since it was made; without a limit it never does. Where there is a limit
-/// and the clock cannot be read, it stops at once. Each time that it is asked counts as a node of the search, of which it
-/// tells on standard error where that is wanted.
+/// Stops planning when so much time has passed since it was made; without a limit it never does. If there is a limit
+/// and the clock cannot be read, it stops at once. Each time that it is asked counts as a node of the search, of which
+/// it tells on standard error if that is wanted.
 #[derive(Drop)]
 pub(crate) struct Limit<C: Clock + Eprint + Drop> {
     host: C,
@@ -16,7 +16,7 @@ pub(crate) struct Limit<C: Clock + Eprint + Drop> {
 }
 
 impl<C: Clock + Eprint + Drop> Limit<C> {
-    /// A limit of so many seconds from now on, or none, which counts and tells as this says, or does not.
+    /// A limit of this many seconds from now on, or none, which counts and tells as this says, or does not.
     pub(crate) fn of(host: C, seconds: Option<u64>, progress: Option<Progress>) -> Self {
         let begun = match Instant::now(&host) {
             Ok(now) => Some(now),
@@ -30,12 +30,12 @@ impl<C: Clock + Eprint + Drop> Limit<C> {
         }
     }
 
-    /// What counts the nodes and tells of planning, where that is wanted.
+    /// What counts the nodes and tells of planning, if that is wanted.
     pub(crate) fn progress(&self) -> Option<&Progress> {
         self.progress.as_ref()
     }
 
-    /// How much time has passed, where the clock can be read.
+    /// How much time has passed, if the clock can be read.
     fn passed(&self) -> Option<Duration> {
         match self.begun?.elapsed(&self.host) {
             Ok(passed) => Some(passed),

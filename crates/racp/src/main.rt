@@ -1,11 +1,19 @@
 //! The program `racp`: runs the command that the words of its command line name.
 //!
-//! It plans the capacities of a project. `racp plan NET ORDER` prints the cheapest capacities under which the project
-//! ends in time, with the least starts; `racp check NET ORDER PLAN` whether a plan, whoever made it, is right;
-//! `racp prove NET ORDER` a certificate that no capacities before those of the plan are enough, `racp verify NET ORDER
-//! PLAN PROOF` whether a text, whoever made it, is one; `racp show NET ORDER PLAN` a picture of a plan; `racp curve NET ORDER`
-//! what each deadline costs; `racp order NET` the text of an order; `racp explain` what faults mean; `racp cpm NET` the critical length and the early starts. What the commands do is proved in racp_cli, over any
-//! readers and any writer; this crate opens files and standard streams, hands them over, and ends with the status.
+//! It plans the capacities of a project.
+//!
+//! - `racp plan NET ORDER` prints the cheapest capacities under which the project ends in time, and the least starts.
+//! - `racp prove NET ORDER` prints a certificate that no capacities before those of the plan are enough.
+//! - `racp check NET ORDER PLAN` says whether a plan is right, whoever made it.
+//! - `racp verify NET ORDER PLAN PROOF` says whether a text is such a certificate, whoever made it.
+//! - `racp show NET ORDER PLAN` draws a plan.
+//! - `racp curve NET ORDER` says what each deadline costs.
+//! - `racp order NET` writes an order.
+//! - `racp cpm NET` prints the critical length and the early starts.
+//! - `racp explain` says what faults mean.
+//!
+//! What the commands do is proved in racp_cli, over any readers and any writer. This crate opens files and standard
+//! streams, hands them over, and ends with the status.
 //!
 //! ```text
 //! racp plan b.sm b3.toml             what examples/b3.plan has                    status 0
@@ -15,21 +23,20 @@
 //! racp plan a.sm                     nothing; standard error has what is wrong    status 2
 //! ```
 //!
-//! With `--explain`, the inputs of `cpm`, `plan`, `check` and `verify` are read whole before the same functions of racp_cli
-//! are handed their bytes, so that racp_explain can tell on standard error what is wrong with them; without it no input is
-//! read twice.
+//! With `--explain`, the inputs of `cpm`, `plan`, `check` and `verify` are read whole before the same functions of
+//! racp_cli are handed their bytes, so that racp_explain can tell on standard error what is wrong with them; without it
+//! no input is read twice.
 //!
 //! Files are opened in the order of the words, before the first is read. A file that cannot be opened counts as a read
 //! that failed. Answers go to standard output, and so do help and the version. Words that are refused, a file or a
-//! stream that failed, and lack of memory for the words or the inputs are told on standard error; where that takes no
-//! text, the status alone tells.
+//! stream that failed, and lack of memory for the words or the inputs are told on standard error. If nothing can be
+//! written there, the status alone tells.
 //!
 //! Proved: `failure::report` answers 2, 6 or 7 by the reason why no answer is written, and 0 or 7 after help and the
 //! version; `run::status` answers a status that some answer or some reason has. Not proved, and tested over the built
 //! program: that each command reads its own files in their order, that the bytes of files and of standard input are
-//! those that racp_cli is handed, which stream each text goes to, which status goes with which words, and that `--explain` changes neither standard output nor
-//! the status. Trusted: the
-//! toolchain, the C library and the machine.
+//! those that racp_cli is handed, which stream each text goes to, which status goes with which words, and that
+//! `--explain` changes neither standard output nor the status. Trusted: the toolchain, the C library and the machine.
 #![tactic(auto)]
 
 mod explained;

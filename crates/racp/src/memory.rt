@@ -11,7 +11,7 @@ const STATE: &str = "/proc/self/statm";
 /// How many pages a mebibyte has.
 const PAGES: u64 = 256;
 
-/// How many mebibytes of memory the program uses, rounded down; 0 where the system does not tell it.
+/// How many mebibytes of memory the program uses, rounded down; 0 if the system does not tell it.
 pub(crate) fn mebibytes_used<F: Files>(rt: &F) -> u64 {
     match pages_used(rt) {
         Some(pages) => pages / PAGES,

@@ -18,7 +18,7 @@ const MOST_RESOURCES: usize = 16;
 /// What a terminal is sent before a line that takes the place of the one above: up one line, and clear it.
 const IN_PLACE: &str = "\x1b[A\x1b[K";
 
-/// Counts the nodes of a search, is told how far planning has come, and tells both: every two seconds, where a node is
+/// Counts the nodes of a search, is told how far planning has come, and tells both: every two seconds, if a node is
 /// searched then.
 #[derive(Drop)]
 pub(crate) struct Progress {
@@ -29,8 +29,8 @@ pub(crate) struct Progress {
     told: Told,
 }
 
-/// How far planning has come: the deadline, the floor of each resource, by place from 0, what the plan costs at least, and
-/// how many mebibytes of memory were used when that was last told.
+/// How far planning has come: the deadline, the floor of each resource, by place from 0, what the plan costs at least,
+/// and how many mebibytes of memory were used when that was last told.
 #[derive(Drop)]
 struct Told {
     deadline: AtomicU64,
@@ -73,8 +73,8 @@ impl Display for Told {
 }
 
 impl Progress {
-    /// No node is counted, nothing is told, and the first line is due after two seconds. On a terminal each line takes the
-    /// place of the one before it.
+    /// No node is counted, nothing is told, and the first line is due after two seconds. On a terminal each line takes
+    /// the place of the one before it.
     ///
     /// # Errors
     ///
@@ -98,7 +98,7 @@ impl Progress {
         due <= seconds && self.takes(due, seconds)
     }
 
-    /// Tells the line that was due when so much time had passed. Where that cannot be written, nothing is told.
+    /// Tells the line that was due when so much time had passed. If that cannot be written, nothing is told.
     pub(crate) fn tell<E: Eprint>(&self, errors: &E, passed: Duration) {
         let seconds = passed.as_secs();
         let is_begun = self.is_begun.swap(true, Ordering::SeqCst);
@@ -145,7 +145,7 @@ impl Progress {
     }
 }
 
-/// Hears how far planning has come, and notes it, with the memory that is used then, where that is wanted.
+/// Hears how far planning has come, and notes it, with the memory that is used then, if that is wanted.
 #[derive(Drop)]
 pub(crate) struct Listener<'a, F: Files + Drop> {
     host: F,

@@ -15,7 +15,9 @@ use racp_cli::{
 };
 use racp_desk::Open;
 use racp_lexfix::Effort;
-use racp_words::{Crew, Memory, OrderFiles, PlanFiles, ProofFiles, Request, Source, Task, asked};
+use racp_words::{
+    CrewOptions, Memory, OrderFiles, PlanFiles, ProofFiles, Request, Source, Task, asked,
+};
 use std::alloc::{AllocError, Global};
 use std::fs::File;
 use std::io::{ErrorKind, Read};
@@ -25,7 +27,7 @@ use std::thread::Threads;
 use std::time::Clock;
 use std::{env, io};
 
-/// What a network is read from where standard input is a terminal.
+/// What a network is read from if standard input is a terminal.
 const HINT: &str = "racp: reading a network from the terminal; racp --help lists the commands";
 
 /// Which standard streams are terminals.
@@ -42,15 +44,15 @@ pub(crate) struct Terminals {
 pub(crate) struct Making {
     /// How much memory records take.
     pub(crate) memory: Memory,
-    /// The workers; one thread alone where there are none.
-    pub(crate) crew: Option<Crew>,
+    /// The workers; one thread alone if there are none.
+    pub(crate) crew: Option<CrewOptions>,
     /// Whether standard error is a terminal.
     pub(crate) on_terminal: bool,
 }
 
 impl Making {
-    /// With so much memory, and by these workers, where there are some.
-    pub(crate) fn of(memory: Memory, crew: Option<Crew>, on_terminal: bool) -> Self {
+    /// With so much memory, and by these workers, if there are some.
+    pub(crate) fn of(memory: Memory, crew: Option<CrewOptions>, on_terminal: bool) -> Self {
         Making {
             memory,
             crew,
@@ -83,7 +85,7 @@ fn answer<R: Clock + Env + Files + Input + Print + Eprint + AllocGlobal + Thread
     answer_to(rt, task, terminals)
 }
 
-/// Writes the answer to a task, and a hint where a network is read from a terminal.
+/// Writes the answer to a task, and a hint if a network is read from a terminal.
 fn answer_to<R: Clock + Files + Input + Print + Eprint + AllocGlobal + Threads + Wait + Sync>(
     rt: &R,
     task: Task<'_>,
@@ -170,7 +172,7 @@ fn plan<R: Clock + Files + Print + Eprint + AllocGlobal + Threads + Wait + Sync>
     plan_of(rt, &mut net, &mut order, making)
 }
 
-/// Writes the plan for a network and an order that are read there, or why there is none: made by workers where there is a
+/// Writes the plan for a network and an order that are read there, or why there is none: made by workers if there is a
 /// crew, and else on one thread.
 pub(crate) fn plan_of<
     R: Clock + Files + Print + Eprint + AllocGlobal + Threads + Wait + Sync,
@@ -185,13 +187,14 @@ pub(crate) fn plan_of<
     }
 }
 
-/// The same, made by the workers of a crew. With an answer, the work that was done goes to standard error where that is
-/// asked for, and until then how far planning has come.
+/// Writes the plan for a network and an order that are read there, or why there is none, made by the workers of a crew.
+/// With an answer, the work that was done goes to standard error if that is asked for, and until then how far planning
+/// has come.
 fn plan_by<
     R: Clock + Files + Print + Eprint + AllocGlobal + Threads + Wait + Sync,
     N: Read,
     O: Read,
->(rt: &R, net: &mut N, order: &mut O, crew: Crew, making: Making) -> Result<u8, StreamFault>
+>(rt: &R, net: &mut N, order: &mut O, crew: CrewOptions, making: Making) -> Result<u8, StreamFault>
     ensures { IfOk result IsStatusOfAnswer }
 {
     let progress = match progress_of(rt.alloc(), crew.progress, making.on_terminal) {
@@ -218,14 +221,14 @@ fn plan_by<
     Ok(status)
 }
 
-/// Tells on standard error how much work was done; nothing where there was no answer.
+/// Tells on standard error how much work was done; nothing if there was no answer.
 fn tell_effort(rt: &impl Eprint, effort: Option<Effort>) {
     if let Some(effort) = effort {
         let _ = rt.eprintln(format_args!("stats pieces {} nodes {}", effort.pieces, effort.nodes));
     }
 }
 
-/// What counts and tells how far planning has come, where that is asked for.
+/// What counts and tells how far planning has come, if that is asked for.
 fn progress_of(
     alloc: Global,
     is_asked: bool,
@@ -297,7 +300,8 @@ fn verify<R: Files + Print + AllocGlobal>(rt: &R, files: ProofFiles<'_>) -> Resu
     verify_for(rt, &mut net, &mut order, files)
 }
 
-/// The same, where the files of the network and of the order are open.
+/// Writes whether a plan is right and its certificate shows that no capacities before its own are enough, for the open
+/// files of the network and of the order; the files of the plan and of the certificate are opened here.
 fn verify_for<R: Files + Print + AllocGlobal, N: Read, O: Read>(
     rt: &R,
     net: &mut N,

@@ -11,7 +11,7 @@ use racp_cli::{
 use racp_desk::Open;
 use racp_explain::{explanation, subject_list};
 use racp_lexfix::{Crew, Unheard};
-use racp_order::{Factor, numbers_of};
+use racp_prices::{Factor, numbers_of};
 use racp_search::Never;
 use racp_words::{Memory, OrderFiles, PlanFiles, Terms, Tool, Workers};
 use std::alloc::{AllocError, Global};
@@ -205,7 +205,7 @@ fn listed(alloc: Global, word: &str) -> Result<Vec<u32>, Failure> {
     }
 }
 
-/// The numbers that a word lists, where there is one.
+/// The numbers that a word lists, if there is one.
 fn optional_list(alloc: Global, word: Option<&str>) -> Result<Option<Vec<u32>>, Failure> {
     match word {
         Some(word) => Ok(Some(listed(alloc, word)?)),

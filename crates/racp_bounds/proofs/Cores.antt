@@ -6,7 +6,7 @@ use Rattle.racp_model.specs.Project.{Project, duration, request}
 use Rattle.racp_model.specs.Plan.{IsLeast}
 use Rattle.racp_model.specs.Window.{Bounds}
 use Rattle.racp_model.proofs.lemmas.Parts.{part, parts-within}
-use Rattle.racp_model.specs.Core.{core_use, core_usage}
+use Rattle.racp_model.specs.CoreTimes.{core_use, core_usage}
 use Rattle.racp_bounds.specs.Floors.{IsAtCore}
 
 -- a core usage is within a bound where it is at each late start

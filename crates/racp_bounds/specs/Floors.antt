@@ -5,9 +5,9 @@ use Rattle.racp_model.specs.Project.{Project, duration, request}
 use Rattle.racp_model.specs.Schedule.{energy, roof}
 use Rattle.racp_model.specs.Plan.{IsLeast}
 use Rattle.racp_model.specs.Window.{Bounds}
-use Rattle.racp_model.specs.Core.{core_usage}
+use Rattle.racp_model.specs.CoreTimes.{core_usage}
 
--- so many units of resource k are at or above the requests of the jobs that run for some time
+-- this many units of resource k are at or above the requests of the jobs that run for some time
 abbrev pub IsAtRequests : Project → ℕ → ℕ → Type 0
 IsAtRequests p k units = (i : ℕ) → i < length p.jobs → 0 < duration p i → request p i k ≤ units
 
@@ -19,7 +19,7 @@ IsAtEnergy p deadline k units = 0 < deadline → div_ceil (energy p k) deadline 
 abbrev pub IsAtCore : Project → Bounds → ℕ → ℕ → Type 0
 IsAtCore p root k units = (t : ℕ) → core_usage p root k t ≤ units
 
--- so many units of resource k are at or above three lower bounds: the largest request of a job that runs for some time; the
+-- this many units of resource k are at or above three lower bounds: the largest request of a job that runs for some time; the
 -- energy over the deadline, rounded up; and the core usage at any time
 pub record IsAtBounds (p : Project) (root : Bounds) (deadline k units : ℕ) : Type 0 where
   pub requests : IsAtRequests p k units

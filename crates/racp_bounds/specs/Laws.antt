@@ -7,7 +7,7 @@ use Rattle.racp_model.specs.Plan.{IsLeast, IsEnough}
 use Rattle.racp_model.specs.Window.{Bounds, LiesIn, IsRootWindow}
 use Rattle.racp_prices.specs.Units.{AreMostUnits}
 use Rattle.racp_candidates.specs.Box.{IsInBox}
-use Rattle.racp_model.specs.Core.{IsCoreTime}
+use Rattle.racp_model.specs.CoreTimes.{IsCoreTime}
 use Rattle.racp_bounds.specs.Floors.{AreFloors, AreRoofs}
 use Rattle.racp_bounds.specs.Sharp.{AreSharpened, AreRefutedPairs, AreSharpenedBefore}
 
@@ -39,7 +39,7 @@ CutToRoofsAdmits =
     ((k : ℕ) → k < p.resources → slice_index cut k ≡ min (slice_index whole k) (slice_index roofs k)) →
     Admits p release due whole → Admits p release due cut
 
--- where there is a root window, the roofs admit, so no floor is above its roof
+-- if there is a root window, the roofs admit, so no floor is above its roof
 abbrev pub FloorsAreBelowRoofs : Type 0
 FloorsAreBelowRoofs =
     (p : Project) (release due : ℕ → ℕ) (root : Bounds) (deadline : ℕ) (floors roofs : List ℕ) →

@@ -9,7 +9,7 @@ use Rattle.racp_questions.specs.FirstYes.{MayGiveUp}
 use Rattle.racp_questions.specs.declared.asker.AskStop.{AskStop}
 use Rattle.racp_bounds.specs.declared.sharp.Sharp.{Sharp}
 
--- so many units of resource k, from its first floor on, with which some starts in the root window fit, the other resources having
+-- this many units of resource k, from its first floor on, with which some starts in the root window fit, the other resources having
 -- their roofs
 pub record IsEnoughOf (p : Project) (root : Bounds) (floors roofs : List ℕ) (k units : ℕ) : Type 0 where
   pub from_floor : slice_index floors k ≤ units
@@ -24,7 +24,7 @@ pub record AreSharpened (p : Project) (root : Bounds) (floors roofs sharp : List
   pub places : length sharp ≡ p.resources
   pub each : (k : ℕ) → k < p.resources → IsSharpened p root floors roofs k (slice_index sharp k)
 
--- resources k and l are refuted: no starts in the root window fit where both have these floors, and the others their roofs
+-- resources k and l are refuted: no starts in the root window fit if both have these floors, and the others their roofs
 abbrev pub IsRefutedPair : Project → Bounds → (floors roofs : List ℕ) → ℕ → ℕ → Type 0
 IsRefutedPair p root floors roofs k l = IsNo p (set (set roofs k (slice_index floors k)) l (slice_index floors l)) root
 
@@ -47,11 +47,11 @@ pub record AreSharpenedBefore (p : Project) (root : Bounds) (floors roofs : List
   pub sharpened : (k : ℕ) → k < n → k < p.resources → IsSharpened p root floors roofs k (slice_index reached k)
   pub first : (k : ℕ) → n ≤ k → k < p.resources → slice_index reached k ≡ slice_index floors k
 
--- how many pairs of so many resources there are: for each resource, one with each that comes after it
+-- how many pairs of this many resources there are: for each resource, one with each that comes after it
 abbrev pub pair_count : ℕ → ℕ
 pair_count resources = sum_below resources (λ k. resources - (k + 1))
 
--- why sharpening ended early, after so many series were answered: the floors that were reached, where each series sharpened one more,
+-- why sharpening ended early, after this many series were answered: the floors that were reached, where each series sharpened one more,
 -- as long as there were any left; and that the asker may give up, or may stop before it answered a series for each resource and each pair
 pub record IsUnsharpened (p : Project) (root : Bounds) (floors roofs : List ℕ) (answered : ℕ)
     (may_stop may_want_thread : Type 0)

@@ -1,7 +1,9 @@
+//! Floors: units of each resource below which no capacities admit a schedule.
+
 ghost use Rattle.std.specs.Prelude.{◌≡◌, ◌<◌, ◌≤◌, IfOk, length};
 ghost use Rattle.racp_model.specs.Schedule.{EndsBy};
 ghost use Rattle.racp_model.specs.Plan.{IsLeast};
-ghost use Rattle.racp_model.specs.Core.{core_use, core_usage};
+ghost use Rattle.racp_model.specs.CoreTimes.{core_use, core_usage};
 ghost use Rattle.racp_bounds.specs.Floors.{IsAtRequests, IsAtEnergy, IsAtCore, IsFloor, AreFloors};
 
 use racp_model::{Capacities, Network, Window, energy_of};
@@ -109,7 +111,7 @@ fn core_usage_at(net: &Network, root: &Window, k: usize, time: u32) -> u32
 }
 
 /// What one job uses of a resource at a time wherever it starts in its window.
-#[tactic(auto, unfolding(racp_model::specs::Core::core_use))]
+#[tactic(auto, unfolding(racp_model::specs::CoreTimes::core_use))]
 fn core_use_at(net: &Network, root: &Window, k: usize, time: u32, i: usize) -> u32
     requires resource { k < net.now.resources }
     requires job { i < length net.now.jobs }

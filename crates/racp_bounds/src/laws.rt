@@ -22,7 +22,7 @@ pub fn cut_to_roofs_admits()
     ensures { CutToRoofsAdmits }
 {}
 
-/// Where there is a root window the roofs admit, and no floor is above its roof.
+/// If there is a root window the roofs admit, and no floor is above its roof.
 pub fn floors_are_below_roofs()
     ensures { FloorsAreBelowRoofs }
 {}

@@ -1,5 +1,6 @@
-//! Bounds on the capacities of a project: floors, below which no capacities admit a schedule, and roofs, above which no
-//! unit is ever used; and floors that are sharpened by questions.
+//! Bounds on the capacities of a project: floors, which every schedule needs, and roofs, above which no unit is used.
+//!
+//! Floors can be sharpened by questions.
 //!
 //! Lists are by the places of jobs and resources, from 0. Times are whole time units.
 //!
@@ -8,7 +9,7 @@
 //! the deadline, rounded up; and the core usage, what the jobs use together at a time wherever they start in the root
 //! window. From its late start to its early finish a job runs wherever it starts: these are its core times.
 //!
-//! The five jobs of examples/a.sm by the deadline 4, where job 2 can start at 0 or 1:
+//! The five jobs of examples/a.sm by the deadline 4, by which job 2 can start at 0 or 1:
 //!
 //! ```text
 //! largest request               2   of job 2
@@ -20,19 +21,19 @@
 //!
 //! `sharpen` raises floors by questions about the root window. For each resource, its numbers of units are asked from
 //! the floor on, with the other resources at their roofs, up to the first yes: that number is its sharpened floor. Then
-//! each pair of resources is asked at both sharpened floors, with the others at their roofs; a pair of which that is a
-//! no is refuted. The six jobs of examples/b.sm by the deadline 3 have the floors 1 and 1, which stay so when they are
-//! sharpened, and the pair (1, 2) is refuted: so of one of them there have to be two units or more.
+//! each pair of resources is asked at both sharpened floors, with the others at their roofs. If that is infeasible, the
+//! pair is refuted. The six jobs of examples/b.sm by the deadline 3 have the floors 1 and 1, which stay so when they
+//! are sharpened, and the pair (1, 2) is refuted: so at least one of the two resources has to have two units or more.
 //!
 //! Core usages are looked at only where core times begin, at late starts. That no schedule gets by with less than the
 //! energy is proved by summing up the usage over all times before the deadline.
 //!
 //! Proved: `floors` gives exactly the greatest of the three bounds, `roofs` the sums of the requests, `sharpen` the
-//! least numbers of units and exactly the refuted pairs. Where the asker gives up, `sharpen` gives floors of which the
-//! first ones are sharpened, one for each series that was answered until all are, and the others are as before. In
-//! `laws`: capacities that admit are at or above the floors, still admit when they are cut to the roofs, and then lie
-//! in the box of the sharpened floors and the refuted pairs; the capacities of the plan lie in it as they are, whatever
-//! the prices. Tested alone: that memory is not refused without need.
+//! least numbers of units and exactly the refuted pairs. If the asker gives up, the first floors are sharpened, one for
+//! each series that was answered, and the others are as before. In `laws`: capacities that admit are at or above the
+//! floors, still admit when they are cut to the roofs, and then lie in the box of the sharpened floors and the refuted
+//! pairs; the capacities of the plan lie in it as they are, whatever the prices. Tested alone: that memory is not
+//! refused without need.
 #![tactic(auto)]
 
 mod floor;

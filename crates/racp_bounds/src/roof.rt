@@ -1,3 +1,5 @@
+//! Roofs: the sums of all requests, which no schedule exceeds.
+
 ghost use Rattle.std.specs.Prelude.{◌≡◌, IfOk};
 ghost use Rattle.racp_bounds.specs.Floors.{AreRoofs};
 

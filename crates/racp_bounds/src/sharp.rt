@@ -1,3 +1,5 @@
+//! Floors that are raised by questions about the root window, and pairs of resources that are refuted.
+
 ghost use Rattle.std.specs.Prelude.{◌≡◌, ◌↔◌, ℕ, ◌+◌, ◌-◌, ◌<◌, ◌≤◌, [], ◌∷◌, ◌++◌, List, OnOk, OnErr, IfOk, IfErr, IsTrue, length, slice_index, set};
 ghost use Rattle.racp_model.specs.Project.{number};
 ghost use Rattle.racp_model.specs.Formed.{HasBounds};
@@ -23,7 +25,7 @@ pub struct Sharp {
 
 /// Sharpens the floors of a project by questions about its root window. The sharpened floor of a resource is the least
 /// number of units, from its floor on, with which some starts fit when the other resources have their roofs. A pair of
-/// resources is refuted where no starts fit when both have their sharpened floors and the others their roofs. Floors
+/// resources is refuted if no starts fit when both have their sharpened floors and the others their roofs. Floors
 /// and roofs are by resource, from place 0, with no floor above its roof, and some starts in the root window fit the
 /// roofs. The asker is told the floors that were reached, each time that it is asked for a further one.
 ///

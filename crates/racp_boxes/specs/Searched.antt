@@ -50,14 +50,14 @@ IsRefutedBy refuted units =
 abbrev pub AreKeptWith : (old : List (List ℕ)) → List ℕ → (new : List (List ℕ)) → Type 0
 AreKeptWith old units new = (other : List ℕ) → Contains new other → Contains old other ⊎ (other ≡ units)
 
--- a vector is the best one now where it stands before the old one, and nothing else changes
+-- a vector is the best one now if it stands before the old one, and nothing else changes
 pub record IsLearnt (terms : Terms) (old : Known) (units : List ℕ) (new : Known) : Type 0 where
   pub best : ((new.best ≡ units) × IsBefore terms units old.best) ⊎
       ((new.best ≡ old.best) × (IsBefore terms units old.best → ⊥))
   pub priced : new.cost ≡ cost terms new.best
   pub refuted : new.refuted ≡ old.refuted
 
--- what is told of a vector: nothing fits, it does not stand before the best one, or neither, where nodes had a bound
+-- what is told of a vector: nothing fits, it does not stand before the best one, or neither, if nodes had a bound
 abbrev pub IsTold : Subject → List ℕ → (most : Option ℕ) → List ℕ → Told → Type 0
 IsTold s units most best Enough = IsBefore s.order.now units best → ⊥
 IsTold s units most best Refuted = IsNo s.net.now units s.root.now
@@ -123,7 +123,7 @@ pub record IsPart (s : Subject) (span : Span) (old new : Known) (part : List ℕ
   pub resource : part.1 < length span.low
   pub several : slice_index span.low part.1 < slice_index part.0 part.1
 
--- what is left of a box once its high vector was asked for: these, or nothing, where the box was searched by that
+-- what is left of a box once its high vector was asked for: these, or nothing, if the box was searched by that
 abbrev pub IsLeftOf : Subject → Span → (old new : Known) → Option (List ℕ × ℕ) → Type 0
 IsLeftOf s span old new (Some part) = IsPart s span old new part
 IsLeftOf s span old new None = IsSearched s span old new
@@ -140,7 +140,7 @@ pub record IsAsBefore (old new : List ℕ) : Type 0 where
   pub places : length new ≡ length old
   pub same : (k : ℕ) → k < length old → slice_index new k ≡ slice_index old k
 
--- of the first n resources one of which a box has several numbers of units, or none where it has one of each
+-- of the first n resources one of which a box has several numbers of units, or none if it has one of each
 abbrev pub IsWidest : (n : ℕ) → (low high : List ℕ) → Option ℕ → Type 0
 IsWidest n low high (Some k) = (k < n) × (slice_index low k < slice_index high k)
 IsWidest n low high None = (k : ℕ) → k < n → slice_index high k ≤ slice_index low k

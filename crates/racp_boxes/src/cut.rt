@@ -11,7 +11,7 @@ use racp_prices::Order;
 use std::alloc::{AllocError, Global};
 
 /// The high numbers of a box, each lowered to the most units of a vector of the box that stands before the best one;
-/// `None` where not even the low vector does, so that none of the box does.
+/// `None` if not even the low vector does, so that none of the box does.
 pub(crate) fn cut(
     alloc: Global,
     net: &Network,

@@ -104,8 +104,8 @@ impl Span {
 }
 
 /// Searches a box of vectors: what is then known as the best vector is none that another one of the box, with which
-/// some starts fit, stands before. All vectors within the roofs with which some starts fit and that cost less than `rest`
-/// are in the box. The asker is told what they cost at least.
+/// some starts fit, stands before. All vectors within the roofs with which some starts fit and that cost less than
+/// `rest` are in the box. The asker is told what they cost at least.
 fn search<A: Asker<AnySeries>>(
     alloc: Global,
     subject: &Subject,
@@ -142,7 +142,7 @@ fn search<A: Asker<AnySeries>>(
 }
 
 /// Cuts a box, and asks for its high vector: the high numbers that are left and the resource, by place, along which the
-/// box is then to be halved. `None` where no vector of the box that stands before the best one is left to be found. The
+/// box is then to be halved. `None` if no vector of the box that stands before the best one is left to be found. The
 /// asker is told what all vectors within the roofs, with which some starts fit, cost at least.
 fn cut_and_ask<A: Asker<AnySeries>>(
     alloc: Global,
@@ -182,7 +182,7 @@ fn cut_and_ask<A: Asker<AnySeries>>(
     Ok(Some((high, k)))
 }
 
-/// Asks for a vector, over a few nodes at first. Where that is open the asker is told what is asked for next, and asked
+/// Asks for a vector, over a few nodes at first. If that is open the asker is told what is asked for next, and asked
 /// for the vector with its own bound on the nodes.
 fn ask_about<A: Asker<AnySeries>>(
     alloc: Global,
@@ -215,7 +215,7 @@ fn ask_about<A: Asker<AnySeries>>(
     }
 }
 
-/// Puts a copy of a box behind others.
+/// Puts a copy of a box after others.
 fn push_copy(pending: &mut Vec<Span>, span: &Span) -> Result<(), AllocError>
     ensures { IfOk result (λ _. pending.new.items ≡ pending.old.items ++ span.now ∷ []) }
 {
@@ -223,8 +223,8 @@ fn push_copy(pending: &mut Vec<Span>, span: &Span) -> Result<(), AllocError>
     Ok(())
 }
 
-/// Tells the asker what is asked for next as long as each box is refuted: what is asked of the last boxes that are pending
-/// first, as they would be cut now.
+/// Tells the asker what is asked for next as long as each box is refuted: what is asked of the last boxes that are
+/// pending first, as they would be cut now.
 fn foresee<A: Asker<AnySeries>>(
     alloc: Global,
     subject: &Subject,
@@ -250,8 +250,8 @@ fn foresee<A: Asker<AnySeries>>(
     Ok(())
 }
 
-/// What is asked of a box first, as it would be cut now. Where its high vector is known to be enough, that is what is asked
-/// of its half with fewer units. `None` where nothing is asked, or none was found within so many halvings.
+/// What is asked of a box first, as it would be cut now. If its high vector is known to be enough, that is what is
+/// asked of its half with fewer units. `None` if nothing is asked, or none was found within this many halvings.
 fn first_question(
     alloc: Global,
     subject: &Subject,
@@ -335,7 +335,7 @@ fn halved(span: Span, high: Capacities, k: usize) -> Result<(Span, Span), AllocE
     Ok((below, above))
 }
 
-/// How many nodes a question about a box may take: there is no bound where the box has one vector.
+/// How many nodes a question about a box may take: there is no bound if the box has one vector.
 fn most_nodes(lane: Option<usize>) -> Option<u64>
     ensures { lane ≡ None → result ≡ None }
 {
@@ -345,7 +345,7 @@ fn most_nodes(lane: Option<usize>) -> Option<u64>
     }
 }
 
-/// The resource, by place from 0, whose units from the low to the high number cost most; `None` where there is one
+/// The resource, by place from 0, whose units from the low to the high number cost most; `None` if there is one
 /// vector from the low to the high one.
 fn widest(order: &Order, low: &Capacities, high: &Capacities) -> Option<usize>
     requires prices { length order.now.prices ≡ length low.now }

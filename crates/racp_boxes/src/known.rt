@@ -103,7 +103,7 @@ impl Known {
         is_at_most(self.best.as_slice(), units.as_slice())
     }
 
-    /// Keeps a vector with which nothing fits. Where as many are kept as there may be, these are forgotten.
+    /// Keeps a vector with which nothing fits. If as many are kept as there may be, these are forgotten.
     fn keep(&mut self, units: Capacities) -> Result<(), AllocError>
         ensures best { self.new.best ≡ self.old.best }
         ensures cost { self.new.cost ≡ self.old.cost }
@@ -116,7 +116,7 @@ impl Known {
         Ok(())
     }
 
-    /// Takes a vector that is enough for the best one, where it stands before that.
+    /// Takes a vector that is enough for the best one, if it stands before that.
     fn learn(&mut self, net: &Network, order: &Order, units: Capacities)
         requires terms { AreTermsOf net.now order.now }
         requires units { length units ≡ net.now.resources }

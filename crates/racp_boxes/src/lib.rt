@@ -1,4 +1,4 @@
-//! The first capacities that are enough, by halves of a box of vectors below a known one.
+//! The first capacities that are enough, found by halving a box of capacity vectors.
 //!
 //! Resources stand by place, from 0. Units are whole numbers.
 //!
@@ -7,17 +7,17 @@
 //! vector that is at most it, resource by resource. And starts that were found for a vector use at most their peaks,
 //! which may cost much less: from then on only what stands before these peaks is of interest.
 //!
-//! So `first_enough(alloc, &net, &order, &root, &floors, &roofs, asker)` keeps the best vector that is known to be enough,
-//! at first the roofs, and searches the box from the floors to the roofs by halves:
+//! So `first_enough(alloc, &net, &order, &root, &floors, &roofs, asker)` keeps the best vector that is known to be
+//! enough, at first the roofs, and searches the box from the floors to the roofs by halves:
 //!
-//! 1. Each high number is lowered to the most units of a vector of the box that stands before the best one. Where not
-//!    even the low vector does, the box has nothing to offer.
-//! 2. The high vector is asked for. Where nothing fits, nothing in the box does. Where starts are found, their peaks may
-//!    be the best vector from then on.
-//! 3. Where the box has more vectors than one, it is halved along the resource whose width costs most; the half with
-//!    fewer units is searched, and then the other one.
+//! 1. Each high number is lowered to the most units of a vector of the box that stands before the best one. If not even
+//!    the low vector does, the box has nothing to offer.
+//! 2. The high vector is asked for. If nothing fits, nothing in the box does. If starts are found, their peaks may be
+//!    the best vector from then on.
+//! 3. If the box has more than one vector, it is halved along the resource whose width costs most. The half with fewer
+//!    units is searched first, and then the other one.
 //!
-//! With the prices 3 and 2, the floors 0 0 and the roofs 2 3, where 1 2 is enough and 1 1, 0 3 and 2 0 are not:
+//! With the prices 3 and 2, the floors 0 0 and the roofs 2 3, of which 1 2 is enough and 1 1, 0 3 and 2 0 are not:
 //!
 //! ```text
 //! box            best   high vector after 1    asked
@@ -28,17 +28,17 @@
 //! 2 0 to 2 3     1 2    2 0                    no
 //! ```
 //!
-//! So four questions are asked for the first of twelve vectors, where asking in order takes eight. A vector that is at
-//! most a refuted one is not asked for; of the refuted ones up to 128 are kept. A question about a box of more than one
-//! vector ends after 64,000 nodes: where that is not enough, nothing is learnt, and the halves are searched. Where 256 nodes
-//! leave a question open, the asker is told what is asked of the next boxes, up to seven, as long as each is refuted, for
-//! workers that have nothing else to do; of a box whose high vector is known to be enough that is what is asked of its half
-//! with fewer units. Demeulemeester (1995), too, searches capacities by scheduling problems with given ones, from vectors
-//! that are not enough on to dearer ones.
+//! So four questions are asked for the first of twelve vectors; asking in order takes eight. A vector that is at most a
+//! refuted one is not asked for. Up to 128 refuted vectors are kept. A question about a box of more than one vector
+//! ends after 64,000 nodes. If that is not enough, nothing is learnt, and the halves are searched. If 256 nodes leave a
+//! question open, the asker is told the questions of up to seven boxes that come next if each is refuted. Workers that
+//! have nothing else to do can search them. For a box whose high vector is known to be enough, that is the question of
+//! its half with fewer units. Demeulemeester (1995), too, searches capacities by scheduling problems with given ones,
+//! and goes from vectors that are not enough to dearer ones.
 //!
 //! Proved: the answer is the first, by cost and then lexicographically, of all vectors within the roofs with which some
-//! starts in the window fit, whatever is not known of questions that ended early. Not proved: how many questions are
-//! asked.
+//! starts in the window fit, even if some questions ended early and nothing is known of them. Not proved: how many
+//! questions are asked.
 #![tactic(auto)]
 
 mod cut;

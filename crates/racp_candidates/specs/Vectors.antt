@@ -22,7 +22,7 @@ pub record AreVectorsInOrder (terms : Terms) (floors roofs : List ℕ) (vectors 
   pub rising : AllPairs (IsBefore terms) vectors
   pub members : (vector : List ℕ) → Contains vectors vector ↔ IsBetween floors roofs vector
 
--- the first vector was taken off a list, or the list is empty; where memory was refused, the list is as before
+-- the first vector was taken off a list, or the list is empty; if memory was refused, the list is as before
 abbrev pub IsNextVector : List (List ℕ) → List (List ℕ) → Result (Option (Vec ℕ Global)) AllocError → Type 0
 IsNextVector before after (Ok (Some vector)) = before ≡ vector.items ∷ after
 IsNextVector before after (Ok None) = (before ≡ []) × (after ≡ [])

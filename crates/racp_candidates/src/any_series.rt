@@ -1,3 +1,5 @@
+//! All series of a planner as one type.
+
 use crate::listed::Listed;
 use crate::one::One;
 use crate::singles::Singles;

@@ -13,8 +13,8 @@ use std::alloc::{AllocError, Global};
 use std::cmp::Reverse;
 use std::collections::BinaryHeap;
 
-/// The children of a vector: at the last place that is above its floor, or the first place where there is none, and at
-/// each place after it, one unit more where the roof allows.
+/// The children of a vector: at the last place that is above its floor, or the first place if there is none, and at
+/// each place after it, one unit more if the roof allows.
 pub(crate) fn children_of(
     alloc: Global,
     prices: &[u32],

@@ -1,3 +1,5 @@
+//! An entry of the heap of vectors.
+
 /// A capacity vector with what it costs. By the derived order, entries stand in the order of vectors.
 #[derive(PartialEq, Eq, PartialOrd, Ord, Drop)]
 pub(crate) struct Entry {

@@ -68,8 +68,8 @@ impl Frontier {
         })
     }
 
-    /// Takes the first vector off, or gives `None` where none is left. The children are put in before their parent is
-    /// taken out, so that nothing changes where memory is refused.
+    /// Takes the first vector off, or gives `None` if none is left. The children are put in before their parent is
+    /// taken out, so that nothing changes if memory is refused.
     pub(crate) fn next(&mut self) -> Result<Option<Vec<u32>>, AllocError>
         ensures { IsNextVector self.old self.new result }
     {

@@ -1,5 +1,4 @@
-//! The series of questions that a planner asks: the capacity vectors of a box, in order; the units of one resource; the
-//! starts of one job; one question.
+//! The series of questions that a planner asks: about capacity vectors, units of a resource, or starts of a job.
 //!
 //! Resources and jobs stand by place, from 0; pairs of resources name them by number, from 1. Times are whole time
 //! units.
@@ -8,7 +7,8 @@
 //! questions, given one by one (racp_questions). By the first yes of a series a planner learns the least number of
 //! units of a resource (`Singles`), the cheapest capacities (`Vectors`), the least start of a job (`Starts1`), or
 //! whether one question is a yes (`One`). A planner asks one asker about all of these, so it hands each over as an
-//! `AnySeries`; an asker that also searches the questions that come next makes a `Listed` of them.
+//! `AnySeries`; an asker that also searches the questions that come next makes a `Listed` of them. The names of
+//! racp_questions that an asker of these series needs can be taken from here too.
 //!
 //! The box has the capacity vectors between floors and roofs that are, of each refuted pair, above the floor of one of
 //! the two resources. `Vectors` asks them in the order of vectors: by cost, of which owned units have none, and at
@@ -21,7 +21,7 @@
 //! ```
 //!
 //! `Vectors` keeps a heap of vectors with their costs, and begins with the floors. The children of a vector have one
-//! unit more at one place: any place from the last one that is above its floor on, where the roof allows. So each
+//! unit more at one place: any place from the last one that is above its floor on, if the roof allows it. So each
 //! vector has one parent, which stands before it, and the least vector that was not taken out yet is in the heap.
 //! Memory grows with the vectors that come next, and not with the box. A vector that a refuted pair excludes is not
 //! given, but its children are entered. Children are made before their parent is taken out, so that a refusal of memory

@@ -1,3 +1,5 @@
+//! A series of questions that stand in a list.
+
 ghost use Rattle.std.specs.Prelude.{◌≡◌};
 
 use racp_model::Question;

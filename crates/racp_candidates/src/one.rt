@@ -1,3 +1,5 @@
+//! A series of one question.
+
 ghost use Rattle.std.specs.Prelude.{◌≡◌, List, [], ◌∷◌, IfOk};
 ghost use Rattle.racp_candidates.specs.Questions.{question_of};
 

@@ -7,7 +7,7 @@ ghost use Rattle.racp_candidates.specs.Vectors.{is_above, is_above_pairs, vector
 use crate::frontier::Frontier;
 use std::alloc::AllocError;
 
-/// Takes off the vectors up to the first that no pair excludes, and gives that one; or `None` where none is left. Pairs
+/// Takes off the vectors up to the first that no pair excludes, and gives that one; or `None` if none is left. Pairs
 /// name two resources by their numbers, from 1.
 #[tactic(auto, using(crate::proofs::Above::above_skipped, crate::proofs::Above::above_taken, crate::proofs::Above::above_none, crate::proofs::Above::places_first, crate::proofs::Above::places_rest, crate::proofs::Above::shorter))]
 pub(crate) fn next_above(

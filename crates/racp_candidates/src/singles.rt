@@ -1,3 +1,5 @@
+//! The series of the numbers of units of one resource.
+
 ghost use Rattle.std.specs.Prelude.{◌≡◌, ◌<◌, length, IfOk};
 ghost use Rattle.racp_candidates.specs.Questions.{single_questions};
 

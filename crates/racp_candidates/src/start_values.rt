@@ -1,3 +1,5 @@
+//! The series of the starts of one job.
+
 ghost use Rattle.std.specs.Prelude.{◌≡◌, ◌<◌, length, IfOk};
 ghost use Rattle.racp_candidates.specs.Questions.{start_questions};
 

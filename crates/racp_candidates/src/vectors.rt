@@ -1,3 +1,5 @@
+//! The series of the capacity vectors of a box, in the order of their costs.
+
 ghost use Rattle.std.specs.Prelude.{◌≡◌, length, IfOk};
 ghost use Rattle.racp_model.specs.Project.{AreNumbers};
 ghost use Rattle.racp_candidates.specs.Box.{ArePrices, AreBounds, AreBoxQuestions};

@@ -7,7 +7,7 @@ use Rattle.racp_plan.specs.declared.plan.Plan.{Plan}
 use Rattle.racp_check.specs.declared.plan_fault.PlanFault.{PlanFault}
 use Rattle.racp_check.specs.PlanFaults.{HasRightCost, IsFitting, IsChecked}
 
--- a fault is answered only where one is there: the check says yes exactly where nothing is wrong
+-- a fault is answered only if one is there: the check says yes exactly if nothing is wrong
 abbrev pub YesIsFitting : Type 0
 YesIsFitting =
     (p : Project) (terms : Terms) (plan : Plan) (answer : Result ⊤ PlanFault) → IsChecked p terms plan answer →

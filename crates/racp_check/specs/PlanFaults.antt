@@ -52,7 +52,7 @@ pub record IsFirstEarly (p : Project) (release : ℕ → ℕ) (starts : List ℕ
   pub early : slice_index starts i < release i
   pub first : (j : ℕ) → j < i → release j ≤ slice_index starts j
 
--- what the check of a plan answers: that nothing is wrong, or the first fault, by number, where the tests before it
+-- what the check of a plan answers: that nothing is wrong, or the first fault, by number, if the tests before it
 -- hold
 abbrev pub IsChecked : Project → Terms → Plan → Result ⊤ PlanFault → Type 0
 IsChecked p terms plan (Ok _) = IsFitting p terms plan

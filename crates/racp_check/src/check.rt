@@ -1,3 +1,5 @@
+//! The check of a plan: six tests, one after another.
+
 ghost use Rattle.std.specs.Prelude.{◌≡◌, ◌<◌, ◌↔◌, length, IsTrue, MatchOption};
 ghost use Rattle.racp_model.specs.Terms.{AreTermsOf, release_of, due_of};
 ghost use Rattle.racp_cpm.specs.Ends.{IsFirstLateAnswer};

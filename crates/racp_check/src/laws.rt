@@ -6,7 +6,7 @@ pub use racp_plan::laws::{
     fault_has_line, one_text_one_plan, reading_is_one, text_is_read, written_is_read,
 };
 
-/// The check says yes exactly where nothing is wrong with a plan, so a fault is answered only where there is one.
+/// The check says yes exactly if nothing is wrong with a plan, so a fault is answered only if there is one.
 pub fn yes_is_fitting()
     ensures { YesIsFitting }
 {}

@@ -1,13 +1,13 @@
-//! Whether a plan is one: what it costs, and whether its starts fit its capacities on the terms of an order.
+//! The check of a plan: what it costs, and whether its starts fit its capacities on the terms of an order.
 //!
 //! Jobs and resources are numbered from 1; their places in lists count from 0. Times are whole time units from 0 on.
 //!
-//! A plan says how many units there are of each resource and when each job starts. Whoever made it, `check_plan` tells
-//! whether it can be carried out at the cost that it names. The plan of examples/a4.plan, for the five jobs of
+//! A plan says how many units there are of each resource and when each job starts. `check_plan` tells whether it can be
+//! carried out at the cost that it names, whoever made it. The plan of examples/a4.plan, for the five jobs of
 //! examples/a.sm, has the cost 30, the capacity 3 of its one resource, and the starts 0, 0, 0, 2 and 4.
 //!
 //! `check_plan(&net, &order, &plan)` answers `Ok` for it, with a deadline of 4 and a price of 10. With the cost 31 it
-//! answers `Cost`; with the start 1 of job 4 it answers `Over(1, 1)`: of resource 1 more is used at time 1 than there
+//! answers `Cost`; with the start 1 of job 4 it answers `Over(1, 1)`: more of resource 1 is used at time 1 than there
 //! is.
 //!
 //! Six tests are made, one after another, of cost, end, precedence, capacity, ceiling and start, and none takes memory.
@@ -21,13 +21,13 @@
 //! `opening_of(alloc, &net, &order)` is where planning and each check of a plan's leastness begin: the critical length
 //! and the root window, or why no starts are in time.
 //!
-//! Proved: `check_plan` answers `Ok` exactly where the cost is right and the starts fit the capacities on the order's
-//! terms and within its ceilings; else the first fault, with its least names. `opening_of` answers the critical length
-//! and the root window, or the first reason for which there is none. `check_proof` says yes exactly where the text is a
-//! certificate; then no capacities that are enough stand before the plan's, and the critical length is at most the
-//! deadline. In `laws`: nothing is wrong with the plan of an
-//! order, and the check answers one thing of a plan. Not looked at by `check_plan`: the deadline and the critical length
-//! that a plan names, and whether cheaper capacities or lesser starts would do.
+//! Proved: `check_plan` answers `Ok` exactly if the cost is right and the starts fit the capacities on the order's
+//! terms and within its ceilings. Otherwise it answers the first fault, with its least names. `opening_of` answers the
+//! critical length and the root window, or the first reason why there is none. `check_proof` says yes exactly if the
+//! text is a certificate. Then no capacities that are enough stand before the plan's, and the critical length is at
+//! most the deadline. In `laws`: nothing is wrong with the plan of an order, and the check has one answer for a plan.
+//! Not looked at by `check_plan`: the deadline and the critical length that a plan names, and whether cheaper
+//! capacities or lesser starts would do.
 #![tactic(auto)]
 
 mod check;

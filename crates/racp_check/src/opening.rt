@@ -1,3 +1,5 @@
+//! The times of an order: the critical length and the root window, or why no starts are in time.
+
 ghost use Rattle.std.specs.Prelude.{◌≡◌, IfOk};
 ghost use Rattle.racp_model.specs.Terms.{AreTermsOf};
 ghost use Rattle.racp_check.specs.Openings.{IsOpening};
@@ -22,15 +24,16 @@ pub enum Opening {
         /// The critical length, in time units.
         critical: u64,
     },
-    /// No starts are in time: the critical length does not exceed the deadline, but the early finish of a job its due time.
+    /// No starts are in time: the critical length does not exceed the deadline, but the early finish of a job its due
+    /// time.
     TooLate {
         /// The number of the first such job, from 1.
         job: u32,
     },
 }
 
-/// The critical length and the root window of an order for a network, or why no starts are in time. The early starts are computed
-/// once.
+/// The critical length and the root window of an order for a network, or why no starts are in time. The early starts
+/// are computed once.
 ///
 /// # Errors
 ///

@@ -1,3 +1,5 @@
+//! What can be wrong with a plan that was read.
+
 ghost use Rattle.std.specs.Prelude.{◌≡◌};
 ghost use Rattle.racp_check.specs.PlanFaults.{fault_number};
 
@@ -46,7 +48,7 @@ impl PlanFault {
     }
 }
 
-/// The same text as that of `Display`.
+/// Writes the text of `Display`.
 impl fmt::Debug for PlanFault {
     fn fmt<W: fmt::Write>(&self, f: &mut fmt::Formatter<W>) -> fmt::Result {
         fmt::Display::fmt(self, f)

@@ -1,3 +1,5 @@
+//! The check of a certificate against a network, an order and a plan.
+
 ghost use Rattle.std.specs.Prelude.{◌≡◌, ◌↔◌, IfOk, IsTrue, length};
 ghost use Rattle.racp_model.specs.Terms.{AreTermsOf, release_of, due_of};
 ghost use Rattle.racp_model.specs.Window.{IsRootWindow};
@@ -13,9 +15,9 @@ use racp_trees::laws::certificate_proves;
 use racp_trees::{are_enough, block_vectors};
 use std::alloc::{AllocError, Global};
 
-/// Whether a text is a certificate that no capacities before the plan's are enough on the order's terms. Of the plan only
-/// the capacities are looked at: whether it is one is for `check_plan`. Takes time and memory in proportion to the text,
-/// but for the search of alternatives and the test whether its blocks are enough.
+/// Whether a text is a certificate that no capacities before the plan's are enough on the order's terms. Of the plan
+/// only the capacities are looked at: whether it is one is for `check_plan`. Takes time and memory in proportion to the
+/// text, but for the search of alternatives and the test whether its blocks are enough.
 ///
 /// # Errors
 ///
@@ -63,7 +65,7 @@ fn is_certificate(
     }
 }
 
-/// The same, where this is the root window.
+/// Whether a text is a certificate that no capacities before these are enough, given the root window of the order.
 fn holds_in(
     alloc: Global,
     net: &Network,

@@ -1,4 +1,4 @@
--- What `plan` answers where workers make the plan.
+-- What `plan` answers if workers make the plan.
 use Rattle.std.specs.Prelude.{◌≡◌, ◌≢◌, ◌⊎◌, ℕ, List, [], ◌∷◌, Option, Some, None, Result, Ok, Err}
 use Rattle.racp_model.specs.Project.{Project}
 use Rattle.racp_model.specs.Terms.{Terms}
@@ -30,7 +30,7 @@ abbrev pub IsCrowdAnswer : List ℕ → List ℕ → ℕ → List ℕ → Type 0
 IsCrowdAnswer net order status text =
     IsPlanAnswer net order status text ⊎ (IsStoppedLine net order status text ⊎ IsNoThreadLine status text)
 
--- the effort is told with a plan or where there is none, and else is not
+-- the effort is told with a plan or if there is none, and else is not
 abbrev pub IsEffortOf : ℕ → Option Effort → Type 0
 IsEffortOf status (Some effort) = (status ≡ 0) ⊎ (status ≡ 3)
 IsEffortOf status None = (status ≢ 0) × (status ≢ 3)

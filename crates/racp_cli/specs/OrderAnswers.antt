@@ -7,8 +7,8 @@ use Rattle.racp_sm.specs.Reading.{IsReading}
 use Rattle.racp_prices.specs.Orders.{IsOrder, IsToml}
 use Rattle.racp_prices.specs.declared.fault.OrderFault.{OrderFault}
 use Rattle.racp_prices.specs.declared.fault.OrderFault.TheVariants.{Range}
-use Rattle.racp_order.specs.Factors.{deadline_by}
-use Rattle.racp_order.specs.Wishes.{Wish, table_of}
+use Rattle.racp_prices.specs.Factors.{deadline_by}
+use Rattle.racp_prices.specs.Wishes.{Wish, table_of}
 use Rattle.racp_cli.specs.Texts.{order_refusal_line}
 use Rattle.racp_cli.specs.Plans.{IsNetworkLine, IsMemoryLine}
 use Rattle.racp_cli.specs.Streams.{Reader, IsRun, ToOne}
@@ -17,7 +17,7 @@ use Rattle.racp_cli.specs.declared.order.Asked.{Asked}
 use Rattle.racp_cli.specs.declared.order.Time.{Time}
 use Rattle.racp_cli.specs.declared.order.Time.TheVariants.{Deadline, Factor}
 
--- the deadline that is asked for: it itself, or so many times the critical length where a deadline may be as late
+-- the deadline that is asked for: it itself, or this many times the critical length if a deadline may be as late
 abbrev pub IsAskedDeadline : Project → Time → Option ℕ → Type 0
 IsAskedDeadline network (Deadline time) found = found ≡ Some time
 IsAskedDeadline network (Factor factor) found =
@@ -32,12 +32,12 @@ wish_of asked deadline = record {
   ceilings = option_map (λ c. c.items) asked.ceilings;
 }
 
--- the text itself where it is read as an order, else how it is refused
+-- the text itself if it is read as an order, else how it is refused
 abbrev pub IsTold : List ℕ → Result Terms OrderFault → ℕ → List ℕ → Type 0
 IsTold order (Ok terms) status text = (status ≡ 0) × (text ≡ order)
 IsTold order (Err fault) status text = (status ≡ 5) × (text ≡ order_refusal_line fault)
 
--- an order text that says just this, where it is read as an order for the network; else how it is refused
+-- an order text that says just this, if it is read as an order for the network; else how it is refused
 pub record IsOrderSaying (network : Project) (wish : Wish) (status : ℕ) (text : List ℕ) : Type 0 where
   pub order : List ℕ
   pub says : IsToml order (Some (table_of wish))

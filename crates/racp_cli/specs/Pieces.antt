@@ -4,7 +4,7 @@ use Rattle.std.specs.Io.KnownBytes.{Consumes, IsAtEnd}
 use Rattle.racp_cli.specs.declared.fault.StreamFault.{StreamFault}
 use Rattle.racp_cli.specs.declared.fault.StreamFault.TheVariants.{Read, Write, TooLong, Memory}
 
--- a piece of at most so many bytes was read to the end of the input; or the reader was at its end; or nothing was added
+-- a piece of at most this many bytes was read to the end of the input; or the reader was at its end; or nothing was added
 abbrev pub IsPieceRead : Option (List ℕ) → Option (List ℕ) → ℕ → List ℕ → List ℕ → Result Bool StreamFault → Type 0
 IsPieceRead unread left room old new (Ok true) = (piece : List ℕ) × Consumes unread left piece × (new ≡ old ++ piece) ×
     (0 < length piece) × (length piece ≤ room)

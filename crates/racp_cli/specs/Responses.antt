@@ -33,14 +33,14 @@ abbrev pub IsOfPlanText : TextFault → CheckFault → Type 0
 IsOfPlanText error fault = ((error.kind ≡ plan.Memory) × (fault ≡ OutOfMemory)) ⊎
     ((error.kind ≢ plan.Memory) × (fault ≡ PlanText error))
 
--- the status and the line of the fault of a text, where that is not that memory ran out
+-- the status and the line of the fault of a text, if that is not that memory ran out
 abbrev pub IsNetworkRefused : SmFault → ℕ → List ℕ → Type 0
 IsNetworkRefused fault status text = (fault.kind ≢ network.Memory) × (5 ≡ status) × (refusal_line fault ≡ text)
 
 abbrev pub IsOrderRefused : OrderFault → ℕ → List ℕ → Type 0
 IsOrderRefused fault status text = (fault ≢ order.Memory) × (5 ≡ status) × (order_refusal_line fault ≡ text)
 
--- the status and the text where there is no answer, but not where memory ran out
+-- the status and the text if there is no answer, but not if memory ran out
 abbrev pub IsRefusedLine : Refusal → ℕ → List ℕ → Type 0
 IsRefusedLine (Sm fault) status text = IsNetworkRefused fault status text
 IsRefusedLine (OrderIs fault) status text = IsOrderRefused fault status text
@@ -52,13 +52,13 @@ IsRefusedLine (Stop NoThread) status text = (7 ≡ status) × (no_thread_line �
 abbrev pub IsRefusedText : List ℕ → List ℕ → ℕ → List ℕ → Type 0
 IsRefusedText net order status text = IsNetworkLine net status text ⊎ IsOrderLine net order status text
 
--- the status and the text where following a curve ended early with these steps, but not where memory ran out
+-- the status and the text if following a curve ended early with these steps, but not if memory ran out
 abbrev pub IsEndedText : Bool → List Step → PlanStop → ℕ → List ℕ → Type 0
 IsEndedText is_drawn steps (Stopped not_before) status text = (4 ≡ status) × (stopped_text is_drawn steps not_before ≡ text)
 IsEndedText is_drawn steps MemoryIs status text = ⊥
 IsEndedText is_drawn steps NoThread status text = (7 ≡ status) × (no_thread_line ≡ text)
 
--- the status and the text of an answer, or those of lack of memory where it could not be made
+-- the status and the text of an answer, or those of lack of memory if it could not be made
 abbrev pub IsMade : Result (ℕ × Vec ℕ Global) AllocError → ℕ → List ℕ → Type 0
 IsMade (Ok made) status text = (made.0 ≡ status) × (made.1.items ≡ text)
 IsMade (Err _) status text = (6 ≡ status) × (memory_line ≡ text)

@@ -23,7 +23,7 @@ IsPicture Svg network plan names text = ⊤
 IsPicture Json network plan names text = ⊤
 IsPicture Csv network plan names text = text ≡ table_text network plan.starts names
 
--- the line where names are not UTF-8
+-- the line if names are not UTF-8
 abbrev pub names_line : List ℕ
 names_line = line (codes "refused names 1 NotUtf8")
 
@@ -50,7 +50,7 @@ pub record IsFaulty (net order plan : List ℕ) (status : ℕ) (text : List ℕ)
   pub with_status : status ≡ check_status (Err fault)
   pub with_text : text ≡ check_text (Err fault)
 
--- what is right for the texts of a network, an order, a plan and names: the plan, where nothing is wrong with it; else what `check`
+-- what is right for the texts of a network, an order, a plan and names: the plan, if nothing is wrong with it; else what `check`
 -- says; memory may run out at any texts
 abbrev pub IsShowAnswer : Look → List ℕ → List ℕ → List ℕ → List ℕ → ℕ → List ℕ → Type 0
 IsShowAnswer look net order plan names status text =

@@ -20,7 +20,7 @@ pub record IsInput (unread left : Option (List ℕ)) (input : List ℕ) : Type 0
   pub none_left : IsAtEnd left
   pub within : length input ≤ input_limit
 
--- so many bytes were read at most, and no others
+-- this many bytes were read at most, and no others
 abbrev pub IsBeginning : Option (List ℕ) → Option (List ℕ) → ℕ → Type 0
 IsBeginning unread left most = (front : List ℕ) × Consumes unread left front × (length front ≤ most)
 
@@ -39,12 +39,12 @@ IsReadUntil unread left Memory = IsBeginning unread left (input_limit + 1)
 abbrev pub WritesBeginning : Option (List ℕ) → Option (List ℕ) → List ℕ → Type 0
 WritesBeginning old new text = (front rest : List ℕ) × (text ≡ front ++ rest) × Appends old new front
 
--- what was written of a text: all of it, or a beginning where the writer failed
+-- what was written of a text: all of it, or a beginning if the writer failed
 abbrev pub IsWritten : Option (List ℕ) → Option (List ℕ) → List ℕ → Result (Unit {0}) StreamFault → Type 0
 IsWritten old new text (Ok done) = Appends old new text
 IsWritten old new text (Err fault) = (fault ≡ Write) × WritesBeginning old new text
 
--- what was written as an answer: its whole text, with its status, or a beginning of it where the writer failed
+-- what was written as an answer: its whole text, with its status, or a beginning of it if the writer failed
 abbrev pub IsAnswerWritten : (ℕ → List ℕ → Type 0) → Option (List ℕ) → Option (List ℕ) → Result ℕ StreamFault → Type 0
 IsAnswerWritten Answer old new (Ok status) = (text : List ℕ) × Answer status text × Appends old new text
 IsAnswerWritten Answer old new (Err fault) = (fault ≡ Write) × (status : ℕ) × (text : List ℕ) × Answer status text ×

@@ -33,26 +33,26 @@ plan_refusal_line fault = line (codes "refused plan " ++ decimal (text_fault_num
 unfoldable pub stopped_line : List ℕ → List ℕ
 stopped_line capacities = line (codes "stopped" ++ spaced capacities)
 
--- what is written where a worker could not be started
+-- what is written if a worker could not be started
 unfoldable pub no_thread_line : List ℕ
 no_thread_line = line (codes "no thread")
 
--- what is written where memory ran out
+-- what is written if memory ran out
 unfoldable pub memory_line : List ℕ
 memory_line = line (codes "memory")
 
--- what is written where nothing is wrong with a plan
+-- what is written if nothing is wrong with a plan
 unfoldable pub ok_line : List ℕ
 ok_line = line (codes "ok")
 
--- what is written where a text is a certificate for a plan, and where it is none
+-- what is written if a text is a certificate for a plan, and if it is none
 unfoldable pub verified_line : List ℕ
 verified_line = line (codes "verified")
 
 unfoldable pub unproved_line : List ℕ
 unproved_line = line (codes "unproved")
 
--- what is written where a plan names another deadline than the order, or another critical length than the project has
+-- what is written if a plan names another deadline than the order, or another critical length than the project has
 unfoldable pub head_line : List ℕ
 head_line = line (codes "fault head")
 

@@ -11,7 +11,7 @@ use Rattle.racp_cli.specs.Checks.{AreRead, HasRightHead, IsCheck, check_text, ch
 use Rattle.racp_cli.specs.declared.check.Checked.{Checked}
 use Rattle.racp_cli.specs.declared.check_fault.CheckFault.{CheckFault}
 
--- what the texts of a network, an order and a plan are read as, where nothing is wrong with the plan; or what `check` says
+-- what the texts of a network, an order and a plan are read as, if nothing is wrong with the plan; or what `check` says
 abbrev pub AreChecked : List ℕ → List ℕ → List ℕ → Result Checked CheckFault → Type 0
 AreChecked net order text (Ok found) =
     AreTermsOf found.net found.order × (length found.plan.capacities ≡ found.net.resources) ×
@@ -19,14 +19,14 @@ AreChecked net order text (Ok found) =
     IsChecked found.net found.order found.plan (Ok tt)
 AreChecked net order text (Err fault) = IsCheck net order text (Err fault)
 
--- whether a text is a certificate for the plan; where it is, no capacities that are enough stand before the plan's, and the
+-- whether a text is a certificate for the plan; if it is, no capacities that are enough stand before the plan's, and the
 -- critical length is at most the deadline
 pub record IsVerdict (network : Project) (terms : Terms) (plan : Plan) (proof : List ℕ) (proved : Bool) : Type 0 where
   pub exact : IsTrue proved ↔ IsCertificate network terms plan.capacities proof
   pub leastness : IsTrue proved → HasNoneEnoughBefore network terms plan.capacities
   pub in_time : IsTrue proved → IsLongEnough network terms
 
--- what is right for the texts of a network, an order, a plan and a certificate: where nothing is wrong with the plan, whether the
+-- what is right for the texts of a network, an order, a plan and a certificate: if nothing is wrong with the plan, whether the
 -- last text is a certificate for it; else what `check` says
 abbrev pub IsVerify : List ℕ → List ℕ → List ℕ → List ℕ → Result Bool CheckFault → Type 0
 IsVerify net order text proof (Ok proved) =

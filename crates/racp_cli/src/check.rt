@@ -22,7 +22,7 @@ use std::io::{Read, Write};
 
 /// Reads a network text, an order text and a plan text, all of each before the next, and writes to `out` whether
 /// nothing is wrong with the plan, and else what is. Returns the status that belongs to the line that was written: 0
-/// for `ok`, 5 where a text is refused, 6 where memory ran out, 8 where the plan has a fault.
+/// for `ok`, 5 if a text is refused, 6 if memory ran out, 8 if the plan has a fault.
 ///
 /// # Errors
 ///
@@ -71,7 +71,7 @@ pub(crate) struct Checked {
     pub(crate) plan: Plan,
 }
 
-/// What the texts of a network, an order and a plan are read as, where nothing is wrong with the plan.
+/// What the texts of a network, an order and a plan are read as, if nothing is wrong with the plan.
 pub(crate) fn read_checked(
     alloc: Global,
     net: &[u8],

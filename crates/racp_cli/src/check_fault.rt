@@ -1,3 +1,5 @@
+//! Why `check` or `verify` does not say that a plan is right, with the line and the status for it.
+
 ghost use Rattle.std.specs.Prelude.{◌≡◌, IfOk, Err};
 ghost use Rattle.racp_cli.specs.Checks.{check_status, check_text};
 

@@ -17,8 +17,8 @@ use std::alloc::{AllocError, Global};
 use std::io::{Read, Write};
 
 /// Reads a network text from `net`, all of it, and writes the answer to `out`: the critical length and the early
-/// starts, where each job may start at 0, or a line that says why there are none. Returns the status that belongs to
-/// what was written: 0 for the early starts, 5 where the text is refused, 6 where memory ran out.
+/// starts, if each job may start at 0, or a line that says why there are none. Returns the status that belongs to
+/// what was written: 0 for the early starts, 5 if the text is refused, 6 if memory ran out.
 ///
 /// # Errors
 ///

@@ -19,10 +19,10 @@ use std::sync::Wait;
 use std::thread::Threads;
 
 /// Reads a network text and an order text, all of each before the next, has 1 to 64 workers make the plan with at most
-/// so many turns, up to 1,000,000,000,000, and writes to `out` the text that `run_over` writes, or that planning was
+/// this many turns, up to 1,000,000,000,000, and writes to `out` the text that `run_over` writes, or that planning was
 /// stopped, or that no thread could be started. Returns the status that belongs to what was written: 0 for a plan, 3
-/// where there is none, 4 where planning was stopped, 5 where a text is refused, 6 where memory ran out, 7 where a
-/// worker could not be started; and, with a plan or where there is none, how much work was done.
+/// if there is none, 4 if planning was stopped, 5 if a text is refused, 6 if memory ran out, 7 if a
+/// worker could not be started; and, with a plan or if there is none, how much work was done.
 ///
 /// # Errors
 ///
@@ -65,11 +65,18 @@ pub fn crowd_over<
     crowd_over_by(rt, alloc, crew, net, order, out)
 }
 
-/// The same, by such workers; the records of `crowd_over` take at most 1,024 mebibytes.
+/// Reads a network text and an order text, all of each before the next, has the workers of a crew make the plan, and
+/// writes to `out` the text that `run_over` writes, or that planning was stopped, or that no thread could be started.
+/// The crew also says how much memory the records of refuted nodes take; with `crowd_over` they take at most 1,024
+/// mebibytes. Returns the status that belongs to what was written: 0 for a plan, 3 if there is none, 4 if planning was
+/// stopped, 5 if a text is refused, 6 if memory ran out, 7 if a worker could not be started; and, with a plan or if
+/// there is none, how much work was done.
 ///
 /// # Errors
 ///
-/// As with `crowd_over`.
+/// After these nothing was written: `Read`, a read failed; `TooLong`, a reader has more than 16,777,216 bytes;
+/// `Memory`, memory for an input was refused. After `Write`, a write failed or took no byte, and what is out is a
+/// beginning of the text.
 pub fn crowd_over_by<
     R: Threads + Wait + Sync,
     G: Gate + Sync,

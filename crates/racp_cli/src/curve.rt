@@ -19,10 +19,11 @@ use racp_show::{Corner, costs_svg};
 use std::alloc::{AllocError, Global};
 use std::io::{Read, Write};
 
-/// Reads a network text and an order text, all of each before the next, and writes to `out` what each deadline up to the
-/// order's costs, or a line that says why there is no plan. The plans are made on the calling thread, with records of
-/// refuted nodes that take at most about so many mebibytes, up to 1,048,576. Returns the status that belongs to what was
-/// written: 0 for the curve, as lines or as a picture in SVG, 3 where there is no plan, 5 where a text is refused, 6 where memory ran out.
+/// Reads a network text and an order text, all of each before the next, and writes to `out` what each deadline up to
+/// the order's costs, or a line that says why there is no plan. The plans are made on the calling thread, with records
+/// of refuted nodes that take at most about this many mebibytes, up to 1,048,576. Returns the status that belongs to
+/// what was written: 0 for the curve, as lines or as a picture in SVG, 3 if there is no plan, 5 if a text is refused, 6
+/// if memory ran out.
 ///
 /// # Errors
 ///
@@ -78,7 +79,7 @@ fn told(
 {
     match curve_alone(alloc, net, order, mebibytes) {
         Ok(answer) => curve_answer(alloc, order, answer, is_drawn),
-        // On one thread this ends early only where memory runs out.
+        // On one thread this ends early only if memory runs out.
         Err(_) => Err(AllocError),
     }
 }

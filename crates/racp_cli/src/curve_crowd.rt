@@ -23,15 +23,17 @@ use std::io::{Read, Write};
 use std::sync::Wait;
 use std::thread::Threads;
 
-/// Reads a network text and an order text, all of each before the next, has such workers make the plans, and writes to `out`
-/// what `curve_over` writes. Where they are stopped, it writes the lines of the steps so far, or nothing in place of a picture,
-/// and a line that tells capacities before which none are enough for a deadline before these steps; where no thread could be
-/// started, a line alone. Returns the status that belongs to what was written: that of `curve_over`, 4 where they were stopped, 7
-/// where a worker could not be started.
+/// Reads a network text and an order text, all of each before the next, has such workers make the plans, and writes to
+/// `out` what `curve_over` writes. If they are stopped, it writes the lines of the steps so far, or nothing in place of
+/// a picture, and a line that tells capacities before which none are enough for a deadline before these steps; if no
+/// thread could be started, a line alone. Returns the status that belongs to what was written: that of `curve_over`, 4
+/// if they were stopped, 7 if a worker could not be started.
 ///
 /// # Errors
 ///
-/// As with `curve_over`.
+/// After these nothing was written: `Read`, a read failed; `TooLong`, a reader has more than 16,777,216 bytes;
+/// `Memory`, memory for an input was refused. After `Write`, a write failed or took no byte, and what is out is a
+/// beginning of the text.
 pub fn curve_crowd_over<
     R: Threads + Wait + Sync,
     G: Gate + Sync,
@@ -83,7 +85,8 @@ fn answer<G: Gate + Sync, P: Stop + Sync, R: Threads + Wait + Sync>(
     }
 }
 
-/// The status and the text of a curve for these terms, or of the reason why there is no plan, or why the workers ended early.
+/// The status and the text of a curve for these terms, or of the reason why there is no plan, or why the workers ended
+/// early.
 fn told(
     alloc: Global,
     order: &Order,
@@ -100,7 +103,7 @@ fn told(
     }
 }
 
-/// The status and the text where following a curve ended early with these steps.
+/// The status and the text if following a curve ended early with these steps.
 fn ended_answer(
     alloc: Global,
     steps: &[Step],

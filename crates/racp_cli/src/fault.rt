@@ -36,7 +36,7 @@ impl StreamFault {
         }
     }
 
-    /// The status with which the program ends: 6 where memory was refused, else 7.
+    /// The status with which the program ends: 6 if memory was refused, else 7.
     pub fn status(self) -> u8
         ensures { result ≡ fault_status self }
     {

@@ -1,21 +1,26 @@
-//! What the program `racp` does, over any readers and any writer: texts are read, and one text is written.
+//! The commands of the program `racp`, over any readers and any writer: texts are read, and one text is written.
 //!
 //! Jobs and resources are numbered from 1 in what is written. Times are whole time units, and inputs are counted in
 //! bytes.
 //!
 //! Each command is a function over readers and a writer, so that what it does can be proved and tested without files.
-//! `cpm_over` answers a network with its critical length and early starts, `run_over` a network and an order with the
-//! plan or why there is none, `crowd_over` the same by workers, `prove_over` a network and an order with a certificate for
-//! the plan, `check_over` a network, an order and a plan with `ok` or what is wrong, and `verify_over` these and a
-//! certificate with whether that shows that no cheaper capacities would do. `show_over` answers a network, an order and a plan
-//! with a picture of the plan, `curve_over` a network and an order with what each deadline costs, `curve_crowd_over` the same by
-//! workers, and `order_over` a network with the text of an order. Each returns the status with which the
-//! program ends. `run_over_within` and `crowd_over_by` also take
-//! how much memory the records of refuted nodes may have. docs/FORMATS.md has every line and every status.
+//!
+//! - `cpm_over` reads a network, and writes its critical length and early starts.
+//! - `run_over` reads a network and an order, and writes the plan or why there is none; `crowd_over` lets workers make
+//!   it.
+//! - `prove_over` reads a network and an order, and writes a certificate for the plan.
+//! - `check_over` reads a network, an order and a plan, and writes `ok` or what is wrong.
+//! - `verify_over` reads these and a certificate, and writes whether it shows that no cheaper capacities would do.
+//! - `show_over` reads a network, an order and a plan, and writes a picture of the plan.
+//! - `curve_over` reads a network and an order, and writes what each deadline costs; `curve_crowd_over` is for workers.
+//! - `order_over` reads a network, and writes an order.
+//!
+//! Each returns the status with which the program ends. `run_over_within` and `crowd_over_by` also take how much memory
+//! the records of refuted nodes may have. docs/FORMATS.md has every line and every status.
 //!
 //! Two jobs, 1 before 2, run for 2 time units and 1, and use 1 unit and 3; the order has the deadline 4 and the price
 //! 5. With these texts in `net` and `order`, `run_over(alloc, &mut net, &mut order, &mut out)` returns 0, and in `out`
-//! is
+//!    is
 //!
 //! ```text
 //! deadline 4
@@ -30,22 +35,22 @@
 //! With `deadline = 4` alone as the order it returns 5, and writes `refused order 2 Missing`.
 //!
 //! A command runs in three steps. Each input is read to its end through a buffer of 65,536 bytes, at most 16,777,216
-//! bytes, before the next one; a byte more is `TooLong`. The whole text of the answer is made in memory; where memory
-//! runs out, the text is the line `memory`, which takes none. Then the text is written by a loop over `write`, and
-//! flushed once. A call that takes no byte, or fails, is `Write`; a call that is interrupted counts as failed.
+//! bytes, before the next one; a byte more is `TooLong`. The whole text of the answer is made in memory. If memory runs
+//! out, the text is the line `memory`, which takes none. Then the text is written by a loop over `write`, and flushed
+//! once. A call that takes no byte, or fails, is `Write`; a call that is interrupted counts as failed.
 //!
 //! In `specs/`, an answer is a value, with the text and the status that stand for it. `IsCpmAnswer`, `IsPlanAnswer`,
-//! `IsCrowdAnswer`, `IsProofAnswer`, `IsCheckAnswer`, `IsVerifyAnswer`, `IsShowAnswer`, `IsCurveAnswer`, `IsCurveCrowdAnswer` and `IsOrderAnswer` say when text and status are right for the bytes
-//! of one to four inputs, and `IsRun` ties
-//! answers to what the readers had and what the writer holds, for all commands.
+//! `IsCrowdAnswer`, `IsProofAnswer`, `IsCheckAnswer`, `IsVerifyAnswer`, `IsShowAnswer`, `IsCurveAnswer`,
+//! `IsCurveCrowdAnswer` and `IsOrderAnswer` say when text and status are right for the bytes of one to four inputs, and
+//! `IsRun` ties answers to what the readers had and what the writer holds, for all commands.
 //!
-//! Proved: where a command returns a status, all of each reader was read, and what was written is exactly the text of a
+//! Proved: if a command returns a status, all of each reader was read, and what was written is exactly the text of a
 //! right answer, with its status. After `Write` what is out is a beginning of such a text; after `Read`, `TooLong` and
 //! `Memory` nothing was written, and nothing was read of the readers after the one that failed. That holds of readers
 //! and writers that tell their bytes, as slices and vectors do; of others, as files, only that what is written answers
-//! some bytes. In `laws`: no two answers of `cpm` share a text where their numbers fit 64 bits, and no text of `plan`
-//! goes with two statuses. Tested alone: that `Read` and `Write` come only where a read or a write fails, and `memory`
-//! only where memory is refused.
+//! some bytes. In `laws`: no two answers of `cpm` share a text if their numbers fit 64 bits, and no text of `plan` goes
+//! with two statuses. Tested alone: that `Read` and `Write` come only if a read or a write fails, and `memory` only if
+//! memory is refused.
 #![tactic(auto)]
 
 mod check;

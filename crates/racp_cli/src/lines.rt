@@ -42,7 +42,7 @@ pub(crate) fn order_refused_line(alloc: Global, fault: OrderFault) -> Result<Vec
     Ok(format!(in alloc; "refused order {number} {name}\n")?.into_bytes())
 }
 
-/// The line that tells capacities, by place from 0, where planning was stopped.
+/// The line that tells capacities, by place from 0, if planning was stopped.
 pub(crate) fn stopped_line(alloc: Global, capacities: &[u32]) -> Result<Vec<u8>, AllocError>
     ensures { IfOk result (λ text. text.items ≡ stopped_line capacities.now) }
 {

@@ -10,8 +10,7 @@ use crate::status::DONE;
 use crate::streams::read_whole;
 use racp_cpm::longest;
 use racp_model::Network;
-use racp_order::{Factor, Wanted, order_text};
-use racp_prices::{OrderFault, read_order};
+use racp_prices::{Factor, OrderFault, Wanted, order_text, read_order};
 use racp_sm::read_sm;
 use std::alloc::{AllocError, Global};
 use std::io::{Read, Write};
@@ -32,15 +31,15 @@ pub struct Asked {
     pub time: Time,
     /// What a unit of each resource costs.
     pub prices: Vec<u32>,
-    /// How many units of each resource are owned, where that is said.
+    /// How many units of each resource are owned, if that is said.
     pub owned: Option<Vec<u32>>,
-    /// How many units of each resource there may be, where that is said.
+    /// How many units of each resource there may be, if that is said.
     pub ceilings: Option<Vec<u32>>,
 }
 
 /// Reads a network text, and writes to `out` an order for it that says what is asked, or a line that says why there is
-/// none. Returns the status that belongs to what was written: 0 for an order, 5 where the network is refused or would
-/// refuse the order, as with a wrong number of prices, 6 where memory ran out.
+/// none. Returns the status that belongs to what was written: 0 for an order, 5 if the network is refused or would
+/// refuse the order, as with a wrong number of prices, 6 if memory ran out.
 ///
 /// # Errors
 ///
@@ -101,7 +100,7 @@ fn order_for(alloc: Global, net: &Network, asked: Asked) -> Result<(u8, Vec<u8>)
     }
 }
 
-/// The deadline that is asked for; `None` where it is later than a deadline may be.
+/// The deadline that is asked for; `None` if it is later than a deadline may be.
 fn deadline_of(alloc: Global, net: &Network, time: Time) -> Result<Option<u32>, AllocError>
     ensures { IfOk result (IsAskedDeadline net.now time) }
 {

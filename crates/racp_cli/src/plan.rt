@@ -15,7 +15,7 @@ use std::io::{Read, Write};
 
 /// Reads a network text and an order text, all of each before the next, makes the plan on the calling thread, and
 /// writes to `out` the text of the plan, or a line that says why there is none. Returns the status that belongs to what
-/// was written: 0 for a plan, 3 where there is none, 5 where a text is refused, 6 where memory ran out.
+/// was written: 0 for a plan, 3 if there is none, 5 if a text is refused, 6 if memory ran out.
 ///
 /// # Errors
 ///
@@ -35,12 +35,17 @@ pub fn run_over<N: Read, O: Read, W: Write>(
     run_over_within(alloc, net, order, out, DEFAULT_MEMORY)
 }
 
-/// The same, with records of refuted nodes that take at most about so many mebibytes, up to 1,048,576; those of
-/// `run_over` take 1,024. Where there is no room for a further one, records give way, and the text stays the same.
+/// Reads a network text and an order text, all of each before the next, makes the plan on the calling thread, and
+/// writes to `out` the text of the plan, or a line that says why there is none. The records of refuted nodes take at
+/// most about `mebibytes`, up to 1,048,576; with `run_over` they take 1,024. If there is no room for a further record,
+/// records give way, and the text stays as it is. Returns the status that belongs to what was written: 0 for a plan, 3
+/// if there is none, 5 if a text is refused, 6 if memory ran out.
 ///
 /// # Errors
 ///
-/// As with `run_over`.
+/// After these nothing was written: `Read`, a read failed; `TooLong`, a reader has more than 16,777,216 bytes;
+/// `Memory`, memory for an input was refused. After `Write`, a write failed or took no byte, and what is out is a
+/// beginning of the text.
 pub fn run_over_within<N: Read, O: Read, W: Write>(
     alloc: Global,
     net: &mut N,

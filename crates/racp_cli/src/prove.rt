@@ -13,8 +13,8 @@ use std::io::{Read, Write};
 
 /// Reads a network text and an order text, all of each before the next, makes the plan on the calling thread, and
 /// writes to `out` a certificate that no capacities before those of the plan are enough, or a line that says why there
-/// is none. Returns the status that belongs to what was written: 0 for a certificate, 3 where there is no plan, 5 where
-/// a text is refused, 6 where memory ran out, 8 where the certificate would have more than 16,777,216 bytes.
+/// is none. Returns the status that belongs to what was written: 0 for a certificate, 3 if there is no plan, 5 if
+/// a text is refused, 6 if memory ran out, 8 if the certificate would have more than 16,777,216 bytes.
 ///
 /// # Errors
 ///

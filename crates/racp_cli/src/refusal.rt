@@ -1,4 +1,4 @@
-//! The answers where a text is refused, or planning ended early.
+//! The answers if a text is refused, or planning ended early.
 
 ghost use Rattle.std.specs.Prelude.{IfOk};
 ghost use Rattle.racp_cli.specs.Responses.{IsNetworkRefused, IsOrderRefused, IsRefusedLine};
@@ -10,7 +10,7 @@ use racp_prices::OrderFault;
 use racp_sm::{SmFault, SmFaultKind};
 use std::alloc::{AllocError, Global};
 
-/// The status and the line where a network text is refused.
+/// The status and the line if a network text is refused.
 ///
 /// # Errors
 ///
@@ -24,7 +24,7 @@ pub(crate) fn network_refused(alloc: Global, fault: SmFault) -> Result<(u8, Vec<
     }
 }
 
-/// The status and the line where an order text is refused.
+/// The status and the line if an order text is refused.
 ///
 /// # Errors
 ///
@@ -38,7 +38,7 @@ pub(crate) fn order_refused(alloc: Global, fault: OrderFault) -> Result<(u8, Vec
     }
 }
 
-/// The status and the line where there is no answer.
+/// The status and the line if there is no answer.
 ///
 /// # Errors
 ///

@@ -9,7 +9,7 @@ use crate::streams::write_whole;
 use std::alloc::AllocError;
 use std::io::Write;
 
-/// Writes the text of an answer, or that memory ran out where it could not be made, and returns the status.
+/// Writes the text of an answer, or that memory ran out if it could not be made, and returns the status.
 pub(crate) fn respond<W: Write>(
     answer: Result<(u8, Vec<u8>), AllocError>,
     out: &mut W,

@@ -20,16 +20,16 @@ use std::io::{Read, Write};
 /// How a plan is shown.
 #[derive(Clone, Copy)]
 pub struct Look {
-    /// How many columns a line of a chart has at most; 40 where it is less, 1,000 where it is more.
+    /// How many columns a line of a chart has at most; 40 if it is less, 1,000 if it is more.
     pub width: usize,
     /// What is written.
     pub form: Form,
 }
 
-/// Reads a network text, an order text, a plan text and names, all of each before the next, and writes to `out` the plan in
-/// the form that is asked for; or, where something is wrong with the plan, what `check_over` writes. The names are those of
-/// the jobs and then of the resources, one a line; there may be none. Returns the status that belongs to what was written:
-/// 0 for a plan, 5 where the names are not UTF-8, else that of `check_over`.
+/// Reads a network text, an order text, a plan text and names, all of each before the next, and writes to `out` the
+/// plan in the form that is asked for; or, if something is wrong with the plan, what `check_over` writes. The names are
+/// those of the jobs and then of the resources, one a line; there may be none. Returns the status that belongs to what
+/// was written: 0 for a plan, 5 if the names are not UTF-8, else that of `check_over`.
 ///
 /// # Errors
 ///
@@ -78,7 +78,7 @@ fn answer(
     }
 }
 
-/// The status and the text where nothing is wrong with a plan.
+/// The status and the text if nothing is wrong with a plan.
 fn named(
     alloc: Global,
     found: &Checked,

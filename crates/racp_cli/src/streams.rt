@@ -5,11 +5,9 @@ ghost use Rattle.racp_cli.specs.Streams.{IsInput, IsReadUntil, IsWritten, input_
 ghost use Rattle.racp_cli.specs.Pieces.{IsPieceRead};
 
 use crate::fault::StreamFault;
+use racp_text::MOST_TEXT_BYTES;
 use std::alloc::Global;
 use std::io::{Read, Write};
-
-/// How many bytes are read of one reader at most.
-const INPUT_LIMIT: usize = 16_777_216;
 
 /// How many bytes one call reads at most.
 const PIECE: usize = 65_536;
@@ -21,8 +19,8 @@ pub(crate) fn read_whole<R: Read>(alloc: Global, reader: &mut R) -> Result<Vec<u
 {
     let mut input = Vec::new(alloc);
     let mut buffer = [0; PIECE];
-    while input.len() <= INPUT_LIMIT {
-        let room = PIECE.min(INPUT_LIMIT + 1 - input.len());
+    while input.len() <= MOST_TEXT_BYTES {
+        let room = PIECE.min(MOST_TEXT_BYTES + 1 - input.len());
         if !read_piece(reader, &mut buffer[..room], &mut input)? {
             return Ok(input);
         }

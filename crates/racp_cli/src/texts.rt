@@ -15,7 +15,7 @@ use std::alloc::{AllocError, Global};
 ///
 /// # Errors
 ///
-/// The answer where a text is refused, the network's first: its status and its line, or that memory ran out.
+/// The answer if a text is refused, the network's first: its status and its line, or that memory ran out.
 pub(crate) fn read_texts(
     alloc: Global,
     net: &[u8],

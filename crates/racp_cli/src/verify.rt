@@ -15,9 +15,9 @@ use std::alloc::{AllocError, Global};
 use std::io::{Read, Write};
 
 /// Reads a network text, an order text, a plan text and a certificate, all of each before the next, and writes to `out`
-/// whether the certificate shows that no capacities before the plan's are enough; or, where something is wrong with the
-/// plan, what `check_over` writes. Returns the status that belongs to the line that was written: 0 for `verified`, 8 for
-/// `unproved`, else that of `check_over`.
+/// whether the certificate shows that no capacities before the plan's are enough; or, if something is wrong with the
+/// plan, what `check_over` writes. Returns the status that belongs to the line that was written: 0 for `verified`, 8
+/// for `unproved`, else that of `check_over`.
 ///
 /// # Errors
 ///

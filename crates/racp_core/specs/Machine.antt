@@ -32,7 +32,7 @@ pub record Machine : Type 0 where
   pub ended : Bool
   pub halted : Bool
 
--- a state, by what a collector holds: the next question, where there is one, and those behind it are still to come
+-- a state, by what a collector holds: the next question, if there is one, and those after it are still to come
 abbrev pub machine_of : List QuestionRow → Option Question → List Question → Option KnownYes → ℕ → Bool → Bool → Machine
 machine_of asked next later least taken ended halted =
     record {

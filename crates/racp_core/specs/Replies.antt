@@ -20,7 +20,7 @@ use Rattle.racp_core.specs.declared.replies.Verdict.TheVariants.{First, NoYes, P
 use Rattle.racp_core.specs.declared.replies.Outcome.{Outcome}
 use Rattle.racp_core.specs.declared.replies.Outcome.TheVariants.{First as FirstOutcome, NoYes as NoYesOutcome, Open}
 
--- asking: the next question, of a collector that runs and knows no yes, where there is one
+-- asking: the next question, of a collector that runs and knows no yes, if there is one
 abbrev pub IsAsked : Machine → Asked → Machine → Type 0
 IsAsked old (Next index) new = IsNextAsked old new index
 IsAsked old End new = (old.halted ≡ false) × (old.least ≡ None) × (old.to_come ≡ []) ×
@@ -35,7 +35,7 @@ IsSmallPlace End = Unit {0}
 IsSmallPlace Enough = Unit {0}
 IsSmallPlace AskHalted = Unit {0}
 
--- taking a piece, where the answer is pending and the collector runs
+-- taking a piece, if the answer is pending and the collector runs
 abbrev pub IsTaken : Machine → ℕ → Reply SearchPiece → Machine → Type 0
 IsTaken old seat (Work piece) new = (IsSettled old → ⊥) × (old.halted ≡ false) × IsPieceTaken old seat piece new
 IsTaken old seat Nothing new = (IsSettled old → ⊥) × (old.halted ≡ false) × HasNoOpen old × (new ≡ old)
@@ -93,7 +93,7 @@ IsOutcomeKnown p questions (FirstOutcome index starts) = IsYesKnown p questions 
 IsOutcomeKnown p questions NoYesOutcome = IsFirstYes p questions None
 IsOutcomeKnown p questions (Open index) = AreNoBefore p questions index
 
--- the capacities that were reached where the answer is open: those of the first open question, of the last asked where
+-- the capacities that were reached if the answer is open: those of the first open question, of the last asked if
 -- that one is not asked, or none
 abbrev pub capacities_at : List QuestionRow → ℕ → Option (List ℕ)
 capacities_at asked place = option_map (λ row. row.question.capacities) (slice_get asked (min place (length asked - 1)))

@@ -28,7 +28,7 @@ pub record IsPlaceIn (asked : List QuestionRow) (piece : SearchPiece) (at : ℕ)
   pub index : piece.index < length asked
   pub place : IsPlace (row_at asked piece.index) piece at
 
--- a place is added to some, where it is one of them; it is taken from them; the later ones are
+-- a place is added to some, if it is one of them; it is taken from them; the later ones are
 abbrev pub IsAdded : List ℕ → ℕ → List ℕ → Type 0
 IsAdded old place new = (i : ℕ) → Contains new i ↔ (Contains old i ⊎ (i ≡ place))
 
@@ -38,7 +38,7 @@ IsRemoved old place new = (i : ℕ) → Contains new i ↔ (Contains old i × (i
 abbrev pub IsCutAt : List ℕ → ℕ → List ℕ → Type 0
 IsCutAt old end new = (i : ℕ) → Contains new i ↔ (Contains old i × (i < end))
 
--- a place stays where its question has something open or out
+-- a place stays if its question has something open or out
 abbrev pub IsRemovedIfDone : List QuestionRow → List ℕ → ℕ → List ℕ → Type 0
 IsRemovedIfDone asked old place new =
     (i : ℕ) → Contains new i ↔

@@ -37,7 +37,7 @@ abbrev pub AreTrueFindings : Project → List Call → Type 0
 AreTrueFindings p calls = (finding : SearchFinding) (merged : Merged) → Contains calls (Hand finding merged) →
     IsTrueFinding p finding
 
--- whatever calls a collector has had, in any order: where the findings were true and the questions had the network's
+-- whatever calls a collector has had, in any order: if the findings were true and the questions had the network's
 -- form, the facts hold of its state, and its questions, asked and still to come, are those of the series
 abbrev pub RunsAreSound : Type 0
 RunsAreSound =

@@ -22,7 +22,7 @@ HasAnswer p asked (Some y) =
     Answers p (row_at asked y.index).question.capacities (row_at asked y.index).question.window y.starts
 
 -- of each question before the least yes what is open or out covers its window and lies inside it; the least yes
--- answers; no window is open from there on; the questions have the network's form; and where the series has ended none
+-- answers; no window is open from there on; the questions have the network's form; and if the series has ended none
 -- is to come
 pub record IsSoundState (p : Project) (m : Machine) : Type 0 where
   pub kept : (i : ℕ) → i < length m.asked → IsTrue (is_before m.least i) → IsKept p (row_at m.asked i)

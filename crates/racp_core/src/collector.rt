@@ -112,14 +112,16 @@ impl<N: OfNetwork, S: Series> Core<N, S> {
         self.undecided.len()
     }
 
-    /// Whether a question can be asked: the collector runs, knows no yes, and its series has not ended. Takes no memory.
+    /// Whether a question can be asked: the collector runs, knows no yes, and its series has not ended. Takes no
+    /// memory.
     pub fn may_ask(&self) -> bool
         ensures { IsTrue result ↔ IsAsking self.now }
     {
         !self.halted && self.least.is_none() && !self.ended
     }
 
-    /// Whether the answer is known: a yes before which each question is a no, or that no question of the series is a yes.
+    /// Whether the answer is known: a yes before which each question is infeasible, or that no question of the series
+    /// is a yes.
     pub fn is_settled(&self) -> bool
         ensures { IsTrue result ↔ IsSettled self.now }
     {

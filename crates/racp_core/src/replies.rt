@@ -1,3 +1,5 @@
+//! What the calls of the collector answer.
+
 use racp_model::Starts;
 
 /// What asking answers.
@@ -37,16 +39,16 @@ pub enum Merged {
 /// What is known of the series.
 #[derive(Drop)]
 pub enum Verdict<'a> {
-    /// The question at this place is a yes, answered by these starts, and each question before it is a no.
+    /// The question at this place is a yes, answered by these starts, and each question before it is infeasible.
     First {
         /// The place of the question.
         index: usize,
         /// Starts that answer it.
         starts: &'a Starts,
     },
-    /// Each question of the series is a no.
+    /// Each question of the series is infeasible.
     NoYes,
-    /// Not known yet: each question before this place is a no.
+    /// Not known yet: each question before this place is infeasible.
     Pending {
         /// The place of the first asked question that is not decided, or the number of asked questions.
         first_open: usize,
@@ -56,16 +58,16 @@ pub enum Verdict<'a> {
 /// What was known of the series at the end.
 #[derive(Drop)]
 pub enum Outcome {
-    /// The question at this place is a yes, answered by these starts, and each question before it is a no.
+    /// The question at this place is a yes, answered by these starts, and each question before it is infeasible.
     First {
         /// The place of the question.
         index: usize,
         /// Starts that answer it.
         starts: Starts,
     },
-    /// Each question of the series is a no.
+    /// Each question of the series is infeasible.
     NoYes,
-    /// Not known: each question before this place is a no.
+    /// Not known: each question before this place is infeasible.
     Open {
         /// The place of the first asked question that is not decided, or the number of asked questions.
         first_open: usize,

@@ -225,7 +225,7 @@ fn make_room(ready: &mut Vec<Window>, out: &Vec<Out>, rest: &Rest) -> Result<(),
     }
 }
 
-/// Puts what is left of a window behind the open ones, for which there is room.
+/// Puts what is left of a window after the open ones, for which there is room.
 fn open_rest(ready: &mut Vec<Window>, window: Window, rest: Rest)
     requires { length ready.old.items + listed rest < vec_capacity ready.old }
     ensures items { ready.new.items ≡ ready.old.items ++ rest_windows window rest }

@@ -10,7 +10,7 @@ pub record IsLastEnd (p : Project) (starts : List ℕ) (last : ℕ) : Type 0 whe
   pub some : (i : ℕ) × (i < length p.jobs) × (slice_index starts i + duration p i ≡ last)
   pub most : EndsBy p (λ _. last) starts
 
--- the late starts, or none where nothing keeps precedence and the due times
+-- the late starts, or none if nothing keeps precedence and the due times
 abbrev pub IsLateAnswer : Project → (ℕ → ℕ) → Option (List ℕ) → Type 0
 IsLateAnswer p due (Some late) = IsLate p due late
 IsLateAnswer p due None = IsTooTight p due
@@ -19,12 +19,12 @@ IsLateAnswer p due None = IsTooTight p due
 abbrev pub HasNoRoot : Project → (ℕ → ℕ) → (ℕ → ℕ) → Type 0
 HasNoRoot p release due = (early : List ℕ) × IsEarly p release early × (i : ℕ) × IsFirstLate p due early i
 
--- the root window, or none where the early finish of some job exceeds its due time
+-- the root window, or none if the early finish of some job exceeds its due time
 abbrev pub IsRootAnswer : Project → (ℕ → ℕ) → (ℕ → ℕ) → Option Bounds → Type 0
 IsRootAnswer p release due (Some window) = IsRootWindow p release due window
 IsRootAnswer p release due None = HasNoRoot p release due
 
--- the number of the first job that ends after its due time, or none where each ends by it
+-- the number of the first job that ends after its due time, or none if each ends by it
 abbrev pub IsFirstLateAnswer : Project → (ℕ → ℕ) → List ℕ → Option ℕ → Type 0
 IsFirstLateAnswer p due starts (Some job) = (i : ℕ) × (number i ≡ job) × IsFirstLate p due starts i
 IsFirstLateAnswer p due starts None = EndsBy p due starts

@@ -6,7 +6,7 @@ use Rattle.racp_model.specs.Path.{IsEarly, IsCriticalLength}
 use Rattle.racp_model.specs.Window.{Bounds, LiesIn, IsRootWindow}
 use Rattle.racp_cpm.specs.Ends.{IsLastEnd, IsRootAnswer}
 
--- early starts that end by the due times are a schedule where there is enough of each resource
+-- early starts that end by the due times are a schedule if there is enough of each resource
 abbrev pub EarlyIsSchedule : Type 0
 EarlyIsSchedule =
     (p : Project) (release due : ℕ → ℕ) (capacities early : List ℕ) → IsEarly p release early → EndsBy p due early →
@@ -18,14 +18,14 @@ CriticalIsGreatestFinish =
     (p : Project) (release : ℕ → ℕ) (early : List ℕ) (length : ℕ) → IsSound p → IsEarly p release early →
     IsCriticalLength p release length ↔ IsLastEnd p early length
 
--- with one deadline for all jobs there is no root window exactly where the critical length exceeds it
+-- with one deadline for all jobs there is no root window exactly if the critical length exceeds it
 abbrev pub NoRootIsTooLong : Type 0
 NoRootIsTooLong =
     (p : Project) (release : ℕ → ℕ) (critical deadline : ℕ) (answer : Option Bounds) → IsSound p →
     IsCriticalLength p release critical →
     IsRootAnswer p release (λ _. deadline) answer → (answer ≡ None) ↔ (deadline < critical)
 
--- there is no root window exactly where no starts keep precedence and are in time
+-- there is no root window exactly if no starts keep precedence and are in time
 abbrev pub NoRootIsNoSchedule : Type 0
 NoRootIsNoSchedule =
     (p : Project) (release due : ℕ → ℕ) (answer : Option Bounds) → IsRootAnswer p release due answer →

@@ -1,3 +1,5 @@
+//! Early starts and the critical length: a sweep forward over the pairs of the network.
+
 ghost use Rattle.std.specs.Prelude.{◌≡◌, ℕ, ◌+◌, ◌<◌, ◌≤◌, All, IfOk, length, slice_index};
 ghost use Rattle.racp_model.specs.Limits.{most_bound};
 ghost use Rattle.racp_model.specs.Path.{IsEarly, IsCriticalLength};

@@ -1,3 +1,5 @@
+//! Late starts: a sweep backward over the pairs of the network.
+
 ghost use Rattle.std.specs.Prelude.{◌≡◌, MatchBool, IfOk, length, slice_index};
 ghost use Rattle.racp_model.specs.Path.{IsLate, IsTooTight};
 ghost use Rattle.racp_cpm.specs.Ends.{IsLateAnswer};
@@ -6,7 +8,7 @@ ghost use Rattle.racp_cpm.specs.Lowered.{TakesDurations, IsLowered};
 use racp_model::{Network, Starts};
 use std::alloc::{AllocError, Global};
 
-/// The late starts, in time units: the greatest starts that keep precedence and end by the due times, or `None` where
+/// The late starts, in time units: the greatest starts that keep precedence and end by the due times, or `None` if
 /// nothing does both. `due` has a time for each job, by place from 0.
 ///
 /// # Errors

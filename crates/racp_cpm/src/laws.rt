@@ -2,7 +2,7 @@
 
 ghost use Rattle.racp_cpm.specs.Laws.{EarlyIsSchedule, CriticalIsGreatestFinish, NoRootIsTooLong, NoRootIsNoSchedule, RootIsInTime};
 
-/// Early starts that end by the due times are a schedule where there is enough of each resource.
+/// Early starts that end by the due times are a schedule if there is enough of each resource.
 pub fn early_is_schedule()
     ensures { EarlyIsSchedule }
 {}
@@ -12,12 +12,12 @@ pub fn critical_is_greatest_finish()
     ensures { CriticalIsGreatestFinish }
 {}
 
-/// With one deadline for all jobs there is no root window exactly where the critical length exceeds it.
+/// With one deadline for all jobs there is no root window exactly if the critical length exceeds it.
 pub fn no_root_is_too_long()
     ensures { NoRootIsTooLong }
 {}
 
-/// There is no root window exactly where no starts keep precedence and are in time.
+/// There is no root window exactly if no starts keep precedence and are in time.
 pub fn no_root_is_no_schedule()
     ensures { NoRootIsNoSchedule }
 {}

@@ -18,22 +18,22 @@
 //! late start     1  1  2  2  4
 //! ```
 //!
-//! `longest(alloc, &net, &release)` answers the critical length, 3. Where job 2 has to end by 2, `root` answers `None`,
-//! since its early finish is 3, and `first_late` names job 2. Where job 2 is released at 3, the critical length is 6.
+//! `longest(alloc, &net, &release)` answers the critical length, 3. If job 2 has to end by 2, `root` answers `None`,
+//! since its early finish is 3, and `first_late` names job 2. If job 2 is released at 3, the critical length is 6.
 //!
 //! Early starts are one sweep over the pairs in topological order, which raises each start to the end of the jobs
 //! before it. Late starts are one sweep from the end of that list. `settle_early` works in place and takes no memory,
 //! so that a search can use one row again and again. Lower bounds are at most 20,000,000, and early starts then stay
-//! below 2^32. `root` looks at the early finishes before it asks for late starts: where each is in time, there are late
+//! below 2^32. `root` looks at the early finishes before it asks for late starts: if each is in time, there are late
 //! starts.
 //!
 //! Proved: `early` and `settle_early` give the least starts at or above the lower bounds that keep precedence; `late`
-//! the greatest that keep precedence and end by the due times, or `None` exactly where there are none; `longest` the
+//! the greatest that keep precedence and end by the due times, or `None` exactly if there are none; `longest` the
 //! length of some chain, and none is longer; `last_end` the greatest finish; `root` the root window, or `None` exactly
-//! where the early finish of some job exceeds its due time; `first_late` the first job that ends late. In `laws`: of
-//! the starts that keep precedence, those in time are those in the root window; there is no root window exactly where
-//! no starts keep precedence and are in time; with one deadline for all jobs, that is where the critical length exceeds
-//! it. Not proved: that memory is not refused without need.
+//! if the early finish of some job exceeds its due time; `first_late` the first job that ends late. In `laws`: of the
+//! starts that keep precedence, those in time are those in the root window; there is no root window exactly if no
+//! starts keep precedence and are in time. With one deadline for all jobs, that is so exactly if the critical length
+//! exceeds it. Not proved: that memory is not refused without need.
 #![tactic(auto)]
 
 mod earliest;

@@ -1,3 +1,5 @@
+//! The root window: from the early to the late starts.
+
 ghost use Rattle.std.specs.Prelude.{◌≡◌, ◌≤◌, All, IfOk, length, slice_index};
 ghost use Rattle.racp_model.specs.Limits.{latest_time};
 ghost use Rattle.racp_model.specs.Schedule.{KeepsPrecedence, EndsBy};
@@ -10,7 +12,7 @@ use racp_model::{Network, Starts, Window};
 use std::alloc::{AllocError, Global};
 
 /// The root window, in time units: from the early starts at or above the release times to the late starts by the due
-/// times. `None` where the early finish of some job exceeds its due time. Both lists have a time for each job, by place
+/// times. `None` if the early finish of some job exceeds its due time. Both lists have a time for each job, by place
 /// from 0, of at most 10,000,000.
 ///
 /// # Errors
@@ -60,7 +62,7 @@ pub fn window_above(
     }
 }
 
-/// The number, from 1, of the first job that ends after its due time, or `None` where each ends by it. `due` has a time
+/// The number, from 1, of the first job that ends after its due time, or `None` if each ends by it. `due` has a time
 /// for each job, by place from 0. Takes no memory.
 pub fn first_late(net: &Network, starts: &Starts, due: &[u32]) -> Option<u32>
     requires starts { length starts.now ≡ length net.now.jobs }

@@ -11,7 +11,7 @@ use Rattle.racp_curve.specs.declared.step.Step.{Step}
 use Rattle.racp_curve.specs.declared.step.CurveAnswer.{CurveAnswer}
 use Rattle.racp_curve.specs.declared.step.CurveAnswer.TheVariants.{Steps, NoPlan}
 
--- an order with another deadline: each job has to end by it, or by its due time where that is earlier (`due_of`)
+-- an order with another deadline: each job has to end by it, or by its due time if that is earlier (`due_of`)
 abbrev pub order_by : ℕ → Terms → Terms
 order_by deadline terms = record {
   deadline = deadline;
@@ -34,12 +34,12 @@ pub record IsStepUpTo (p : Project) (terms : Terms) (end : ℕ) (step : Step) : 
       ArePlanned p (order_by deadline terms) step.capacities
   pub priced : step.cost ≡ cost terms step.capacities
 
--- the deadline of the first step, or an end where there is none
+-- the deadline of the first step, or an end if there is none
 abbrev pub first_deadline : ℕ → List Step → ℕ
 first_deadline end [] = end
 first_deadline end (step ∷ rest) = step.deadline
 
--- the first step, where there is one, has other capacities than these
+-- the first step, if there is one, has other capacities than these
 abbrev pub AreOthersThanFirst : List ℕ → List Step → Type 0
 AreOthersThanFirst capacities [] = ⊤
 AreOthersThanFirst capacities (step ∷ rest) = capacities ≢ step.capacities
@@ -68,8 +68,8 @@ abbrev pub AreNotAfterEnough : Project → Terms → (end : ℕ) → List ℕ �
 AreNotAfterEnough p terms end capacities = (deadline : ℕ) → deadline < end → (enough : List ℕ) →
     IsEnough p (order_by deadline terms) enough → IsBefore terms enough capacities → ⊥
 
--- where it stops early: steps from some deadline on, and why no more are known, of an asker that may stop, or want a thread, or
--- neither. Where it stops, capacities are told for the deadlines before the first step
+-- if it stops early: steps from some deadline on, and why no more are known, of an asker that may stop, or want a thread, or
+-- neither. If it stops, capacities are told for the deadlines before the first step
 pub record IsCurveStop (p : Project) (terms : Terms) (may_stop may_want_thread : Type 0) (steps : List Step) (stop : PlanStop)
     : Type 0 where
   pub are_steps : AreSteps p terms steps

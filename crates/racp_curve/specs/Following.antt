@@ -23,17 +23,17 @@ plan_in (Impossible longest) = None
 plan_in (Due job) = None
 plan_in Ceiling = None
 
--- the plan, or none where no capacities are enough
+-- the plan, or none if no capacities are enough
 abbrev pub IsPlanOrNone : Project → Terms → Option Plan → Type 0
 IsPlanOrNone p terms (Some plan) = IsPlanOf p terms plan
 IsPlanOrNone p terms None = NoneIsEnough p terms
 
--- the root window, or none where no capacities are enough
+-- the root window, or none if no capacities are enough
 abbrev pub IsRootOrNone : Project → Terms → Option Bounds → Type 0
 IsRootOrNone p terms (Some window) = IsRootWindow p (release_of terms) (due_of terms) window
 IsRootOrNone p terms None = NoneIsEnough p terms
 
--- a deadline, at most another, for which capacities are enough; or none where they are not enough for that one
+-- a deadline, at most another, for which capacities are enough; or none if they are not enough for that one
 abbrev pub IsSooner : Project → Terms → List ℕ → (deadline : ℕ) → Option ℕ → Type 0
 IsSooner p terms capacities deadline (Some end) = (end ≤ deadline) × IsEnough p (order_by end terms) capacities
 IsSooner p terms capacities deadline None = IsEnough p (order_by deadline terms) capacities → ⊥
@@ -60,7 +60,7 @@ pub record IsBegun (p : Project) (terms : Terms) (begin : ℕ) (steps : List Ste
   pub others : (deadline : ℕ) → deadline < begin → (capacities : List ℕ) →
       IsEnough p (order_by deadline terms) capacities → AreOthersThanFirst capacities steps
 
--- the plan for the deadline just before the steps so far, which is before another; or none, where the curve is whole
+-- the plan for the deadline just before the steps so far, which is before another; or none, if the curve is whole
 abbrev pub IsFollowed : Project → Terms → (deadline : ℕ) → List Step → Option Plan → Type 0
 IsFollowed p terms deadline steps (Some plan) = IsNext p terms plan steps × (plan.deadline < deadline)
 IsFollowed p terms deadline steps None = IsCurve p terms steps

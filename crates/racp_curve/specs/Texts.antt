@@ -4,7 +4,7 @@ use Rattle.std.specs.Fmt.{decimal}
 use Rattle.racp_plan.specs.Texts.{line}
 use Rattle.racp_curve.specs.declared.step.Step.{Step}
 
--- each of these numbers behind a blank
+-- each of these numbers after a blank
 abbrev pub spaced : List ℕ → List ℕ
 spaced [] = []
 spaced (number ∷ numbers) = (codes " " ++ decimal number) ++ spaced numbers

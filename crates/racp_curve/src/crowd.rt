@@ -22,11 +22,13 @@ use std::marker::Brand;
 use std::sync::Wait;
 use std::thread::Threads;
 
-/// The curve of an order, made by such workers, which take so many turns over all its plans: the same as that of `curve_alone`.
+/// The curve of an order, made by such workers, which take this many turns over all its plans: the same as that of
+/// `curve_alone`.
 ///
 /// # Errors
 ///
-/// No turn is left, or the stop was asked for; memory was refused; or a worker could not be started. The steps so far come back.
+/// No turn is left, or the stop was asked for; memory was refused; or a worker could not be started. The steps so far
+/// come back.
 pub fn curve_crowd<G: Gate + Sync, P: Stop + Sync, R: Threads + Wait + Sync>(
     rt: &R,
     alloc: Global,
@@ -44,7 +46,7 @@ pub fn curve_crowd<G: Gate + Sync, P: Stop + Sync, R: Threads + Wait + Sync>(
     curve_by::<Brand, G, P, R>(rt, &Ground { alloc, net, order }, crew)
 }
 
-/// The same. The network is the one that `N` names.
+/// The curve of an order, made by these workers, for the network that `N` names.
 fn curve_by<N: OfNetwork + Send + Sync, G: Gate + Sync, P: Stop + Sync, R: Threads + Wait + Sync>(
     rt: &R,
     ground: &Ground,

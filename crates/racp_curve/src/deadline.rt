@@ -15,7 +15,7 @@ use racp_prices::Order;
 use racp_questions::Asker;
 use std::alloc::{AllocError, Global};
 
-/// The same order with another deadline, in time units.
+/// The order with another deadline, in time units; nothing else changes.
 fn with_deadline(alloc: Global, order: &Order, deadline: u32) -> Result<Order, AllocError>
     ensures { IfOk result (λ other. other ≡ order_by deadline order.now) }
 {
@@ -34,7 +34,7 @@ fn with_deadline(alloc: Global, order: &Order, deadline: u32) -> Result<Order, A
     })
 }
 
-/// The same numbers, where there are any.
+/// A copy of the numbers, if there are any.
 fn copied(alloc: Global, numbers: &Option<Vec<u32>>) -> Result<Option<Vec<u32>>, AllocError>
     ensures { IfOk result (λ copy. option_map (λ c. c.items) copy ≡ option_map (λ c. c.items) numbers.now) }
 {
@@ -44,8 +44,8 @@ fn copied(alloc: Global, numbers: &Option<Vec<u32>>) -> Result<Option<Vec<u32>>,
     }
 }
 
-/// The plan for another deadline, which is at most the order's; or none where there is no plan for it. Questions go to the asker,
-/// which is about this network.
+/// The plan for another deadline, which is at most the order's; or none if there is no plan for it. Questions go to the
+/// asker, which is about this network.
 pub(crate) fn plan_by<A: Asker<AnySeries>>(
     ground: &Ground,
     deadline: u32,
@@ -77,7 +77,7 @@ fn plan_in(answer: Answer) -> Option<Plan>
     }
 }
 
-/// The root window for another deadline, which is at most the order's; or none where no starts are in time.
+/// The root window for another deadline, which is at most the order's; or none if no starts are in time.
 pub(crate) fn root_by(ground: &Ground, deadline: u32) -> Result<Option<Window>, AllocError>
     requires { deadline ≤ ground.now.order.now.deadline }
     ensures { IfOk result (IsRootOrNone ground.now.net.now (order_by deadline ground.now.order.now)) }

@@ -19,8 +19,9 @@ use racp_lexfix::PlanStop;
 use racp_model::{Capacities, Network, Question, Starts, Window};
 use racp_questions::{Asker, Probe};
 
-/// Lowers a time by which some starts that fit these capacities end, on the terms of the order, to the least such time: they are
-/// enough for that deadline, and for none before it. Where it ends early, they are enough for the deadline that it came to.
+/// Lowers a time by which some starts that fit these capacities end, on the terms of the order, to the least such time:
+/// they are enough for that deadline, and for none before it. If it ends early, they are enough for the deadline that
+/// it came to.
 pub(crate) fn shorten<A: Asker<AnySeries>>(
     ground: &Ground,
     capacities: &Capacities,
@@ -46,7 +47,7 @@ pub(crate) fn shorten<A: Asker<AnySeries>>(
     Ok(())
 }
 
-/// A deadline, at most this one, for which the capacities are enough; or none where they are not enough for this one.
+/// A deadline, at most this one, for which the capacities are enough; or none if they are not enough for this one.
 fn sooner<A: Asker<AnySeries>>(
     ground: &Ground,
     capacities: &Capacities,
@@ -72,7 +73,7 @@ fn sooner<A: Asker<AnySeries>>(
     }
 }
 
-/// What the asker tells of capacities and a window. Where it stops, these capacities are told.
+/// What the asker tells of capacities and a window. If it stops, these capacities are told.
 fn ask<A: Asker<AnySeries>>(
     net: &Network,
     window: Window,

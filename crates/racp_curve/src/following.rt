@@ -22,9 +22,10 @@ use racp_questions::Asker;
 use std::alloc::{AllocError, Global};
 use std::marker::Brand;
 
-/// The curve of an order: the plan's capacities, and what they cost, for each deadline up to the order's; or why there is no plan
-/// for that. Questions go to the asker, which is about this network. The order has an entry for each resource and each job of the
-/// network. The asker is told floors, and what capacities that are enough cost at least, for one deadline after another.
+/// The curve of an order: the plan's capacities, and what they cost, for each deadline up to the order's; or why there
+/// is no plan for that. Questions go to the asker, which is about this network. The order has an entry for each
+/// resource and each job of the network. The asker is told floors, and what capacities that are enough cost at least,
+/// for one deadline after another.
 ///
 /// # Errors
 ///
@@ -91,7 +92,8 @@ fn curve_from<A: Asker<AnySeries>>(
     }
 }
 
-/// Puts all steps of the curve that are still to come before those so far, which the plan's deadline stands just before.
+/// Puts all steps of the curve that are still to come before those so far, which the plan's deadline stands just
+/// before.
 fn follow<A: Asker<AnySeries>>(
     ground: &Ground,
     plan: Plan,
@@ -115,8 +117,8 @@ fn follow<A: Asker<AnySeries>>(
     }
 }
 
-/// Puts the step of a plan before those so far, and gives the plan for the deadline before it; or none where there is none, so
-/// that the curve is whole.
+/// Puts the step of a plan before those so far, and gives the plan for the deadline before it; or none if there is
+/// none, so that the curve is whole.
 fn step_back<A: Asker<AnySeries>>(
     ground: &Ground,
     plan: Plan,
@@ -138,8 +140,8 @@ fn step_back<A: Asker<AnySeries>>(
     }
 }
 
-/// Puts the step of a plan before those so far, and tells its first deadline. Where the asker gives up, the step begins at the
-/// deadline that it came to.
+/// Puts the step of a plan before those so far, and tells its first deadline. If the asker gives up, the step begins at
+/// the deadline that it came to.
 fn put_step<A: Asker<AnySeries>>(
     ground: &Ground,
     plan: Plan,
@@ -178,7 +180,7 @@ fn step_of(plan: Plan, deadline: u32) -> Step
     }
 }
 
-/// Puts a step before the others. Where memory is refused, they stay as they are.
+/// Puts a step before the others. If memory is refused, they stay as they are.
 fn put_first(steps: &mut Vec<Step>, step: Step) -> Result<(), AllocError>
     ensures put { OnOk result (steps.new.items ≡ step ∷ steps.old.items) }
     ensures same { OnErr result (steps.new.items ≡ steps.old.items) }
@@ -187,8 +189,8 @@ fn put_first(steps: &mut Vec<Step>, step: Step) -> Result<(), AllocError>
     Ok(())
 }
 
-/// The curve of an order, made on the calling thread, with records of refuted nodes that take at most about so many mebibytes, up to
-/// 1,048,576.
+/// The curve of an order, made on the calling thread, with records of refuted nodes that take at most about this many
+/// mebibytes, up to 1,048,576.
 ///
 /// # Errors
 ///
@@ -208,7 +210,7 @@ pub fn curve_alone(
     curve_named::<Brand>(&Ground { alloc, net, order }, mebibytes)
 }
 
-/// The same. The network is the one that `N` names.
+/// The curve of an order, made on the calling thread, for the network that `N` names.
 fn curve_named<N: OfNetwork>(ground: &Ground, mebibytes: usize) -> Result<CurveAnswer, CurveStop>
     requires named { ground.now.net.now ≡ N.network }
     requires memory { mebibytes ≤ 1048576 }

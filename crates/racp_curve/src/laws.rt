@@ -12,7 +12,8 @@ pub fn not_enough_sooner()
     ensures { NotEnoughSooner }
 {}
 
-/// The capacities of a plan that are enough for an earlier deadline are those of the plan for each deadline between the two.
+/// The capacities of a plan that are enough for an earlier deadline are those of the plan for each deadline between the
+/// two.
 pub fn planned_between()
     ensures { PlannedBetween }
 {}

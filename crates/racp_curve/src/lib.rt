@@ -1,12 +1,13 @@
-//! What each deadline costs: the plan of an order for each deadline up to its own, told by its steps.
+//! The curve of an order: what each deadline up to its own costs, told by the steps at which the plan changes.
 //!
 //! Resources are numbered from 1; their places in lists count from 0. Times are whole time units.
 //!
-//! A later deadline never costs more: starts that are in time for a deadline are in time for each later one, so what is enough
-//! for it is enough for those too. So the plan's capacities change at some deadlines only, and between two of them they stay the
-//! same. A step says from which deadline on the plan has which capacities, and what they cost; the curve is all steps up to the
-//! order's deadline. With examples/b.sm and b3.toml, two jobs use resource 1 and two later ones resource 2, each for a time unit,
-//! and a unit costs 1. Of the deadline 4 the curve is:
+//! A later deadline never costs more: starts that are in time for a deadline are in time for each later one, so
+//! capacities that are enough for it are enough for those too. So the plan's capacities change at some deadlines only,
+//! and between two of them they stay the same. A step says from which deadline on the plan has which capacities, and
+//! what they cost; the curve is all steps up to the order's deadline. With examples/b.sm and b3.toml, two jobs use
+//! resource 1 and two later ones resource 2, each for a time unit, and a unit costs 1. Up to the deadline 4 the curve
+//! is:
 //!
 //! ```text
 //! deadline 2 cost 4 capacity 2 2
@@ -15,26 +16,28 @@
 //! end
 //! ```
 //!
-//! `curve` follows it from the order's deadline back. The capacities of the plan are enough for the time at which the last of its
-//! starts' jobs ends, too, and none that are enough for an earlier deadline stand before them. So they are those of the plan
-//! for each deadline from that time on. Whether they are enough for the time before that is one question, about the root window by
-//! that deadline: starts that answer it tell an earlier end, and a no says that the step begins here. Then the plan for the
-//! deadline before it is made, and so on, up to a deadline for which there is none. So the number of plans is that of the steps, and
-//! the work does not grow with the deadline. All is asked of one `Asker`, whose records serve on.
+//! `curve` follows it from the order's deadline back. The capacities of the plan are also enough for the time at which
+//! its last job ends, and none that are enough for an earlier deadline stand before them. So they are those of the plan
+//! for each deadline from that time on. Whether they are enough for the time before that is one question, about the
+//! root window by that deadline. Starts that answer it give an earlier end; if it is infeasible, the step begins here.
+//! Then the plan for the deadline before it is made, and so on, down to a deadline for which there is none. So there is
+//! one plan for each step, and the work does not grow with the deadline. All questions go to one `Asker`, whose records
+//! serve the later ones too.
 //!
-//! `curve_alone(alloc, &net, &order, 1024)` does it on the calling thread, `curve_crowd(rt, alloc, &net, &order, crew)` has workers
-//! make the plans over one board of records, and counts their turns over all of them. `curve_text(alloc, &steps)` gives the lines
-//! above, and `step_lines(alloc, &steps)` those of some steps.
+//! `curve_alone(alloc, &net, &order, 1024)` does it on the calling thread, `curve_crowd(rt, alloc, &net, &order, crew)`
+//! has workers make the plans over one board of records, and counts the turns of all plans together. `curve_text(alloc,
+//! &steps)` gives the lines above, and `step_lines(alloc, &steps)` the lines of some steps.
 //!
-//! Proved: what `curve` answers is the curve (`IsCurve`): for each deadline from that of a step to before that of the next one,
-//! and up to the order's for the last, the capacities of the step are those of the plan, and its cost is theirs; for each deadline
-//! before the first step there is no plan; and two steps in a row have different capacities. Where there is no plan for the
-//! order's own deadline, it answers the reason. Where the asker gives up, the steps so far come back with the reason, and are right
-//! for all deadlines from the first of them on; where it stops, capacities are told before which none stand that are enough for a
-//! deadline before that. Workers may be stopped at any time, and what they answer else is the curve too. The text of a curve is the
-//! one that is defined. In `laws`: what is enough for a deadline is enough for each later one, and what stands before the capacities
-//! of the plan for a longer deadline is not enough for a shorter one; an order has one curve at most, so workers make that of one
-//! thread; and a curve tells of each deadline. Not proved: that memory is not refused without need, and how long it takes.
+//! Proved: what `curve` answers is the curve (`IsCurve`): for each deadline from that of a step to before that of the
+//! next one, and up to the order's for the last, the capacities of the step are those of the plan, and its cost is
+//! theirs; for each deadline before the first step there is no plan; and two steps in a row have different capacities.
+//! If there is no plan for the order's own deadline, it answers the reason. If the asker gives up, the steps so far
+//! come back with the reason, and are right for all deadlines from the first of them on. If it stops, capacities are
+//! told too: none that stand before them are enough for a deadline before these steps. Workers may be stopped at any
+//! time; otherwise they answer the curve too. The text of a curve is the one that is defined. In `laws`: what is enough
+//! for a deadline is enough for each later one, and what stands before the capacities of the plan for a longer deadline
+//! is not enough for a shorter one; an order has one curve at most, so workers make that of one thread; and a curve
+//! tells of each deadline. Not proved: that memory is not refused without need, and how long it takes.
 #![tactic(auto)]
 
 mod crowd;

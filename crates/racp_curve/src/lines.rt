@@ -21,7 +21,8 @@ pub fn curve_text(alloc: Global, steps: &[Step]) -> Result<Vec<u8>, AllocError>
     Ok(text)
 }
 
-/// The line `deadline T cost X capacity a1 .. aR` for each of these steps, in ASCII, with the capacities of all resources.
+/// The line `deadline T cost X capacity a1 .. aR` for each of these steps, in ASCII, with the capacities of all
+/// resources.
 ///
 /// # Errors
 ///
@@ -56,7 +57,7 @@ fn push_head(alloc: Global, text: &mut Vec<u8>, deadline: u32, cost: u64) -> Res
     )?.as_bytes())
 }
 
-/// Adds each number behind a blank.
+/// Adds each number after a blank.
 fn push_numbers(alloc: Global, text: &mut Vec<u8>, numbers: &[u32]) -> Result<(), AllocError>
     ensures { OnOk result (text.new.items ≡ text.old.items ++ spaced numbers.now) }
 {

@@ -1,3 +1,5 @@
+//! The steps of a curve, and what making a curve answers.
+
 use racp_lexfix::{Answer, PlanStop};
 use racp_model::Capacities;
 
@@ -26,7 +28,7 @@ pub enum CurveAnswer {
 pub struct CurveStop {
     /// The steps so far, by rising deadline: right for each deadline from the first of them up to the order's.
     pub steps: Vec<Step>,
-    /// Why no more are known. Where the search was stopped, no capacities that are enough for a deadline before the first step
-    /// stand before those that it tells.
+    /// Why no more are known. If the search was stopped, no capacities that are enough for a deadline before the first
+    /// step stand before those that it tells.
     pub stop: PlanStop,
 }

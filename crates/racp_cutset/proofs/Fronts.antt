@@ -2,10 +2,9 @@
 use Rattle.std.proofs.Common.{◌≡◌, ◌⊎◌, inl, inr, ℕ, ◌+◌, ◌<◌, ◌≤◌, List, [], length, slice_index, arith, subst, Contains}
 use Rattle.std.proofs.lemmas.Bool.{cases_lt}
 use Rattle.std.specs.List.Sorted.{IsStrictlyIncreasing}
-use Rattle.racp_model.specs.Project.{number, IsNumber}
+use Rattle.racp_model.specs.Project.{number, place, IsNumber}
+use Rattle.racp_model.specs.JobSets.{AreJobs, IsInserted}
 use Rattle.racp_model.proofs.lemmas.Relations.{no_member}
-use Rattle.racp_delay.specs.Alternatives.{place}
-use Rattle.racp_delay.specs.JobSets.{AreJobs, IsInserted}
 use Rattle.racp_cutset.specs.Covering.{AreStartedBefore}
 
 -- of the jobs before place n those that start before the time

@@ -1,11 +1,10 @@
 -- What the rows of nodes say of them.
 use Rattle.std.proofs.Common.{◌≡◌, ◌↔◌, ℕ, ◌<◌, ◌≤◌, List, length, slice_index, Contains, All, arith, subst}
 use Rattle.std.proofs.lemmas.List.Kept.{AllPairs-from_increasing}
-use Rattle.racp_model.specs.Project.{Project, IsSound}
+use Rattle.racp_model.specs.Project.{Project, place, IsSound}
 use Rattle.racp_model.specs.Path.{IsEarly}
 use Rattle.racp_model.proofs.lemmas.Relations.{same_from_members}
 use Rattle.racp_cpm.proofs.lemmas.Bounded.{some_starts}
-use Rattle.racp_delay.specs.Alternatives.{place}
 use Rattle.racp_cutset.specs.Covering.{SearchNode, IsNode, IsStarted, HasCutsetOf, AreEnds, AreStartedBefore}
 use Rattle.racp_cutset.specs.Rows.{AreBounds}
 use Rattle.racp_cutset.specs.Told.{started_from_sets}

@@ -2,11 +2,10 @@
 -- in that the capacities and the bounds of the windows are compared too, and only refuted nodes are recorded.
 use Rattle.std.specs.Prelude.{◌≡◌, ◌↔◌, ℕ, ◌+◌, ◌<◌, ◌≤◌, max, List, length, slice_index, Contains}
 use Rattle.std.specs.List.Sorted.{IsStrictlyIncreasing}
-use Rattle.racp_model.specs.Project.{Project, IsNumber, duration}
+use Rattle.racp_model.specs.Project.{Project, place, IsNumber, duration}
 use Rattle.racp_model.specs.Schedule.{usage}
 use Rattle.racp_model.specs.Path.{IsEarly}
 use Rattle.racp_model.specs.Window.{Bounds, IsNo}
-use Rattle.racp_delay.specs.Alternatives.{place}
 
 -- a node of the search: the capacities and the window of a question, the early starts of the window, and a time
 pub record SearchNode : Type 0 where
@@ -69,7 +68,7 @@ pub record Covers (p : Project) (v w : SearchNode) : Type 0 where
   pub lower : MayStartAsEarly p v w
   pub fits : FitsBeforeTime p v
 
--- a refuted node that can serve as a record: it fits before its time, and its question is a no
+-- a refuted node that can serve as a record: it fits before its time, and its question is infeasible
 pub record IsRefutedNode (p : Project) (v : SearchNode) : Type 0 where
   pub fits : FitsBeforeTime p v
   pub refuted : IsNo p v.capacities v.window

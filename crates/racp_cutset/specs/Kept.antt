@@ -13,11 +13,11 @@ pub record Kept : Type 0 where
 abbrev pub record_numbers : Project → ℕ
 record_numbers p = 2 * length p.jobs + p.resources + 100
 
--- how many records a thread keeps at most that has so many mebibytes for them; one has 262,144 such numbers
+-- how many records a thread keeps at most that has this many mebibytes for them; one has 262,144 such numbers
 abbrev pub most_records : Project → ℕ → ℕ
 most_records p mebibytes = mebibytes * 262144 / record_numbers p
 
--- Of so many mebibytes, the records that several workers share have one half, and those that they keep of their own the
+-- Of this many mebibytes, the records that several workers share have one half, and those that they keep of their own the
 -- other, in equal parts. A shared record has a place, about 30 numbers, in the index of each worker. One worker alone
 -- has all for its own.
 abbrev pub most_shared : Project → ℕ → ℕ → ℕ
@@ -26,16 +26,16 @@ most_shared p mebibytes workers = mebibytes * 131072 / (record_numbers p + 30 * 
 abbrev pub most_own : Project → ℕ → ℕ → ℕ
 most_own p mebibytes workers = mebibytes * 131072 / (record_numbers p * workers)
 
--- the most records that a board takes, and that each own part keeps, where so many workers have so many mebibytes
+-- the most records that a board takes, and that each own part keeps, if this many workers have this many mebibytes
 pub record AreShares (p : Project) (mebibytes workers shared own : ℕ) : Type 0 where
   pub of_one : workers < 2 → (shared ≡ 0) × (own ≡ most_records p mebibytes)
   pub of_several : 1 < workers → (shared ≡ most_shared p mebibytes workers) × (own ≡ most_own p mebibytes workers)
 
--- the first so many records are kept
+-- the first this many records are kept
 abbrev pub front : ℕ → Kept → Kept
 front count kept = record { records = take count kept.records; most = kept.most }
 
--- what was kept stays kept, and new records come behind it
+-- what was kept stays kept, and new records come after it
 abbrev pub StayKept : Kept → Kept → Type 0
 StayKept old new = (more : List SearchNode) × (new ≡ record { records = old.records ++ more; most = old.most })
 
@@ -46,12 +46,12 @@ pub record TakesPlace (first : ℕ) (old : Kept) (last : SearchNode) (new : Kept
   pub within : place < length old.records
   pub written : new ≡ record { records = slice_set old.records place last; most = old.most }
 
--- a record is kept behind the others, or dropped
+-- a record is kept after the others, or dropped
 abbrev pub IsAppendedOrDropped : Kept → SearchNode → Kept → Type 0
 IsAppendedOrDropped old last new =
     (new ≡ record { records = old.records ++ last ∷ []; most = old.most }) ⊎ (new ≡ old)
 
--- a record is kept behind the others, or takes such a place, or is dropped where there is no room
+-- a record is kept after the others, or takes such a place, or is dropped if there is no room
 abbrev pub IsKeptOrDropped : ℕ → Kept → SearchNode → Kept → Type 0
 IsKeptOrDropped first old last new =
     (new ≡ record { records = old.records ++ last ∷ []; most = old.most }) ⊎

@@ -35,7 +35,7 @@ abbrev pub StartsAreBuilt : Type 0
 StartsAreBuilt = (p : Project) (v : SearchNode) (second : ℕ) (given : List ℕ) →
     IsBuilt p v second given (built_starts p v second given)
 
--- something holds of the start vector that is built where one node covers another and the given starts answer the
+-- something holds of the start vector that is built if one node covers another and the given starts answer the
 -- other's question
 abbrev pub HoldsOfBuilt : (Project → SearchNode → SearchNode → List ℕ → Type 0) → Type 0
 HoldsOfBuilt Holds =
@@ -70,7 +70,7 @@ BuiltFitsAfter = HoldsOfBuilt (λ p v w built. KeepsCapacitiesAt (λ t. w.time �
 abbrev pub BuiltAnswers : Type 0
 BuiltAnswers = HoldsOfBuilt (λ p v w built. Answers p v.capacities v.window built)
 
--- where the first node covers the second and the second's question has an answer, the first's has one
+-- if the first node covers the second and the second's question has an answer, the first's has one
 abbrev pub CoveringKeepsYes : Type 0
 CoveringKeepsYes =
     (p : Project) (v w : SearchNode) → IsSound p → IsNode p v → IsNode p w → Covers p v w →

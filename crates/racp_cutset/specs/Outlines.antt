@@ -2,7 +2,7 @@
 use Rattle.std.specs.Prelude.{◌≡◌, ℕ, ◌<◌, ◌≤◌, List, slice_index}
 use Rattle.racp_cutset.specs.declared.outline.Outline.{Outline}
 
--- the outline of what has this time and these capacities: the time, and the units of the first four resources, 0 where there are
+-- the outline of what has this time and these capacities: the time, and the units of the first four resources, 0 if there are
 -- fewer
 pub record IsOutline (at : ℕ) (capacities : List ℕ) (outline : Outline) : Type 0 where
   pub time : outline.time ≡ at

@@ -14,7 +14,7 @@ IsSoonerWithin first limit second from to =
 abbrev pub IsSoonerRow : List ℕ → ℕ → List ℕ → Type 0
 IsSoonerRow first limit second = (i : ℕ) → i < length first → slice_index first i ≤ max limit (slice_index second i)
 
--- at each place the end where the early start is before the time, and the lower bound elsewhere
+-- at each place the end if the early start is before the time, and the lower bound elsewhere
 pub record AreBounds (early : List ℕ) (time : ℕ) (ends lower bounds : List ℕ) : Type 0 where
   pub places : length bounds ≡ length early
   pub before : (i : ℕ) → i < length early → slice_index early i < time → slice_index bounds i ≡ slice_index ends i

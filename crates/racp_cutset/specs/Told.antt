@@ -6,13 +6,12 @@ use Rattle.std.proofs.lemmas.List.{ext_get_or}
 use mathlib.Core.Logic.{∥∥₁_elim, ∥∥₁_prop}
 use mathlib.Core.HLevel.{Σ_prop_path}
 use Rattle.std.specs.Coded.{Coded, Coded-set, code_by, coded×, coded_ℕ, coded_list}
-use Rattle.racp_model.specs.Project.{Project, number}
+use Rattle.racp_model.specs.Project.{Project, number, place}
 use Rattle.racp_model.specs.Path.{IsEarly}
-use Rattle.racp_delay.specs.Alternatives.{place}
 use Rattle.racp_cutset.specs.Covering.{SearchNode, IsNode, IsStarted, AreStartedBefore}
 use Rattle.racp_cutset.specs.Records.{IsPacked, Told}
 
--- a job is in the set of the started jobs where it is started, and only then
+-- a job is in the set of the started jobs if it is started, and only then
 pub in_started : (n : ℕ) (early : List ℕ) (time : ℕ) (started : List ℕ) → length early ≡ n → AreStartedBefore early time started → (i : ℕ) → i < n → (slice_index early i < time) ↔ Contains started (number i)
 in_started n early time started places h i l =
     let e : place (number i) ≡ i = omega arith in

@@ -1,3 +1,5 @@
+//! The records that threads share.
+
 ghost use Rattle.std.specs.Prelude.{◌≡◌, ◌≤◌, IfOk};
 ghost use Rattle.racp_cutset.specs.Kept.{AreShares, most_records};
 
@@ -8,9 +10,9 @@ use racp_model::{Network, OfNetwork};
 use std::alloc::{AllocError, Global};
 use std::sync::{Mutex, Wait};
 
-/// The records that the threads share, of the network that `N` names. It only grows, and is read without waiting. Beside
-/// it lie the own parts of threads that have ended, for those that come after them: these go on where the others have
-/// read to, with what they kept.
+/// The records that the threads share, of the network that `N` names. It only grows, and is read without waiting.
+/// Beside it lie the own parts of threads that have ended, for those that come after them: these go on where the others
+/// have read to, with what they kept.
 #[derive(Drop)]
 pub struct Board<N: OfNetwork> {
     records: boxcar::Vec<Nogood<N>>,
@@ -42,8 +44,8 @@ impl<N: OfNetwork> Board<N> {
         )
     }
 
-    /// A board without records. What it takes and what all own parts keep take at most about as much memory as the limit
-    /// says, with the places of the records in the index of each worker.
+    /// A board without records. What it takes and what all own parts keep take at most about as much memory as the
+    /// limit says, with the places of the records in the index of each worker.
     ///
     /// # Errors
     ///
@@ -55,7 +57,7 @@ impl<N: OfNetwork> Board<N> {
         Board::of_shares(alloc, shares_of(net, limit))
     }
 
-    /// A board without records, which takes so many.
+    /// A board without records, which takes this many.
     fn of_shares(alloc: Global, shares: Shares) -> Result<Self, AllocError>
         ensures shared { IfOk result (λ board. board.limit ≡ shares.shared) }
         ensures own { IfOk result (λ board. board.own ≡ shares.own) }
@@ -73,7 +75,7 @@ impl<N: OfNetwork> Board<N> {
         self.limit <= self.count()
     }
 
-    /// Shares a record; it is dropped where there is no room. May wait for another thread that is making room.
+    /// Shares a record; it is dropped if there is no room. May wait for another thread that is making room.
     pub fn push(&self, rt: &impl Wait, nogood: Nogood<N>) {
         let _ = self.records.push(rt, nogood);
     }
@@ -89,7 +91,7 @@ impl<N: OfNetwork> Board<N> {
         }
     }
 
-    /// Takes back the own part of a thread; it is dropped where there is no room. May wait for another thread that does
+    /// Takes back the own part of a thread; it is dropped if there is no room. May wait for another thread that does
     /// the same.
     pub fn give_part(&self, rt: &impl Wait, part: Local<N>) {
         let _ = self.parts.lock(rt).push(part);

@@ -9,7 +9,7 @@ use racp_model::OfNetwork;
 use std::alloc::Global;
 use std::collections::HashMap;
 
-/// How many records with the same started jobs are looked at; where there are more, the oldest give way.
+/// How many records with the same started jobs are looked at; if there are more, the oldest give way.
 const MOST_PLACES: usize = 32;
 
 /// Where a record stands: on the board, or among those that the thread keeps, by place from 0.
@@ -107,7 +107,7 @@ impl Index {
         self.free.clear();
     }
 
-    /// Forgets a place, and the hash where it was the last with it.
+    /// Forgets a place, and the hash if it was the last with it.
     pub(crate) fn forget(&mut self, key: u64, place: Place) {
         if let Some(entries) = self.entries.get_mut(&key) {
             entries.retain(|entry| entry.place != place);

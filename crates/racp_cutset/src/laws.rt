@@ -1,4 +1,5 @@
-//! Laws of covering: why a refuted node refutes the nodes that it covers. Each function does nothing; its contract is the law.
+//! Laws of covering: why a refuted node refutes the nodes that it covers. Each function does nothing; its contract is
+//! the law.
 
 ghost use Rattle.racp_cutset.specs.Laws.{StartsAreBuilt, BuiltLies, BuiltKeepsPrecedence, BuiltFitsBefore, BuiltFitsBetween, BuiltFitsAfter, BuiltAnswers, CoveringKeepsYes, CoveringRefutes};
 
@@ -7,7 +8,7 @@ pub fn starts_are_built()
     ensures { StartsAreBuilt }
 {}
 
-/// Where the node covers another one, whose question the given starts answer, the built ones lie in the node's window.
+/// If the node covers another one, whose question the given starts answer, the built ones lie in the node's window.
 pub fn built_lies()
     ensures { BuiltLies }
 {}
@@ -37,7 +38,7 @@ pub fn built_answers()
     ensures { BuiltAnswers }
 {}
 
-/// Where a node covers one whose question has an answer, its own has one.
+/// If a node covers one whose question has an answer, its own has one.
 pub fn covering_keeps_yes()
     ensures { CoveringKeepsYes }
 {}

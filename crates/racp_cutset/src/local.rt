@@ -1,3 +1,5 @@
+//! The records of one thread, and its index of these and of those of the board.
+
 ghost use Rattle.std.specs.Prelude.{◌≡◌, ◌↔◌, ◌<◌, ◌≤◌, IsTrue, IfSome, [], length, slice_set};
 ghost use Rattle.racp_model.specs.Window.{IsNo};
 ghost use Rattle.racp_cutset.specs.Covering.{Covers};
@@ -13,22 +15,22 @@ use racp_model::{Network, OfNetwork};
 use std::alloc::Global;
 use std::marker::Model;
 
-/// How many places of the board, behind those of the records that are still to be read, are looked at. A place stays
-/// empty where the push to it was refused.
+/// How many places of the board, after those of the records that are still to be read, are looked at. A place stays
+/// empty if the push to it was refused.
 const EMPTY_PLACES: usize = 8;
 
 /// How far the board has been read.
 #[derive(Clone, Copy, Drop)]
 struct Reading {
-    /// The place from which to read the next time: behind the last that had a record.
+    /// The place from which to read the next time: after the last that had a record.
     next: usize,
     /// How many records were read.
     records: usize,
 }
 
 /// One thread's own part of the records: the records that it made and has not given away, and an index of these and of
-/// what it has read of the board. It keeps no more records than it was made for. Contracts see the records that it keeps,
-/// and how many it keeps at most.
+/// what it has read of the board. It keeps no more records than it was made for. Contracts see the records that it
+/// keeps, and how many it keeps at most.
 #[derive(Drop)]
 pub struct Local<N: OfNetwork> {
     kept: Vec<Nogood<N>>,
@@ -36,7 +38,7 @@ pub struct Local<N: OfNetwork> {
     reading: Reading,
     /// How many records are kept at most.
     limit: usize,
-    /// The place behind that of the record that gave way last for want of room.
+    /// The place after that of the record that gave way last for want of room.
     turn: usize,
 }
 
@@ -64,7 +66,8 @@ impl<N: OfNetwork> Local<N> {
         Local::of_most(alloc, most_records(net, DEFAULT_MEMORY))
     }
 
-    /// The same, for at most so many records.
+    /// Keeps no record and has read nothing, and keeps at most `most` records. Takes no memory until a record is kept
+    /// or read.
     pub fn of_most(alloc: Global, most: usize) -> Self
         ensures { result ≡ record { records = []; most = most } }
     {
@@ -102,8 +105,8 @@ impl<N: OfNetwork> Local<N> {
         self.kept.len()
     }
 
-    /// Keeps a record: in place of one that gave way, as one that is covered does, or behind the others. The first
-    /// `first` ones stay. It is dropped where there is no room.
+    /// Keeps a record: in place of one that gave way, as one that is covered does, or after the others. The first
+    /// `first` ones stay. It is dropped if there is no room.
     pub fn keep(&mut self, nogood: Nogood<N>, first: usize)
         ensures { IsKeptOrDropped first self.old nogood self.new }
     {
@@ -115,7 +118,7 @@ impl<N: OfNetwork> Local<N> {
     }
 
     /// The place of a record that is not among the first ones and gives way: one that has given way, or else the oldest
-    /// where there is no more room.
+    /// if there is no more room.
     fn gives_way(&mut self, first: usize) -> Option<usize>
         ensures kept { self.new ≡ self.old }
         ensures place { IfSome result (λ place. (first ≤ place) × (place < length self.old.records)) }
@@ -137,7 +140,7 @@ impl<N: OfNetwork> Local<N> {
         self.index.enter(key, entry);
     }
 
-    /// Keeps a record behind the others, or drops it where there is no room.
+    /// Keeps a record after the others, or drops it if there is no room.
     fn append(&mut self, nogood: Nogood<N>)
         ensures { IsAppendedOrDropped self.old nogood self.new }
     {
@@ -151,7 +154,7 @@ impl<N: OfNetwork> Local<N> {
         }
     }
 
-    /// The place of a record that gives way where one more would take the last of the room: the oldest one that is not
+    /// The place of a record that gives way if one more would take the last of the room: the oldest one that is not
     /// among the first ones, by turns.
     fn oldest(&mut self, first: usize) -> Option<usize>
         ensures kept { self.new ≡ self.old }
@@ -183,7 +186,7 @@ impl<N: OfNetwork> Local<N> {
         Some(record)
     }
 
-    /// Drops the records behind the first `count`.
+    /// Drops the records after the first `count`.
     pub fn forget_behind(&mut self, count: usize)
         ensures { self.new ≡ front count self.old }
     {
@@ -216,9 +219,9 @@ impl<N: OfNetwork> Local<N> {
         None
     }
 
-    /// A record that covers the node, whose question is then a no; of those that are kept and of the board, whose new
-    /// records are read first. `None` says nothing: which records are found is not promised. The kept records stay as
-    /// they are.
+    /// A record that covers the node, whose question is then infeasible; of those that are kept and of the board, whose
+    /// new records are read first. `None` says nothing: which records are found is not promised. The kept records stay
+    /// as they are.
     pub fn find<'a>(&'a mut self, board: &'a Board<N>, node: &Node<N>) -> Option<&'a Nogood<N>>
         ensures* kept { sem 𝓛 (EndsAsLent (the_row N.row N.OfNetwork) self.entry self.old) }
         ensures covers { IfSome result (λ found. Covers N.network found.now node.now) }
@@ -228,7 +231,7 @@ impl<N: OfNetwork> Local<N> {
         self.look(board, node)
     }
 
-    /// What stands at an entry's place now, where its outline tells that it may cover what has the other one.
+    /// What stands at an entry's place now, if its outline tells that it may cover what has the other one.
     fn at<'a>(
         &'a self,
         board: &'a Board<N>,
@@ -254,7 +257,7 @@ fn entry_of<N: OfNetwork>(nogood: &Nogood<N>, place: Place) -> Entry {
 }
 
 /// Enters the records of the board that were not read, and answers how far it has been read. Places that are empty are
-/// read past where a record stands behind them.
+/// read past if a record stands after them.
 fn read_from<N: OfNetwork>(reading: Reading, index: &mut Index, board: &Board<N>) -> Reading {
     let mut read = reading;
     let unread = board.count().saturating_sub(read.records);

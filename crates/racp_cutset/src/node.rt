@@ -1,4 +1,6 @@
-ghost use Rattle.std.specs.Prelude.{◌≡◌, IfOk, length, slice_index};
+//! Nodes of the search.
+
+ghost use Rattle.std.specs.Prelude.{◌≡◌, IfOk, slice_index};
 ghost use Rattle.racp_model.specs.Formed.{IsFormed};
 ghost use Rattle.racp_model.specs.Path.{IsEarly};
 ghost use Rattle.racp_model.specs.Project.{IsSound};
@@ -7,8 +9,7 @@ ghost use Rattle.racp_cutset.specs.Rows.{AreBounds};
 
 use crate::rows::{bounds_of, ends_of, hash_of, started_before};
 use racp_cpm::early;
-use racp_delay::JobSet;
-use racp_model::{Network, OfNetwork, Question, Starts};
+use racp_model::{JobSet, Network, OfNetwork, Question, Starts};
 use std::alloc::{AllocError, Global};
 use std::marker::{Model, PhantomData};
 

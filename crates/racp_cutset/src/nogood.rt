@@ -1,3 +1,5 @@
+//! Records of refuted nodes, and which nodes a record covers.
+
 ghost use Rattle.std.specs.Prelude.{◌≡◌, ◌↔◌, ◌≤◌, IsTrue};
 ghost use Rattle.racp_model.specs.Project.{IsSound};
 ghost use Rattle.racp_model.specs.Window.{IsNo};
@@ -9,14 +11,13 @@ ghost use Rattle.racp_cutset.specs.Told.{told_once};
 use crate::node::Node;
 use crate::outline::Outline;
 use crate::rows::{is_at_least, is_sooner_row};
-use racp_delay::JobSet;
-use racp_model::{Capacities, OfNetwork, Question, Starts};
+use racp_model::{Capacities, JobSet, OfNetwork, Question, Starts};
 use std::marker::{Model, PhantomData};
 
-/// The record of a refuted node: its question is a no, its early starts keep the capacities before its time, and the
-/// jobs that start before its time keep their upper bounds. It holds one number for each job: the end of a started job,
-/// the lower bound of another. Contracts see the `SearchNode`, with the early starts of its started jobs as their lower
-/// bounds.
+/// The record of a refuted node: its question is infeasible, its early starts keep the capacities before its time, and
+/// the jobs that start before its time keep their upper bounds. It holds one number for each job: the end of a started
+/// job, the lower bound of another. Contracts see the `SearchNode`, with the early starts of its started jobs as their
+/// lower bounds.
 #[derive(Drop)]
 pub struct Nogood<N: OfNetwork> {
     capacities: Capacities,
@@ -91,7 +92,7 @@ impl<N: OfNetwork> Nogood<N> {
         Outline::of(self.time, self.capacities.as_slice())
     }
 
-    /// Whether the record covers a node; then the node's question is a no. Takes no memory.
+    /// Whether the record covers a node; then the node's question is infeasible. Takes no memory.
     pub fn covers(&self, node: &Node<N>) -> bool
         ensures exact { IsTrue result ↔ Covers N.network self.now node.now }
         ensures refutes { IsTrue result → IsNo N.network node.now.capacities node.now.window }
@@ -99,7 +100,7 @@ impl<N: OfNetwork> Nogood<N> {
         self.is_over(node)
     }
 
-    /// The same, with what is true of both.
+    /// Whether the record covers a node, with what is true of the record and of the node, for the contract of `covers`.
     fn is_over(&self, node: &Node<N>) -> bool
         ensures exact { IsTrue result ↔ Covers N.network self.now node.now }
         ensures sound { IsSound N.network }
@@ -209,7 +210,7 @@ impl<N: OfNetwork> Nogood<N> {
     }
 }
 
-/// The same capacities, in no more memory than they need.
+/// Moves the capacities into no more memory than they need.
 fn trimmed(capacities: Capacities) -> Capacities
     ensures { result ≡ capacities }
 {

@@ -1,5 +1,5 @@
-//! What is told of a record and of a node in a few numbers, by which most records that do not cover a node are passed over
-//! without a look at them.
+//! What is told of a record and of a node in a few numbers, by which most records that do not cover a node are passed
+//! over without a look at them.
 
 ghost use Rattle.std.specs.Prelude.{◌≡◌, ◌↔◌, slice_index, IsTrue};
 ghost use Rattle.racp_model.specs.Project.{Project};
@@ -9,7 +9,7 @@ ghost use Rattle.racp_cutset.specs.Outlines.{IsOutline, MayCover};
 /// Of how many resources an outline tells the units.
 const OUTLINED: usize = 4;
 
-/// A time, and the units of the first four resources, 0 where there are fewer.
+/// A time, and the units of the first four resources, 0 if there are fewer.
 #[derive(Clone, Copy)]
 pub(crate) struct Outline {
     time: u32,
@@ -30,8 +30,8 @@ impl Outline {
         Outline { time, units }
     }
 
-    /// Whether a record with this outline may cover what has the other one: its time is no later, and it has at least the
-    /// units.
+    /// Whether a record with this outline may cover what has the other one: its time is no later, and it has at least
+    /// the units.
     pub(crate) fn may_cover(&self, other: &Outline) -> bool
         ensures exact { IsTrue result ↔ MayCover self.now other.now }
         ensures covering { (p : Project) (v w : SearchNode) → IsNode p v → IsNode p w → Covers p v w →
@@ -45,7 +45,7 @@ impl Outline {
     }
 }
 
-/// The units of a resource, numbered from 0, and 0 where there is no such resource.
+/// The units of a resource, numbered from 0, and 0 if there is no such resource.
 fn units_of(capacities: &[u32], k: usize) -> u32
     ensures { result ≡ slice_index capacities.now k }
 {

@@ -1,14 +1,11 @@
 //! Rows of numbers, one for each job or resource, and the jobs that start before a time.
 
 ghost use Rattle.std.specs.Prelude.{◌≡◌, ◌↔◌, ℕ, ◌+◌, ◌<◌, ◌≤◌, IsTrue, IfOk, length, slice_index};
-ghost use Rattle.racp_model.specs.Project.{IsSound};
-ghost use Rattle.racp_model.specs.Path.{IsEarly};
 ghost use Rattle.racp_model.specs.Limits.{most_early};
 ghost use Rattle.racp_cutset.specs.Covering.{AreEnds, AreStartedBefore};
 ghost use Rattle.racp_cutset.specs.Rows.{IsAtLeastRow, IsSoonerWithin, IsSoonerRow, AreBounds};
 
-use racp_delay::JobSet;
-use racp_model::Network;
+use racp_model::{JobSet, Network};
 use std::alloc::AllocError;
 
 /// How many places are compared at a time, without a branch for each.
@@ -36,7 +33,7 @@ pub(crate) fn is_sooner_row(first: &[u32], limit: u32, second: &[u32]) -> bool
     is_sooner_rest(first, limit, second, WIDTH * whole)
 }
 
-/// The same at the `WIDTH` places from one on.
+/// Whether at each of the `WIDTH` places from `from` on the first row's number is at most the limit or the second's.
 fn is_sooner_part(first: &[u32], limit: u32, second: &[u32], from: usize) -> bool
     requires same { length second.now ≡ length first.now }
     requires within { from + 8 ≤ length first.now }
@@ -49,7 +46,7 @@ fn is_sooner_part(first: &[u32], limit: u32, second: &[u32], from: usize) -> boo
     holds
 }
 
-/// The same at all places from one on.
+/// Whether at each place from `from` on the first row's number is at most the limit or the second's.
 fn is_sooner_rest(first: &[u32], limit: u32, second: &[u32], from: usize) -> bool
     requires { length second.now ≡ length first.now }
     ensures { IsTrue result ↔ IsSoonerWithin first.now limit second.now from (length first.now) }

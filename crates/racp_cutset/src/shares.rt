@@ -5,7 +5,7 @@ ghost use Rattle.racp_cutset.specs.Kept.{AreShares, most_own, most_records, most
 
 use racp_model::Network;
 
-/// How many mebibytes all records of a plan take at most, where nothing else is said.
+/// How many mebibytes all records of a plan take at most, if nothing else is said.
 pub const DEFAULT_MEMORY: usize = 1024;
 
 /// How many numbers of 32 bits a mebibyte has.
@@ -18,8 +18,8 @@ const OTHER_NUMBERS: usize = 100;
 /// How many numbers a place in an index takes, about.
 const PLACE_NUMBERS: usize = 30;
 
-/// How many records of a network take so many mebibytes, up to 1,048,576, with their places in an index. A record counts
-/// for 8 bytes for each job, 4 for each resource, and 400 others.
+/// How many records of a network take this many mebibytes, up to 1,048,576, with their places in an index. A record
+/// counts for 8 bytes for each job, 4 for each resource, and 400 others.
 pub fn most_records(net: &Network, mebibytes: usize) -> usize
     requires { mebibytes ≤ 1048576 }
     ensures { result ≡ most_records net.now mebibytes }
@@ -45,8 +45,8 @@ pub(crate) struct Shares {
     pub(crate) own: usize,
 }
 
-/// The parts of the memory for records. Of several workers the board has one half and the own parts the other; one worker
-/// shares nothing.
+/// The parts of the memory for records. Of several workers the board has one half and the own parts the other; one
+/// worker shares nothing.
 pub(crate) fn shares_of(net: &Network, limit: MemoryLimit) -> Shares
     ensures { AreShares net.now limit.mebibytes limit.workers result.shared result.own }
 {
@@ -63,7 +63,7 @@ pub(crate) fn shares_of(net: &Network, limit: MemoryLimit) -> Shares
     }
 }
 
-/// How many records half of so many mebibytes holds, each with a place in the index of each worker.
+/// How many records half of this many mebibytes holds, each with a place in the index of each worker.
 fn most_shared(net: &Network, mebibytes: usize, workers: usize) -> usize
     requires memory { mebibytes ≤ 1048576 }
     requires workers { workers ≤ 64 }
@@ -72,7 +72,7 @@ fn most_shared(net: &Network, mebibytes: usize, workers: usize) -> usize
     mebibytes * (NUMBERS / 2) / (record_numbers(net) + PLACE_NUMBERS * workers)
 }
 
-/// How many records of its own each of several workers keeps in half of so many mebibytes.
+/// How many records of its own each of several workers keeps in half of this many mebibytes.
 fn most_own(net: &Network, mebibytes: usize, workers: usize) -> usize
     requires memory { mebibytes ≤ 1048576 }
     requires some { 1 ≤ workers }

@@ -1,11 +1,11 @@
 -- What the jobs of a list load, beside a sum over all jobs.
 use Rattle.std.proofs.Common.{◌≡◌, ℕ, zero, suc, ◌+◌, ◌<◌, ◌≤◌, inl, inr, List, [], ◌∷◌, length, arith, ap, subst, Contains}
 use Rattle.std.proofs.lemmas.Bool.{cases_lt}
-use Rattle.racp_model.specs.Project.{Project, request, number, IsNumber}
+use Rattle.racp_model.specs.Project.{Project, request, number, place, IsNumber}
 use Rattle.racp_model.specs.Schedule.{IsActive, use_of, usage, sum_below}
 use Rattle.racp_model.proofs.lemmas.Usage.{use_of-active, use_of-idle}
 use Rattle.racp_model.proofs.lemmas.Relations.{member_cases}
-use Rattle.racp_delay.specs.Alternatives.{place, load}
+use Rattle.racp_delay.specs.Alternatives.{load}
 use Rattle.racp_delay.specs.Found.{Each}
 use Rattle.racp_delay.specs.Branching.{IsActiveSet}
 use Rattle.racp_delay.specs.Laws.{LoadIsUsage}

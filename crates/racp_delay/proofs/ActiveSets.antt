@@ -2,12 +2,11 @@
 use Rattle.std.proofs.Common.{◌≡◌, ◌⊎◌, inl, inr, ℕ, ◌+◌, List, [], length, arith, subst, Contains}
 use Rattle.std.proofs.lemmas.Bool.{cases_lt}
 use Rattle.std.specs.List.Sorted.{IsStrictlyIncreasing}
-use Rattle.racp_model.specs.Project.{Project, number, IsNumber}
+use Rattle.racp_model.specs.Project.{Project, number, place, IsNumber}
 use Rattle.racp_model.specs.Schedule.{IsActive}
+use Rattle.racp_model.specs.JobSets.{AreJobs, IsInserted}
 use Rattle.racp_model.proofs.lemmas.Relations.{no_member}
-use Rattle.racp_delay.specs.Alternatives.{place}
 use Rattle.racp_delay.specs.Branching.{IsActiveSet}
-use Rattle.racp_delay.specs.JobSets.{AreJobs, IsInserted}
 
 -- of the jobs before place n those that are active
 pub record AreActiveBelow (p : Project) (starts : List ℕ) (t n : ℕ) (active : List ℕ) : Type 0 where

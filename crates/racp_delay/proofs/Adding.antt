@@ -5,8 +5,8 @@ use Rattle.std.proofs.lemmas.List.Elements.{All-tail, All-head, All-push}
 use native.Mathlib.Numerals.{unary_clauses}
 use Rattle.std.specs.List.Sorted.{IsStrictlyIncreasing}
 use Rattle.smallvec.specs.SmallVec.{SmallVec}
-use Rattle.racp_model.specs.Project.{Project, request}
-use Rattle.racp_delay.specs.Alternatives.{place, load, job_lists, AreAlternatives}
+use Rattle.racp_model.specs.Project.{Project, place, request}
+use Rattle.racp_delay.specs.Alternatives.{load, job_lists, AreAlternatives}
 use Rattle.racp_delay.specs.Found.{AreWithin, SomeHaveRoom, with_load, AreFound, AreAdded}
 use Rattle.racp_delay.proofs.Each.{Ascends, ascends}
 use Rattle.racp_delay.proofs.Tight.{none_kept}

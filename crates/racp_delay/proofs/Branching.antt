@@ -1,13 +1,13 @@
 -- Why branching over minimal delaying alternatives loses nothing.
 use Rattle.std.proofs.Common.{◌≡◌, ◌≢◌, ℕ, ◌+◌, ◌-◌, ◌<◌, ◌≤◌, ◌⊎◌, inl, inr, List, [], length, slice_index, arith, ap, subst, Contains}
 use Rattle.std.proofs.lemmas.Bool.{cases_lt}
-use Rattle.racp_model.specs.Project.{Project, duration, number}
+use Rattle.racp_model.specs.Project.{Project, duration, number, place}
 use Rattle.racp_model.specs.Schedule.{IsActive, use_of, usage, IsWithinCapacities}
 use Rattle.racp_model.specs.Window.{Bounds, LiesIn}
 use Rattle.racp_model.proofs.lemmas.Usage.{use_of-idle}
 use Rattle.racp_model.proofs.lemmas.Sums.{sum_below-bound}
 use Rattle.racp_model.proofs.lemmas.Decided.{member_decided}
-use Rattle.racp_delay.specs.Alternatives.{place, Splits, CanRun, IsMinimalDelayingAlternative}
+use Rattle.racp_delay.specs.Alternatives.{Splits, CanRun, IsMinimalDelayingAlternative}
 use Rattle.racp_delay.specs.Found.{Each}
 use Rattle.racp_delay.specs.Branching.{IsConflict, IsActiveSet, IsFirstEnd, IsChild, end_of}
 use Rattle.racp_delay.specs.Laws.{BranchingLosesNothing, ChildrenCover, ChildIsInside}

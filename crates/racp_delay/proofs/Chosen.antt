@@ -2,8 +2,8 @@
 use Rattle.std.proofs.Common.{◌≡◌, ℕ, ◌+◌, ◌<◌, ◌≤◌, List, [], ◌∷◌, ◌++◌, Bool, All, length, slice_index, arith, ap, sym, subst, ◌∙◌}
 use Rattle.std.specs.List.Sorted.{IsStrictlyIncreasing}
 use Rattle.racp_model.specs.Limits.{most_load}
-use Rattle.racp_model.specs.Project.{Project, request, IsNumber}
-use Rattle.racp_delay.specs.Alternatives.{place, load}
+use Rattle.racp_model.specs.Project.{Project, place, request, IsNumber}
+use Rattle.racp_delay.specs.Alternatives.{load}
 use Rattle.racp_delay.specs.Found.{AreWithin, AreAdded, IsChoice, IsAmong, IsExtended, IsWhereGoes, IsWhereStays, with_load}
 use Rattle.racp_delay.specs.declared.choosing.Choice.{Choice}
 use Rattle.racp_delay.proofs.Adding.{all-head, all-push, all-same, all-tail, left-is, rising-rest}

@@ -4,11 +4,11 @@ use Rattle.std.proofs.lemmas.Bool.{cases_lt}
 use Rattle.std.proofs.lemmas.List.{append-nil}
 use Rattle.std.proofs.lemmas.List.Elements.{Contains-append_left, Contains-append_right, Contains-append_cases}
 use Rattle.racp_model.specs.Project.{Project, IsNumber}
+use Rattle.racp_model.specs.JobSets.{AreJobs}
 use Rattle.racp_model.proofs.lemmas.Relations.{member_cases, member_first, no_member}
 use Rattle.racp_delay.specs.Alternatives.{Splits}
 use Rattle.racp_delay.specs.Found.{Each, IsEarlier}
 use Rattle.racp_delay.specs.Branching.{IsFirstEndAnswer, end_of}
-use Rattle.racp_delay.specs.JobSets.{AreJobs}
 use Rattle.racp_delay.proofs.Each.{each-right, all-each}
 use Rattle.racp_delay.proofs.Subsets.{others_are_kept}
 

@@ -6,11 +6,10 @@ use Rattle.std.proofs.lemmas.Bool.Decides.{nat_tests}
 use Rattle.std.proofs.lemmas.List.FromFn.{length-map-range_with_len, get_or-map-range_with_len, fill_by_all, sum_by-map-range_with_len_more}
 use Rattle.std.proofs.lemmas.List.Sums.{sum_by-cons}
 use Rattle.std.proofs.lemmas.List.Sorted.{sum_by-IsPermutation, All-permutation, length_permutation}
-use Rattle.racp_model.specs.Project.{Project, duration, request, number, IsNumber}
+use Rattle.racp_model.specs.Project.{Project, duration, request, number, place, IsNumber}
 use Rattle.racp_model.specs.Schedule.{use_of, usage, sum_below}
 use Rattle.racp_model.proofs.lemmas.Sums.{sum_below-mono}
 use Rattle.racp_model.proofs.lemmas.Usage.{use_of-active, use_of-idle}
-use Rattle.racp_delay.specs.Alternatives.{place}
 use Rattle.racp_delay.specs.Sweeps.{events_of, time_at, AreEvents, event_load}
 
 -- the event at a place

@@ -4,10 +4,10 @@ use Rattle.std.proofs.lemmas.Cmp.{tied_itself, nat_cmp_total}
 use Rattle.std.proofs.lemmas.List.{append-nil}
 use Rattle.std.specs.declared.cmp.Ordering.TheVariants.{Equal}
 use Rattle.std.specs.Ordering.{nat_cmp, ordering_then}
-use Rattle.racp_model.specs.Project.{Project, request}
+use Rattle.racp_model.specs.Project.{Project, place, request}
 use Rattle.racp_model.specs.Terms.{lex_cmp, IsLexBefore}
 use Rattle.racp_model.proofs.lemmas.Relations.{no_member}
-use Rattle.racp_delay.specs.Alternatives.{place, Splits, load}
+use Rattle.racp_delay.specs.Alternatives.{Splits, load}
 use Rattle.racp_delay.specs.Alternatives.Splits.{none, goes, stays}
 use Rattle.racp_delay.specs.Found.{AreWithin, OneMoreRuns, SomeHaveRoom, Each, with_load, IsTight, IsExtension, IsFirstExtension, HasNoExtension}
 use Rattle.racp_delay.proofs.Each.{each-right, each-from}

@@ -10,8 +10,6 @@ mod Searching
 mod Adding
 mod Extending
 mod Extended
-mod JobSets
-mod Bits
 mod Loading
 mod Parting
 mod Events

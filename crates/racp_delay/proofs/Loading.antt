@@ -1,12 +1,12 @@
 -- A walk over the jobs of a set that sums up what they request.
 use Rattle.std.proofs.Common.{◌≡◌, ℕ, ◌+◌, ◌*◌, ◌<◌, ◌≤◌, List, [], ◌∷◌, ◌++◌, length, slice_index, arith, ap, sym, ◌∙◌, subst, append_assoc, length-append, replicate, All}
 use Rattle.std.proofs.lemmas.List.{append-nil}
-use Rattle.racp_model.specs.Project.{Project, request, IsNumber, IsSound}
+use Rattle.racp_model.specs.Project.{Project, place, request, IsNumber, IsSound}
+use Rattle.racp_model.specs.JobSets.{AreJobs}
 use Rattle.racp_model.proofs.lemmas.Sums.{request-small}
 use Rattle.racp_model.proofs.lemmas.Zeros.{zeros}
-use Rattle.racp_delay.specs.Alternatives.{place, load}
+use Rattle.racp_delay.specs.Alternatives.{load}
 use Rattle.racp_delay.specs.Found.{Each, AreLoads}
-use Rattle.racp_delay.specs.JobSets.{AreJobs}
 use Rattle.racp_delay.proofs.Each.{each-right, each-map, all-each, Ascends, ascends}
 
 -- of the jobs, those in a list are summed up, and the others are left

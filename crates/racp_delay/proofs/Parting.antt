@@ -1,11 +1,11 @@
 -- A walk over the jobs of a set that lists the free ones, and sums up what the others request, and what all do.
 use Rattle.std.proofs.Common.{◌≡◌, ℕ, ◌+◌, ◌<◌, ◌≤◌, List, [], ◌∷◌, ◌++◌, slice_index, arith, refl, sym, subst, length, replicate, Contains}
-use Rattle.racp_model.specs.Project.{Project, request, IsNumber, IsSound}
+use Rattle.racp_model.specs.Project.{Project, place, request, IsNumber, IsSound}
+use Rattle.racp_model.specs.JobSets.{AreJobs}
 use Rattle.racp_model.proofs.lemmas.Zeros.{zeros}
-use Rattle.racp_delay.specs.Alternatives.{place, Splits, load}
+use Rattle.racp_delay.specs.Alternatives.{Splits, load}
 use Rattle.racp_delay.specs.Alternatives.Splits.{none, goes, stays}
 use Rattle.racp_delay.specs.Found.{Each, IsSplitByFree}
-use Rattle.racp_delay.specs.JobSets.{AreJobs}
 use Rattle.racp_delay.proofs.Each.{each-member}
 use Rattle.racp_delay.proofs.Splitting.{load-splits}
 use Rattle.racp_delay.proofs.Loading.{IsLoading, load-push, loading-start, loads-small, loading-next, loading-end, loads-end}

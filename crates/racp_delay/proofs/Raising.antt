@@ -3,7 +3,7 @@ use Rattle.std.proofs.Common.{◌≡◌, inl, inr, ℕ, ◌+◌, ◌<◌, ◌≤
 use Rattle.std.proofs.lemmas.Bool.{cases_lt}
 use Rattle.std.proofs.lemmas.Bool.Decides.{nat_tests}
 use Rattle.std.proofs.lemmas.List.{get_or_past}
-use Rattle.racp_model.specs.Project.{Project, duration, request, number}
+use Rattle.racp_model.specs.Project.{Project, duration, request, number, place}
 use Rattle.racp_model.specs.Window.{Bounds}
 use Rattle.racp_model.specs.Schedule.{IsActive, KeepsPrecedence, use_of, usage, sum_below}
 use Rattle.racp_model.specs.Path.{IsAtLeast, IsEarly}
@@ -11,7 +11,7 @@ use Rattle.racp_model.proofs.lemmas.Lists.{row, row_places, row-at}
 use Rattle.racp_model.proofs.lemmas.Sums.{sum_below-mono}
 use Rattle.racp_model.proofs.lemmas.Usage.{use_of-active, use_of-idle, active_cases, use_of-request}
 use Rattle.racp_model.proofs.lemmas.Decided.{member_decided}
-use Rattle.racp_delay.specs.Alternatives.{place, Splits, load}
+use Rattle.racp_delay.specs.Alternatives.{Splits, load}
 use Rattle.racp_delay.specs.Found.{Each}
 use Rattle.racp_delay.specs.Branching.{IsActiveSet, IsChild}
 use Rattle.racp_delay.specs.Laws.{AreRaisedPast, RaisingLowersUsage, NoConflictBefore, NoConflictThen}

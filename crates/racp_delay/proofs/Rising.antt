@@ -1,10 +1,10 @@
 -- A child's lower bounds are higher than its window's.
 use Rattle.std.proofs.Common.{◌≡◌, ◌≢◌, ℕ, ◌+◌, ◌<◌, ◌≤◌, List, [], ◌∷◌, length, slice_index, arith, refl, ap, subst, Contains, max}
-use Rattle.racp_model.specs.Project.{Project, duration, number}
+use Rattle.racp_model.specs.Project.{Project, duration, number, place}
 use Rattle.racp_model.specs.Schedule.{sum_below}
 use Rattle.racp_model.proofs.lemmas.Sums.{sum_below-lt}
 use Rattle.racp_model.proofs.lemmas.Relations.{member_first}
-use Rattle.racp_delay.specs.Alternatives.{place, Splits, load, IsMinimalDelayingAlternative}
+use Rattle.racp_delay.specs.Alternatives.{Splits, load, IsMinimalDelayingAlternative}
 use Rattle.racp_delay.specs.Found.{Each}
 use Rattle.racp_delay.specs.Branching.{IsConflict}
 use Rattle.racp_delay.specs.Laws.{ChildIsHigher, SomeJobGoes}

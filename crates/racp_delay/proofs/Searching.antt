@@ -7,10 +7,10 @@ use Rattle.std.proofs.lemmas.List.{append-nil, get_or_append_left, get_or-append
 use Rattle.std.proofs.lemmas.List.Elements.{Contains-append_left, Contains-append_right, Contains-append_cases, Contains-get_or}
 use Rattle.std.specs.declared.cmp.Ordering.TheVariants.{Less, Equal}
 use Rattle.std.specs.Ordering.{nat_cmp, ordering_then}
-use Rattle.racp_model.specs.Project.{Project, request}
+use Rattle.racp_model.specs.Project.{Project, place, request}
 use Rattle.racp_model.specs.Terms.{lex_cmp, IsLexBefore}
 use Rattle.racp_model.proofs.lemmas.Relations.{member_cases, no_member}
-use Rattle.racp_delay.specs.Alternatives.{place, Splits, load, IsMinimalDelayingAlternative, AreAlternatives}
+use Rattle.racp_delay.specs.Alternatives.{Splits, load, IsMinimalDelayingAlternative, AreAlternatives}
 use Rattle.racp_delay.specs.Alternatives.Splits.{goes, stays}
 use Rattle.racp_delay.specs.Found.{AreWithin, OneMoreRuns, SomeHaveRoom, Each, with_load, IsTight, AreFound}
 use Rattle.racp_delay.proofs.Each.{each-left, each-right, each-at, each-from, each-map}

@@ -8,7 +8,8 @@ use Rattle.racp_model.proofs.lemmas.Relations.{member_cases, member_later, membe
 use Rattle.racp_model.proofs.lemmas.Costs.{lex_one_way}
 use Rattle.racp_model.specs.Terms.{IsLexBefore}
 use Rattle.racp_model.specs.Schedule.{IsActive}
-use Rattle.racp_delay.specs.Alternatives.{place, Splits}
+use Rattle.racp_model.specs.Project.{place}
+use Rattle.racp_delay.specs.Alternatives.{Splits}
 use Rattle.racp_delay.specs.Alternatives.Splits.{none, goes, stays}
 use Rattle.racp_delay.specs.Laws.{OthersStay, SubsetsGo, ConflictIsOne, AlternativesAreOneList}
 use Rattle.racp_delay.proofs.Each.{each-member, Ascends, ascends}

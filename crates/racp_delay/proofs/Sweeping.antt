@@ -3,11 +3,10 @@ use Rattle.std.proofs.Common.{◌≡◌, inl, inr, ℕ, zero, suc, ◌+◌, ◌*
 use Rattle.std.proofs.lemmas.Bool.{cases_lt}
 use Rattle.std.proofs.lemmas.List.{take_all}
 use Rattle.std.proofs.lemmas.List.Sums.{sum_by-cons}
-use Rattle.racp_model.specs.Project.{Project, request, IsSound}
+use Rattle.racp_model.specs.Project.{Project, place, request, IsSound}
 use Rattle.racp_model.specs.Schedule.{usage, IsWithinCapacities}
 use Rattle.racp_model.proofs.lemmas.Sums.{request-small}
 use Rattle.racp_model.proofs.lemmas.Zeros.{zeros}
-use Rattle.racp_delay.specs.Alternatives.{place}
 use Rattle.racp_delay.specs.Branching.{IsFirstExcess}
 use Rattle.racp_delay.specs.Sweeps.{time_at, AreEvents, event_load, AreFirstLoads, AreTaken, Exceeds}
 use Rattle.racp_delay.proofs.Events.{event_at, IsEvent, events-length, each-event, total, ends_of, load-total, load-most, split_at, usage-by_events, total-later}

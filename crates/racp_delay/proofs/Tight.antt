@@ -1,8 +1,8 @@
 -- The minimal delaying alternatives are those with which no job that goes could stay.
 use Rattle.std.proofs.Common.{◌≡◌, ◌≢◌, ℕ, zero, suc, ◌+◌, ◌<◌, ◌≤◌, ◌⊎◌, inl, inr, List, [], ◌∷◌, length, slice_index, arith, refl, subst}
 use Rattle.std.proofs.lemmas.Bool.{cases_lt}
-use Rattle.racp_model.specs.Project.{Project, request}
-use Rattle.racp_delay.specs.Alternatives.{place, Splits, load, CanRun, IsDelaying, IsMinimalDelayingAlternative}
+use Rattle.racp_model.specs.Project.{Project, place, request}
+use Rattle.racp_delay.specs.Alternatives.{Splits, load, CanRun, IsDelaying, IsMinimalDelayingAlternative}
 use Rattle.racp_delay.specs.Alternatives.Splits.{none, goes, stays}
 use Rattle.racp_delay.specs.Found.{OneMoreRuns, Each, with_load, IsTight}
 use Rattle.racp_delay.proofs.Splitting.{load-splits, splits-part, splits-back, splits-kept, splits-all, splits-none, splits-length, each_without, each-kept}

@@ -1,13 +1,9 @@
 -- Delaying alternatives: which of the jobs that are active at a conflict have to go so that the others fit the
 -- capacities (Demeulemeester and Herroelen 1992). Lists of jobs hold job numbers, from 1.
-use Rattle.std.specs.Prelude.{◌≡◌, ◌≢◌, ◌⊎◌, ℕ, ◌+◌, ◌-◌, ◌<◌, ◌≤◌, Bool, MatchBool, List, [], ◌∷◌, map, slice_index, Contains, AllPairs}
+use Rattle.std.specs.Prelude.{◌≡◌, ◌≢◌, ◌⊎◌, ℕ, ◌+◌, ◌<◌, ◌≤◌, Bool, MatchBool, List, [], ◌∷◌, map, slice_index, Contains, AllPairs}
 use Rattle.smallvec.specs.SmallVec.{SmallVec}
-use Rattle.racp_model.specs.Project.{Project, request}
+use Rattle.racp_model.specs.Project.{Project, place, request}
 use Rattle.racp_model.specs.Terms.{IsLexBefore}
-
--- the place, from 0, of the job with a number
-abbrev pub place : ℕ → ℕ
-place job = job - 1
 
 -- a list of jobs is split into those that go and those that stay, each in the order of the list
 pub data Splits : List ℕ → List ℕ → List ℕ → Type 0 where
@@ -24,7 +20,7 @@ load p k (job ∷ jobs) = request p (place job) k + load p k jobs
 abbrev pub CanRun : Project → List ℕ → List ℕ → Type 0
 CanRun p capacities jobs = (k : ℕ) → k < p.resources → load p k jobs ≤ slice_index capacities k
 
--- where these jobs go, the other active jobs can run at once
+-- if these jobs go, the other active jobs can run at once
 abbrev pub IsDelaying : Project → List ℕ → List ℕ → List ℕ → Type 0
 IsDelaying p capacities active gone = (kept : List ℕ) × Splits active gone kept × CanRun p capacities kept
 
@@ -48,19 +44,19 @@ pub record IsFreeAlternative (p : Project) (capacities active free gone : List �
   pub minimal : IsMinimalDelayingAlternative p capacities active gone
   pub only : (job : ℕ) → Contains gone job → Contains free job
 
--- the first of them that stands behind a list in lexicographic order
+-- the first of them that stands after a list in lexicographic order
 pub record IsNextAlternative (p : Project) (capacities active free last gone : List ℕ) : Type 0 where
   pub is : IsFreeAlternative p capacities active free gone
   pub behind : IsLexBefore last gone
   pub first : (other : List ℕ) → IsFreeAlternative p capacities active free other → IsLexBefore last other →
       (other ≡ gone) ⊎ IsLexBefore gone other
 
--- none of them stands behind a list
+-- none of them stands after a list
 abbrev pub IsLastAlternative : Project → List ℕ → List ℕ → List ℕ → List ℕ → Type 0
 IsLastAlternative p capacities active free last =
     (other : List ℕ) → IsFreeAlternative p capacities active free other → IsLexBefore last other → ⊥
 
--- what looking for the one behind a list answers: there is one more, and it is the next, or there is none
+-- what looking for the one after a list answers: there is one more, and it is the next, or there is none
 abbrev pub IsFollowing : Project → List ℕ → List ℕ → List ℕ → List ℕ → Bool → List ℕ → Type 0
 IsFollowing p capacities active free last more gone =
     MatchBool more (IsNextAlternative p capacities active free last gone)

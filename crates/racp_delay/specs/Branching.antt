@@ -2,10 +2,9 @@
 -- job numbers, from 1.
 use Rattle.std.specs.Prelude.{◌≡◌, ◌↔◌, ℕ, ◌+◌, ◌<◌, ◌≤◌, List, [], length, slice_index, Contains, max, Option, Some, None}
 use Rattle.std.specs.List.Sorted.{IsStrictlyIncreasing}
-use Rattle.racp_model.specs.Project.{Project, duration, number, IsNumber}
+use Rattle.racp_model.specs.Project.{Project, duration, number, place, IsNumber}
 use Rattle.racp_model.specs.Schedule.{IsActive, usage, IsWithinCapacities}
 use Rattle.racp_model.specs.Window.{Bounds}
-use Rattle.racp_delay.specs.Alternatives.{place}
 use Rattle.racp_delay.specs.declared.conflicts.Clash.{Clash}
 
 -- the jobs that are active at a time, in order

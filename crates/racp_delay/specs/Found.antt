@@ -2,9 +2,9 @@
 -- chosen to go, some are kept, of which only the loads are known, and the others are undecided.
 use Rattle.std.specs.Prelude.{◌≡◌, ◌⊎◌, ℕ, ◌+◌, ◌<◌, ◌≤◌, Bool, MatchBool, List, [], ◌∷◌, ◌++◌, length, slice_index, All, Contains, AllPairs, min, Option, Some, None}
 use Rattle.std.specs.List.Sorted.{IsStrictlyIncreasing}
-use Rattle.racp_model.specs.Project.{Project, request, IsNumber}
+use Rattle.racp_model.specs.Project.{Project, place, request, IsNumber}
 use Rattle.racp_model.specs.Terms.{IsLexBefore}
-use Rattle.racp_delay.specs.Alternatives.{place, Splits, load}
+use Rattle.racp_delay.specs.Alternatives.{Splits, load}
 use Rattle.racp_delay.specs.declared.choosing.Choice.{Choice}
 use Rattle.racp_model.specs.Limits.{most_load}
 
@@ -53,12 +53,12 @@ pub record IsAmong (c : Choice) (others : List ℕ) (new : Choice) : Type 0 wher
   pub capacities : new.capacities.now ≡ c.capacities.now
   pub undecided : new.undecided.now ≡ others
 
--- where a job goes: the same are kept
+-- if a job goes: the same are kept
 pub record IsWhereGoes (c : Choice) (others : List ℕ) (new : Choice) : Type 0 where
   pub among : IsAmong c others new
   pub kept : new.kept ≡ c.kept
 
--- where a job stays: it is kept too, and as much is left
+-- if a job stays: it is kept too, and as much is left
 pub record IsWhereStays (c : Choice) (job : ℕ) (others : List ℕ) (new : Choice) : Type 0 where
   pub among : IsAmong c others new
   pub kept : (k : ℕ) → k < c.net.now.resources →
@@ -90,7 +90,7 @@ abbrev pub AreAdded : Project → List ℕ → (ℕ → ℕ) → List ℕ → Li
 AreAdded p capacities kept chosen undecided old new =
     (found : List (List ℕ)) × (new ≡ old ++ found) × AreFound p capacities kept chosen undecided found
 
--- jobs of the undecided that may go beside the chosen, where the others stay
+-- jobs of the undecided that may go beside the chosen, if the others stay
 abbrev pub IsExtension : Project → List ℕ → (ℕ → ℕ) → List ℕ → List ℕ → List ℕ → Type 0
 IsExtension p capacities kept chosen undecided more =
     (stay : List ℕ) × Splits undecided more stay × IsTight p capacities kept (chosen ++ more) stay

@@ -74,7 +74,7 @@ pub record LiesWhereOneGoes (p : Project) (early active : List ℕ) (window : Bo
   pub some_stay : kept ≢ []
   pub lies : (child : Bounds) → IsChild p early window (job ∷ []) kept child → LiesIn p child starts
 
--- the windows in which one active job alone is put off, behind the first end of the others, cover the window too
+-- the windows in which one active job alone is put off, after the first end of the others, cover the window too
 abbrev pub EachJobAloneCovers : Type 0
 EachJobAloneCovers =
     (p : Project) (capacities : List ℕ) (window : Bounds) (early : List ℕ) (t : ℕ) (active starts : List ℕ) →
@@ -86,7 +86,7 @@ abbrev pub LoadIsUsage : Type 0
 LoadIsUsage = (p : Project) (starts : List ℕ) (t k : ℕ) (active : List ℕ) → IsActiveSet p starts t active →
     load p k active ≡ usage p starts k t
 
--- there is a child for each list of jobs that go, where some stay
+-- there is a child for each list of jobs that go, if some stay
 abbrev pub EachHasChild : Type 0
 EachHasChild =
     (p : Project) (early : List ℕ) (window : Bounds) (gone kept : List ℕ) → kept ≢ [] →
@@ -122,7 +122,7 @@ abbrev pub AreRaisedPast : Project → ℕ → (ℕ → ℕ) → (ℕ → ℕ) �
 AreRaisedPast p t lower raised =
     (i : ℕ) → i < length p.jobs → (raised i ≡ lower i) ⊎ ((lower i ≤ raised i) × (t < raised i))
 
--- where lower bounds are raised to after a time, the early starts use no more up to that time
+-- if lower bounds are raised to after a time, the early starts use no more up to that time
 abbrev pub RaisingLowersUsage : Type 0
 RaisingLowersUsage =
     (p : Project) (t : ℕ) (lower raised : ℕ → ℕ) (early next : List ℕ) →
@@ -138,7 +138,7 @@ NoConflictBefore =
     IsChild p early window gone kept child → IsEarly p (slice_index child.lower) next →
     (k s : ℕ) → k < p.resources → s < t → usage p next k s ≤ slice_index capacities k
 
--- and none then, where the jobs that stay can run at once
+-- and none then, if the jobs that stay can run at once
 abbrev pub NoConflictThen : Type 0
 NoConflictThen =
     (p : Project) (capacities : List ℕ) (window : Bounds) (early : List ℕ) (t : ℕ) (active gone kept : List ℕ)

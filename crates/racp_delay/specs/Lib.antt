@@ -2,7 +2,5 @@ pub mod Alternatives
 pub mod Branching
 pub mod Laws
 pub mod Found
-pub mod JobSets
-pub mod Words
 pub mod Sweeps
 pub mod Scans

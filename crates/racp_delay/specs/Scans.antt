@@ -2,7 +2,7 @@
 use Rattle.std.specs.Prelude.{◌≡◌, ◌⊎◌, ℕ, ◌<◌, ◌≤◌, List, length, slice_index}
 use Rattle.racp_model.specs.Project.{Project}
 
--- the next start after a time, or 4294967295 where there is none: no start after the time is before it
+-- the next start after a time, or 4294967295 if there is none: no start after the time is before it
 pub record IsNextStart (starts : List ℕ) (time next : ℕ) : Type 0 where
   pub first : (i : ℕ) → i < length starts → time < slice_index starts i → next ≤ slice_index starts i
   pub some : ((i : ℕ) × (i < length starts) × (time < slice_index starts i) × (slice_index starts i ≡ next)) ⊎

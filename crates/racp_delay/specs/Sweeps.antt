@@ -2,9 +2,8 @@
 use Rattle.std.specs.Prelude.{◌≡◌, ℕ, ◌+◌, ◌<◌, ◌≤◌, List, length, map, take, slice_index, slice_index_or, Option, Some, None}
 use Rattle.std.specs.List.{sum_by, range_with_len}
 use Rattle.std.specs.List.Sorted.{IsPermutation}
-use Rattle.racp_model.specs.Project.{Project, request, number}
+use Rattle.racp_model.specs.Project.{Project, request, number, place}
 use Rattle.racp_model.specs.Schedule.{IsWithinCapacities}
-use Rattle.racp_delay.specs.Alternatives.{place}
 use Rattle.racp_delay.specs.Branching.{IsFirstExcess}
 
 -- the jobs, each as its time and its number, by place

@@ -22,7 +22,7 @@ pub(crate) struct Choice<'a> {
 }
 
 impl<'a> Choice<'a> {
-    /// What is to be chosen of the other undecided jobs where the first of them goes.
+    /// What is to be chosen of the other undecided jobs if the first of them goes.
     pub(crate) fn where_goes(&self, job: u32, others: &'a [u32]) -> Choice<'a>
         requires choice { IsChoice self.now }
         requires first { self.now.undecided.now ≡ job ∷ others.now }
@@ -35,7 +35,8 @@ impl<'a> Choice<'a> {
         }
     }
 
-    /// The same where it stays, or `None` where what is kept would then exceed the capacities.
+    /// What is to be chosen of the other undecided jobs if the first of them stays, or `None` if what is kept would
+    /// then exceed the capacities.
     pub(crate) fn where_stays(&self, job: u32, others: &'a [u32]) -> Option<Choice<'a>>
         requires choice { IsChoice self.now }
         requires first { self.now.undecided.now ≡ job ∷ others.now }

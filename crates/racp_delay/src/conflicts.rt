@@ -1,14 +1,15 @@
+//! The first conflict of starts with capacities.
+
 ghost use Rattle.std.specs.Prelude.{◌≡◌, ◌↔◌, ℕ, ◌+◌, ◌<◌, ◌≤◌, IsTrue, All, length, take, slice_index};
 ghost use Rattle.racp_model.specs.Project.{IsNumber, IsSound, duration};
 ghost use Rattle.racp_delay.specs.Branching.{IsActiveSet, IsConflictAnswer, KeepsBefore};
 ghost use Rattle.racp_model.specs.Limits.{most_load};
 ghost use Rattle.racp_delay.specs.Sweeps.{AreEvents, AreFirstLoads, AreTaken, Exceeds, IsExcessAnswer, event_load};
 
-use crate::job_set::JobSet;
 use crate::loads::{Loads, with};
 use crate::scans::first_over_from;
 use racp_model::limits::{MOST_JOBS, MOST_RESOURCES};
-use racp_model::{Capacities, Network, Starts};
+use racp_model::{Capacities, JobSet, Network, Starts};
 
 /// A conflict of starts with capacities: the first time at which the usage of some resource exceeds its capacity, in
 /// time units, and the jobs that are active then.
@@ -20,7 +21,7 @@ pub struct Clash {
     pub active: JobSet,
 }
 
-/// The first conflict of the starts with the capacities, or `None` where the usage never exceeds them. There is a
+/// The first conflict of the starts with the capacities, or `None` if the usage never exceeds them. There is a
 /// capacity for each resource and a start for each job, by place from 0; starts are in time units. Takes no memory, and
 /// about the time of sorting the starts.
 pub fn conflict(net: &Network, capacities: &Capacities, starts: &Starts) -> Option<Clash>
@@ -36,8 +37,9 @@ pub fn conflict(net: &Network, capacities: &Capacities, starts: &Starts) -> Opti
     })
 }
 
-/// The same, where no usage exceeds its capacity before a time. Takes no memory, and the time of going over the jobs
-/// for each start from that time to the conflict.
+/// The first conflict of the starts with the capacities, or `None` if the usage never exceeds them; no usage may exceed
+/// its capacity before the time `from`. Capacities and starts stand by place, from 0; times are in time units. Takes no
+/// memory, and the time of going over the jobs for each start from that time to the conflict.
 pub fn conflict_from(
     net: &Network,
     capacities: &Capacities,
@@ -91,8 +93,9 @@ fn first_excess(net: &Network, capacities: &[u32], starts: &[u32]) -> Option<u32
     sweep(net, capacities, starts, first, second)
 }
 
-/// The same, with room for the events in the order of starts and in that of ends. At each start the jobs that started
-/// so far are set against the capacities and the jobs that ended so far.
+/// The first time at which the usage of some resource exceeds its capacity, found with two rows of memory for the
+/// events, in the order of starts and in that of ends. At each start the jobs that started so far are set against the
+/// capacities and the jobs that ended so far.
 fn sweep(
     net: &Network,
     capacities: &[u32],
@@ -112,7 +115,8 @@ fn sweep(
     first_exceeding(net, capacities, starts, by_start, by_end)
 }
 
-/// The same, with the events in these orders.
+/// The first time at which the usage of some resource exceeds its capacity, from the events in the order of starts and
+/// in that of ends.
 fn first_exceeding(
     net: &Network,
     capacities: &[u32],

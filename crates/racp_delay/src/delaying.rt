@@ -1,17 +1,18 @@
+//! All minimal delaying alternatives of a conflict, as lists.
+
 ghost use Rattle.std.specs.Prelude.{◌≡◌, ◌↔◌, ℕ, ◌<◌, ◌≤◌, IsTrue, [], IfOk, OnOk, All, List, length, slice_index};
-ghost use Rattle.racp_model.specs.Project.{IsNumber};
-ghost use Rattle.racp_delay.specs.Alternatives.{place, AreAlternatives, Splits, job_lists};
+ghost use Rattle.racp_model.specs.Project.{place, IsNumber};
+ghost use Rattle.racp_delay.specs.Alternatives.{AreAlternatives, Splits, job_lists};
 ghost use Rattle.racp_delay.specs.Found.{AreWithin, HasRoom, SomeHaveRoom, AreAdded, IsChoice, AreLoads, IsEarlier};
 ghost use Rattle.racp_model.specs.Limits.{most_load};
+ghost use Rattle.racp_model.specs.JobSets.{AreJobs};
 ghost use Rattle.racp_delay.specs.Branching.{IsFirstEndAnswer};
-ghost use Rattle.racp_delay.specs.JobSets.{AreJobs};
 
 use crate::choosing::Choice;
 use crate::conflicts::Clash;
-use crate::job_set::JobSet;
 use crate::loads::{Loads, are_within, with};
 use racp_model::limits::MOST_RESOURCES;
-use racp_model::{Capacities, Network, Starts};
+use racp_model::{Capacities, JobSet, Network, Starts};
 use smallvec::SmallVec;
 use std::alloc::{AllocError, Global};
 use std::marker::Model;
@@ -47,7 +48,7 @@ pub(crate) fn some_have_room(net: &Network, capacities: &[u32], loads: &Loads, j
 }
 
 /// Adds, in lexicographic order, the alternatives in which the jobs of `gone` go, and of the undecided those that have
-/// to. Nothing is looked for where one of the gone has room beside all the others: it could then stay with any of them
+/// to. Nothing is looked for if one of the gone has room beside all the others: it could then stay with any of them
 /// that run.
 #[cycle(adding)]
 fn add(choice: &Choice, gone: &mut Vec<u32>, lists: &mut Vec<JobList>) -> Result<(), AllocError>
@@ -69,9 +70,9 @@ fn add(choice: &Choice, gone: &mut Vec<u32>, lists: &mut Vec<JobList>) -> Result
     add_branches(choice, gone, lists)
 }
 
-/// The same, where the kept and the undecided together exceed the capacities, so that one of the undecided has to go.
-/// What each branch changes is tested there, and nothing else: where a job goes, whether one of the gone has room and
-/// whether the others fit; where it stays, whether the kept fit.
+/// Adds the alternatives that `add` adds, for kept and undecided jobs that together exceed the capacities, so that one
+/// of the undecided has to go. What each branch changes is tested there, and nothing else: if a job goes, whether one
+/// of the gone has room and whether the others fit; if it stays, whether the kept fit.
 #[cycle(adding)]
 fn add_branches(
     choice: &Choice,
@@ -212,7 +213,7 @@ fn load_of(net: &Network, jobs: &JobSet, list: &mut Vec<u32>) -> Result<Loads, A
     Ok(loads)
 }
 
-/// When the first of the active jobs of a conflict ends that do not go, in time units, or `None` where all go. `gone`
+/// When the first of the active jobs of a conflict ends that do not go, in time units, or `None` if all go. `gone`
 /// are the numbers, from 1, of those that go. In the child window of the alternative their lower bounds are raised to
 /// this time.
 pub fn first_end(net: &Network, starts: &Starts, active: &JobSet, gone: &[u32]) -> Option<u64>
@@ -231,7 +232,7 @@ pub fn first_end(net: &Network, starts: &Starts, active: &JobSet, gone: &[u32]) 
     first
 }
 
-/// The earlier of two times, where there are two.
+/// The earlier of two times, if there are two.
 fn earlier(first: Option<u64>, time: u64) -> Option<u64>
     ensures { IsEarlier first time result }
 {

@@ -1,16 +1,17 @@
+//! Minimal delaying alternatives one at a time, each after a given one.
+
 ghost use Rattle.std.specs.Prelude.{◌≡◌, ℕ, [], IfOk, All, length, slice_index};
 ghost use Rattle.racp_model.specs.Project.{IsNumber};
 ghost use Rattle.racp_model.specs.Terms.{IsLexBefore};
+ghost use Rattle.racp_model.specs.JobSets.{AreJobs};
 ghost use Rattle.racp_delay.specs.Alternatives.{IsFollowing};
 ghost use Rattle.racp_delay.specs.Found.{AreWithin, IsAny, IsChoice, IsExtended, IsSplitByFree};
-ghost use Rattle.racp_delay.specs.JobSets.{AreJobs};
 
 use crate::choosing::Choice;
 use crate::delaying::some_have_room;
-use crate::job_set::JobSet;
 use crate::loads::{Loads, are_within, with};
 use racp_model::limits::MOST_RESOURCES;
-use racp_model::{Capacities, Network};
+use racp_model::{Capacities, JobSet, Network};
 use std::alloc::{AllocError, Global};
 use std::marker::Model;
 
@@ -32,7 +33,8 @@ fn extend(choice: &Choice, gone: &mut Vec<u32>) -> Result<bool, AllocError>
     branch(choice, gone)
 }
 
-/// The same, where the kept and the undecided together exceed the capacities, so that one of the undecided has to go.
+/// Extends `gone` as `extend` does, for kept and undecided jobs that together exceed the capacities, so that one of the
+/// undecided has to go.
 #[cycle(extending)]
 fn branch(choice: &Choice, gone: &mut Vec<u32>) -> Result<bool, AllocError>
     requires choice { IsChoice choice.now }
@@ -56,7 +58,7 @@ fn branch(choice: &Choice, gone: &mut Vec<u32>) -> Result<bool, AllocError>
     branch(&more, gone)
 }
 
-/// Extends `gone` as `extend` does, but to the first alternative whose further jobs stand behind `last`.
+/// Extends `gone` as `extend` does, but to the first alternative whose further jobs stand after `last`.
 #[cycle(extending_behind)]
 fn extend_behind(choice: &Choice, gone: &mut Vec<u32>, last: &[u32]) -> Result<bool, AllocError>
     requires choice { IsChoice choice.now }
@@ -73,7 +75,8 @@ fn extend_behind(choice: &Choice, gone: &mut Vec<u32>, last: &[u32]) -> Result<b
     branch_behind(choice, gone, last)
 }
 
-/// The same, where the kept and the undecided together exceed the capacities, so that one of the undecided has to go.
+/// Extends `gone` as `extend_behind` does, for kept and undecided jobs that together exceed the capacities, so that one
+/// of the undecided has to go.
 #[cycle(extending_behind)]
 fn branch_behind(choice: &Choice, gone: &mut Vec<u32>, last: &[u32]) -> Result<bool, AllocError>
     requires choice { IsChoice choice.now }
@@ -160,9 +163,9 @@ impl Alternative {
     }
 
     /// Finds, of the lists that `alternatives` answers for a conflict with these active jobs, the first that stands
-    /// behind `last` in lexicographic order and in which only free jobs go, in place of what was found before. Answers
-    /// `false` where there is none. The empty list stands before all alternatives of a conflict, so a search starts
-    /// with it and goes on with what it found last. Where all active jobs are free it finds all alternatives.
+    /// after `last` in lexicographic order and in which only free jobs go, in place of what was found before. Answers
+    /// `false` if there is none. The empty list stands before all alternatives of a conflict, so a search starts
+    /// with it and goes on with what it found last. If all active jobs are free it finds all alternatives.
     ///
     /// # Errors
     ///

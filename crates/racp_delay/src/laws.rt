@@ -1,5 +1,5 @@
-//! Laws of conflicts, alternatives and child windows: why branching over minimal delaying alternatives finds all schedules
-//! (Demeulemeester and Herroelen 1992). Each function does nothing; its contract is the law.
+//! Laws of conflicts, alternatives and child windows: why branching over minimal delaying alternatives finds all
+//! schedules (Demeulemeester and Herroelen 1992). Each function does nothing; its contract is the law.
 
 ghost use Rattle.racp_delay.specs.Laws.{BranchingLosesNothing, ChildrenCover, EachHasChild, ChildIsInside, ChildIsHigher, SomeJobGoes, EachJobAloneCovers, LoadIsUsage, OthersStay, SubsetsGo, ConflictIsOne, AlternativesAreOneList, RaisingLowersUsage, NoConflictBefore, NoConflictThen};
 
@@ -14,7 +14,7 @@ pub fn children_cover()
     ensures { ChildrenCover }
 {}
 
-/// There is a child window for each list of jobs that go, where some stay.
+/// There is a child window for each list of jobs that go, if some stay.
 pub fn each_has_child()
     ensures { EachHasChild }
 {}
@@ -34,7 +34,7 @@ pub fn some_job_goes()
     ensures { SomeJobGoes }
 {}
 
-/// The windows in which one active job alone is put off, behind the first end of the others, cover the window too.
+/// The windows in which one active job alone is put off, after the first end of the others, cover the window too.
 pub fn each_job_alone_covers()
     ensures { EachJobAloneCovers }
 {}
@@ -64,7 +64,7 @@ pub fn alternatives_are_one_list()
     ensures { AlternativesAreOneList }
 {}
 
-/// Where lower bounds are raised to after a time, the early starts use no more up to that time.
+/// If lower bounds are raised to after a time, the early starts use no more up to that time.
 pub fn raising_lowers_usage()
     ensures { RaisingLowersUsage }
 {}
@@ -74,7 +74,7 @@ pub fn no_conflict_before()
     ensures { NoConflictBefore }
 {}
 
-/// And none then, where the jobs that stay can run at once.
+/// And none then, if the jobs that stay can run at once.
 pub fn no_conflict_then()
     ensures { NoConflictThen }
 {}

@@ -1,6 +1,7 @@
+//! What some jobs request together of each resource.
+
 ghost use Rattle.std.specs.Prelude.{◌≡◌, ◌↔◌, ℕ, ◌+◌, ◌<◌, ◌≤◌, IsTrue, length, slice_index};
-ghost use Rattle.racp_model.specs.Project.{request, IsNumber, IsSound};
-ghost use Rattle.racp_delay.specs.Alternatives.{place};
+ghost use Rattle.racp_model.specs.Project.{place, request, IsNumber, IsSound};
 ghost use Rattle.racp_delay.specs.Found.{AreWithin};
 ghost use Rattle.racp_model.specs.Limits.{most_load};
 

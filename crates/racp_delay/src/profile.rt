@@ -1,6 +1,7 @@
+//! Starts whose jobs are moved one by one, with conflicts looked for in between.
+
 ghost use Rattle.std.specs.Prelude.{◌≡◌, IfOk, MatchResult, length, set};
-ghost use Rattle.racp_model.specs.Project.{IsNumber};
-ghost use Rattle.racp_delay.specs.Alternatives.{place};
+ghost use Rattle.racp_model.specs.Project.{place, IsNumber};
 ghost use Rattle.racp_delay.specs.Branching.{IsConflictAnswer};
 
 use crate::conflicts::Clash;
@@ -9,8 +10,8 @@ use racp_model::{Capacities, Network, Starts};
 use std::alloc::{AllocError, Global};
 use std::marker::Model;
 
-/// The usage of starts over time, where jobs are moved one by one and conflicts are looked for in between. Contracts
-/// see the starts, by place from 0, in time units.
+/// The usage of starts over time. Jobs are moved one by one, and conflicts are looked for in between. Contracts see the
+/// starts, by place from 0, in time units.
 #[derive(Drop)]
 pub struct Profile {
     starts: Vec<u32>,
@@ -54,7 +55,7 @@ impl Profile {
         Ok(())
     }
 
-    /// The first conflict of the starts with the capacities, or `None` where the usage never exceeds them. There is a
+    /// The first conflict of the starts with the capacities, or `None` if the usage never exceeds them. There is a
     /// capacity for each resource, by place from 0. Takes no memory.
     pub fn first_over(&self, net: &Network, capacities: &Capacities) -> Option<Clash>
         requires capacities { length capacities.now ≡ net.now.resources }

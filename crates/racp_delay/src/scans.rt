@@ -7,12 +7,11 @@ ghost use Rattle.racp_delay.specs.Branching.{IsActiveSet, IsConflictAnswer};
 ghost use Rattle.racp_delay.specs.Scans.{AreTooMuch, IsNextStart};
 
 use crate::conflicts::Clash;
-use crate::job_set::JobSet;
 use crate::loads::{Loads, with};
-use racp_model::Network;
 use racp_model::limits::MOST_RESOURCES;
+use racp_model::{JobSet, Network};
 
-/// The first conflict of the starts with the capacities, where no usage exceeds its capacity before a time.
+/// The first conflict of the starts with the capacities, if no usage exceeds its capacity before a time.
 pub(crate) fn first_over_from(
     net: &Network,
     capacities: &[u32],
@@ -42,7 +41,7 @@ pub(crate) fn first_over_from(
 }
 
 /// The jobs that are active at a time, what they request together of each resource, and the next start after it, or
-/// the greatest number where there is none.
+/// the greatest number if there is none.
 #[derive(Drop)]
 struct Running {
     active: JobSet,

@@ -1,5 +1,7 @@
-//! The desk: workers on threads of their own answer a series of questions about one network. Each takes a piece of a
-//! question, searches it, and hands in what it found, all under one lock; a log tells what happened.
+//! The desk: workers on threads of their own answer a series of questions about one network.
+//!
+//! Each takes a piece of a question, searches it, and hands in what it found. The collector and its log change under
+//! one lock alone.
 //!
 //! Questions stand by their place in the series, from 0, seats and pieces by their number, from 0.
 //!

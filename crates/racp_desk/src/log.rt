@@ -17,8 +17,8 @@ pub enum Entry {
     Asked(usize),
     /// The worker at this seat took the piece of this number, of the question at this place.
     Taken(usize, u64, usize),
-    /// The worker at this seat handed in the finding of the piece of this number: how many windows it leaves, whether
-    /// it is a yes, and how many nodes were searched.
+    /// The finding of the piece of this number came in, which the worker at this seat took; the worker at another seat may
+    /// have searched it. How many windows it leaves, whether it is a yes, and how many nodes it tells.
     Handed(usize, u64, usize, bool, u64),
     /// The worker at this seat gave the piece of this number back.
     GivenBack(usize, u64),

@@ -35,7 +35,7 @@ unfoldable pub order_head : List ℕ → OrderFault → List ℕ
 order_head name fault = codes "racp: " ++ name ++ codes ": order " ++ decimal (order_number fault) ++ codes " " ++
     order_name fault
 
--- what is told of a network text: nothing where it is read, and else words that begin with where and what the fault is
+-- what is told of a network text: nothing if it is read, and else words that begin with where and what the fault is
 abbrev pub IsNetworkCause : Input → List ℕ → Type 0
 IsNetworkCause net text =
     ((fault : SmFault) × IsReadingOrMemory net.bytes.now (Err fault) × StartsWith text (network_head net.name.now fault)) ⊎

@@ -9,7 +9,7 @@ use Rattle.racp_explain.specs.declared.subject.Line.TheVariants.{Head, Cost, Lat
 use Rattle.racp_explain.specs.declared.subject.Subject.{Subject}
 use Rattle.racp_explain.specs.declared.subject.Subject.TheVariants.{Sm, Order, Plan, Names, Line}
 
--- the first word of a line without a number, and its second word, or the first where there is no other
+-- the first word of a line without a number, and its second word, or the first if there is no other
 abbrev pub line_words : lines.Line → List ℕ × List ℕ
 line_words Head = (codes "fault", codes "head")
 line_words Cost = (codes "fault", codes "cost")
@@ -37,7 +37,7 @@ format_of (Plan kind) = codes "plan"
 format_of Names = codes "names"
 format_of (Line line) = (line_words line).0
 
--- the number of the fault, where it has one
+-- the number of the fault, if it has one
 abbrev pub number_of : Subject → Option ℕ
 number_of (Sm kind) = Some (sm_number kind)
 number_of (Order fault) = Some (order_number fault)
@@ -53,7 +53,7 @@ name_of (Plan kind) = plan_name kind
 name_of Names = codes "NotUtf8"
 name_of (Line line) = (line_words line).1
 
--- the word is this number in decimal, where there is one; zeros may stand in front
+-- the word is this number in decimal, if there is one; zeros may stand in front
 abbrev pub is_number_of : List ℕ → Option ℕ → Bool
 is_number_of word None = false
 is_number_of word (Some number) = is_number word && value word == number

@@ -11,7 +11,7 @@ use crate::input::Input;
 use crate::subject::{Line, Subject};
 use racp_check::{Opening, PlanFault, check_plan, opening_of};
 use racp_cpm::longest;
-use racp_findings::{
+use racp_fault_words::{
     Sizes, THERE, push_head_finding, push_network_finding, push_no_room, push_order_finding,
     push_plan_finding, push_text_finding, push_too_late, push_too_long,
 };
@@ -21,7 +21,7 @@ use racp_prices::{Order, OrderFault, read_order};
 use racp_sm::{SmFault, read_sm};
 use std::alloc::{AllocError, Global};
 
-/// What is wrong with a network text, in lines that begin with `racp: `; nothing where it is not refused.
+/// What is wrong with a network text, in lines that begin with `racp: `; nothing if it is not refused.
 ///
 /// # Errors
 ///
@@ -36,7 +36,7 @@ pub fn network_cause(alloc: Global, net: &Input<'_>) -> Result<String, AllocErro
 }
 
 /// What is wrong with the texts of a network and an order, or why there is no plan for them, in lines that begin with
-/// `racp: `. Of texts for which there may be a plan it is that the ceilings are too low, and nothing where there are none.
+/// `racp: `. Of texts for which there may be a plan it is that the ceilings are too low, and nothing if there are none.
 ///
 /// # Errors
 ///
@@ -66,7 +66,7 @@ fn of_terms(
     }
 }
 
-/// What is wrong with the texts of a network, an order and a plan, in lines that begin with `racp: `; nothing where the
+/// What is wrong with the texts of a network, an order and a plan, in lines that begin with `racp: `; nothing if the
 /// plan is right.
 ///
 /// # Errors
@@ -114,8 +114,8 @@ fn of_plan_text(
     }
 }
 
-/// What is wrong with the texts of a network, an order, a plan and a certificate, in lines that begin with `racp: `; of a
-/// plan that is right it is that the certificate does not prove it.
+/// What is wrong with the texts of a network, an order, a plan and a certificate, in lines that begin with `racp: `; of
+/// a plan that is right it is that the certificate does not prove it.
 ///
 /// # Errors
 ///
@@ -162,7 +162,7 @@ fn of_network(alloc: Global, net: &Input<'_>, fault: SmFault) -> Result<String, 
     )
 }
 
-/// Adds what is told of a fault of a network text behind its name.
+/// Adds what is told of a fault of a network text after its name.
 fn push_network(
     alloc: Global,
     text: &mut String,
@@ -196,7 +196,7 @@ fn of_order(
     placed(alloc, order.name, "", "order", number, kind, rest.as_str())
 }
 
-/// Adds what is told of a fault of an order behind its name.
+/// Adds what is told of a fault of an order after its name.
 fn push_order(
     alloc: Global,
     text: &mut String,
@@ -226,7 +226,7 @@ fn of_text(
     line_text(alloc, plan.name, line, "plan", number, kind, rest.as_str())
 }
 
-/// Adds what is told of a fault of a plan text behind its name.
+/// Adds what is told of a fault of a plan text after its name.
 fn push_text(
     text: &mut String,
     network: &Network,
@@ -336,7 +336,7 @@ fn push_due(
     push_more(text, Subject::Line(Line::Due))
 }
 
-/// Adds that the ceilings of an order are too low, where it has any.
+/// Adds that the ceilings of an order are too low, if it has any.
 fn push_ceilings(text: &mut String, name: &str, order: &Order) -> Result<(), AllocError> {
     match &order.ceilings {
         Some(ceilings) => push_low(text, name, order, ceilings),
@@ -356,7 +356,7 @@ fn push_low(
     push_more(text, Subject::Line(Line::NoRoom))
 }
 
-/// Adds a line without a number behind the name of a file, what it means, and what stands before what was wanted.
+/// Adds a line without a number after the name of a file, what it means, and what stands before what was wanted.
 fn push_line(text: &mut String, name: &str, line: Line) -> Result<(), AllocError> {
     write!(text, "racp: {name}: ")?;
     push_title(text, Subject::Line(line))?;

@@ -36,7 +36,7 @@ fn push_entries(alloc: Global, text: &mut String) -> Result<(), AllocError> {
     Ok(())
 }
 
-/// What is said of each subject that these words name; `None` where there is none.
+/// What is said of each subject that these words name; `None` if there is none.
 ///
 /// # Errors
 ///
@@ -97,7 +97,7 @@ fn push_about(text: &mut String, topic: &Topic) -> Result<(), AllocError> {
     push_lines(text, "    ", topic.cure)
 }
 
-/// Adds the command of an example and the text of its file, where there is an example.
+/// Adds the command of an example and the text of its file, if there is an example.
 fn push_example(text: &mut String, command: &str, file: &str) -> Result<(), AllocError> {
     if command.is_empty() {
         return Ok(());
@@ -106,7 +106,7 @@ fn push_example(text: &mut String, command: &str, file: &str) -> Result<(), Allo
     push_lines(text, "    ", file)
 }
 
-/// Adds the lines of a text, each behind these blanks.
+/// Adds the lines of a text, each after these blanks.
 fn push_lines(text: &mut String, blanks: &str, lines: &str) -> Result<(), AllocError> {
     for line in lines.lines() {
         writeln!(text, "{blanks}{line}")?;

@@ -1,4 +1,4 @@
-//! The words of a cause behind where and what the fault is.
+//! The words of a cause that follow the place and the name of the fault.
 
 use crate::explain::push_title;
 use crate::subject::Subject;
@@ -11,7 +11,7 @@ pub(crate) fn push_short(text: &mut String, subject: Subject) -> Result<(), Allo
     write!(text, ": {short}\nracp: wanted: ")
 }
 
-/// Adds the words by which more is told of a fault, behind what is there.
+/// Adds the words by which more is told of a fault, after what is there.
 pub(crate) fn push_more(text: &mut String, subject: Subject) -> Result<(), AllocError> {
     text.push_str("\nracp: 'racp explain ")?;
     match subject.number() {

@@ -1,14 +1,15 @@
-//! What faults mean, and what is wrong with these very texts, in words.
+//! Explains faults in words: what a fault means, and what is wrong with the texts at hand.
 //!
 //! Lines of texts, jobs and resources are numbered from 1; times are whole time units from 0 on.
 //!
-//! The program tells of a fault by one fixed line, as `refused sm 12 TooFew line 25`. Here is what is said beside it. A
-//! `Subject` is a fault, or a line without a number that the program writes in place of an answer. Words name it by its
-//! format, its name or its number: `named(alloc, "sm", Some("12"))` and `named(alloc, "TooFew", None)` both answer the
-//! fault 12 of network texts, and `named(alloc, "Range", None)` that of orders and that of plans. `explanation` makes the
-//! text of those that words name: what it means, an example, and what helps. `subject_list` has a line for each.
+//! The program tells of a fault by one fixed line, as `refused sm 12 TooFew line 25`. This crate has what is said
+//! beside it. A `Subject` is a fault, or a line without a number that the program writes in place of an answer. Words
+//! name it by its format, its name or its number: `named(alloc, "sm", Some("12"))` and `named(alloc, "TooFew", None)`
+//! both answer the fault 12 of network texts, and `named(alloc, "Range", None)` that of orders and that of plans.
+//! `explanation` makes the text for the subjects that words name: what it means, an example, and what helps.
+//! `subject_list` has a line for each.
 //!
-//! A cause is told of texts with names: which file it is, what was wanted there, and what is there. Of examples/a.sm
+//! A cause is told for texts with names: which file it is, what was wanted there, and what is there. For examples/a.sm
 //! without its line 32, `network_cause` makes
 //!
 //! ```text
@@ -18,20 +19,20 @@
 //! racp: 'racp explain sm 12' says more
 //! ```
 //!
-//! `order_cause` reads the texts of a network and an order, `plan_cause` and `proof_cause` also those of a plan and of a
-//! certificate, as the commands of the program do; the first that is refused is told of. Where each is read,
-//! `order_cause` says why there is no plan, as far as that is known without a search, and `plan_cause` what is wrong with
-//! the plan.
+//! `order_cause` reads the texts of a network and an order, `plan_cause` and `proof_cause` also those of a plan and of
+//! a certificate, as the commands of the program do, and tell what is wrong with the first that is refused. If all of
+//! them are read, `order_cause` says why there is no plan, as far as that is known without a search, and `plan_cause`
+//! says what is wrong with the plan.
 //!
-//! The texts are read a second time by the same readers, so the fault is theirs. What was wanted and what is there is said
-//! by racp_findings.
+//! The texts are read a second time by the same readers, so the fault is theirs. What was wanted and what is there is
+//! said by racp_fault_words.
 //!
 //! Proved: `named` answers exactly the subjects of the table that the words name, in its order; `explanation` answers
-//! `None` exactly where there is none. A subject's number and name are those of the fault. In `laws`: each fault, and
-//! each line without a number, stands in the table. What `network_cause` makes of a text that is refused begins with its
-//! name and the line, number and name of the fault that its reader answers, and of a text that is read it is empty. All of
-//! them return. Tested alone: what is said of a subject, that each example has its fault, what else is told of causes, and
-//! that nothing is told of a plan that is right.
+//! `None` exactly if they name none. A subject's number and name are those of the fault. In `laws`: each fault, and
+//! each line without a number, stands in the table. What `network_cause` makes for a text that is refused begins with
+//! its name and the line, number and name of the fault that its reader answers. For a text that is read it is empty.
+//! All of them return. Tested alone: what is said of a subject, that each example has its fault, what else is told of
+//! causes, and that nothing is told about a plan that is right.
 #![tactic(auto)]
 
 mod cause;

@@ -88,7 +88,7 @@ impl Line {
         }
     }
 
-    /// The second word of the line, or the first where there is no other.
+    /// The second word of the line, or the first if there is no other.
     fn second(self) -> &'static str
         ensures { result.now ≡ (line_words self).1 }
     {
@@ -128,7 +128,7 @@ impl Subject {
         }
     }
 
-    /// The number of the fault, from 1, where it has one.
+    /// The number of the fault, from 1, if it has one.
     pub fn number(self) -> Option<u8>
         ensures { result ≡ number_of self }
     {
@@ -170,7 +170,7 @@ impl Subject {
     }
 }
 
-/// Whether a word is this number in decimal, where there is one.
+/// Whether a word is this number in decimal, if there is one.
 fn is_number_of(word: &str, wanted: Option<u8>) -> bool
     ensures { result ≡ is_number_of word.now wanted }
 {

@@ -12,9 +12,9 @@ pub struct Topic {
     pub short: &'static str,
     /// What it means.
     pub meaning: &'static str,
-    /// A command that gives it, in a folder with the folder examples; empty where none does each time.
+    /// A command that gives it, in a folder with the folder examples; empty if none does each time.
     pub command: &'static str,
-    /// The text of the file that the command calls FILE; empty where it calls none.
+    /// The text of the file that the command calls FILE; empty if it calls none.
     pub file: &'static str,
     /// What helps.
     pub cure: &'static str,

@@ -1,5 +1,6 @@
-//! The plan of an order: the cheapest capacities under which the project ends in time, with the least start vector that
-//! fits them; or why there is none. From the texts of a network and an order to the text of the answer.
+//! The plan of an order: the cheapest capacities that end the project in time, with the least starts.
+//!
+//! Or why there is none. From the texts of a network and an order to the text of the answer.
 //!
 //! Jobs and resources are numbered from 1; their places in lists count from 0. Times are whole time units.
 //!
@@ -52,7 +53,7 @@
 //! least; that it tells them in time is tested alone.
 //! `Crowd` stops only where no turn is left, or where its stop may ask at all. In `laws`: an order for a network has an
 //! answer, and only one. Tested alone: that memory is not refused without need. How long planning takes is measured
-//! (docs/GATE.md), not promised.
+//! (docs/PERFORMANCE.md), not promised.
 #![tactic(auto)]
 
 mod alone;

@@ -4,3 +4,5 @@ mod Raising
 mod Sorting
 mod Rings
 mod Making
+mod JobSets
+mod Bits

@@ -17,13 +17,13 @@ PlanIsUnique =
 abbrev pub VectorsAreOrdered : Type 0
 VectorsAreOrdered = (terms : Terms) (a b : List ℕ) → IsBefore terms a b ⊎ ((a ≡ b) ⊎ IsBefore terms b a)
 
--- a vector stands before another exactly where it costs less, or costs the same and is lexicographically less
+-- a vector stands before another exactly if it costs less, or costs the same and is lexicographically less
 abbrev pub BeforeIsByCost : Type 0
 BeforeIsByCost =
     (terms : Terms) (a b : List ℕ) → IsBefore terms a b ↔
     ((cost terms a < cost terms b) ⊎ ((cost terms a ≡ cost terms b) × IsLexBefore a b))
 
--- of two vectors of one length, the first is lexicographically less exactly where it has the lesser number at some place
+-- of two vectors of one length, the first is lexicographically less exactly if it has the lesser number at some place
 -- and the same numbers before it
 abbrev pub LexIsByFirstPlace : Type 0
 LexIsByFirstPlace =

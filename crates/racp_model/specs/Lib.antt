@@ -1,11 +1,13 @@
 pub mod Limits
 pub mod Project
+pub mod JobSets
+pub mod Words
 pub mod Schedule
 pub mod Path
 pub mod Terms
 pub mod Plan
 pub mod Window
-pub mod Core
+pub mod CoreTimes
 pub mod Formed
 pub mod Made
 pub mod Steps

@@ -11,7 +11,7 @@ pub record IsSameProject (given made : Project) : Type 0 where
   pub jobs : made.jobs ≡ given.jobs
   pub arcs : (arc : ℕ × ℕ) → Contains made.arcs arc ↔ Contains given.arcs arc
 
--- a network of what was given, or the first fault: a limit, a pair that names no job, a ring, and only where there is
+-- a network of what was given, or the first fault: a limit, a pair that names no job, a ring, and only if there is
 -- none of these, lack of memory
 abbrev pub IsMade : Project → Result Project NetFault → Type 0
 IsMade given (Ok made) = IsSameProject given made × IsSound made

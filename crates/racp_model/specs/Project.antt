@@ -1,6 +1,6 @@
 -- A project network (activity on node): jobs that run for a time and request renewable resources, and precedence
 -- between them, from finish to start with lag 0 (Möhring 1984).
-use Rattle.std.specs.Prelude.{◌≡◌, ℕ, ◌+◌, ◌<◌, ◌≤◌, ◌⊎◌, List, [], length, slice_index, slice_index_or, Contains, All, AllPairs}
+use Rattle.std.specs.Prelude.{◌≡◌, ℕ, ◌+◌, ◌-◌, ◌<◌, ◌≤◌, ◌⊎◌, List, [], length, slice_index, slice_index_or, Contains, All, AllPairs}
 
 -- a job: how long it runs, and what it requests of each resource while it runs
 pub record Activity : Type 0 where
@@ -16,7 +16,11 @@ pub record Project : Type 0 where
 
 -- the number of what stands at a place: jobs and resources are numbered from 1, and places in lists count from 0
 abbrev pub number : ℕ → ℕ
-number place = place + 1
+number i = i + 1
+
+-- the place, from 0, of the job with a number
+abbrev pub place : ℕ → ℕ
+place job = job - 1
 
 -- what stands for a job that is not there
 abbrev pub no_job : Activity

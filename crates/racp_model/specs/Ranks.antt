@@ -23,7 +23,7 @@ RisesAlong arcs rank = (k : ℕ) → k < length arcs → rank (from_at arcs k) <
 abbrev pub IsRankable : List (ℕ × ℕ) → Type 0
 IsRankable arcs = (rank : ℕ → ℕ) × RisesAlong arcs rank
 
--- 1 where job j has a lower rank than job i
+-- 1 if job j has a lower rank than job i
 unfoldable pub is_lower : (ℕ → ℕ) → ℕ → ℕ → ℕ
 is_lower rank i j = if nat_lt (rank j) (rank i) then 1 else 0
 

@@ -36,7 +36,7 @@ pub record AreTermsOf (p : Project) (terms : Terms) : Type 0 where
 abbrev pub release_of : Terms → ℕ → ℕ
 release_of terms i = slice_index terms.release i
 
--- the time by which job i has to end: its due time, or the deadline where that is earlier
+-- the time by which job i has to end: its due time, or the deadline if that is earlier
 abbrev pub due_of : Terms → ℕ → ℕ
 due_of terms i = min (slice_index terms.due i) terms.deadline
 
@@ -45,7 +45,7 @@ abbrev pub cost : Terms → List ℕ → ℕ
 cost terms capacities = sum_below (length terms.prices)
     (λ k. slice_index terms.prices k * (slice_index capacities k - slice_index terms.owned k))
 
--- no capacity is above its ceiling, where there are ceilings
+-- no capacity is above its ceiling, if there are ceilings
 abbrev pub IsWithinCeilings : Terms → List ℕ → Type 0
 IsWithinCeilings terms capacities = IfSome terms.ceilings
     (λ ceilings. (k : ℕ) → k < length capacities → slice_index capacities k ≤ slice_index ceilings k)

@@ -24,11 +24,11 @@ pub record Answers (p : Project) (capacities : List ℕ) (window : Bounds) (star
 abbrev pub IsYes : Project → List ℕ → Bounds → Type 0
 IsYes p capacities window = (starts : List ℕ) × Answers p capacities window starts
 
--- the question is a no
+-- the question is infeasible
 abbrev pub IsNo : Project → List ℕ → Bounds → Type 0
 IsNo p capacities window = (starts : List ℕ) → Answers p capacities window starts → ⊥
 
--- the root window: from the early starts at or above the release times to the late starts by the due times, where no
+-- the root window: from the early starts at or above the release times to the late starts by the due times, if no
 -- early finish exceeds its due time
 pub record IsRootWindow (p : Project) (release due : ℕ → ℕ) (window : Bounds) : Type 0 where
   pub early : IsEarly p release window.lower

@@ -1,3 +1,5 @@
+//! Capacities: units of each resource.
+
 ghost use Rattle.std.specs.Prelude.{◌≡◌, ◌<◌, IfOk, length, set};
 
 use std::alloc::AllocError;
@@ -49,7 +51,7 @@ impl Capacities {
         Capacities::new(list)
     }
 
-    /// The same capacities once more. `Clone` does the same, but does not promise that they are the same.
+    /// A copy of the capacities. `Clone` makes one too, but does not promise that it is equal.
     ///
     /// # Errors
     ///

@@ -1,3 +1,5 @@
+//! Why no network was made.
+
 use std::alloc::AllocError;
 use thiserror::Error;
 

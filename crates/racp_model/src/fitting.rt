@@ -1,3 +1,5 @@
+//! Whether starts are a schedule that ends in time and keeps the capacities.
+
 ghost use Rattle.std.specs.Prelude.{◌≡◌, ℕ, ◌+◌, ◌<◌, ◌≤◌, ◌↔◌, IsTrue, length, slice_index};
 ghost use Rattle.racp_model.specs.Schedule.{KeepsPrecedence, EndsBy, IsWithinCapacities, FitsInTime, usage};
 

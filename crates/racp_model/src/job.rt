@@ -1,3 +1,5 @@
+//! Jobs: a duration and requests.
+
 ghost use Rattle.std.specs.Prelude.{◌≡◌};
 
 use std::marker::Model;

@@ -12,7 +12,7 @@ pub fn vectors_are_ordered()
     ensures { VectorsAreOrdered }
 {}
 
-/// A vector stands before another exactly where it costs less, or costs the same and is lexicographically less.
+/// A vector stands before another exactly if it costs less, or costs the same and is lexicographically less.
 pub fn before_is_by_cost()
     ensures { BeforeIsByCost }
 {}

@@ -3,12 +3,12 @@
 //! Jobs and resources are numbered from 1; their places in lists count from 0. Times are whole time units from 0 on.
 //!
 //! A job runs for a time, and requests units of renewable resources while it runs. A pair (i, j) of job numbers says
-//! that job j starts only when job i has ended. A network is the jobs with their pairs, and a schedule has a start for
+//! that job j starts only after job i has ended. A network is the jobs with their pairs, and a schedule has a start for
 //! each job. The problem, the usage of a resource at a time, and capacities that admit a schedule are after Möhring
 //! (1984). `specs/` has the definitions that the contracts of all crates cite, from a project to the plan of an order.
 //!
-//! Five jobs with one resource: 2, 3 and 4 come after 1 and before 5. They run for 3, 2 and 2 time units and need 2,
-//! 1 and 1 units; 1 and 5 have duration 0. With the starts 0, 0, 0, 2, 4 this is used:
+//! Five jobs with one resource: 2, 3 and 4 come after 1 and before 5. They run for 3, 2 and 2 time units and need 2, 1
+//! and 1 units; 1 and 5 have duration 0. With the starts 0, 0, 0, 2, 4 this is used:
 //!
 //! ```text
 //! time        0  1  2  3  4
@@ -27,7 +27,8 @@
 //! comes before `Memory`. Last, the pairs are copied as places, by the rank of the first job.
 //!
 //! Contracts see a `Network` as a `Project`, with its pairs in rising order, so that networks of one relation are
-//! equal; `Starts` and `Capacities` as lists; a `Window` as `Bounds`. Fields are private.
+//! equal; `Starts` and `Capacities` as lists; a `Window` as `Bounds`. Fields are private. A `JobSet` has the jobs of a
+//! set as 512 bits, and contracts see the rising list of their numbers.
 //!
 //! Records and findings of a search are true of one network, and may be false of another. So their types have a
 //! parameter `N: OfNetwork`, and `N.network` is their project, for contracts alone: nothing of it is there at run time.
@@ -38,17 +39,18 @@
 //! of such a function names `N`.
 //!
 //! Proved: `Network::new` answers a network of the given jobs and pairs; or `Limit`, `BadJob` or `Cycle`, each exactly
-//! where it holds and none before it does; or `Memory`, only where none of these holds. `fits` is true exactly where
-//! the starts keep precedence, end by the deadline and never use more than the capacities; `peaks` answers the least
-//! capacities that they keep. In `laws`: there is at most
-//! one plan, a project has a ranking or a ring, and more. Not proved: that memory is not refused without need, and that
-//! two sweeps are enough where each pair goes from a lower to a higher number.
+//! if it holds and none before it does; or `Memory`, only if none of these holds. `fits` is true exactly if the starts
+//! keep precedence, end by the deadline and never use more than the capacities; `peaks` answers the least capacities
+//! that they keep; `JobSet` what is in a set of jobs. In `laws`: there is at most one plan, a project has a ranking or
+//! a ring, and more. Not proved: that memory is not refused without need, and that two sweeps are enough if each pair
+//! goes from a lower to a higher number.
 #![tactic(auto)]
 
 mod capacities;
 mod fault;
 mod fitting;
 mod job;
+mod job_set;
 pub mod laws;
 pub mod limits;
 mod named;
@@ -63,6 +65,7 @@ pub use capacities::Capacities;
 pub use fault::NetFault;
 pub use fitting::fits;
 pub use job::Job;
+pub use job_set::{JobSet, Jobs};
 pub use named::OfNetwork;
 pub use network::Network;
 pub use question::Question;

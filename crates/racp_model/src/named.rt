@@ -1,3 +1,5 @@
+//! How a type names the network that its values are about.
+
 use std::marker::Brand;
 
 /// Names the network that a value is about: values of types with one name are about one network. A call that makes such
@@ -8,7 +10,7 @@ pub trait OfNetwork {
     ghost network: { Project };
 }
 
-/// Stands only where a call picks no network: every call that makes values which name one picks it.
+/// Stands only if a call picks no network: every call that makes values which name one picks it.
 impl OfNetwork for Brand {
     ghost use Rattle.std.specs.Prelude.{[]};
 

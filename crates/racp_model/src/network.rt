@@ -1,3 +1,5 @@
+//! Networks of jobs, and the limits and numbers that are tested when one is made.
+
 ghost use Rattle.std.specs.Prelude.{◌≡◌, ℕ, ◌<◌, ◌≤◌, ◌↔◌, IsTrue, length, slice_index, All};
 ghost use Rattle.racp_model.specs.Project.{duration, request, IsSound, IsJobWithinLimits, IsWithinLimits};
 ghost use Rattle.racp_model.specs.Made.{IsMade};
@@ -40,9 +42,9 @@ impl Network {
     ///
     /// # Errors
     ///
-    /// The first of these that holds: `Limit`, where there are not 1 to 16 resources and 1 to 512 jobs, or a job has
-    /// another number of requests than there are resources, or a duration or a request is above 10,000; `BadJob`, where
-    /// a pair names no job; `Cycle`, where a job would have to wait for itself; `Memory`, where memory was refused.
+    /// The first of these that holds: `Limit`, if there are not 1 to 16 resources and 1 to 512 jobs, or a job has
+    /// another number of requests than there are resources, or a duration or a request is above 10,000; `BadJob`, if
+    /// a pair names no job; `Cycle`, if a job would have to wait for itself; `Memory`, if memory was refused.
     pub fn new(
         alloc: Global,
         resources: usize,
@@ -121,8 +123,8 @@ impl Network {
         &self.arcs
     }
 
-    /// The same relation as pairs of places, from 0, in topological order: every pair into a job comes before every
-    /// pair out of it. So one sweep over them settles early starts, and one from the end late starts.
+    /// The precedence relation as pairs of places, from 0, in topological order: every pair into a job comes before
+    /// every pair out of it. So one sweep over them settles early starts, and one from the end late starts.
     pub fn topological_arcs(&self) -> &[(u32, u32)]
         ensures order { IsTopological self.now result.now }
         ensures sound { IsSound self.now }

@@ -1,3 +1,5 @@
+//! Questions: a window and capacities.
+
 ghost use Rattle.std.specs.Prelude.{◌≡◌, IfOk};
 
 use crate::capacities::Capacities;
@@ -14,7 +16,7 @@ pub struct Question {
 }
 
 impl Question {
-    /// The same question once more.
+    /// A copy of the question.
     ///
     /// # Errors
     ///

@@ -1,3 +1,5 @@
+//! Starts of jobs.
+
 ghost use Rattle.std.specs.Prelude.{◌≡◌, ℕ, length};
 
 use std::marker::Model;

@@ -8,7 +8,7 @@ use crate::fault::NetFault;
 use crate::limits::MOST_JOBS;
 use std::alloc::{AllocError, Global};
 
-/// Whether each pair names two of so many jobs.
+/// Whether each pair names two of this many jobs.
 pub fn are_numbers(arcs: &[(u32, u32)], count: usize) -> bool
     ensures { IsTrue result ↔ AreNumbers count arcs.now }
 {
@@ -18,7 +18,7 @@ pub fn are_numbers(arcs: &[(u32, u32)], count: usize) -> bool
         && arc.1 as usize <= count)
 }
 
-/// The same pairs, each once and in rising order. Takes no memory.
+/// Sorts the pairs and drops repeated ones: each stands once, in rising order. Takes no memory.
 pub fn sorted(mut arcs: Vec<(u32, u32)>) -> Vec<(u32, u32)>
     ensures { IsSortedSet arcs.items result.items }
 {

@@ -84,8 +84,8 @@ pub fn roof_of(net: &Network, k: usize) -> u32
     sum
 }
 
-/// The energy of the resource at place `k`, from 0: the sum, over all jobs, of duration times request, in units times time
-/// units. Takes no memory.
+/// The energy of the resource at place `k`, from 0: the sum, over all jobs, of duration times request, in units times
+/// time units. Takes no memory.
 #[tactic(auto, using(crate::proofs::lemmas::Sums::energies))]
 pub fn energy_of(net: &Network, k: usize) -> u64
     requires { k < net.now.resources }

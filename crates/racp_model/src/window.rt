@@ -1,3 +1,5 @@
+//! Windows: a lower and an upper bound on the start of each job.
+
 ghost use Rattle.std.specs.Prelude.{◌≡◌, ◌≤◌, All, IfOk};
 ghost use Rattle.racp_model.specs.Limits.{most_bound, most_start};
 ghost use Rattle.racp_model.specs.Window.{Bounds};
@@ -60,7 +62,7 @@ impl Window {
         (self.lower, self.upper)
     }
 
-    /// The same window once more. `Clone` does the same, but does not promise that it is the same.
+    /// A copy of the window. `Clone` makes one too, but does not promise that it is equal.
     ///
     /// # Errors
     ///

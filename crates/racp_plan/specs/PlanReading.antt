@@ -35,13 +35,13 @@ pub record Form : Type 0 where
 unfoldable pub words_for : List ℕ → ℕ → List ℕ
 words_for word number = word ++ decimal number ++ codes " "
 
--- the forms of the lines of so many resources or jobs, from this one on
+-- the forms of the lines of this many resources or jobs, from this one on
 abbrev pub forms_for : List ℕ → ℕ → ℕ → List Form
 forms_for word number zero = []
 forms_for word number (suc count) =
     record { words = words_for word number; most = most_number } ∷ forms_for word (number + 1) count
 
--- the forms of the lines of a plan of so many resources and jobs, in order; after them comes the line `end`
+-- the forms of the lines of a plan of this many resources and jobs, in order; after them comes the line `end`
 abbrev pub forms : ℕ → ℕ → List Form
 forms resources jobs =
     record { words = codes "deadline "; most = most_number }

@@ -23,7 +23,7 @@ number_lines word place [] = []
 number_lines word place (number ∷ numbers) =
     number_line (words_for word place) number ++ number_lines word (place + 1) numbers
 
--- the bytes behind a reference, if there is one
+-- the bytes after a reference, if there is one
 abbrev pub contents : Option (Bor (List ℕ)) → Option (List ℕ)
 contents (Some bytes) = Some bytes.now
 contents None = None
@@ -43,11 +43,11 @@ next_line rest =
     )
     else refused Syntax rest.line
 
--- what stands after these words, or none where the line begins with others
+-- what stands after these words, or none if the line begins with others
 unfoldable pub after_words : List ℕ → List ℕ → Option (List ℕ)
 after_words words line = if bytes_eq (take (length words) line) words then Some (drop (length words) line) else None
 
--- the number of a line of which this stands after its words, where it is at most so great; n is the number of the line
+-- the number of a line of which this stands after its words, if it is at most so great; n is the number of the line
 abbrev pub number_on : ℕ → ℕ → Option (List ℕ) → Result ℕ TextFault
 number_on n most None = refused Syntax n
 number_on n most (Some digits) =
@@ -62,7 +62,7 @@ next_number words most rest = do
   number ← number_on rest.line most (after_words words line.0)
   Ok (number, line.1)
 
--- the numbers on the next lines, one for each of so many resources or jobs from this one on, and what is left after
+-- the numbers on the next lines, one for each of this many resources or jobs from this one on, and what is left after
 -- them
 unfoldable pub next_numbers : List ℕ → ℕ → ℕ → Rest → Result (List ℕ × Rest) TextFault
 next_numbers word number zero rest = Ok ([], rest)
@@ -81,7 +81,7 @@ last_line rest = do
   line ← next_line rest
   if bytes_eq line.0 (codes "end") then nothing_left line.1 else refused Syntax rest.line
 
--- the lines of a plan of so many resources and jobs, in order
+-- the lines of a plan of this many resources and jobs, in order
 unfoldable pub reading : ℕ → ℕ → List ℕ → Result Plan TextFault
 reading resources jobs text = do
   deadline ← next_number (codes "deadline ") most_number (record { line = 1; bytes = text })

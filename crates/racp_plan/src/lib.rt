@@ -1,4 +1,4 @@
-//! Plans of a project: what one says, and how it is written as a text and read again.
+//! Plans of a project: what a plan says, and how it is written as a text and read again.
 //!
 //! Jobs and resources are numbered from 1; their places in lists count from 0. Times are whole time units from 0 on.
 //!
@@ -23,12 +23,12 @@
 //! `Syntax` at line 3; with `cost 9000000000000000` it is `Range` there.
 //!
 //! `read_plan` goes through the text line by line, and compares each line with the words that it has to begin with.
-//! Nothing is kept but the capacities and the starts, and where there is no room for these, reading goes on without
-//! them: so a wrong line is found first, and lack of memory last. Its definition is not a parser: a text is read as the
-//! plan whose text it is, and else as its first line that is wrong.
+//! Nothing is kept but the capacities and the starts. If there is no room for these, reading goes on without them, so a
+//! wrong line is found first and lack of memory last. Its definition is not a parser: a text is read as the plan whose
+//! text it is, or else as its first line that is wrong.
 //!
 //! Proved: `write_plan` gives exactly the text of the plan. `read_plan` answers for every byte text the plan whose text
-//! it is, where its numbers are in range, or exactly the first line that is wrong; `Memory` only where no line is. In
+//! it is, if its numbers are in range, or exactly the first line that is wrong; `Memory` only if no line is wrong. In
 //! `laws`: no two plans share a text; each text is read as something, and as one thing only; a written plan is read as
 //! itself. Whether a plan can be carried out is not looked at here: racp_check does.
 #![tactic(auto)]

@@ -36,18 +36,18 @@ pub(crate) fn push_capacities(
 ///
 /// # Errors
 ///
-/// Where memory was refused; a beginning of the lines may then stand in the text.
+/// Memory was refused; a beginning of the lines may then stand in the text.
 pub fn push_starts(alloc: Global, text: &mut Vec<u8>, starts: &[u32]) -> Result<(), AllocError>
     ensures { OnOk result (text.new.items ≡ text.old.items ++ start_lines 1 starts.now) }
 {
     push_lines(alloc, text, "start", starts)
 }
 
-/// Adds a number behind a blank.
+/// Adds a number after a blank.
 ///
 /// # Errors
 ///
-/// Where memory was refused.
+/// Memory was refused.
 pub fn push_number(alloc: Global, text: &mut Vec<u8>, number: u32) -> Result<(), AllocError>
     ensures { OnOk result (text.new.items ≡ text.old.items ++ (codes " " ++ decimal number)) }
 {

@@ -8,14 +8,14 @@ ghost use Rattle.racp_plan.specs.Steps.{after_words, contents};
 
 use racp_text::{cut_at, number};
 
-/// What stands after these words, or `None` where the line begins with others.
+/// What stands after these words, or `None` if the line begins with others.
 pub fn after_words<'a>(line: &'a [u8], words: &str) -> Option<&'a [u8]>
     ensures { contents result ≡ after_words words.now line.now }
 {
     line.strip_prefix(words.as_bytes())
 }
 
-/// What stands after this number and a blank, or `None` where the bytes begin otherwise.
+/// What stands after this number and a blank, or `None` if the bytes begin otherwise.
 pub(crate) fn after_number(bytes: &[u8], wanted: u32) -> Option<&[u8]>
     ensures { contents result ≡ after_words (decimal wanted ++ codes " ") bytes.now }
 {
@@ -37,7 +37,7 @@ fn are_digits_of(digits: &[u8], wanted: u32) -> bool
     }
 }
 
-/// The number that digits stand for, or the greatest of 64 bits where it is greater; `None` where they are no number,
+/// The number that digits stand for, or the greatest of 64 bits if it is greater; `None` if they are no number,
 /// or begin with a zero that is not all of them.
 pub fn plain_number(digits: &[u8]) -> Option<u64>
     ensures { IsCapped is_decimal digits.now result }

@@ -1,3 +1,5 @@
+//! What a plan says.
+
 use racp_model::{Capacities, Starts};
 
 /// A plan: how many units there are of each resource, when each job starts, and what a planner says of them. Contracts

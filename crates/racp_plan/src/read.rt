@@ -1,3 +1,5 @@
+//! Reading the text of a plan.
+
 ghost use Rattle.std.specs.Prelude.{◌≤◌};
 ghost use Rattle.racp_plan.specs.PlanReading.{IsPlanReadingOrMemory};
 ghost use Rattle.racp_plan.specs.Steps.{GivesOrMemory, reading};
@@ -17,15 +19,15 @@ const MOST_COST: u64 = 1_000_000_000_000_000;
 ///
 /// # Errors
 ///
-/// The first line that is wrong: `Syntax`, where it is missing or not of its form, or something stands after the line
-/// `end`; `Range`, where its number is too great. `Memory`, at line 0, where no line is wrong and memory was refused.
+/// The first line that is wrong: `Syntax`, if it is missing or not of its form, or something stands after the line
+/// `end`; `Range`, if its number is too great. `Memory`, at line 0, if no line is wrong and memory was refused.
 pub fn read_plan(alloc: Global, bytes: &[u8], net: &Network) -> Result<Plan, TextFault>
     ensures { IsPlanReadingOrMemory net.now bytes.now result }
 {
     read_lines(alloc, bytes, net.resource_count(), net.job_count())
 }
 
-/// The plan of the lines of a text, for so many resources and jobs.
+/// The plan of the lines of a text, for this many resources and jobs.
 #[tactic(auto, unfolding(crate::specs::Steps::reading))]
 fn read_lines(alloc: Global, bytes: &[u8], resources: usize, jobs: usize) -> Result<Plan, TextFault>
     requires resources { resources ≤ 512 }

@@ -1,3 +1,5 @@
+//! What is left of the text of a plan while it is read line by line.
+
 ghost use Rattle.std.specs.Prelude.{◌≡◌, ◌<◌, ◌≤◌, IfOk};
 ghost use Rattle.racp_plan.specs.PlanReading.{most_number, words_for};
 ghost use Rattle.racp_text.specs.Kept.{Keeps};
@@ -80,8 +82,8 @@ impl<'a> Rest<'a> {
         Ok(number_on(line_number, MOST_NUMBER, digits)? as u32)
     }
 
-    /// Takes so many lines off, which are to be those of the resources or jobs from 1 on. Answers their numbers, or
-    /// `None` where memory ran out.
+    /// Takes this many lines off, which are to be those of the resources or jobs from 1 on. Answers their numbers, or
+    /// `None` if memory ran out.
     pub(crate) fn next_numbers(
         &mut self,
         alloc: Global,
@@ -116,7 +118,7 @@ impl<'a> Rest<'a> {
     }
 }
 
-/// What stands after this word, this number and a blank, or `None` where the line begins otherwise.
+/// What stands after this word, this number and a blank, or `None` if the line begins otherwise.
 #[tactic(auto, unfolding(crate::specs::PlanReading::words_for))]
 fn after_words_for<'a>(line: &'a [u8], word: &str, number: u32) -> Option<&'a [u8]>
     ensures { contents result ≡ after_words (words_for word.now number) line.now }
@@ -124,7 +126,7 @@ fn after_words_for<'a>(line: &'a [u8], word: &str, number: u32) -> Option<&'a [u
     after_number(after_words(line, word)?, number)
 }
 
-/// The number of a line of which this stands after its words, where it is at most `most`; `line` is the number of the
+/// The number of a line of which this stands after its words, if it is at most `most`; `line` is the number of the
 /// line.
 fn number_on(line: usize, most: u64, digits: Option<&[u8]>) -> Result<u64, TextFault>
     requires { most < 18446744073709551615 }

@@ -1,3 +1,5 @@
+//! What can be wrong with the text of a plan.
+
 ghost use Rattle.std.specs.Prelude.{◌≡◌};
 ghost use Rattle.racp_plan.specs.TextFaults.{fault_name};
 
@@ -18,7 +20,7 @@ pub enum TextFaultKind {
     Memory = 3,
 }
 
-/// Why a text was not read as a plan, and the number of the line, from 1; 0 where memory ran out.
+/// Why a text was not read as a plan, and the number of the line, from 1; 0 if memory ran out.
 pub type TextFault = LineFault<TextFaultKind>;
 
 impl TextFaultKind {

@@ -1,3 +1,5 @@
+//! Writing the text of a plan.
+
 ghost use Rattle.std.specs.Prelude.{◌≡◌, IfOk};
 ghost use Rattle.racp_plan.specs.Texts.{plan_text};
 
@@ -10,7 +12,7 @@ use std::alloc::{AllocError, Global};
 ///
 /// # Errors
 ///
-/// Where memory was refused.
+/// Memory was refused.
 pub fn write_plan(alloc: Global, plan: &Plan) -> Result<Vec<u8>, AllocError>
     ensures { IfOk result (λ text. text.items ≡ plan_text plan.now) }
 {

@@ -5,3 +5,7 @@ mod Tables
 mod Answering
 mod Limits
 mod Parts
+mod Factors
+mod Commas
+mod WantedTables
+mod ReadBack

@@ -17,7 +17,7 @@ abbrev pub TextIsRead : Type 0
 TextIsRead = (resources jobs : ℕ) (text : List ℕ) → (answer : Result Terms OrderFault) ×
     IsOrder resources jobs text answer
 
--- the terms that a text is read as are terms of each project with so many resources and jobs, and no due time is above the
+-- the terms that a text is read as are terms of each project with this many resources and jobs, and no due time is above the
 -- deadline
 abbrev pub ReadWithinLimits : Type 0
 ReadWithinLimits =

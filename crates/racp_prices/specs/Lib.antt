@@ -3,3 +3,7 @@ pub mod Faults
 pub mod Laws
 pub mod Steps
 pub mod Units
+pub mod Factors
+pub mod WantedNumbers
+pub mod Wishes
+pub mod WantedTables

@@ -60,7 +60,7 @@ all_within most (item value rest) = do
   numbers ← all_within most rest
   Ok (number ∷ numbers)
 
--- the whole numbers of an array: so many, each from 0 to the most there may be
+-- the whole numbers of an array: this many, each from 0 to the most there may be
 unfoldable pub numbers_of : ℕ → ℕ → Data → Result (List ℕ) OrderFault
 numbers_of count most value = do
   items ← array_of value
@@ -68,14 +68,14 @@ numbers_of count most value = do
   counted ← counted_items count wholes
   all_within most counted
 
--- the same where the key is there
+-- the same if the key is there
 unfoldable pub optional_numbers : ℕ → ℕ → Option Data → Result (Option (List ℕ)) OrderFault
 optional_numbers count most None = Ok None
 optional_numbers count most (Some value) = do
   numbers ← numbers_of count most value
   Ok (Some numbers)
 
--- the version: the first where no key says it, and else the second, by the number 2
+-- the version: the first if no key says it, and else the second, by the number 2
 abbrev pub numbered_version : ℤ → Result Version OrderFault
 numbered_version (pos number) = if number == 2 then Ok Second else Err WrongVersion
 numbered_version (negsuc number) = Err WrongVersion
@@ -109,7 +109,7 @@ required (Some value) = Ok value
 unfoldable pub known_keys : Version → Members → Result Members OrderFault
 known_keys version table = if has_only (keys_of version) table then Ok table else Err Unknown
 
--- the order that a table is, for so many resources and jobs: without `owned` no unit is owned, without `ceiling` there may be
+-- the order that a table is, for this many resources and jobs: without `owned` no unit is owned, without `ceiling` there may be
 -- any number of units, without `release` each job may start at 0, and without `due` each has to end by the deadline alone
 unfoldable pub order_of : ℕ → ℕ → Members → Result Terms OrderFault
 order_of resources jobs table = do
@@ -132,7 +132,7 @@ order_of resources jobs table = do
     due = map (min deadline) (unwrap_or due (replicate jobs deadline));
   })
 
--- what a text is as TOML: a table, or none where it is not UTF-8 or not TOML
+-- what a text is as TOML: a table, or none if it is not UTF-8 or not TOML
 abbrev pub IsToml : List ℕ → Option Members → Type 0
 IsToml text (Some table) = IsUtf8 text × (parse_document text ≡ Some table)
 IsToml text None = IsUtf8 text → parse_document text ≡ None
@@ -142,7 +142,7 @@ abbrev pub order_in : ℕ → ℕ → Option Members → Result Terms OrderFault
 order_in resources jobs None = Err NotToml
 order_in resources jobs (Some table) = order_of resources jobs table
 
--- what a text is read as: the terms of an order, for so many resources and jobs, or the first rule that it breaks
+-- what a text is read as: the terms of an order, for this many resources and jobs, or the first rule that it breaks
 abbrev pub IsOrder : ℕ → ℕ → List ℕ → Result Terms OrderFault → Type 0
 IsOrder resources jobs text answer = (table : Option Members) × IsToml text table ×
     (answer ≡ order_in resources jobs table)
@@ -153,7 +153,7 @@ IsOrderOrMemory resources jobs text (Ok terms) = IsOrder resources jobs text (Ok
 IsOrderOrMemory resources jobs text (Err fault) = IsOrder resources jobs text (Err fault) ⊎
     (IsUtf8 text × (fault ≡ Memory))
 
--- the terms are those of each project with so many resources and jobs
+-- the terms are those of each project with this many resources and jobs
 abbrev pub FitEachProject : ℕ → ℕ → Terms → Type 0
 FitEachProject resources jobs terms = (p : Project) → p.resources ≡ resources → length p.jobs ≡ jobs →
     AreTermsOf p terms

@@ -22,7 +22,7 @@ abbrev pub IsTableRead : List ℕ → Result (BTreeMap (String Global) Value) Or
 IsTableRead text (Ok table) = IsToml text (Some (table_view table))
 IsTableRead text (Err fault) = ((fault ≡ NotToml) × IsToml text None) ⊎ (IsUtf8 text × (fault ≡ Memory))
 
--- the numbers that a value has, or the same one so many times where there is no value
+-- the numbers that a value has, or the same one this many times if there is no value
 unfoldable pub list_or : ℕ → ℕ → ℕ → Option Data → Result (List ℕ) OrderFault
 list_or count most otherwise None = Ok (replicate count otherwise)
 list_or count most otherwise (Some value) = numbers_of count most value

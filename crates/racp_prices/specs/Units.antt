@@ -4,12 +4,12 @@ use Rattle.racp_model.specs.Project.{Project}
 use Rattle.racp_model.specs.Schedule.{roof}
 use Rattle.racp_model.specs.Terms.{Terms}
 
--- x, or the ceiling of the resource at place k where there is one and it is less
+-- x, or the ceiling of the resource at place k if there is one and it is less
 abbrev pub cut_to : Option (List ℕ) → ℕ → ℕ → ℕ
 cut_to None k x = x
 cut_to (Some ceilings) k x = min x (slice_index ceilings k)
 
--- of each resource, the sum of all requests, or the ceiling where that is less
+-- of each resource, the sum of all requests, or the ceiling if that is less
 pub record AreMostUnits (p : Project) (terms : Terms) (units : List ℕ) : Type 0 where
   pub places : length units ≡ p.resources
   pub each : (k : ℕ) → k < p.resources → slice_index units k ≡ cut_to terms.ceilings k (roof p k)

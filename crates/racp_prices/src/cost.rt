@@ -1,3 +1,5 @@
+//! The cost of capacities.
+
 ghost use Rattle.std.specs.Prelude.{◌≡◌, length};
 ghost use Rattle.racp_model.specs.Terms.{AreTermsOf, cost};
 

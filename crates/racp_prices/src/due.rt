@@ -1,10 +1,12 @@
+//! Due times, cut to the deadline.
+
 ghost use Rattle.std.specs.Prelude.{◌≡◌, IfOk, map, min};
 
 use crate::order::Order;
 use std::alloc::{AllocError, Global};
 use std::cmp::min;
 
-/// The time by which each job has to end, by place from 0, in time units: its due time, or the deadline where that is
+/// The time by which each job has to end, by place from 0, in time units: its due time, or the deadline if that is
 /// earlier.
 ///
 /// # Errors

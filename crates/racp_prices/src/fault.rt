@@ -1,11 +1,13 @@
+//! Why a text is no order.
+
 ghost use Rattle.std.specs.Prelude.{◌≡◌};
 ghost use Rattle.racp_prices.specs.Faults.{fault_name};
 
 use std::alloc::{AllocError, AllocFailed};
 use thiserror::Error;
 
-/// Why a text is no order: the first rule that it breaks, in the order in which the rules are tested. The number that is
-/// printed is that of the variant.
+/// Why a text is no order: the first rule that it breaks, in the order in which the rules are tested. The number that
+/// is printed is that of the variant.
 #[derive(Debug, Clone, Copy, PartialEq, Eq, Drop, Error)]
 pub enum OrderFault {
     /// The text is not UTF-8, or not TOML.

@@ -1,4 +1,4 @@
-//! Whole numbers and arrays of them.
+//! Whole numbers and arrays of them, as they stand in the table of an order that is read.
 
 ghost use Rattle.std.specs.Prelude.{◌≡◌, ◌↔◌, All, IsTrue, is_some, option_map, MatchResult, Ok, Err};
 ghost use Rattle.toml.specs.Data.{as_integer};
@@ -18,7 +18,7 @@ pub(crate) fn whole(value: &Value) -> Result<i64, OrderFault>
     value.as_integer().ok_or(OrderFault::NotWhole)
 }
 
-/// The number, where it is from 0 to the most there may be.
+/// The number, if it is from 0 to the most there may be.
 fn within(number: i64, most: u32) -> Result<u32, OrderFault>
     ensures { result ≡ within most number }
 {
@@ -37,7 +37,7 @@ pub(crate) fn number(value: &Value, most: u32) -> Result<u32, OrderFault>
     within(whole(value)?, most)
 }
 
-/// The whole numbers that stand for an array: so many, each from 0 to the most there may be.
+/// The whole numbers that stand for an array: this many, each from 0 to the most there may be.
 #[tactic(auto, unfolding(crate::specs::Orders::numbers_of))]
 pub(crate) fn numbers(
     alloc: Global,
@@ -61,7 +61,7 @@ fn items(value: &Value) -> Result<&Array, OrderFault>
     value.as_array().ok_or(OrderFault::NotWhole)
 }
 
-/// The same where there is a value.
+/// The whole numbers that stand for an array, if there is one: `count` of them, each from 0 to `most`.
 #[tactic(auto, unfolding(crate::specs::Orders::optional_numbers))]
 pub(crate) fn optional_numbers(
     alloc: Global,

@@ -1,3 +1,5 @@
+//! The terms of an order.
+
 ghost use Rattle.std.specs.Prelude.{◌≡◌, ◌≤◌, ◌↔◌, IsTrue, length, All};
 ghost use Rattle.racp_model.specs.Terms.{AreTermsOf};
 
@@ -15,7 +17,7 @@ pub struct Order {
     pub prices: Vec<u32>,
     /// How many units of each resource are owned already, and cost nothing, up to 10,000,000.
     pub owned: Vec<u32>,
-    /// The most units of each resource that there may be, owned ones among them, up to 10,000,000; or `None` where any
+    /// The most units of each resource that there may be, owned ones among them, up to 10,000,000; or `None` if any
     /// number may be.
     pub ceilings: Option<Vec<u32>>,
     /// The time from which each job may start, up to 10,000,000.
@@ -59,7 +61,7 @@ impl Order {
     }
 }
 
-/// Whether there are so many numbers, none of them above `most`.
+/// Whether there are this many numbers, none of them above `most`.
 fn are_within(numbers: &[u32], count: usize, most: u32) -> bool
     ensures { IsTrue result ↔ ((length numbers.now ≡ count) × All (λ x. x ≤ most) numbers.now) }
 {

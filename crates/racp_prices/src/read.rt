@@ -1,3 +1,5 @@
+//! Reading an order from a TOML text.
+
 ghost use Rattle.std.specs.Prelude.{◌≡◌, ◌↔◌, All, Err, IfOk, IsTrue, MatchResult, Ok, bytes_eq, map, min, option_map, string_bytes};
 ghost use Rattle.std.specs.BTreeMap.{keys};
 ghost use Rattle.std.specs.List.{list_any};
@@ -14,7 +16,7 @@ use racp_model::limits::{LATEST_TIME, MOST_PRICE, MOST_UNITS};
 use std::alloc::Global;
 use toml::{Table, Value};
 
-/// Reads the order of a TOML text, for a network of so many resources and jobs.
+/// Reads the order of a TOML text, for a network of this many resources and jobs.
 ///
 /// Without the key `version` the text has `deadline` and `prices` alone: no unit is owned, there may be any number of
 /// units, and each job may run from 0 to the deadline. With `version = 2` it may have `owned`, `ceiling`, `release` and
@@ -24,7 +26,7 @@ use toml::{Table, Value};
 ///
 /// The first rule that the text breaks: `NotToml`; for the version `NotWhole` or `Version`; `Missing`; `Unknown`; and
 /// then for the deadline, the prices, the owned units, the ceilings, the release and the due times, in this order,
-/// `NotWhole`, `Count` and `Range`. `Memory` where the text is UTF-8 and memory was refused.
+/// `NotWhole`, `Count` and `Range`. `Memory` if the text is UTF-8 and memory was refused.
 pub fn read_order(
     alloc: Global,
     text: &[u8],
@@ -175,7 +177,7 @@ fn has_known_keys(version: Version, table: &Table) -> bool
     table.keys().all(|key| version.has_key(key))
 }
 
-/// The whole numbers that stand for an array, or the same one so many times where there is no value.
+/// The whole numbers that stand for an array, or the same one this many times if there is no value.
 #[tactic(auto, unfolding(crate::specs::Steps::list_or))]
 fn list_or(
     alloc: Global,

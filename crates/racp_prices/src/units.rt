@@ -1,3 +1,5 @@
+//! The most units of each resource that a plan can have.
+
 ghost use Rattle.std.specs.Prelude.{◌≡◌, ℕ, ◌<◌, IfOk};
 ghost use Rattle.racp_model.specs.Terms.{AreTermsOf};
 ghost use Rattle.racp_prices.specs.Units.{AreMostUnits};
@@ -8,7 +10,7 @@ use std::alloc::{AllocError, Global};
 use std::cmp::min;
 
 /// The most units of each resource, by place from 0, that a plan can have: the roof, the sum of all requests, or the
-/// ceiling where that is less.
+/// ceiling if that is less.
 ///
 /// # Errors
 ///

@@ -19,7 +19,7 @@ pub(crate) enum Version {
 }
 
 impl Version {
-    /// The version that the value of the key `version` says, where there is one.
+    /// The version that the value of the key `version` says, if there is one.
     #[tactic(auto, unfolding(crate::specs::Orders::version_of))]
     pub(crate) fn read(value: Option<&Value>) -> Result<Version, OrderFault>
         ensures { result ≡ version_of (option_map (λ v. view v.now) value.entry) }

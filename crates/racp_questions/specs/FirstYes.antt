@@ -18,18 +18,18 @@ no_question = record { capacities = []; window = record { lower = []; upper = []
 abbrev pub question_at : List Question → ℕ → Question
 question_at questions i = slice_index_or questions i no_question
 
--- the question at a place is a yes; it is a no
+-- the question at a place is a yes; it is infeasible
 abbrev pub IsYesAt : Project → List Question → ℕ → Type 0
 IsYesAt p questions i = IsYes p (question_at questions i).capacities (question_at questions i).window
 
 abbrev pub IsNoAt : Project → List Question → ℕ → Type 0
 IsNoAt p questions i = IsNo p (question_at questions i).capacities (question_at questions i).window
 
--- each question before a place is a no
+-- each question before a place is infeasible
 abbrev pub AreNoBefore : Project → List Question → ℕ → Type 0
 AreNoBefore p questions n = (i : ℕ) → i < n → IsNoAt p questions i
 
--- the first yes of a list of questions: the least index whose question is a yes, or none where each question is a no
+-- the first yes of a list of questions: the least index whose question is a yes, or none if each question is infeasible
 abbrev pub IsFirstYes : Project → List Question → Option ℕ → Type 0
 IsFirstYes p questions (Some index) = (index < length questions) × IsYesAt p questions index ×
     AreNoBefore p questions index
@@ -42,13 +42,13 @@ IsFirst p questions (Yes index starts) =
     Answers p (question_at questions index).capacities (question_at questions index).window starts
 IsFirst p questions NoYes = IsFirstYes p questions None
 
--- what a search of one question tells: starts that answer it, that it is a no, or neither, where its nodes had a bound
+-- what a search of one question tells: starts that answer it, that it is infeasible, or neither, if its nodes had a bound
 abbrev pub IsProbed : Project → Question → (most : Option ℕ) → Probe → Type 0
 IsProbed p question most (ProbedYes starts) = Answers p question.capacities question.window starts
 IsProbed p question most ProbedNo = IsNo p question.capacities question.window
 IsProbed p question most ProbedOpen = most ≢ None
 
--- where a search was stopped: at the capacities of a question before which each question is a no, or at none
+-- where a search was stopped: at the capacities of a question before which each question is infeasible, or at none
 abbrev pub IsReached : Project → List Question → Option (List ℕ) → Type 0
 IsReached p questions (Some capacities) =
     (i : ℕ) × (i < length questions) × ((question_at questions i).capacities ≡ capacities) × AreNoBefore p questions i
@@ -60,7 +60,7 @@ MayGiveUp may_stop may_want_thread (Stopped reached) = may_stop
 MayGiveUp may_stop may_want_thread Memory = ⊤
 MayGiveUp may_stop may_want_thread NoThread = may_want_thread
 
--- where it stops, it tells what it reached
+-- if it stops, it tells what it reached
 abbrev pub IsTold : Project → List Question → (told : Option (List ℕ)) → AskStop → Type 0
 IsTold p questions told (Stopped reached) = (told ≡ reached) × IsReached p questions reached
 IsTold p questions told Memory = ⊤
@@ -72,7 +72,7 @@ abbrev pub IsStop : Project → List Question → (told : Option (List ℕ)) →
 IsStop p questions told may_stop may_want_thread stop =
     MayGiveUp may_stop may_want_thread stop × IsTold p questions told stop
 
--- where a search of one question is stopped, nothing is told
+-- if a search of one question is stopped, nothing is told
 abbrev pub IsUntold : (told : Option (List ℕ)) → AskStop → Type 0
 IsUntold told (Stopped reached) = told ≡ None
 IsUntold told Memory = ⊤

@@ -1,3 +1,5 @@
+//! Askers: who answers series of questions, what they answer, and why they may give up.
+
 use crate::series::Series;
 use racp_model::{Capacities, Network, Question, Starts};
 use std::alloc::AllocError;
@@ -7,7 +9,7 @@ use thiserror::Error;
 /// The first yes of a series.
 #[derive(Drop)]
 pub enum First {
-    /// The question at this index, from 0, is a yes, and each before it is a no; these starts answer it.
+    /// The question at this index, from 0, is a yes, and each before it is infeasible; these starts answer it.
     Yes { index: usize, starts: Starts },
     /// No question of the series is a yes.
     None,
@@ -18,7 +20,7 @@ pub enum First {
 pub enum Probe {
     /// The question is a yes: these starts answer it.
     Yes(Starts),
-    /// The question is a no.
+    /// The question is infeasible.
     No,
     /// As many nodes were searched as the bound allows, and neither is known.
     Open,
@@ -27,8 +29,8 @@ pub enum Probe {
 /// Why the first yes of a series is not known.
 #[derive(Debug, Drop, Error)]
 pub enum AskStop {
-    /// The search was stopped. The capacities are those of a question of the series before which each question is a no;
-    /// or there are none.
+    /// The search was stopped. The capacities are those of a question of the series before which each question is
+    /// infeasible; or there are none.
     #[error("the search was stopped")]
     Stopped { reached: Option<Capacities> },
     /// Memory was refused.
@@ -81,7 +83,7 @@ pub trait Asker<S: Series> {
     ///
     /// # Errors
     ///
-    /// The search was stopped, or no thread could be started, each only where the asker's meaning after the call says
+    /// The search was stopped, or no thread could be started, each only if the asker's meaning after the call says
     /// that it may; or memory was refused. Such a series does not count as answered.
     fn first(&mut self, net: &Network, series: S) -> Result<First, AskStop>
         requires named { about self.old net.now }
@@ -93,12 +95,12 @@ pub trait Asker<S: Series> {
         ensures stop { IfErr result (IsStop net.now (S.questions series) (told self.new) (may_stop self.new)
             (may_want_thread self.new)) };
 
-    /// What a search of one question tells that ends after so many nodes at the latest; `None` is no bound on them. It
-    /// counts as no series. The network is the one that the asker is about, and the question has its form.
+    /// What a search of one question tells that ends after this many nodes at the latest; `None` is no bound on them.
+    /// It counts as no series. The network is the one that the asker is about, and the question has its form.
     ///
     /// # Errors
     ///
-    /// As those of `first`; where the search was stopped, nothing is told of what was reached.
+    /// As those of `first`; if the search was stopped, nothing is told of what was reached.
     fn probe(
         &mut self,
         net: &Network,
@@ -112,8 +114,8 @@ pub trait Asker<S: Series> {
         ensures answered { answered self.new ≡ answered self.old }
         ensures stop { IfErr result (IsProbeStop (told self.new) (may_stop self.new) (may_want_thread self.new)) };
 
-    /// Is told which questions come next as long as each that is asked before is a no, the first one first. It may search
-    /// them beside the next question that it is asked. What it makes of them changes no answer.
+    /// Is told which questions come next as long as each that is asked before is infeasible, the first one first. It
+    /// may search them beside the next question that it is asked. What it makes of them changes no answer.
     fn foresee(&mut self, _net: &Network, _ahead: VecDeque<Question>)
         requires named { about self.old _net.now }
         requires formed { AreFormed _net.now _ahead.items }

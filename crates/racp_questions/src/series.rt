@@ -1,3 +1,5 @@
+//! Series: lists of questions that are given one by one.
+
 use racp_model::Question;
 use std::alloc::AllocError;
 
@@ -9,7 +11,7 @@ pub trait Series: Drop {
 
     ghost questions: { Self → List Question };
 
-    /// Takes the first question off the list, or gives `None` where the list is empty.
+    /// Takes the first question off the list, or gives `None` if the list is empty.
     ///
     /// # Errors
     ///

@@ -17,18 +17,18 @@ pub record IsChoice (p : Project) (terms : Terms) (window : Bounds) (choice : Ch
   pub cost : choice.cost ≡ cost terms choice.capacities
   pub starts : IsLeast IsLexBefore (Answers p choice.capacities window) choice.starts
 
--- the choice of these capacities, or none where no starts in the window fit them
+-- the choice of these capacities, or none if no starts in the window fit them
 abbrev pub IsPriced : Project → Terms → Bounds → List ℕ → Option Choice → Type 0
 IsPriced p terms window capacities None = IsNo p capacities window
 IsPriced p terms window capacities (Some choice) = (choice.capacities ≡ capacities) × IsChoice p terms window choice
 
--- the cheaper of two choices, the first where they cost the same
+-- the cheaper of two choices, the first if they cost the same
 abbrev pub cheaper_of : Option Choice → Option Choice → Option Choice
 cheaper_of best None = best
 cheaper_of None (Some other) = Some other
 cheaper_of (Some best) (Some other) = if nat_lt other.cost best.cost then Some other else Some best
 
--- the choice of the first of the candidates, by cost and then lexicographically, or none where there is no candidate
+-- the choice of the first of the candidates, by cost and then lexicographically, or none if there is no candidate
 abbrev pub IsCheapest : Project → Terms → Bounds → List ℕ → Option Choice → Type 0
 IsCheapest p terms window most None = (capacities : List ℕ) → IsCandidate p window most capacities → ⊥
 IsCheapest p terms window most (Some choice) = IsLeast (IsBefore terms) (IsCandidate p window most) choice.capacities ×

@@ -8,7 +8,7 @@ use Rattle.racp_plan.specs.Plans.{IsPlanOf}
 use Rattle.racp_reference.specs.declared.plan.Outcome.{Outcome}
 use Rattle.racp_reference.specs.declared.plan.Outcome.TheVariants.{Plan as ThePlan, TooLong, TooLate, OverCeilings}
 
--- the lexicographically least starts that answer a question, or none where it is a no
+-- the lexicographically least starts that answer a question, or none if it is infeasible
 abbrev pub IsFirstAnswer : Project → List ℕ → Bounds → Option (List ℕ) → Type 0
 IsFirstAnswer p capacities window (Some starts) = IsLeast IsLexBefore (Answers p capacities window) starts
 IsFirstAnswer p capacities window None = IsNo p capacities window

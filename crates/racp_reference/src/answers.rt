@@ -1,3 +1,5 @@
+//! The answer of a question by its definition: every start vector of the window is looked at.
+
 ghost use Rattle.std.specs.Prelude.{◌≡◌, ◌↔◌, IfOk, IsTrue, length};
 ghost use Rattle.racp_model.specs.Schedule.{Fits};
 ghost use Rattle.racp_reference.specs.Outcomes.{IsFirstAnswer};
@@ -7,7 +9,7 @@ use racp_cpm::last_end;
 use racp_model::{Capacities, Network, Question, Starts, Window, fits};
 use std::alloc::{AllocError, Global};
 
-/// The lexicographically least starts that answer the question, or `None` where none do. The capacities have an entry
+/// The lexicographically least starts that answer the question, or `None` if none do. The capacities have an entry
 /// for each resource, the bounds of the window one for each job. All start vectors in the window are looked at, one by
 /// one.
 ///
@@ -27,7 +29,7 @@ pub fn decide_by_definition(
     first_answer(alloc, net, &question.capacities, &question.window)
 }
 
-/// The lexicographically least starts in the window that keep precedence and the capacities, or `None` where there are
+/// The lexicographically least starts in the window that keep precedence and the capacities, or `None` if there are
 /// none.
 ///
 /// # Errors

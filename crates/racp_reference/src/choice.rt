@@ -1,3 +1,5 @@
+//! The cheapest capacities by their definition: every capacity vector up to the roofs is looked at.
+
 ghost use Rattle.std.specs.Prelude.{◌≡◌, IfOk, length};
 ghost use Rattle.racp_model.specs.Formed.{IsFormed};
 ghost use Rattle.racp_model.specs.Terms.{AreTermsOf};
@@ -46,7 +48,7 @@ pub(crate) fn cheapest(
     }
 }
 
-/// These capacities with the least starts in the window that fit them, or `None` where none do.
+/// These capacities with the least starts in the window that fit them, or `None` if none do.
 fn priced(
     alloc: Global,
     net: &Network,
@@ -68,7 +70,7 @@ fn priced(
     }))
 }
 
-/// The cheaper of two, the first where they cost the same.
+/// The cheaper of two, the first if they cost the same.
 fn cheaper(best: Option<Choice>, other: Option<Choice>) -> Option<Choice>
     ensures { result ≡ cheaper_of best other }
 {

@@ -1,3 +1,5 @@
+//! The plan of an order by its definition.
+
 ghost use Rattle.std.specs.Prelude.{◌≡◌, IfOk, length};
 ghost use Rattle.racp_model.specs.Terms.{AreTermsOf};
 ghost use Rattle.racp_reference.specs.Outcomes.{IsOutcome};

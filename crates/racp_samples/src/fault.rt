@@ -1,3 +1,5 @@
+//! Why a sample cannot be made.
+
 use racp_model::NetFault;
 use std::alloc::AllocError;
 use thiserror::Error;

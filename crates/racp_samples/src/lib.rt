@@ -12,8 +12,7 @@
 //! chained       CHAINED      c.sm                 2 beside the chain 3, 4, 5, between 1 and 6
 //! ```
 //!
-//! Their jobs, each with its duration and its requests, where the first and the last have duration 0 and request
-//! nothing:
+//! Their jobs, each with its duration and its requests; the first and the last have duration 0 and request nothing:
 //!
 //! ```text
 //! parallel      2: 3, 2      3: 2, 1      4: 2, 1

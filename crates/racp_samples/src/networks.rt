@@ -1,8 +1,10 @@
+//! Small networks made of literals, and the networks of examples/.
+
 use racp_model::{Job, NetFault, Network};
 use std::alloc::{AllocError, Global};
 
-/// A network of jobs that are each given by a duration and a request of each resource, and of pairs of job numbers, the earlier
-/// first.
+/// A network of jobs that are each given by a duration and a request of each resource, and of pairs of job numbers, the
+/// earlier first.
 ///
 /// # Errors
 ///
@@ -36,8 +38,8 @@ pub fn parallel(alloc: Global) -> Result<Network, NetFault> {
     network(alloc, 1, &jobs, &arcs)
 }
 
-/// Six jobs with two resources: after 1 come 2 and 3, after each of them 4 and 5, then 6. 2 and 3 each use a unit of resource 1 for
-/// a time unit, 4 and 5 one of resource 2.
+/// Six jobs with two resources: after 1 come 2 and 3, after each of them 4 and 5, then 6. 2 and 3 each use a unit of
+/// resource 1 for a time unit, 4 and 5 one of resource 2.
 ///
 /// # Errors
 ///

@@ -1,3 +1,5 @@
+//! Windows and questions for tests.
+
 ghost use Rattle.std.specs.Prelude.{◌≡◌, IfOk, length};
 
 use crate::fault::SampleFault;

@@ -1,3 +1,5 @@
+//! Random numbers, networks and orders; the same seed gives the same ones.
+
 use crate::fault::SampleFault;
 use racp_model::{Job, Network};
 use racp_prices::Order;
@@ -15,7 +17,7 @@ impl Random {
         Random { state: seed }
     }
 
-    /// The next number below a bound, or 0 where that is 0.
+    /// The next number below a bound, or 0 if that is 0.
     pub fn below(&mut self, bound: u32) -> u32 {
         let product = self.state.wrapping_mul(6_364_136_223_846_793_005);
         self.state = product.wrapping_add(1_442_695_040_888_963_407);
@@ -23,7 +25,7 @@ impl Random {
         high.checked_rem(bound).unwrap_or(0)
     }
 
-    /// So many numbers below a bound.
+    /// This many numbers below a bound.
     ///
     /// # Errors
     ///
@@ -42,8 +44,8 @@ impl Random {
     }
 }
 
-/// A network of these numbers of resources and jobs, with durations up to 3 and requests up to 2. Each pair of jobs, the lesser
-/// number first, is there one time in three.
+/// A network of these numbers of resources and jobs, with durations up to 3 and requests up to 2. Each pair of jobs,
+/// the lesser number first, is there one time in three.
 ///
 /// # Errors
 ///
@@ -89,8 +91,8 @@ fn random_arcs(
     Ok(arcs)
 }
 
-/// An order with a deadline up to 6, prices and ceilings up to 3, and owned units and release times up to 2. Half of the orders
-/// have ceilings, and half of them due times up to 6.
+/// An order with a deadline up to 6, prices and ceilings up to 3, and owned units and release times up to 2. Half of
+/// the orders have ceilings, and half of them due times up to 6.
 ///
 /// # Errors
 ///

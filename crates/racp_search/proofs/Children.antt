@@ -1,10 +1,10 @@
 -- Child windows of a node.
 use Rattle.std.proofs.Common.{◌≡◌, ◌≢◌, ℕ, ◌<◌, ◌≤◌, List, [], length, slice_index, Contains, arith, refl, ◌∙◌, subst, ap, All}
-use Rattle.racp_model.specs.Project.{Project, IsNumber, IsSound, number}
+use Rattle.racp_model.specs.Project.{Project, IsNumber, IsSound, number, place}
 use Rattle.racp_model.specs.Window.{Bounds}
 use Rattle.racp_model.proofs.lemmas.Relations.{all_members}
 use Rattle.racp_model.proofs.lemmas.Sums.{duration-small}
-use Rattle.racp_delay.specs.Alternatives.{Splits, place}
+use Rattle.racp_delay.specs.Alternatives.{Splits}
 use Rattle.racp_delay.specs.Branching.{IsConflict, IsChild, IsFirstEnd, end_of}
 use Rattle.racp_delay.specs.Laws.{OthersStay, SubsetsGo, ChildIsInside, ChildIsHigher, NoConflictBefore}
 use Rattle.racp_cutset.specs.Covering.{SearchNode}

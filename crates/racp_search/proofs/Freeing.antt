@@ -2,13 +2,13 @@
 use Rattle.std.proofs.Common.{◌≡◌, ◌⊎◌, inl, inr, ◌∙◌, ◌↔◌, ℕ, ◌<◌, ◌≤◌, List, [], ◌∷◌, ◌++◌, length, slice_index, Contains, true, false, Bool, arith, refl, sym, subst, ap, append_assoc}
 use Rattle.std.proofs.lemmas.List.{append-nil}
 use Rattle.std.proofs.lemmas.List.Elements.{Contains-append_left, Contains-append_right, Contains-append_cases}
-use Rattle.racp_model.specs.Project.{Project, number}
+use Rattle.racp_model.specs.Project.{Project, number, place}
 use Rattle.racp_model.specs.Window.{LiesIn}
+use Rattle.racp_model.specs.JobSets.{IsInserted}
 use Rattle.racp_model.proofs.lemmas.Relations.{member_cases, member_first, no_member}
-use Rattle.racp_delay.specs.Alternatives.{Splits, place, IsFreeAlternative, IsNextAlternative, IsLastAlternative, IsFollowing}
+use Rattle.racp_delay.specs.Alternatives.{Splits, IsFreeAlternative, IsNextAlternative, IsLastAlternative, IsFollowing}
 use Rattle.racp_delay.specs.Alternatives.Splits.{none, stays}
 use Rattle.racp_delay.specs.Branching.{IsFirstEnd}
-use Rattle.racp_delay.specs.JobSets.{IsInserted}
 use Rattle.racp_delay.specs.Laws.{EachHasChild, OthersStay, SubsetsGo}
 use Rattle.racp_cutset.specs.Covering.{SearchNode}
 use Rattle.racp_search.specs.Children.{AreFree}

@@ -8,10 +8,10 @@ use Rattle.std.proofs.lemmas.List.Elements.{Contains-append_left, Contains-appen
 use Rattle.racp_model.specs.Project.{Project, IsNumber, IsSound}
 use Rattle.racp_model.specs.Terms.{IsLexBefore}
 use Rattle.racp_model.specs.Window.{Bounds, LiesIn}
+use Rattle.racp_model.specs.JobSets.{AreJobs}
 use Rattle.racp_model.proofs.lemmas.Relations.{member_cases, member_first, member_later}
 use Rattle.racp_model.proofs.lemmas.Sums.{sum_below-bound}
 use Rattle.racp_delay.specs.Alternatives.{Splits, IsMinimalDelayingAlternative, AreAlternatives, job_lists}
-use Rattle.racp_delay.specs.JobSets.{AreJobs}
 use Rattle.racp_delay.specs.Laws.{EachHasChild, SubsetsGo, lower_sum}
 use Rattle.racp_cutset.specs.Covering.{SearchNode}
 use Rattle.racp_search.specs.Children.{IsChildFor, IsEmptyChild, IsInserted}

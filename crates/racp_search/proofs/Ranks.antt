@@ -8,7 +8,7 @@ use Rattle.std.specs.declared.cmp.Ordering.TheVariants.{Less, Equal}
 use Rattle.std.specs.Ordering.{nat_cmp, ordering_then}
 use Rattle.racp_model.specs.Project.{IsNumber}
 use Rattle.racp_model.specs.Terms.{lex_cmp, IsLexBefore}
-use Rattle.racp_delay.specs.JobSets.{AreJobs}
+use Rattle.racp_model.specs.JobSets.{AreJobs}
 use Rattle.racp_search.specs.DepthFirst.{rank, most_lists}
 
 -- numbers of jobs, one by one

@@ -1,8 +1,8 @@
 -- Contracts of private functions: the child windows of a node. Lists of jobs hold job numbers, from 1.
 use Rattle.std.specs.Prelude.{◌≡◌, ◌≢◌, ◌↔◌, ℕ, ◌<◌, ◌≤◌, max, List, [], ◌∷◌, ◌++◌, length, take, drop, slice_index, Contains, Option, Some, None}
-use Rattle.racp_model.specs.Project.{Project, number}
+use Rattle.racp_model.specs.Project.{Project, number, place}
 use Rattle.racp_model.specs.Window.{Bounds, LiesIn}
-use Rattle.racp_delay.specs.Alternatives.{Splits, place}
+use Rattle.racp_delay.specs.Alternatives.{Splits}
 use Rattle.racp_delay.specs.Branching.{IsChild, IsFirstEnd}
 use Rattle.racp_cutset.specs.Covering.{SearchNode}
 use Rattle.racp_search.specs.DepthFirst.{IsBelow, IsQuiet}

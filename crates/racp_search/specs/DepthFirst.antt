@@ -8,9 +8,9 @@ use Rattle.racp_model.specs.Path.{IsEarly}
 use Rattle.racp_model.specs.Window.{Bounds, LiesIn, IsInside}
 use Rattle.racp_model.specs.Formed.{HasBounds}
 use Rattle.racp_model.specs.Limits.{most_start}
+use Rattle.racp_model.specs.JobSets.{AreJobs}
 use Rattle.racp_delay.specs.Alternatives.{Splits, IsMinimalDelayingAlternative}
 use Rattle.racp_delay.specs.Branching.{IsChild, IsConflict, KeepsBefore}
-use Rattle.racp_delay.specs.JobSets.{AreJobs}
 use Rattle.racp_delay.specs.Laws.{lower_sum}
 use Rattle.racp_cutset.specs.Covering.{SearchNode, IsNode, FitsBeforeTime}
 use Rattle.racp_search.specs.declared.child.Child.{Child}

@@ -1,4 +1,4 @@
-ghost use Rattle.std.specs.Prelude.{◌≡◌, ◌≢◌, ℕ, ◌<◌, ◌≤◌, [], All, IfOk, MatchResult, List, length, slice_index};
+ghost use Rattle.std.specs.Prelude.{◌≡◌, ◌≢◌, ℕ, ◌<◌, ◌≤◌, [], All, IfOk, MatchResult, List, length};
 ghost use Rattle.racp_model.specs.Project.{IsNumber};
 ghost use Rattle.racp_model.specs.Limits.{most_bound};
 ghost use Rattle.racp_delay.specs.Alternatives.{Splits};
@@ -8,8 +8,8 @@ ghost use Rattle.racp_search.specs.DepthFirst.{HasActive, child_windows};
 use crate::subject::Subject;
 use crate::workspace::Spare;
 use racp_cutset::Node;
-use racp_delay::{JobSet, first_end, laws};
-use racp_model::{Network, OfNetwork, Starts, Window};
+use racp_delay::{first_end, laws};
+use racp_model::{JobSet, Network, OfNetwork, Starts, Window};
 use std::alloc::{AllocError, Global};
 use std::cmp::min;
 

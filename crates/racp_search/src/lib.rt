@@ -1,5 +1,6 @@
-//! The search of a question by branching over minimal delaying alternatives (Demeulemeester and Herroelen 1992), and
-//! what a search of a part of it found.
+//! The search of a question by branching over minimal delaying alternatives, whole or in parts.
+//!
+//! Demeulemeester and Herroelen (1992) describe such a search.
 //!
 //! Jobs and resources are numbered from 1; their places in lists count from 0. Times are whole time units.
 //!

@@ -11,7 +11,7 @@ printed text = encode_utf8_all (filter (λ letter. not (is_control letter)) (cha
 abbrev pub names_of : List ℕ → List (List ℕ)
 names_of text = map printed (take (512 + 16) (lines text))
 
--- the name at a place, or none where there is none or it is empty
+-- the name at a place, or none if there is none or it is empty
 abbrev pub name_at : List (List ℕ) → ℕ → Option (List ℕ)
 name_at names place =
     if length (slice_index_or names place []) == 0 then None else Some (slice_index_or names place [])

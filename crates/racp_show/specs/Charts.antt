@@ -41,7 +41,7 @@ pub record AreResourceRows (p : Project) (plan : Plan) (deadline : ℕ) (scale :
   pub each : (k : ℕ) (d : ResourceRow) → k < p.resources →
       IsResourceRow p plan deadline scale k (slice_index_or rows k d)
 
--- the chart of a plan up to a deadline, with at most so many columns
+-- the chart of a plan up to a deadline, with at most this many columns
 pub record IsChart (p : Project) (plan : Plan) (deadline most : ℕ) (chart : Chart) : Type 0 where
   pub scaled : IsScale deadline most chart.scale.span chart.scale.columns
   pub job_rows : AreJobRows p plan.starts chart.scale chart.jobs.items

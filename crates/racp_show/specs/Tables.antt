@@ -8,7 +8,7 @@ use Rattle.racp_model.specs.Project.{Project, number, duration}
 abbrev pub head_fields : List (List ℕ)
 head_fields = codes "job" ∷ (codes "name" ∷ (codes "start" ∷ (codes "end" ∷ [])))
 
--- those of the job at place i: its number, its name or nothing where it has none, its start and its end
+-- those of the job at place i: its number, its name or nothing if it has none, its start and its end
 abbrev pub job_fields : Project → List ℕ → List (List ℕ) → ℕ → List (List ℕ)
 job_fields p starts names i = decimal (number i) ∷ (slice_index_or names i [] ∷
     (decimal (slice_index starts i) ∷ (decimal (slice_index starts i + duration p i) ∷ [])))

@@ -32,7 +32,7 @@ pub(crate) fn level_cell(units: u32, capacity: u32, ascii: bool) -> char {
     }
 }
 
-/// How many of so many steps of the capacity a usage is, rounded up.
+/// How many of this many steps of the capacity a usage is, rounded up.
 fn level(steps: u32, units: u32, capacity: u32) -> u32
     requires { steps < 10 }
     ensures { IsLevel steps units capacity result }

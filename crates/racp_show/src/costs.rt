@@ -69,8 +69,8 @@ impl Range {
     }
 }
 
-/// What deadlines cost, as a picture in SVG: a stair over the deadlines from that of the first corner up to `last`, with
-/// round numbers on both axes, and with the deadline and the cost of each corner as a tooltip. The corners rise by
+/// What deadlines cost, as a picture in SVG: a stair over the deadlines from that of the first corner up to `last`,
+/// with round numbers on both axes, and with the deadline and the cost of each corner as a tooltip. The corners rise by
 /// deadline. The text grows with the corners, and not with the deadlines.
 ///
 /// # Errors

@@ -1,3 +1,5 @@
+//! The forms in which a plan is shown.
+
 /// What is written of a plan that is shown.
 #[derive(Clone, Copy)]
 pub enum Form {

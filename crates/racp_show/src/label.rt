@@ -12,7 +12,7 @@ use unicode_width::UnicodeWidthStr;
 /// The most characters of a label: some of them may take no column.
 const MOST_LETTERS: usize = 96;
 
-/// The labels of the jobs and then of the resources, by place from 0: their names cut to so many columns, or their
+/// The labels of the jobs and then of the resources, by place from 0: their names cut to this many columns, or their
 /// numbers.
 pub(crate) fn labels(
     alloc: Global,
@@ -33,7 +33,7 @@ pub(crate) fn labels(
     Ok(labels)
 }
 
-/// A name cut to so many columns; or a word and the number of what stands at this place.
+/// A name cut to this many columns; or a word and the number of what stands at this place.
 fn label(
     alloc: Global,
     name: Option<&str>,
@@ -53,7 +53,7 @@ fn label(
     }
 }
 
-/// As much of a text as so many columns take.
+/// As much of a text as this many columns take.
 fn cut(alloc: Global, text: &str, most: usize) -> Result<String, AllocError>
     ensures { IfOk result (IsWithinColumns most) }
 {

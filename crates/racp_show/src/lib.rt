@@ -1,8 +1,9 @@
-//! Plans to look at: a plan as a chart in text, as a picture, as JSON, and as a table of comma-separated values.
+//! Shows a plan as a chart in text, as a picture, as JSON, or as a table of comma-separated values.
 //!
 //! Jobs and resources are numbered from 1; their places in lists count from 0. Times are whole time units from 0 on.
 //!
-//! `chart_text` draws a bar for each job from its start to its end, and for each resource how much of it is used when:
+//! `chart_text` draws a bar for each job from its start to its end, and for each resource how much of it is used at
+//! which times:
 //!
 //! ```text
 //! deadline 47, critical length 40, cost 137
@@ -18,10 +19,10 @@
 //! ```
 //!
 //! A long project has more times than a line has columns. So a column stands for a span of time units, the least with
-//! which the columns up to the deadline are few enough: column c stands for the times from c * span to before
-//! (c + 1) * span. A job that runs from s to e is drawn in the columns from s / span to (e - 1) / span, rounded down;
-//! a job of duration 0 is a mark in column s / span. The usage that a column shows is the greatest at its times. With
-//! 20 columns for a deadline of 47, the span is 3: a job from 4 to 10 is drawn in the columns 1, 2 and 3.
+//! which the columns up to the deadline are few enough: column c stands for the times from c * span to before (c + 1) *
+//! span. A job that runs from s to e is drawn in the columns from s / span to (e - 1) / span, rounded down; a job of
+//! duration 0 is a mark in column s / span. The usage that a column shows is the greatest at its times. With 20 columns
+//! for a deadline of 47, the span is 3: a job from 4 to 10 is drawn in the columns 1, 2 and 3.
 //!
 //! A usage rises only where a job starts. So the greatest usage of a column is that at its first time, or at one of the
 //! starts in it; and a usage as a list of steps goes from one start or end to the next. Neither work nor texts grow
@@ -34,11 +35,11 @@
 //! Proved: a scale has the least span; the bar of each row is its start and end in that scale, and these are the
 //! plan's; the usage in a column is the greatest at its times; how busy a resource is, is exact and rounded down; the
 //! steps of a usage are exact at all times; each number and each name of a sheet is the plan's, the order's or the one
-//! that was given; the names of a text are its lines, at most as many as there may be jobs and resources, without their
-//! control characters; `csv_text` gives exactly the table of the plan. In `laws`: a job is drawn in exactly the columns in
-//! whose times it runs, and in no column that is not there. All of them return. Tested alone: how charts and pictures
-//! are laid out, and the text of the JSON, which rests on what `serde` derives. Whether a plan is right is not looked at
-//! here: racp_check does.
+//! that was given; the names of a text are its lines without their control characters, at most one for each job and
+//! resource that there may be; `csv_text` gives exactly the table of the plan. In `laws`: a job is drawn in exactly the
+//! columns in whose times it runs, and in no column that is not there. All of them return. Tested alone: how charts and
+//! pictures are laid out, and the text of the JSON, which rests on what `serde` derives. Whether a plan is right is not
+//! looked at here: racp_check does.
 #![tactic(auto)]
 
 mod cells;

@@ -33,7 +33,7 @@ impl Names {
     }
 
     /// The names of a text, one a line: first the jobs, then the resources. Control characters are dropped. An empty
-    /// line is no name; lines after the first 528, which is 512 jobs and 16 resources, count for nothing. `None` where
+    /// line is no name; lines after the first 528, which is 512 jobs and 16 resources, count for nothing. `None` if
     /// the bytes are not UTF-8.
     ///
     /// # Errors
@@ -60,7 +60,7 @@ impl Names {
         Ok(Names { names })
     }
 
-    /// The name at this place, from 0, or the empty text where there is none.
+    /// The name at this place, from 0, or the empty text if there is none.
     pub fn at(&self, place: usize) -> &str
         ensures { result.now ≡ slice_index_or self.now place [] }
     {
@@ -71,7 +71,7 @@ impl Names {
         }
     }
 
-    /// The name of the job at place `i`, from 0, or `None` where it has none.
+    /// The name of the job at place `i`, from 0, or `None` if it has none.
     pub fn job(&self, i: usize) -> Option<&str>
         ensures { option_map (λ name. name.now) result ≡ name_at self.now i }
     {
@@ -79,7 +79,7 @@ impl Names {
         if name.is_empty() { None } else { Some(name) }
     }
 
-    /// The name of the resource at place `k`, from 0, of a project with so many jobs, or `None` where it has none.
+    /// The name of the resource at place `k`, from 0, of a project with this many jobs, or `None` if it has none.
     pub fn resource(&self, jobs: usize, k: usize) -> Option<&str>
         requires { jobs + k < 2 ^ 64 }
         ensures { option_map (λ name. name.now) result ≡ name_at self.now (jobs + k) }

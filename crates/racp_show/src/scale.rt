@@ -42,8 +42,8 @@ impl Scale {
     }
 
     /// How a job is drawn that runs from `start` to `end`, in time units: in the columns from that of its start to that
-    /// of its last time. A job of duration 0 is a mark in the column of its start, or in the last column where it
-    /// starts behind all of them.
+    /// of its last time. A job of duration 0 is a mark in the column of its start, or in the last column if it
+    /// starts after all of them.
     pub fn bar(&self, start: u32, end: u32) -> Bar
         requires { start ≤ end }
         ensures { IsBar self.now.span self.now.columns start end result }

@@ -20,7 +20,7 @@ use std::alloc::{AllocError, Global};
 pub struct JobEntry<'a> {
     /// Its number, from 1.
     pub job: usize,
-    /// Its name, or `None` where it has none.
+    /// Its name, or `None` if it has none.
     pub name: Option<&'a str>,
     /// When it starts, in time units.
     pub start: u32,
@@ -33,7 +33,7 @@ pub struct JobEntry<'a> {
 pub struct ResourceEntry<'a> {
     /// Its number, from 1.
     pub resource: usize,
-    /// Its name, or `None` where it has none.
+    /// Its name, or `None` if it has none.
     pub name: Option<&'a str>,
     /// What a unit of it costs.
     pub price: u32,

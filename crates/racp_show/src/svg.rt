@@ -34,7 +34,7 @@ const HEIGHT: u64 = 48;
 /// How high the line of a resource is.
 const STRIP: u64 = 66;
 
-/// The most numbers of an axis behind the first.
+/// The most numbers of an axis after the first.
 pub(crate) const MOST_MARKS: u64 = 12;
 
 /// The sheet of a plan as a picture in SVG: a bar for each job, whose name is also a tooltip, and for each resource its
@@ -166,7 +166,7 @@ fn push_label(
     )
 }
 
-/// The label at this place, or the empty text where there is none.
+/// The label at this place, or the empty text if there is none.
 fn label_at(labels: &[String], place: usize) -> Escaped<'_> {
     match labels.get(place) {
         Some(label) => Escaped {
@@ -205,7 +205,7 @@ fn push_title(
     writeln!(text, "<title>{name}: {start} to {end}</title></rect>")
 }
 
-/// The whole name of a job, or its label where it has none.
+/// The whole name of a job, or its label if it has none.
 fn name_of<'a>(entry: &JobEntry<'a>, labels: &'a [String]) -> Escaped<'a> {
     match entry.name {
         Some(name) => Escaped { text: name },

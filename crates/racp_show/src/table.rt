@@ -15,8 +15,8 @@ use racp_prices::Order;
 use std::alloc::{AllocError, Global};
 
 /// The starts of a plan as a table of comma-separated values: the row `job,name,start,end`, and a row for each job,
-/// with its number from 1, its name, which is empty where it has none, and its start and end in time units. Names are
-/// in quotes where they have to be. The plan fits the order, as `check_plan` of racp_check tells.
+/// with its number from 1, its name, which is empty if it has none, and its start and end in time units. Names are
+/// in quotes if they have to be. The plan fits the order, as `check_plan` of racp_check tells.
 ///
 /// # Errors
 ///
@@ -98,7 +98,7 @@ fn row_of(alloc: Global, a: &str, b: &str, c: &str, d: &str) -> Result<Vec<u8>, 
     let fields = [a.as_bytes(), b.as_bytes(), c.as_bytes(), d.as_bytes()];
     match row(alloc, &fields) {
         Ok(text) => Ok(text),
-        // A writer over memory fails only where that is refused.
+        // A writer over memory fails only if that is refused.
         Err(_) => Err(AllocError),
     }
 }

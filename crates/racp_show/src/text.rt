@@ -36,9 +36,9 @@ const GAPS: usize = 4;
 /// resource, with its usage, how many units there are and how busy they are. A column stands for as few time units as
 /// the width allows; the ruler says at each tenth which time it begins with.
 ///
-/// Bars are drawn by blocks, jobs of duration 0 by `|`, and usages by blocks of so many eighths of the capacity,
-/// rounded up. With `ascii`, bars are drawn by `#`, and usages by so many ninths of the capacity, rounded up; no usage
-/// is blank.
+/// Bars are drawn by blocks, jobs of duration 0 by `|`, and usages by blocks of as many eighths of the capacity,
+/// rounded up. With `ascii`, bars are drawn by `#`, and usages by as many ninths of the capacity, rounded up; no
+/// usage is blank.
 ///
 /// The plan fits the order, as `check_plan` of racp_check tells.
 ///
@@ -78,7 +78,7 @@ pub fn chart_text(
     Ok(text)
 }
 
-/// The most columns of a label, where there is so much room for labels and columns.
+/// The most columns of a label, if there is so much room for labels and columns.
 fn label_width(room: usize) -> usize {
     (room / 2)
         .max(room.saturating_sub(8).min(11))
@@ -109,7 +109,7 @@ fn units_note(alloc: Global, capacity: u32, busy: u64) -> Result<String, AllocEr
     format!(in alloc; "{capacity} {word}, {busy}% busy")
 }
 
-/// The first lines: the deadline, the critical length and the cost, in one line where they fit the width.
+/// The first lines: the deadline, the critical length and the cost, in one line if they fit the width.
 fn head(alloc: Global, deadline: u32, plan: &Plan, width: usize) -> Result<String, AllocError> {
     let line = head_with(alloc, deadline, plan, ", ")?;
     // Two bytes of it end this line and the empty one.
@@ -151,7 +151,7 @@ fn push_chart(
     Ok(())
 }
 
-/// Adds the two lines of the ruler, where there are columns: at each tenth column its first time, and a mark.
+/// Adds the two lines of the ruler, if there are columns: at each tenth column its first time, and a mark.
 fn push_ruler(text: &mut String, label: usize, scale: &Scale) -> Result<(), AllocError> {
     let marks = scale.columns.div_ceil(MARK);
     if marks == 0 {
@@ -163,7 +163,7 @@ fn push_ruler(text: &mut String, label: usize, scale: &Scale) -> Result<(), Allo
     push_marks(text, marks - 1)
 }
 
-/// Adds the first time of each tenth column, where so many tenth columns stand before the last.
+/// Adds the first time of each tenth column, if this many tenth columns stand before the last.
 fn push_times(text: &mut String, before: u32, span: u32) -> Result<(), AllocError> {
     let width = MARK as usize;
     let step = MARK.saturating_mul(span);
@@ -175,7 +175,7 @@ fn push_times(text: &mut String, before: u32, span: u32) -> Result<(), AllocErro
     writeln!(text, "{time}")
 }
 
-/// Adds a mark at each tenth column, where so many tenth columns stand before the last.
+/// Adds a mark at each tenth column, if this many tenth columns stand before the last.
 fn push_marks(text: &mut String, before: u32) -> Result<(), AllocError> {
     for _ in 0..before {
         text.push_str("|         ")?;
@@ -198,7 +198,7 @@ fn push_label(
     push_blanks(text, blanks)
 }
 
-/// Adds so many blanks.
+/// Adds this many blanks.
 fn push_blanks(text: &mut String, count: usize) -> Result<(), AllocError> {
     for _ in 0..count {
         text.push(' ')?;

@@ -11,7 +11,7 @@ use serde::Serialize;
 use std::alloc::{AllocError, Global};
 use std::cmp::{max, min};
 
-/// From a time on, so many units of a resource are used, until the next step.
+/// From a time on, this many units of a resource are used, until the next step.
 #[derive(Clone, Copy, Serialize)]
 pub struct Step {
     /// The time, in time units.
@@ -84,7 +84,7 @@ pub fn usage_steps(
     Ok(steps)
 }
 
-/// The next time after this one at which a job starts or ends, or the deadline where that is sooner.
+/// The next time after this one at which a job starts or ends, or the deadline if that is sooner.
 fn next_change(net: &Network, starts: &[u32], deadline: u32, time: u32) -> u32
     requires starts { length starts.now ≡ length net.now.jobs }
     requires ends { EndsBy net.now (λ _. deadline) starts.now }
@@ -101,7 +101,7 @@ fn next_change(net: &Network, starts: &[u32], deadline: u32, time: u32) -> u32
     next
 }
 
-/// The sooner of two times, of which the second counts only where it is after `time`.
+/// The sooner of two times, of which the second counts only if it is after `time`.
 fn sooner(next: u32, time: u32, other: u32) -> u32
     ensures least { result ≤ next }
     ensures counts { time < other → result ≤ other }
@@ -111,7 +111,7 @@ fn sooner(next: u32, time: u32, other: u32) -> u32
 }
 
 /// How busy a resource is: the sum, over the jobs, of duration times request of the resource at place `k`, from 0, in
-/// percent of the capacity times the deadline, rounded down; 0 where that is 0. Takes no memory.
+/// percent of the capacity times the deadline, rounded down; 0 if that is 0. Takes no memory.
 pub fn busy_percent(net: &Network, k: usize, capacity: u32, deadline: u32) -> u64
     requires { k < net.now.resources }
     ensures { result ≡ percent (energy net.now k) (capacity * deadline) }

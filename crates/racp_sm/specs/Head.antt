@@ -27,7 +27,7 @@ abbrev pub first_or_empty : List (List ℕ) → List ℕ
 first_or_empty [] = []
 first_or_empty (word ∷ words) = word
 
--- the first word after the line's first colon; where there is none, a word without letters, which is no number
+-- the first word after the line's first colon; if there is none, a word without letters, which is no number
 abbrev pub value_word : Line → Word
 value_word line = record { line = line.number; bytes = first_or_empty (words_in (after_first is_colon line.bytes)) }
 
@@ -36,7 +36,7 @@ abbrev pub entry : List (List ℕ) → List Line → Option Word
 entry names [] = None
 entry names (line ∷ more) = if has_key names line then Some (value_word line) else entry names more
 
--- the number that a word stands for, where it is from low to high; else a fault at the word's line
+-- the number that a word stands for, if it is from low to high; else a fault at the word's line
 abbrev pub number_within : SmFaultKind → ℕ → ℕ → Word → Result ℕ SmFault
 number_within kind low high word =
     if is_number word.bytes
@@ -55,7 +55,7 @@ abbrev pub optional : SmFaultKind → ℕ → Option Word → Result ℕ SmFault
 optional other wanted None = Ok wanted
 optional other wanted (Some word) = number_within other wanted wanted word
 
--- the values of the head, where they are there: how many projects, jobs, and resources of each kind
+-- the values of the head, if they are there: how many projects, jobs, and resources of each kind
 pub record Entries : Type 0 where
   pub projects : Option Word
   pub jobs : Option Word

@@ -26,7 +26,7 @@ next_numbers title kind low high (suc count) words = do
   others ← next_numbers title kind low high count number.1
   Ok (number.0 ∷ others.0, others.1)
 
--- what is wrong where this word is left: a number is one too many
+-- what is wrong if this word is left: a number is one too many
 abbrev pub left_over : Word → SmFault
 left_over word = fault_at (if is_number word.bytes then TooMany else BadNumber) word.line
 
@@ -45,7 +45,7 @@ successor_row title n job words = do
   successors ← next_numbers title BadSuccessor 1 n count.0 count.1
   Ok (map (λ successor. (job, successor)) successors.0, successors.1)
 
--- the rows of so many of n jobs, from this one on
+-- the rows of this many of n jobs, from this one on
 unfoldable pub successor_rows : ℕ → ℕ → ℕ → ℕ → List Word → Result (List (ℕ × ℕ) × List Word) SmFault
 successor_rows title n job zero words = Ok ([], words)
 successor_rows title n job (suc count) words = do
@@ -63,7 +63,7 @@ request_row title resources job words = do
   requests ← next_numbers title Limit 0 10000 resources duration.1
   Ok (record { duration = duration.0; requests = requests.0 }, requests.1)
 
--- the rows of so many jobs, from this one on
+-- the rows of this many jobs, from this one on
 unfoldable pub request_rows : ℕ → ℕ → ℕ → ℕ → List Word → Result (List Activity × List Word) SmFault
 request_rows title resources job zero words = Ok ([], words)
 request_rows title resources job (suc count) words = do

@@ -73,7 +73,7 @@ reading text = do
   jobs ← requests_part counts.resources counts.jobs (from_first (has_words requests_title) arcs.1)
   Ok (record { resources = counts.resources; jobs = jobs; arcs = arcs.0 })
 
--- what a text is read as: the network of what it says, where no job waits for itself, or the first fault, a ring being
+-- what a text is read as: the network of what it says, if no job waits for itself, or the first fault, a ring being
 -- the last
 abbrev pub IsReading : List ℕ → Result Project SmFault → Type 0
 IsReading text (Ok network) =

@@ -27,7 +27,7 @@ abbrev pub TakesWord : List ℕ → Option (Bor (List ℕ) × Bor (List ℕ)) �
 TakesWord bytes (Some parts) = words_in bytes ≡ parts.0.now ∷ words_in parts.1.now
 TakesWord bytes None = words_in bytes ≡ []
 
--- the texts behind references
+-- the texts after references
 abbrev pub texts : List (Bor (List ℕ)) → List (List ℕ)
 texts = map (λ text. text.now)
 
@@ -90,7 +90,7 @@ abbrev pub GivesAll : {X Y : Type 0} → (X → Y → Type 0) → Result X SmFau
 GivesAll {X} {Y} keeps (Ok x) read = (y : Y) × (read ≡ Ok y) × keeps x y
 GivesAll keeps (Err fault) read = read ≡ Err fault
 
--- the value of this line, where it has the key and none was kept before
+-- the value of this line, if it has the key and none was kept before
 abbrev pub kept_entry : Option Word → Bool → Word → Option Word
 kept_entry (Some word) fits value = Some word
 kept_entry None fits value = if fits then Some value else None
@@ -110,7 +110,7 @@ abbrev pub part_stream : Part → SmFaultKind → List Line → Result Words SmF
 part_stream part missing [] = Err (fault_at missing 0)
 part_stream part missing (title ∷ lines) = Ok (stream_of part title.number [] (drop 1 lines))
 
--- a value after a line, where it was this before
+-- a value after a line, if it was this before
 abbrev pub noted : List (List ℕ) → Line → Option Word → Option Word
 noted names line kept = kept_entry kept (has_key names line) (value_word line)
 

@@ -6,7 +6,7 @@ ghost use lib.Pointwise.{pointwise};
 ghost use Rattle.racp_text.specs.Cuts.{IsCut};
 ghost use Rattle.racp_sm.specs.Steps.{TakesWord, TakesWords, texts};
 
-/// What stands before the first blank or tab, and what after it, or `None` where there is none.
+/// What stands before the first blank or tab, and what after it, or `None` if there is none.
 fn cut_at_blank(bytes: &[u8]) -> Option<(&[u8], &[u8])>
     ensures { IsCut is_blank bytes.now result }
 {
@@ -21,7 +21,7 @@ fn place_of_blank(bytes: &[u8]) -> Option<usize>
     bytes.iter().position(|b| *b == b' ' || *b == b'\t')
 }
 
-/// The first word of some bytes, and what stands after it, or `None` where there is no word.
+/// The first word of some bytes, and what stands after it, or `None` if there is no word.
 pub(crate) fn first_word(bytes: &[u8]) -> Option<(&[u8], &[u8])>
     ensures { TakesWord bytes.now result }
 {
@@ -48,7 +48,7 @@ pub(crate) fn are_words(bytes: &[u8], names: &[&str]) -> bool
     }
 }
 
-/// What stands after these words, or `None` where the bytes begin with other words.
+/// What stands after these words, or `None` if the bytes begin with other words.
 pub(crate) fn after_words<'a>(bytes: &'a [u8], names: &[&str]) -> Option<&'a [u8]>
     ensures { TakesWords (texts names.now) bytes.now result }
 {
@@ -59,7 +59,7 @@ pub(crate) fn after_words<'a>(bytes: &'a [u8], names: &[&str]) -> Option<&'a [u8
     Some(rest)
 }
 
-/// What stands after this word, or `None` where the bytes begin with another or have none.
+/// What stands after this word, or `None` if the bytes begin with another or have none.
 fn after_word<'a>(bytes: &'a [u8], name: &str) -> Option<&'a [u8]>
     ensures { TakesWords (name.now ∷ []) bytes.now result }
 {

@@ -1,3 +1,5 @@
+//! Why a text is no network.
+
 ghost use Rattle.std.specs.Prelude.{◌≡◌};
 ghost use Rattle.racp_sm.specs.Faults.{fault_name};
 
@@ -55,7 +57,7 @@ pub enum SmFaultKind {
     Memory = 15,
 }
 
-/// Why a text was not read, and the number of the line, from 1, where that shows; 0 where it is no one line.
+/// Why a text was not read, and the number of the line, from 1, where that shows; 0 if it is no one line.
 pub type SmFault = LineFault<SmFaultKind>;
 
 impl SmFaultKind {

@@ -1,3 +1,5 @@
+//! The head of a network text, which says how many jobs and resources there are.
+
 ghost use Rattle.std.specs.Prelude.{◌≡◌, ◌<◌, ◌≤◌, IfOk};
 ghost use Rattle.std.specs.List.{before_first};
 ghost use Rattle.racp_sm.specs.Head.{begins_with, counts_of, entries_of, first_or_empty, optional, required};
@@ -74,7 +76,7 @@ impl<'a> Head<'a> {
         head
     }
 
-    /// Notes the value of a line, where it is the first with its key.
+    /// Notes the value of a line, if it is the first with its key.
     fn note(&mut self, line: &Line<'a>)
         ensures { self.new ≡ after_line line.now self.old }
     {
@@ -125,7 +127,7 @@ impl<'a> Head<'a> {
     }
 }
 
-/// The first word, or no letters where there is none.
+/// The first word, or no letters if there is none.
 fn first_or_empty(bytes: &[u8]) -> &[u8]
     ensures { result.now ≡ first_or_empty (words_in bytes.now) }
 {
@@ -135,7 +137,7 @@ fn first_or_empty(bytes: &[u8]) -> &[u8]
     }
 }
 
-/// Keeps a value where its key begins with these words and none is kept yet.
+/// Keeps a value if its key begins with these words and none is kept yet.
 fn note_value<'a>(
     kept: &mut Option<Word<'a>>,
     key: &[u8],
@@ -162,7 +164,7 @@ fn required(entry: &Option<Word>, most: u32, missing: SmFaultKind) -> Result<u32
     }
 }
 
-/// Tests that an entry is this number where it is there.
+/// Tests that an entry is this number if it is there.
 fn optional(entry: &Option<Word>, wanted: u32, other: SmFaultKind) -> Result<u32, SmFault>
     ensures { result ≡ optional other wanted entry.now }
 {

@@ -1,3 +1,5 @@
+//! The lines of a text.
+
 ghost use Rattle.std.specs.Prelude.{◌≡◌, ◌==◌};
 ghost use Rattle.std.specs.List.{list_all};
 ghost use Rattle.std.specs.Str.Lines.{strip_carriage_return};
@@ -121,7 +123,7 @@ impl<'a> Lines<'a> {
         Lines { number: 1, rest }
     }
 
-    /// The same lines, to look ahead.
+    /// A copy of the lines, to look ahead.
     fn ahead(&self) -> Self
         ensures { result ≡ self.now }
     {
@@ -166,7 +168,7 @@ impl<'a> Lines<'a> {
     }
 }
 
-/// What stands before the first line feed, and what after it, or `None` where there is no further line.
+/// What stands before the first line feed, and what after it, or `None` if there is no further line.
 fn first_piece(text: &[u8]) -> Option<(&[u8], &[u8])>
     ensures { TakesPiece text.now result }
 {

@@ -1,3 +1,5 @@
+//! The two parts of a network text after its head, and the lines between which they stand.
+
 ghost use Rattle.std.specs.Prelude.{◌≡◌, [], if◌then◌else◌};
 ghost use Rattle.racp_sm.specs.Lines.{words_of};
 ghost use Rattle.racp_sm.specs.Steps.{next_title, texts, title_of, words_in_part};

@@ -1,3 +1,5 @@
+//! Reading a network from a text.
+
 ghost use Rattle.racp_sm.specs.Reading.{IsReadingOrMemory, precedence_part, reading, requests_part};
 ghost use Rattle.std.specs.Prelude.{◌≡◌, ◌≤◌};
 ghost use Rattle.racp_text.specs.Kept.{Keeps};
@@ -24,9 +26,9 @@ struct ProjectParts {
 ///
 /// # Errors
 ///
-/// The first rule that the text breaks, with the number of its line, from 1, or 0 where it is no one line: the head is
+/// The first rule that the text breaks, with the number of its line, from 1, or 0 if it is no one line: the head is
 /// read first, then the precedence part and the requests part, word by word, and a ring of the precedence relation is
-/// found last. `Memory`, at line 0, where no rule of these parts is broken and memory was refused.
+/// found last. `Memory`, at line 0, if no rule of these parts is broken and memory was refused.
 pub fn read_sm(alloc: Global, bytes: &[u8]) -> Result<Network, SmFault>
     ensures { IsReadingOrMemory bytes.now result }
 {
@@ -42,7 +44,7 @@ pub fn read_sm(alloc: Global, bytes: &[u8]) -> Result<Network, SmFault>
     }
 }
 
-/// What the text says, before its precedence relation is tested for rings, or `None` where memory was refused for it.
+/// What the text says, before its precedence relation is tested for rings, or `None` if memory was refused for it.
 #[tactic(auto, unfolding(crate::specs::Reading::reading))]
 fn read_project(alloc: Global, bytes: &[u8]) -> Result<Option<ProjectParts>, SmFault>
     ensures { GivesAll
@@ -68,7 +70,7 @@ fn read_project(alloc: Global, bytes: &[u8]) -> Result<Option<ProjectParts>, SmF
     }
 }
 
-/// The pairs of the precedence part of so many jobs, or `None` where memory was refused for them, and the lines after
+/// The pairs of the precedence part of this many jobs, or `None` if memory was refused for them, and the lines after
 /// the part. Its title is the first of these lines.
 fn read_precedence<'a>(
     alloc: Global,
@@ -85,7 +87,7 @@ fn read_precedence<'a>(
     Ok((arcs, after))
 }
 
-/// The jobs of the requests part, or `None` where memory was refused for them. Its title is the first of these lines.
+/// The jobs of the requests part, or `None` if memory was refused for them. Its title is the first of these lines.
 fn read_requests(
     alloc: Global,
     lines: Lines,

@@ -1,4 +1,4 @@
-//! The rows of the two parts. What is read is kept in lists. Where memory is refused for a list, it is kept no longer,
+//! The rows of the two parts. What is read is kept in lists. If memory is refused for a list, it is kept no longer,
 //! and reading goes on: so a fault of the text is found however little memory there is.
 
 ghost use Rattle.std.specs.Prelude.{◌≤◌};
@@ -18,7 +18,7 @@ use std::alloc::Global;
 /// The most successors that a row may name, repeated ones among them.
 const MOST_SUCCESSORS: u32 = 512;
 
-/// The pairs of each job and its successors, or `None` where memory was refused for them.
+/// The pairs of each job and its successors, or `None` if memory was refused for them.
 pub(crate) fn read_arcs(
     alloc: Global,
     words: &mut Stream,
@@ -56,7 +56,7 @@ fn read_successor_row(
     read_successors(arcs, words, jobs, job, count)
 }
 
-/// Adds so many pairs of a job and a successor.
+/// Adds this many pairs of a job and a successor.
 fn read_successors(
     arcs: Option<Vec<(u32, u32)>>,
     words: &mut Stream,
@@ -77,7 +77,7 @@ fn read_successors(
     Ok(kept)
 }
 
-/// The jobs, or `None` where memory was refused for them.
+/// The jobs, or `None` if memory was refused for them.
 pub(crate) fn read_jobs(
     alloc: Global,
     words: &mut Stream,
@@ -97,7 +97,7 @@ pub(crate) fn read_jobs(
     Ok(jobs)
 }
 
-/// A job of this number, or `None` where memory was refused for its requests.
+/// A job of this number, or `None` if memory was refused for its requests.
 #[tactic(auto, unfolding(crate::specs::Parts::request_row))]
 fn read_job(
     alloc: Global,
@@ -119,7 +119,7 @@ fn read_job(
     }
 }
 
-/// A request for each resource, or `None` where memory was refused for them.
+/// A request for each resource, or `None` if memory was refused for them.
 fn read_requests(
     alloc: Global,
     words: &mut Stream,

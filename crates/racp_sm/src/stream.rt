@@ -1,3 +1,5 @@
+//! The words of a part of a network text, through all its lines.
+
 ghost use Rattle.std.specs.Prelude.{◌≡◌, ◌<◌, []};
 ghost use Rattle.racp_sm.specs.Parts.{next_number, nothing_left};
 ghost use Rattle.racp_text.specs.Reading.{with_rest};
@@ -60,8 +62,8 @@ impl<'a> Stream<'a> {
     ///
     /// # Errors
     ///
-    /// `TooFew` where there is none, at the part's title; `BadNumber` where the word is no number, and this kind of
-    /// fault where it is another one, at the word's line.
+    /// `TooFew` if there is none, at the part's title; `BadNumber` if the word is no number, and this kind of
+    /// fault if it is another one, at the word's line.
     pub(crate) fn next_number(
         &mut self,
         kind: SmFaultKind,
@@ -82,7 +84,7 @@ impl<'a> Stream<'a> {
     ///
     /// # Errors
     ///
-    /// `TooMany` where a number is left, `BadNumber` where another word is, at its line.
+    /// `TooMany` if a number is left, `BadNumber` if another word is, at its line.
     pub(crate) fn end(self) -> Result<Lines<'a>, SmFault>
         ensures { result ≡ map_ok self.entry.after (nothing_left self.entry.words) }
     {

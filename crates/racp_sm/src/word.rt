@@ -1,3 +1,5 @@
+//! The words of a line, and the numbers that they stand for.
+
 ghost use Rattle.std.specs.Prelude.{◌≡◌, ◌<◌, ◌≤◌, IfOk};
 ghost use Rattle.racp_sm.specs.Lines.{words_of};
 ghost use Rattle.racp_sm.specs.Head.{number_within};
@@ -32,11 +34,11 @@ impl<'a> Word<'a> {
         Word { line, bytes }
     }
 
-    /// The number that the word stands for, where it is from `low` to `high`.
+    /// The number that the word stands for, if it is from `low` to `high`.
     ///
     /// # Errors
     ///
-    /// `BadNumber` where the word is no number, and this kind of fault where it is another one, at the word's line.
+    /// `BadNumber` if the word is no number, and this kind of fault if it is another one, at the word's line.
     pub(crate) fn number_within(
         &self,
         kind: SmFaultKind,
@@ -53,7 +55,7 @@ impl<'a> Word<'a> {
         }
     }
 
-    /// What is wrong where the word is one too many.
+    /// What is wrong if the word is one too many.
     pub(crate) fn too_many(&self) -> SmFault
         ensures { result ≡ left_over self.now }
     {

@@ -4,13 +4,12 @@ ghost use Rattle.std.specs.Prelude.{◌≡◌, All, length};
 ghost use Rattle.racp_model.specs.Project.{IsNumber};
 
 use crate::samples::{Sample, Setting, set_up};
-use racp_delay::{
-    Alternative, Clash, DelayingAlternatives, JobSet, alternatives, conflict, first_end,
-};
+use racp_delay::{Alternative, Clash, DelayingAlternatives, alternatives, conflict, first_end};
+use racp_model::JobSet;
 use smallvec::SmallVec;
 use std::alloc::{AllocError, Global};
 
-/// Jobs that go, and the time to which their lower bounds are raised in the child window, where there is one.
+/// Jobs that go, and the time to which their lower bounds are raised in the child window, if there is one.
 struct Resolution {
     gone: &'static [u32],
     end: Option<u64>,
@@ -32,7 +31,7 @@ struct Row {
     expected: Option<Expected>,
 }
 
-/// Four jobs, of which the first two, or the last two, may go where there are two units of each of two resources.
+/// Four jobs, of which the first two, or the last two, may go if there are two units of each of two resources.
 const FOUR: Sample = Sample::Free(2, &[(2, &[2, 0]), (2, &[0, 2]), (2, &[1, 1]), (2, &[1, 1])]);
 
 const CONFLICTS: &[Row] = &[
@@ -249,14 +248,15 @@ fn are_found(alloc: Global, setting: &Setting, conflict: &Clash, expected: &[Res
     }
 }
 
-/// A list of jobs, those of a conflict that are free, and the alternative that is found behind the list, if there is one.
+/// A list of jobs, those of a conflict that are free, and the alternative that is found after the list, if there is
+/// one.
 struct Behind {
     free: &'static [u32],
     last: &'static [u32],
     found: Option<&'static [u32]>,
 }
 
-/// Whether this alternative of free jobs is found behind a list, or none.
+/// Whether this alternative of free jobs is found after a list, or none.
 fn is_behind(
     found: &mut Alternative,
     setting: &Setting,
@@ -276,7 +276,7 @@ fn is_behind(
     }
 }
 
-/// Whether these are the alternatives of a conflict, found one behind the other.
+/// Whether these are the alternatives of a conflict, found one after another.
 fn follow_each_other(
     alloc: Global,
     setting: &Setting,
@@ -298,8 +298,8 @@ fn follow_each_other(
     is_behind(&mut found, setting, conflict, &conflict.active, last, None)
 }
 
-/// Whether a conflict is this one. The alternatives are found in three ways: listed, in memory of one's own, and one behind
-/// the other.
+/// Whether a conflict is this one. The alternatives are found in three ways: listed, in memory of one's own, and one
+/// after the other.
 fn is_conflict(alloc: Global, setting: &Setting, conflict: &Clash, expected: &Expected) -> bool
     requires capacities { length setting.now.capacities ≡ setting.now.net.resources }
     requires starts { length setting.now.starts ≡ length setting.now.net.jobs }
@@ -434,7 +434,7 @@ fn finds_each_behind(alloc: Global, setting: &Setting, conflict: &Clash) -> bool
     true
 }
 
-/// The same at the first conflict.
+/// Whether the alternatives after each list are found for the first conflict of a setting.
 fn finds_behind(alloc: Global, setting: &Setting) -> bool
     requires capacities { length setting.now.capacities ≡ setting.now.net.resources }
     requires starts { length setting.now.starts ≡ length setting.now.net.jobs }
@@ -445,7 +445,7 @@ fn finds_behind(alloc: Global, setting: &Setting) -> bool
     }
 }
 
-/// The same of the four jobs, which start at once.
+/// Whether they are found for the four jobs, which start at once.
 fn finds_behind_of_four(alloc: Global) -> bool {
     match set_up(alloc, FOUR, &[2, 2], &[0; 4]) {
         Ok(setting) => finds_behind(alloc, &setting),

@@ -204,7 +204,7 @@ fn are_pairs(net: &Network, pairs: &[(u32, u32)]) -> bool {
     net.arcs() == pairs && net.topological_arcs().len() == pairs.len()
 }
 
-/// Whether so much of the first resource is used at the times from 0 to 4, where there is a start for each job.
+/// Whether so much of the first resource is used at the times from 0 to 4, if there is a start for each job.
 fn are_usages(net: &Network, starts: &[u32], used: [u64; 5]) -> bool {
     if starts.len() != net.job_count() {
         return false;

@@ -16,7 +16,7 @@ struct Times {
     due: &'static [u32],
     early: &'static [u32],
     critical: u64,
-    /// None where no starts end by the due times.
+    /// None if no starts end by the due times.
     late: &'static [u32],
     /// The first job that ends after its due time when it starts early.
     late_job: Option<u32>,
@@ -163,7 +163,7 @@ fn has_critical(alloc: Global, net: &Network, times: &Times) -> bool
     }
 }
 
-/// Whether the late starts are found, or none where there are none.
+/// Whether the late starts are found, or none if there are none.
 fn has_late(alloc: Global, net: &Network, times: &Times) -> bool
     requires { length times.now.due.now ≡ length net.now.jobs }
 {
@@ -174,7 +174,7 @@ fn has_late(alloc: Global, net: &Network, times: &Times) -> bool
     }
 }
 
-/// Whether the window goes from the early to the late starts; there is none where a job is late.
+/// Whether the window goes from the early to the late starts; there is none if a job is late.
 fn has_root(alloc: Global, net: &Network, times: &Times) -> bool
     requires release { length times.now.release.now ≡ length net.now.jobs }
     requires release_small { All (λ x. x ≤ 10000000) times.now.release.now }
@@ -199,7 +199,7 @@ fn are_found(alloc: Global, net: &Network, times: &Times) -> bool {
         && has_root(alloc, net, times)
 }
 
-/// The same, in the network of the times.
+/// Whether all of that is found in the network of the times.
 fn hold(alloc: Global, times: &Times) -> bool {
     match sampled(alloc, times.sample) {
         Ok(net) => are_found(alloc, &net, times),

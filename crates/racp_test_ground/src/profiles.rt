@@ -104,7 +104,7 @@ fn finds_each(alloc: Global, setting: &Setting, profile: &mut Profile) -> bool
     true
 }
 
-/// The same, of a profile of the starts.
+/// Whether a profile of the starts finds the expected conflict after each move.
 fn follows(alloc: Global, setting: &Setting) -> bool
     requires capacities { length setting.now.capacities ≡ setting.now.net.resources }
     requires starts { length setting.now.starts ≡ length setting.now.net.jobs }
@@ -115,7 +115,7 @@ fn follows(alloc: Global, setting: &Setting) -> bool
     }
 }
 
-/// The same, of the two jobs.
+/// Whether a profile of the two jobs finds the expected conflict after each move.
 fn follows_two_jobs(alloc: Global) -> bool {
     let two = Sample::Free(1, &[(2, &[1]), (1, &[1])]);
     match set_up(alloc, two, &[1], &[0, 2]) {

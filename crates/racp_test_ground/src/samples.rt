@@ -15,7 +15,7 @@ pub(crate) enum Sample {
     Crossed,
     /// The six jobs with a chain.
     Chained,
-    /// These jobs with so many resources, by their durations and requests, without precedence.
+    /// These jobs with this many resources, by their durations and requests, without precedence.
     Free(usize, &'static [(u32, &'static [u32])]),
 }
 

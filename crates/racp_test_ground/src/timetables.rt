@@ -12,8 +12,8 @@ struct Bounds {
     upper: &'static [u32],
 }
 
-/// A network with capacities, a window and a time from which core usages are looked at; and the tightened window, or none
-/// where nothing in it answers.
+/// A network with capacities, a window and a time from which core usages are looked at; and the tightened window, or
+/// none if nothing in it answers.
 struct Row {
     name: &'static str,
     sample: Sample,
@@ -243,7 +243,7 @@ fn is_tightened(alloc: Global, net: &Network, row: &Row) -> bool {
     }
 }
 
-/// The same, in the network of the row.
+/// Whether the window of a row is tightened to the expected one in the network of the row.
 fn holds(alloc: Global, row: &Row) -> bool {
     match sampled(alloc, row.sample) {
         Ok(net) => is_tightened(alloc, &net, row),

@@ -35,8 +35,8 @@ fn sampled(alloc: Global, sample: Sample) -> Result<Network, NetFault> {
     }
 }
 
-/// What comes out: the critical length, cost, capacities and starts of a plan; or the critical length, or the job, that is the
-/// reason why there is none, or the ceilings.
+/// What comes out: the critical length, cost, capacities and starts of a plan; or the critical length, or the job, that
+/// is the reason why there is none, or the ceilings.
 enum Wanted {
     Plan(u64, u64, &'static [u32], &'static [u32]),
     TooLong(u64),
@@ -216,7 +216,7 @@ fn plans_by_definition(rt: HostRuntime) {
 /// What stands for an answer that is not the outcome by definition.
 const OTHER: usize = 4;
 
-/// Of which of the four kinds an answer is, where it is the outcome by definition.
+/// Of which of the four kinds an answer is, if it is the outcome by definition.
 fn same_kind(answer: &Answer, outcome: &Outcome) -> usize {
     let (same, kind) = match (answer, outcome) {
         (Answer::Plan(plan), Outcome::Plan(wanted)) => {
@@ -241,7 +241,7 @@ fn planned<N: OfNetwork>(alloc: Global, net: &Network, order: &Order) -> Result<
     plan(alloc, net, order, &mut alone)
 }
 
-/// Of which kind the answer to an order is, where it is the outcome by definition.
+/// Of which kind the answer to an order is, if it is the outcome by definition.
 fn kind_of<N: OfNetwork>(alloc: Global, net: &Network, order: &Order) -> usize
     requires named { net.now ≡ N.network }
     requires terms { AreTermsOf net.now order.now }
@@ -252,7 +252,7 @@ fn kind_of<N: OfNetwork>(alloc: Global, net: &Network, order: &Order) -> usize
     }
 }
 
-/// The same, of an answer.
+/// Of which kind an answer is, if it is the outcome by definition of the order.
 fn kind_beside(alloc: Global, net: &Network, order: &Order, answer: &Answer) -> usize
     requires { AreTermsOf net.now order.now }
 {
@@ -262,7 +262,7 @@ fn kind_beside(alloc: Global, net: &Network, order: &Order, answer: &Answer) -> 
     }
 }
 
-/// The same, of the next order for a network.
+/// Of which kind the answer to the next random order for a network is.
 fn next_order(alloc: Global, random: &mut Random, net: &Network) -> usize {
     match random_order(alloc, random, net) {
         Ok(order) if order.is_for(net) => kind_of::<Brand>(alloc, net, &order),
@@ -270,7 +270,7 @@ fn next_order(alloc: Global, random: &mut Random, net: &Network) -> usize {
     }
 }
 
-/// The same, of the next network and order.
+/// Of which kind the answer to the next random network and order is.
 fn next_kind(alloc: Global, random: &mut Random) -> usize {
     let resources = random.below(2).saturating_add(1) as usize;
     let jobs = random.below(4).saturating_add(1);

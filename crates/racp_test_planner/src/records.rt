@@ -25,7 +25,7 @@ struct Place<'a> {
     time: u32,
 }
 
-/// The node of a place; or `None` where there is no such sample, or memory is refused.
+/// The node of a place; or `None` if there is no such sample, or memory is refused.
 fn node<N: OfNetwork>(alloc: Global, net: &Network, place: &Place<'_>) -> Option<Node<N>>
     requires named { net.now ≡ N.network }
 {
@@ -35,7 +35,8 @@ fn node<N: OfNetwork>(alloc: Global, net: &Network, place: &Place<'_>) -> Option
     }
 }
 
-/// Whether the early starts of a node keep its capacities before its time, and the jobs that start before it their bounds.
+/// Whether the early starts of a node keep its capacities before its time, and the jobs that start before it their
+/// bounds.
 fn fits_before_time<N: OfNetwork>(net: &Network, node: &Node<N>) -> bool
     requires named { net.now ≡ N.network }
     ensures { IsTrue result → FitsBeforeTime N.network node.now }
@@ -53,7 +54,7 @@ fn fits_before_time<N: OfNetwork>(net: &Network, node: &Node<N>) -> bool
     }
 }
 
-/// Whether the question of a node is a no by the definition.
+/// Whether the question of a node is infeasible by the definition.
 fn is_no<N: OfNetwork>(alloc: Global, net: &Network, node: &Node<N>) -> bool
     requires named { net.now ≡ N.network }
     ensures { IsTrue result → IsNo N.network node.now.capacities node.now.window }
@@ -64,7 +65,7 @@ fn is_no<N: OfNetwork>(alloc: Global, net: &Network, node: &Node<N>) -> bool
     }
 }
 
-/// The record of a node; there is none where its question is a yes by the definition.
+/// The record of a node; there is none if its question is a yes by the definition.
 fn refuted<N: OfNetwork>(alloc: Global, net: &Network, node: Node<N>) -> Option<Nogood<N>>
     requires named { net.now ≡ N.network }
 {
@@ -93,7 +94,7 @@ const ROOT: Place<'static> = Place {
     time: 0,
 };
 
-/// The same, in which the third job may not start before 2.
+/// The root window in which the third job may not start before 2, with 2 units.
 const RAISED: Place<'static> = Place {
     lower: &[0, 0, 2, 0, 3],
     ..ROOT
@@ -154,7 +155,7 @@ fn is_covered<N: OfNetwork>(alloc: Global, net: &Network, known: &Nogood<N>, row
     }
 }
 
-/// The same of each row.
+/// Whether the record covers the node of each row as it is to.
 fn covers_each<N: OfNetwork>(alloc: Global, net: &Network, known: &Nogood<N>, rows: &[Row]) -> bool
     requires named { net.now ≡ N.network }
 {
@@ -220,7 +221,7 @@ const SECOND_LATE: Place<'static> = Place {
     time: 2,
 };
 
-/// The same with a late third job, and at other times, when other jobs are started.
+/// Nodes at time 2 with a late third job, and at other times, when other jobs are started.
 const STARTED: &[Row] = &[
     Row {
         place: THIRD_LATE,
@@ -247,7 +248,8 @@ const THIRD_LATE: Place<'static> = Place {
     ..SECOND_LATE
 };
 
-/// What the readers of a node tell: its early starts and ends, and of the third and the fourth job whether it is started.
+/// What the readers of a node tell: its early starts and ends, and of the third and the fourth job whether it is
+/// started.
 fn is_told<N: OfNetwork>(node: &Node<N>) -> bool {
     node.early().as_slice() == [0, 1, 0, 2, 2, 3].as_slice()
         && node.ends() == [0, 2, 1, 3, 3, 3].as_slice()
@@ -270,7 +272,7 @@ fn moves<N: OfNetwork>(alloc: Global, net: &Network) -> bool
     }
 }
 
-/// Whether nodes of the six jobs tell what they are, and are covered where the same jobs are started.
+/// Whether nodes of the six jobs tell what they are, and are covered if the same jobs are started.
 fn are_told(alloc: Global) -> bool {
     let Ok(net) = crossed(alloc) else {
         return false;
@@ -283,27 +285,28 @@ fn tells_which_jobs_are_started(rt: HostRuntime) {
     assert!(rt; are_told(rt.alloc()));
 }
 
-/// What is done with the records of a thread and of the board, or asked of them. They are of the root window with so many units,
-/// and of the same window so many time units later; none of one window covers another.
+/// What is done with the records of a thread and of the board, or asked of them. They are of the root window with this
+/// many units, and of the same window this many time units later; none of one window covers another.
 #[derive(Clone, Copy)]
 enum Step {
-    /// The record with so many units is kept; the first ones, so many, stay.
+    /// The record with this many units is kept; the first ones, this many, stay.
     Keep(u32, usize),
-    /// The records with 2 units of so many windows, each a time unit later than the one before, are kept.
+    /// The records with 2 units of this many windows, each a time unit later than the one before, are kept.
     KeepLater(u32),
-    /// The same are pushed to the board.
+    /// The records with 2 units of this many windows, each a time unit later than the one before, are pushed to the
+    /// board.
     PushLater(u32),
-    /// Records are pushed, so many, and behind each one is found that covers the window with one unit.
+    /// Records are pushed, this many, and after each one is found that covers the window with one unit.
     PushAndFind(u32),
-    /// Whether a record is found that covers the window with so many units, so much later.
+    /// Whether a record is found that covers the window with this many units, so much later.
     Find(u32, u32, bool),
-    /// Only the first ones stay, so many.
+    /// Only the first ones stay, this many.
     Forget(usize),
     /// Whether there is a last record, which is taken out.
     Take(bool),
-    /// So many are kept, and there is room for more.
+    /// This many are kept, and there is room for more.
     Count(usize),
-    /// Fewer than so many are kept.
+    /// Fewer than this many are kept.
     Below(usize),
 }
 
@@ -401,7 +404,7 @@ fn later(time: u32) -> Bounds {
     }
 }
 
-/// The node of the root window with so many units, so much later.
+/// The node of the root window with this many units, so much later.
 fn later_node<N: OfNetwork>(alloc: Global, net: &Network, units: u32, time: u32) -> Option<Node<N>>
     requires named { net.now ≡ N.network }
 {
@@ -425,7 +428,8 @@ fn record<N: OfNetwork>(alloc: Global, net: &Network, units: u32, time: u32) -> 
     }
 }
 
-/// Whether a record is found that covers the root window with so many units, so much later; or `None` where memory is refused.
+/// Whether a record is found that covers the root window with this many units, so much later; or `None` if memory is
+/// refused.
 fn finds<N: OfNetwork>(
     alloc: Global,
     net: &Network,
@@ -442,7 +446,7 @@ fn finds<N: OfNetwork>(
     }
 }
 
-/// Keeps the record of the root window with so many units, so much later, and says whether there is one.
+/// Keeps the record of the root window with this many units, so much later, and says whether there is one.
 fn keeps<N: OfNetwork>(
     alloc: Global,
     net: &Network,
@@ -556,7 +560,7 @@ fn follows<N: OfNetwork, R: Wait>(
     true
 }
 
-/// The same, over a board of its own.
+/// Whether each step is answered as it is to be, over a board of its own.
 fn is_shown<N: OfNetwork, R: Wait>(rt: &R, alloc: Global, net: &Network, steps: &[Step]) -> bool
     requires named { net.now ≡ N.network }
 {
@@ -570,7 +574,7 @@ fn is_shown<N: OfNetwork, R: Wait>(rt: &R, alloc: Global, net: &Network, steps: 
     }
 }
 
-/// The same, of the records of the five jobs.
+/// Whether each step of a script is answered as it is to be, with records of the five jobs.
 fn is_found<R: Wait>(rt: &R, alloc: Global, script: &Script) -> bool {
     match parallel(alloc) {
         Ok(net) => is_shown::<Brand, R>(rt, alloc, &net, script.steps),
@@ -585,10 +589,10 @@ fn finds_kept_records(rt: HostRuntime) {
     }
 }
 
-/// Thirty records are pushed, and one that covers the window with a unit is found behind each.
+/// Thirty records are pushed, and one that covers the window with a unit is found after each.
 const THIRTY: &[Step] = &[PushAndFind(30)];
 
-/// Two threads push thirty records each on one board; each finds one behind each push.
+/// Two threads push thirty records each on one board; each finds one after each push.
 fn push_in_threads<N: OfNetwork + Send + Sync, R: Threads + Wait + Sync>(
     rt: &R,
     alloc: Global,
@@ -609,7 +613,7 @@ fn push_in_threads<N: OfNetwork + Send + Sync, R: Threads + Wait + Sync>(
     one && two
 }
 
-/// The same, over a board of the five jobs.
+/// Two threads push thirty records each on a board of the five jobs; each finds one after each push.
 fn push_sixty<N: OfNetwork + Send + Sync, R: Threads + Wait + Sync>(
     rt: &R,
     alloc: Global,

@@ -112,7 +112,7 @@ fn are_decided(alloc: Global, net: &Network, row: &Vectors) -> bool {
     }
 }
 
-/// The same, in the network of the row.
+/// Whether the vectors of a row admit answers in the network of the row as they are to.
 fn is_decided(alloc: Global, row: &Vectors) -> bool {
     match sample(alloc, row.of) {
         Ok(net) => are_decided(alloc, &net, row),
@@ -147,14 +147,15 @@ impl Stop for Countdown {
     }
 }
 
-/// Where a search ends before it is done: after so many nodes, or at the look of this number, from 1.
+/// Where a search ends before it is done: after this many nodes, or at the look of this number, from 1.
 #[derive(Clone, Copy)]
 enum End {
     Nodes(u64),
     Look(u32),
 }
 
-/// What a search shows: whether starts were found, whether windows are left, whether it was stopped, and after how many nodes.
+/// What a search shows: whether starts were found, whether windows are left, whether it was stopped, and after how many
+/// nodes.
 #[derive(Clone, Copy)]
 struct Shown {
     found: bool,
@@ -179,7 +180,8 @@ fn shown_by<N: OfNetwork>(finding: &Finding<N>) -> Shown
     }
 }
 
-/// The answers with 2 units of the windows that one node leaves of the five jobs beside each other, which are to end by 5.
+/// The answers with 2 units of the windows that one node leaves of the five jobs beside each other, which are to end by
+/// 5.
 const ANSWERS: &[&[u32]] = &[&[0, 0, 3, 3, 5], &[0, 2, 0, 0, 5]];
 
 fn is_one_of(starts: &[u32], answers: &[&[u32]]) -> bool {
@@ -191,7 +193,7 @@ fn is_one_of(starts: &[u32], answers: &[&[u32]]) -> bool {
     false
 }
 
-/// Whether a search of the window with 2 units finds starts; or `None` where these are other ones, or memory is refused.
+/// Whether a search of the window with 2 units finds starts; or `None` if these are other ones, or memory is refused.
 fn is_answered(alloc: Global, net: &Network, window: &Window) -> Option<bool> {
     let Ok(asked) = question(alloc, net, &[2], window.lower(), window.upper()) else {
         return None;
@@ -212,7 +214,7 @@ fn count_answers(alloc: Global, net: &Network, windows: &[Window]) -> Option<u32
     Some(count)
 }
 
-/// In how many of the windows that one node leaves starts are found; or `None` as there, or where the node itself answers.
+/// In how many of the windows that one node leaves starts are found; or `None` as there, or if the node itself answers.
 fn count_answers_behind_one<N: OfNetwork>(
     alloc: Global,
     net: &Network,
@@ -235,7 +237,7 @@ fn count_answers_behind_one<N: OfNetwork>(
     count
 }
 
-/// The same, over a board of its own.
+/// In how many of the windows that one node leaves starts are found, over a board of its own.
 fn count_left_of<N: OfNetwork>(alloc: Global, net: &Network, asked: Question) -> Option<u32>
     requires named { net.now ≡ N.network }
     requires formed { IsFormed net.now asked }
@@ -250,7 +252,7 @@ fn count_left_of<N: OfNetwork>(alloc: Global, net: &Network, asked: Question) ->
     }
 }
 
-/// The same, of the five jobs beside each other, which are to end by 5.
+/// In how many of the windows that one node leaves starts are found, for the five jobs, which are to end by 5.
 fn count_left_answers(alloc: Global) -> Option<u32> {
     let Ok(net) = parallel(alloc) else {
         return None;
@@ -272,8 +274,8 @@ fn equal(alloc: Global) -> Result<Network, NetFault> {
     network(alloc, 1, &[job; 6], &[])
 }
 
-/// What a search of the equal jobs with 2 units shows, each of which starts at this time at the latest; or `None` where memory
-/// is refused.
+/// What a search of the equal jobs with 2 units shows, each of which starts at this time at the latest; or `None` if
+/// memory is refused.
 fn searched(alloc: Global, net: &Network, latest: u32, end: End) -> Option<Shown> {
     match question(alloc, net, &[2], &[0; 6], &[latest; 6]) {
         Ok(asked) => searched_named::<Brand>(alloc, net, asked, end),
@@ -309,8 +311,8 @@ fn searched_named<N: OfNetwork>(
     Some(told)
 }
 
-/// Whether windows are left by a search of the equal jobs over so many nodes, and by one that is stopped at the look behind
-/// them; or `None` where the two differ, or windows are left for another reason.
+/// Whether windows are left by a search of the equal jobs over this many nodes, and by one that is stopped at the look
+/// after them; or `None` if the two differ, or windows are left for another reason.
 fn is_left(alloc: Global, net: &Network, latest: u32, nodes: u32) -> Option<bool> {
     let most = nodes as u64;
     let limited = searched(alloc, net, latest, End::Nodes(most))?;
@@ -381,8 +383,8 @@ fn finds_the_records_of_a_search(rt: HostRuntime) {
     assert!(rt; finds_its_records(rt.alloc()));
 }
 
-/// What a search shows that goes on by so many nodes at a time: whether starts were found, after how many nodes, and how often
-/// it was called.
+/// What a search shows that goes on by this many nodes at a time: whether starts were found, after how many nodes, and
+/// how often it was called.
 #[derive(Clone, Copy)]
 struct Pursued {
     found: bool,
@@ -390,7 +392,7 @@ struct Pursued {
     calls: u64,
 }
 
-/// What a search shows of the question over at most so many nodes, behind those that were spent on it before.
+/// What a search shows of the question over at most this many nodes, after those that were spent on it before.
 fn searched_further<N: OfNetwork>(
     alloc: Global,
     net: &Network,
@@ -416,7 +418,7 @@ fn searched_further<N: OfNetwork>(
     Some(told)
 }
 
-/// A search that goes on by so many nodes at a time; `None` where 100 times are not enough.
+/// A search that goes on by this many nodes at a time; `None` if 100 times are not enough.
 fn searched_on<N: OfNetwork>(
     alloc: Global,
     net: &Network,
@@ -447,7 +449,7 @@ fn searched_on<N: OfNetwork>(
     None
 }
 
-/// The same, in an order.
+/// A search in an order that goes on by a number of nodes at a time; `None` if 100 times are not enough.
 fn searched_over<N: OfNetwork>(
     alloc: Global,
     net: &Network,
@@ -468,7 +470,7 @@ fn searched_over<N: OfNetwork>(
     pursued
 }
 
-/// The same, over a board of its own.
+/// A search in an order that goes on by a number of nodes at a time, over a board of its own.
 fn searched_in_parts<N: OfNetwork>(
     alloc: Global,
     net: &Network,
@@ -506,8 +508,8 @@ fn asked_in_parts(
     }
 }
 
-/// Whether a search of the equal jobs goes on as it is to: by so many nodes at a time it takes as many calls as they are parts
-/// of its nodes, and it finds what a search in one part finds.
+/// Whether a search of the equal jobs goes on as it is to: by this many nodes at a time it takes as many calls as they
+/// are parts of its nodes, and it finds what a search in one part finds.
 fn goes_on(alloc: Global, net: &Network, latest: u32, order: usize, most: u64) -> bool
     requires { most ≤ 100 }
 {
@@ -522,7 +524,7 @@ fn goes_on(alloc: Global, net: &Network, latest: u32, order: usize, most: u64) -
         && (order > 0 || parts.nodes == whole.nodes)
 }
 
-/// Whether searches in three orders go on so by 1 to 4 nodes, where nothing answers and where something does.
+/// Whether searches in three orders go on so by 1 to 4 nodes, if nothing answers and if something does.
 fn all_go_on(alloc: Global) -> bool {
     let Ok(net) = equal(alloc) else {
         return false;

@@ -152,7 +152,7 @@ pub(crate) struct Parts {
     pub(crate) pairs: Vec<(u32, u32)>,
 }
 
-/// An order of these prices and owned units; or `None` where memory is refused.
+/// An order of these prices and owned units; or `None` if memory is refused.
 fn order_of(alloc: Global, prices: &[u32], owned: &[u32]) -> Option<Order> {
     let Ok(prices) = prices.to_vec(alloc) else {
         return None;
@@ -170,7 +170,7 @@ fn order_of(alloc: Global, prices: &[u32], owned: &[u32]) -> Option<Order> {
     })
 }
 
-/// So many units; or `None` where memory is refused.
+/// This many units; or `None` if memory is refused.
 fn capacities(alloc: Global, units: &[u32]) -> Option<Capacities> {
     match units.to_vec(alloc) {
         Ok(units) => Some(Capacities::new(units)),
@@ -178,7 +178,7 @@ fn capacities(alloc: Global, units: &[u32]) -> Option<Capacities> {
     }
 }
 
-/// The parts of a box; or `None` where memory is refused.
+/// The parts of a box; or `None` if memory is refused.
 pub(crate) fn parts_of(alloc: Global, row: &Boxed) -> Option<Parts> {
     let order = order_of(alloc, row.prices, row.owned)?;
     let floors = capacities(alloc, row.floors)?;
@@ -209,7 +209,7 @@ pub(crate) fn is_box(parts: &Parts) -> bool
         && are_numbers(floors.len(), &parts.pairs)
 }
 
-/// The series of the vectors of a box; or `None` where it is no box, or memory is refused.
+/// The series of the vectors of a box; or `None` if it is no box, or memory is refused.
 fn series_of(alloc: Global, parts: Parts, root: &Window) -> Option<Vectors> {
     if !is_box(&parts) {
         return None;
@@ -223,7 +223,7 @@ fn series_of(alloc: Global, parts: Parts, root: &Window) -> Option<Vectors> {
     Vectors::new(alloc, &order, floors, roofs, pairs, root).ok()
 }
 
-/// Whether a question has these capacities, or there is none where none are given; or `None` where memory is refused.
+/// Whether a question has these capacities, or there is none if none are given; or `None` if memory is refused.
 fn is_asked(next: Result<Option<Question>, AllocError>, units: Option<&[u32]>) -> Option<bool> {
     match next {
         Ok(Some(question)) => Some(units.is_some_and(|units| question.capacities.as_slice()
@@ -233,7 +233,7 @@ fn is_asked(next: Result<Option<Question>, AllocError>, units: Option<&[u32]>) -
     }
 }
 
-/// Whether that is so of the next question of a series. It is asked for once more where memory is refused.
+/// Whether that is so of the next question of a series. It is asked for once more if memory is refused.
 fn is_next<S: Series>(series: &mut S, units: Option<&[u32]>) -> bool {
     match is_asked(series.next(), units) {
         Some(asked) => asked,
@@ -251,7 +251,7 @@ fn gives<S: Series>(series: &mut S, vectors: &[&[u32]], all: bool) -> bool {
     !all || is_next(series, None)
 }
 
-/// The series of the vectors of a row; or `None` where it is no box, or memory is refused.
+/// The series of the vectors of a row; or `None` if it is no box, or memory is refused.
 fn series_of_row(alloc: Global, row: &Boxed, root: &Window) -> Option<Vectors> {
     match parts_of(alloc, row) {
         Some(parts) => series_of(alloc, parts, root),
@@ -259,7 +259,7 @@ fn series_of_row(alloc: Global, row: &Boxed, root: &Window) -> Option<Vectors> {
     }
 }
 
-/// Whether a box has the vectors of its row, in this order; or `None` where it is no box, or memory is refused.
+/// Whether a box has the vectors of its row, in this order; or `None` if it is no box, or memory is refused.
 fn has_vectors(alloc: Global, row: &Boxed, root: &Window) -> Option<bool> {
     match series_of_row(alloc, row, root) {
         Some(mut series) => Some(gives(&mut series, row.vectors, row.all)),
@@ -275,7 +275,7 @@ fn is_ordered(alloc: Global, row: &Boxed, root: &Window) -> bool {
     }
 }
 
-/// The root window of five jobs for the deadline 4, which is made once more where memory is refused.
+/// The root window of five jobs for the deadline 4, which is made once more if memory is refused.
 fn root(alloc: Global) -> Option<Window> {
     match root_once(alloc) {
         Some(root) => Some(root),
@@ -290,7 +290,7 @@ fn root_once(alloc: Global) -> Option<Window> {
     }
 }
 
-/// The same, in the root window.
+/// Whether the vectors of a box come in order, each with the root window.
 fn is_ordered_in_root(alloc: Global, row: &Boxed) -> bool {
     match root(alloc) {
         Some(root) => is_ordered(alloc, row, &root),
@@ -379,7 +379,7 @@ fn have_questions(alloc: Global, root: &Window) -> bool {
     }
 }
 
-/// The same, in the root window.
+/// Whether the three small series ask for what they are to ask in the root window.
 fn have_questions_in_root(alloc: Global) -> bool {
     match root(alloc) {
         Some(root) => have_questions(alloc, &root),

@@ -1,5 +1,5 @@
-//! Stages of planning for a small network with two resources: sharpened floors and refuted pairs, and what is told where an asker
-//! gives up.
+//! Stages of planning for a small network with two resources: sharpened floors and refuted pairs, and what is told if
+//! an asker gives up.
 
 ghost use Rattle.std.specs.Prelude.{◌≡◌, ◌<◌, ◌≤◌, ℕ, length, slice_index, IsTrue, IfOk};
 ghost use Rattle.racp_model.specs.Formed.{HasBounds};
@@ -17,8 +17,8 @@ use racp_samples::{crossed, root_window};
 use std::alloc::{AllocError, Global};
 use std::marker::Brand;
 
-/// From these floors on, by an asker that gives up after so many series: the floors that come out, and the pairs, or none
-/// where it gives up.
+/// From these floors on, by an asker that gives up after this many series: the floors that come out, and the pairs, or
+/// none if it gives up.
 struct Sharpening {
     least: [u32; 2],
     series: u32,
@@ -29,7 +29,7 @@ struct Sharpening {
 /// What comes out of a stage.
 enum Stage {
     Sharpened(Sharpening),
-    /// By an asker that gives up after so many series: the capacities that are told.
+    /// By an asker that gives up after this many series: the capacities that are told.
     Told(u32, [u32; 2]),
 }
 
@@ -198,7 +198,7 @@ fn sharpens<N: OfNetwork>(
     }
 }
 
-/// Whether planning stops where the asker gives up after so many series, and tells these capacities.
+/// Whether planning stops if the asker gives up after this many series, and tells these capacities.
 fn tells<N: OfNetwork>(
     alloc: Global,
     net: &Network,
@@ -262,7 +262,7 @@ fn holds<N: OfNetwork>(alloc: Global, net: &Network, row: &Row) -> bool
     }
 }
 
-/// The same, of the six jobs.
+/// Whether a row holds for the six jobs.
 fn holds_of_six(alloc: Global, row: &Row) -> bool {
     match crossed(alloc) {
         Ok(net) => holds::<Brand>(alloc, &net, row),

@@ -7,7 +7,7 @@ use racp_model::{Network, OfNetwork, Question};
 use racp_questions::{AskStop, Asker, First, Probe, Series};
 use std::alloc::{AllocError, Global};
 
-/// Answers so many series of questions about the network that `N` names, and then gives up.
+/// Answers this many series of questions about the network that `N` names, and then gives up.
 #[derive(Drop)]
 pub(crate) struct Tired<N: OfNetwork> {
     alone: Alone<N>,

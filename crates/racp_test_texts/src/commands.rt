@@ -78,8 +78,8 @@ const ANSWERS: &[Answer] = &[
 /// For each reader, at which read it fails.
 const NEVER: [usize; 4] = [usize::MAX; 4];
 
-/// Runs a command over readers of these texts, each of which fails at a read, and tells what it returned and how often each
-/// reader was read. A command leaves the readers alone that it does not take.
+/// Runs a command over readers of these texts, each of which fails at a read, and tells what it returned and how often
+/// each reader was read. A command leaves the readers alone that it does not take.
 fn run(
     alloc: Global,
     command: Command,
@@ -100,7 +100,7 @@ fn run(
     (result, [net.reads, order.reads, plan.reads, proof.reads])
 }
 
-/// Whether all of an answer is written where nothing fails.
+/// Whether all of an answer is written if nothing fails.
 fn is_written(alloc: Global, answer: &Answer) -> bool {
     let (command, texts, status, text) = answer;
     let mut out = Narrow::new(alloc, usize::MAX, Ending::Fails);
@@ -108,8 +108,8 @@ fn is_written(alloc: Global, answer: &Answer) -> bool {
     result == Ok(*status) && out.taken.as_slice() == *text
 }
 
-/// How many bytes are out where the writing of an answer fails after so many writes; `None` where it does not, or where what is
-/// out is no beginning of the answer.
+/// How many bytes are out if the writing of an answer fails after this many writes; `None` if it does not, or where
+/// what is out is no beginning of the answer.
 fn written(alloc: Global, answer: &Answer, writes: usize, ending: Ending) -> Option<usize> {
     let (command, texts, _, text) = answer;
     let mut out = Narrow::new(alloc, writes, ending);
@@ -150,8 +150,8 @@ const READERS: &[(Command, usize, usize)] = &[
     (Command::Verify, 3, PROOF.len()),
 ];
 
-/// For each reader, at which read it fails where the one at this place does, and how often it is read then: to its end before
-/// that one, and not at all after it.
+/// For each reader, at which read it fails if the one at this place does, and how often it is read then: to its end
+/// before that one, and not at all after it.
 fn reads(place: usize, fails_at: usize) -> ([usize; 4], [usize; 4]) {
     let never = usize::MAX;
     let (net, order, plan) = (NETWORK.len() + 1, ORDER.len() + 1, PLAN.len() + 1);

@@ -44,7 +44,7 @@ pub(super) enum Ending {
     FlushFails,
 }
 
-/// Takes up to three bytes at a time; after so many writes the next fails or takes nothing, or the flush fails.
+/// Takes up to three bytes at a time; after this many writes the next fails or takes nothing, or the flush fails.
 #[derive(Drop)]
 pub(super) struct Narrow {
     pub(super) taken: Vec<u8>,

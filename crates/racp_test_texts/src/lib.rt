@@ -1,4 +1,4 @@
-//! Tests of the readers of networks, orders and plans, of the check of plans, and of the commands over any reader and writer.
+//! Tests of the readers of networks, orders and plans, of the check of plans, and of the commands over any streams.
 #![tactic(auto)]
 
 #[cfg(test)]

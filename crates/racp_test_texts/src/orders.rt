@@ -110,10 +110,11 @@ fn are_read_number_by_number(rt: HostRuntime) {
     }
 }
 
-/// The lengths of the beginnings that are orders: they end with a line, or right before a line feed, from the prices on.
+/// The lengths of the beginnings that are orders: they end with a line, or right before a line feed, from the prices
+/// on.
 const CUTS: &[usize] = &[38, 39, 50, 51, 64, 65, 90, 91, 112, 113];
 
-/// Whether so many bytes of an order are an order, or no TOML, or lack a key.
+/// Whether this many bytes of an order are an order, or no TOML, or lack a key.
 fn is_order(alloc: Global, length: usize) -> Option<bool> {
     match read_order(alloc, WHOLE.as_bytes().get(..length)?, 1, 5) {
         Ok(order) => Some(order.deadline == 8),
@@ -130,7 +131,7 @@ fn are_refused_where_they_are_cut(rt: HostRuntime) {
     }
 }
 
-/// An order with the prices 3 and 5, where four units of the second resource are owned.
+/// An order with the prices 3 and 5, and four owned units of the second resource.
 const OWNED: &[u8] = b"version = 2\ndeadline = 9\nprices = [3, 5]\nowned = [0, 4]";
 
 /// Capacities of two resources, and what they cost.
@@ -171,7 +172,7 @@ fn are_costs(net: &Network, order: &Order) -> bool {
     true
 }
 
-/// The same, of the six jobs with two resources.
+/// Whether each of the capacities costs for the six jobs with two resources what it is to cost.
 fn are_costs_of_six_jobs(alloc: Global) -> bool {
     let Ok(net) = crossed(alloc) else {
         return false;

@@ -100,7 +100,7 @@ fn are_read_number_by_number_and_written_again(rt: HostRuntime) {
     assert!(rt; are_read_and_written(alloc, crossed(alloc), SIX_JOBS));
 }
 
-/// The line at which so many bytes of a plan are refused, since a line is missing or ends too early.
+/// The line at which this many bytes of a plan are refused, since a line is missing or ends too early.
 fn cut_line(alloc: Global, net: &Network, length: usize) -> Option<usize> {
     let fault = read_plan(alloc, PLAN.as_bytes().get(..length)?, net).err()?;
     match fault.kind {
@@ -123,7 +123,7 @@ fn are_refused(alloc: Global, net: &Network) -> bool {
     true
 }
 
-/// The same, of the five jobs.
+/// Whether each beginning of a plan of the five jobs is refused at its last line.
 fn are_refused_of_five_jobs(alloc: Global) -> bool {
     match parallel(alloc) {
         Ok(net) => are_refused(alloc, &net),
@@ -204,7 +204,7 @@ fn plan(alloc: Global, case: &Case) -> Result<Plan, AllocError> {
     })
 }
 
-/// The number of what is wrong with the plan of a case, or 0 where nothing is; `None` where that is not what the case says.
+/// The number of what is wrong with the plan of a case, or 0 if nothing is; `None` if that is not what the case says.
 fn number(net: &Network, order: &Order, plan: &Plan, case: &Case) -> Option<usize> {
     let capacities = plan.capacities.as_slice().len();
     let starts = plan.starts.as_slice().len();
@@ -221,7 +221,8 @@ fn number(net: &Network, order: &Order, plan: &Plan, case: &Case) -> Option<usiz
     }
 }
 
-/// The same, of the plan and the order that the case has.
+/// The number of what is wrong with the plan of a case on the terms of its order, or 0 if nothing is; `None` if that is
+/// not what the case says.
 fn number_of(alloc: Global, net: &Network, case: &Case) -> Option<usize> {
     let Ok(plan) = plan(alloc, case) else {
         return None;

@@ -12,7 +12,7 @@ abbrev pub AreParts : (ℕ → Bool) → List ℕ → List ℕ → List ℕ → 
 AreParts test bytes front back =
     (position_or_len test bytes < length bytes) × (front ≡ before_first test bytes) × (back ≡ after_first test bytes)
 
--- the two parts, or none where no byte passes
+-- the two parts, or none if no byte passes
 abbrev pub IsCut : (ℕ → Bool) → List ℕ → Option (Bor (List ℕ) × Bor (List ℕ)) → Type 0
 IsCut test bytes (Some parts) = AreParts test bytes parts.0.now parts.1.now
 IsCut test bytes None = position_or_len test bytes ≡ length bytes

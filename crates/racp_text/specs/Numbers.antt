@@ -12,7 +12,7 @@ is_number bytes = not (length bytes == 0) && list_all is_ascii_digit bytes
 abbrev pub value : List ℕ → ℕ
 value digits = digits_value 10 digits
 
--- the number that a word stands for, or 2^64 - 1 where it is greater; none where the word does not pass the test
+-- the number that a word stands for, or 2^64 - 1 if it is greater; none if the word does not pass the test
 abbrev pub IsCapped : (List ℕ → Bool) → List ℕ → Option ℕ → Type 0
 IsCapped test word (Some number) = (test word ≡ true) × (number ≡ min (value word) 18446744073709551615)
 IsCapped test word None = test word ≡ false

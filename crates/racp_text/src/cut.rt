@@ -1,7 +1,9 @@
+//! Cutting bytes at a byte.
+
 ghost use Rattle.std.specs.Prelude.{◌≡◌, ◌==◌, position};
 ghost use Rattle.racp_text.specs.Cuts.{IsCut};
 
-/// What stands before the first such byte, and what after it, or `None` where there is none.
+/// What stands before the first such byte, and what after it, or `None` if there is none.
 pub fn cut_at(bytes: &[u8], byte: u8) -> Option<(&[u8], &[u8])>
     ensures { IsCut (λ b. b == byte) bytes.now result }
 {

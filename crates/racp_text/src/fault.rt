@@ -1,10 +1,12 @@
+//! Faults that show at a line of a text.
+
 ghost use Rattle.std.specs.Prelude.{◌≡◌};
 ghost use Rattle.racp_text.specs.Faults.{fault_at};
 
 use std::fmt::Display;
 use thiserror::Error;
 
-/// Why a text was not read: what is wrong, and the number of the line where that shows, from 1; 0 where it is no one
+/// Why a text was not read: what is wrong, and the number of the line where that shows, from 1; 0 if it is no one
 /// line.
 #[derive(Debug, Clone, Copy, PartialEq, Eq, Drop, Error)]
 #[error_bound(K: Display)]

@@ -1,9 +1,11 @@
+//! Decimal numbers.
+
 ghost use Rattle.std.specs.Prelude.{◌≡◌, true, min};
 ghost use Rattle.std.specs.List.{list_all};
 ghost use Rattle.std.specs.Char.{is_ascii_digit};
 ghost use Rattle.racp_text.specs.Numbers.{IsCapped, is_number, value};
 
-/// The number that a word stands for, or the greatest of 64 bits where it is greater; `None` where the word is no
+/// The number that a word stands for, or the greatest of 64 bits if it is greater; `None` if the word is no
 /// number, that is, not of decimal digits alone, one or more. Zeros may stand in front.
 pub fn number(word: &[u8]) -> Option<u64>
     ensures { IsCapped is_number word.now result }
@@ -29,7 +31,7 @@ fn are_digits(bytes: &[u8]) -> bool
     bytes.iter().all(|digit| digit.is_ascii_digit())
 }
 
-/// The number that digits stand for, or the greatest of 64 bits where it is greater.
+/// The number that digits stand for, or the greatest of 64 bits if it is greater.
 fn value(digits: &[u8]) -> u64
     requires { list_all is_ascii_digit digits.now ≡ true }
     ensures { result ≡ min (value digits.now) 18446744073709551615 }

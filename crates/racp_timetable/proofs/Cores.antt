@@ -4,7 +4,7 @@ use Rattle.std.proofs.lemmas.Bool.{cases_lt}
 use Rattle.racp_model.specs.Project.{Project, IsSound, duration, request}
 use Rattle.racp_model.specs.Schedule.{IsActive, sum_below, use_of}
 use Rattle.racp_model.specs.Window.{Bounds, LiesIn, Answers, IsInside}
-use Rattle.racp_model.specs.Core.{IsCoreTime, core_use}
+use Rattle.racp_model.specs.CoreTimes.{IsCoreTime, core_use}
 use Rattle.racp_model.proofs.lemmas.Sums.{sum_below-mono, sum_below-step, sum_below-none, sum_below-bound}
 use Rattle.racp_model.proofs.lemmas.Usage.{use_of-active}
 use Rattle.racp_model.proofs.lemmas.Parts.{on_cases}

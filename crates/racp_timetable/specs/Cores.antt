@@ -2,7 +2,7 @@
 use Rattle.std.specs.Prelude.{◌≡◌, ℕ, ◌+◌, ◌<◌, ◌≤◌, List, length, slice_index}
 use Rattle.racp_model.specs.Project.{Project, duration, request}
 use Rattle.racp_model.specs.Window.{Bounds, IsInside}
-use Rattle.racp_model.specs.Core.{IsCoreTime, core_usage}
+use Rattle.racp_model.specs.CoreTimes.{IsCoreTime, core_usage}
 use Rattle.racp_timetable.specs.declared.core_times.Core.{Core}
 
 -- the loads are the core usages of the window at the time, and each job of which that is a core time runs on until the

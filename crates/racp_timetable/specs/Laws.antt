@@ -3,9 +3,9 @@ use Rattle.std.specs.Prelude.{ℕ, ◌+◌, ◌<◌, List, length, slice_index}
 use Rattle.racp_model.specs.Project.{Project, request}
 use Rattle.racp_model.specs.Schedule.{IsActive}
 use Rattle.racp_model.specs.Window.{Bounds, Answers}
-use Rattle.racp_model.specs.Core.{IsCoreTime, core_usage}
+use Rattle.racp_model.specs.CoreTimes.{IsCoreTime, core_usage}
 
--- where the core usage of a resource at a time and the request of a job exceed the capacity, and it is no core time of
+-- if the core usage of a resource at a time and the request of a job exceed the capacity, and it is no core time of
 -- the job, then the job is not active at that time in any answer
 abbrev pub CoreLeavesNoRoom : Type 0
 CoreLeavesNoRoom =

@@ -111,8 +111,8 @@ fn has_room(net: &Network, capacities: &[u32], loads: &Loads, i: usize) -> bool
     (0..requests.len()).all(|k| loads[k] as u64 + requests[k] as u64 <= capacities[k] as u64)
 }
 
-/// Moves the bounds of a job for which the core usage leaves no room, and which is not part of it. Where it would run
-/// at that time from its lower bound on, it starts when the core is over; where it would run from its upper bound on,
+/// Moves the bounds of a job for which the core usage leaves no room, and which is not part of it. If it would run
+/// at that time from its lower bound on, it starts when the core is over; if it would run from its upper bound on,
 /// it ends by that time. Says whether something may still lie in the window.
 fn narrow_job(
     net: &Network,

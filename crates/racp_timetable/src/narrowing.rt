@@ -30,7 +30,7 @@ impl Model for Narrowing {
 }
 
 impl Narrowing {
-    /// A window of which lower bounds were raised, and upper bounds leave room before the jobs behind them. Takes no
+    /// A window of which lower bounds were raised, and upper bounds leave room before the jobs after them. Takes no
     /// memory.
     pub(crate) fn of(window: Window) -> Self
         ensures { result ≡ window }

@@ -17,7 +17,7 @@ pub(crate) fn settle(net: &Network, window: &mut Narrowing) -> bool
     raise_along(net, window) && reduce_along(net, window)
 }
 
-/// Raises lower bounds, in one sweep; there is nothing to do where none has moved.
+/// Raises lower bounds, in one sweep; there is nothing to do if none has moved.
 fn raise_along(net: &Network, window: &mut Narrowing) -> bool
     requires { HasBounds net.now window.old }
     ensures { IsNarrowedAlong net.now window.old window.new result }
@@ -48,7 +48,7 @@ fn raise_behind(net: &Network, window: &mut Narrowing, i: usize, j: usize) -> bo
     window.raise(j, end)
 }
 
-/// Lowers upper bounds, in one sweep from the end; there is nothing to do where none has moved.
+/// Lowers upper bounds, in one sweep from the end; there is nothing to do if none has moved.
 fn reduce_along(net: &Network, window: &mut Narrowing) -> bool
     requires { HasBounds net.now window.old }
     ensures { IsNarrowedAlong net.now window.old window.new result }
@@ -66,7 +66,7 @@ fn reduce_along(net: &Network, window: &mut Narrowing) -> bool
     true
 }
 
-/// Lowers an upper bound to leave room before a job behind it.
+/// Lowers an upper bound to leave room before a job after it.
 fn reduce_before(net: &Network, window: &mut Narrowing, i: usize, j: usize) -> bool
     requires bounds { HasBounds net.now window.old }
     requires from { i < length net.now.jobs }

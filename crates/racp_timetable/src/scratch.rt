@@ -1,3 +1,5 @@
+//! Memory that is used again from window to window.
+
 ghost use Rattle.std.specs.Prelude.{◌≤◌, length};
 
 use crate::core_times::Loads;

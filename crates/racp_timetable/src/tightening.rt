@@ -1,3 +1,5 @@
+//! Tightening a window by core usages, until no bound moves any more.
+
 ghost use Rattle.std.specs.Prelude.{◌≡◌, IfOk, length};
 ghost use Rattle.racp_model.specs.Formed.{HasBounds};
 ghost use Rattle.racp_timetable.specs.Narrowing.{IsNarrowedOrNo, IsTightened};
@@ -24,7 +26,7 @@ pub enum Tightened {
 
 /// Tightens a window by the core usage from a time on, and along precedence, until no bound moves any more or all core
 /// times were gone over a few times. There is a capacity for each resource and a bound for each job, by place from 0.
-/// Upper bounds are taken to leave room before the jobs behind them, as they do in the windows of a search: they are
+/// Upper bounds are taken to leave room before the jobs after them, as they do in the windows of a search: they are
 /// looked at along precedence once one has moved. Whatever `scratch` held is written over.
 ///
 /// # Errors
@@ -48,7 +50,8 @@ pub fn tighten(
     Ok(Tightened::No(window.into_window()))
 }
 
-/// The same in place. Says whether something may still lie in the window.
+/// Tightens a window in place, by the core usage from a time on and along precedence. Says whether something may still
+/// lie in the window.
 fn narrow(
     net: &Network,
     capacities: &[u32],

@@ -3,13 +3,13 @@ use Rattle.std.proofs.Common.{◌≡◌, inl, inr, ◌∙◌, ℕ, zero, suc, �
 use Rattle.std.specs.Prelude.{MatchBool}
 use Rattle.std.proofs.lemmas.Bool.{cases_lt}
 use Rattle.std.proofs.lemmas.List.Elements.{All-push}
-use Rattle.racp_model.specs.Project.{Project, IsNumber, IsSound, number}
+use Rattle.racp_model.specs.Project.{Project, IsNumber, IsSound, number, place}
 use Rattle.racp_model.specs.Limits.{most_bound}
 use Rattle.racp_model.specs.Terms.{IsLexBefore}
 use Rattle.racp_model.proofs.lemmas.Relations.{no_member}
 use Rattle.racp_model.proofs.lemmas.Costs.{lex_apart}
 use Rattle.racp_model.proofs.lemmas.Sums.{duration-small}
-use Rattle.racp_delay.specs.Alternatives.{Splits, place, IsMinimalDelayingAlternative, IsFollowing, IsFreeAlternative}
+use Rattle.racp_delay.specs.Alternatives.{Splits, IsMinimalDelayingAlternative, IsFollowing, IsFreeAlternative}
 use Rattle.racp_delay.specs.Alternatives.Splits.{none, goes, stays}
 use Rattle.racp_delay.specs.Branching.{IsFirstEnd}
 use Rattle.racp_delay.specs.Laws.{OthersStay, SubsetsGo}

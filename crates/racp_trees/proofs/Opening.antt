@@ -1,11 +1,10 @@
 -- What a line says of the node of a window, told by its early starts.
 use Rattle.std.proofs.Common.{◌≡◌, ◌↔◌, ◌∙◌, ℕ, ◌<◌, ◌≤◌, List, [], ◌∷◌, ◌++◌, length, slice_index, All, IsTrue, Bool, arith, refl, sym, subst, ap}
 use Rattle.std.specs.Prelude.{Some, None}
-use Rattle.racp_model.specs.Project.{Project, IsNumber}
+use Rattle.racp_model.specs.Project.{Project, place, IsNumber}
 use Rattle.racp_model.specs.Path.{IsEarly}
 use Rattle.racp_model.specs.Window.{Bounds}
 use Rattle.racp_model.specs.Limits.{most_bound, most_start}
-use Rattle.racp_delay.specs.Alternatives.{place}
 use Rattle.racp_delay.specs.Branching.{IsConflict}
 use Rattle.racp_cutset.specs.Covering.{SearchNode}
 use Rattle.racp_trees.specs.Trees.{IsNodeOf, IsTooLate}

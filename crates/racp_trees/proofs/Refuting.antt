@@ -1,7 +1,7 @@
 -- Trees that hold refute their windows.
 use Rattle.std.proofs.Common.{◌≡◌, inl, inr, ◌∙◌, ℕ, ◌+◌, ◌<◌, ◌≤◌, List, [], ◌∷◌, ◌++◌, length, slice_index, Contains, arith, refl, sym, subst, ap}
 use Rattle.std.proofs.lemmas.List.Elements.{Contains-append_cases}
-use Rattle.racp_model.specs.Project.{Project, IsSound}
+use Rattle.racp_model.specs.Project.{Project, place, IsSound}
 use Rattle.racp_model.specs.Path.{IsEarly}
 use Rattle.racp_model.specs.Schedule.{roof, Admits}
 use Rattle.racp_model.specs.Terms.{release_of, due_of, IsBefore}
@@ -14,7 +14,6 @@ use Rattle.racp_model.proofs.lemmas.Costs.{before_trans}
 use Rattle.racp_model.proofs.lemmas.Cuts.{cut, cut-at, cut_places, cut_admitting, cut-no_later}
 use Rattle.racp_cpm.proofs.lemmas.Rooted.{fits-answers}
 use Rattle.racp_prices.proofs.lemmas.Ceilings.{cut-below}
-use Rattle.racp_delay.specs.Alternatives.{place}
 use Rattle.racp_delay.specs.Laws.{ChildrenCover}
 use Rattle.racp_cutset.specs.Covering.{SearchNode, IsNode}
 use Rattle.racp_cutset.specs.Laws.{CoveringRefutes}

@@ -3,12 +3,11 @@ use Rattle.std.proofs.Common.{◌≡◌, ◌↔◌, ◌⊎◌, inl, inr, ℕ, �
 use Rattle.std.proofs.lemmas.List.Kept.{AllPairs-from_increasing}
 use Rattle.std.proofs.lemmas.Bool.{cases_lt}
 use Rattle.std.specs.List.Sorted.{IsStrictlyIncreasing}
-use Rattle.racp_model.specs.Project.{Project, number, IsNumber, IsSound}
+use Rattle.racp_model.specs.Project.{Project, number, place, IsNumber, IsSound}
 use Rattle.racp_model.specs.Path.{IsEarly}
+use Rattle.racp_model.specs.JobSets.{AreJobs, IsInserted}
 use Rattle.racp_model.proofs.lemmas.Relations.{no_member, same_from_members}
 use Rattle.racp_cpm.proofs.lemmas.Bounded.{some_starts}
-use Rattle.racp_delay.specs.Alternatives.{place}
-use Rattle.racp_delay.specs.JobSets.{AreJobs, IsInserted}
 use Rattle.racp_cutset.specs.Covering.{SearchNode, IsNode, IsStarted, AreStartedBefore, Covers, FitsBeforeTime}
 use Rattle.racp_cutset.specs.Told.{started_from_sets}
 use Rattle.racp_trees.specs.Records.{IsRecordOf, RecordCovers}

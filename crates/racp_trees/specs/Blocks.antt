@@ -18,7 +18,7 @@ pub record IsBetween (p : Project) (reader : Reader) : Type 0 where
   pub rows : HaveRows p reader.closed
   pub none_open : reader.branches.items ≡ []
 
--- a block was read from a text: its vector and what is left, and that the text is a certificate's rest exactly where that is
+-- a block was read from a text: its vector and what is left, and that the text is a certificate's rest exactly if that is
 pub record HasReadBlock (p : Project) (root : Bounds) (old : Reader) (text : List ℕ) (new : Reader) (vector rest : List ℕ) : Type 0 where
   pub between : IsBetween p new
   pub places : (node : ℕ) → HasPlace old.closed node → HasPlace new.closed node
@@ -30,13 +30,13 @@ pub record HasReadBlock (p : Project) (root : Bounds) (old : Reader) (text : Lis
       (later : List (ℕ × SearchNode)) × HasRead p root.upper later new ×
       (IsRest p wanted root vectors nodes old.number text ↔ IsRest p wanted root (vectors ++ vector ∷ []) later new.number rest)
 
--- what reading a block answers: its vector and what is left, or none where no more of a certificate can stand there than the last line
+-- what reading a block answers: its vector and what is left, or none if no more of a certificate can stand there than the last line
 abbrev pub IsBlockRead : Project → Bounds → Reader → List ℕ → Reader → Option (Vec ℕ Global × Bor (List ℕ)) → Type 0
 IsBlockRead p root old text new (Some x) = HasReadBlock p root old text new x.0.items x.1.now
 IsBlockRead p root old text new None =
     (wanted vectors : List (List ℕ)) (nodes : List (ℕ × SearchNode)) → HasRead p root.upper nodes old → IsRest p wanted root vectors nodes old.number text → text ≡ last_line
 
--- what reading all blocks answers: their vectors, or none where the text is no certificate's rest
+-- what reading all blocks answers: their vectors, or none if the text is no certificate's rest
 abbrev pub AreBlocksRead : Project → Bounds → Reader → List ℕ → Option (Vec (Vec ℕ Global) Global) → Type 0
 AreBlocksRead p root reader text (Some found) =
     (wanted : List (List ℕ)) (nodes : List (ℕ × SearchNode)) → HasRead p root.upper nodes reader → IsRest p wanted root [] nodes reader.number text ↔ (rows_of found.items ≡ wanted)

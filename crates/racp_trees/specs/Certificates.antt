@@ -41,7 +41,7 @@ pub record HasBlocks (p : Project) (root : Bounds) (vectors : List (List ℕ)) (
 abbrev pub rows_of : List (Vec ℕ Global) → List (List ℕ)
 rows_of rows = map (λ (row : Vec ℕ Global). row.items) rows
 
--- the vectors of the blocks of a text, or none where it is not one of blocks that hold
+-- the vectors of the blocks of a text, or none if it is not one of blocks that hold
 abbrev pub IsBlocksAnswer : Project → Bounds → List ℕ → Option (Vec (Vec ℕ Global) Global) → Type 0
 IsBlocksAnswer p root text (Some found) = (vectors : List (List ℕ)) → HasBlocks p root vectors text ↔ (rows_of found.items ≡ vectors)
 IsBlocksAnswer p root text None = (vectors : List (List ℕ)) → HasBlocks p root vectors text → ⊥

@@ -32,12 +32,12 @@ pub record IsClaim (c : Claim) : Type 0 where
   pub roofs : length c.roofs.now ≡ c.net.now.resources
   pub capacities : length c.capacities.now ≡ c.net.now.resources
 
--- such a vector, or none where the blocks are enough
+-- such a vector, or none if the blocks are enough
 abbrev pub IsGapAnswer : Claim → List (Vec ℕ Global) → Option (Vec ℕ Global) → Type 0
 IsGapAnswer c blocks (Some low) = IsGap c.net.now c.order.now c.roofs.now c.capacities.now blocks low.items
 IsGapAnswer c blocks None = AreEnoughBlocks c.net.now c.order.now c.roofs.now c.capacities.now blocks
 
--- the place of the first block at or above a vector, or none where none is
+-- the place of the first block at or above a vector, or none if none is
 abbrev pub IsBlockAnswer : List (Vec ℕ Global) → List ℕ → Option ℕ → Type 0
 IsBlockAnswer blocks v (Some k) = (k < length blocks) × ((d : Vec ℕ Global) → IsAtMost (length v) v (slice_index_or blocks k d).items)
 IsBlockAnswer blocks v None = IsBelowSome (length v) blocks v → ⊥
@@ -66,6 +66,6 @@ pub record AreParts (n : ℕ) (low high block : List ℕ) (m : ℕ) (parts : Lis
   pub only : (part : Part) → Contains parts part → (k : ℕ) × IsPartAt n low high block k part
   pub few : length parts ≤ m
 
--- the parts of a box, added behind others
+-- the parts of a box, added after others
 abbrev pub ArePartsAdded : ℕ → List ℕ → List ℕ → List ℕ → List Part → List Part → Type 0
 ArePartsAdded n low high block old new = (found : List Part) × (new ≡ old ++ found) × AreParts n low high block n found

@@ -20,11 +20,11 @@ pub record OpenNode : Type 0 where
   pub active : List ℕ
   pub last : List ℕ
 
--- the same, where the children of one alternative more were read
+-- the same, if the children of one alternative more were read
 abbrev pub read_on : OpenNode → List ℕ → OpenNode
 read_on f gone = record { number = f.number; node = f.node; active = f.active; last = gone }
 
--- the alternatives of its active jobs behind the one that was read last, in their order
+-- the alternatives of its active jobs after the one that was read last, in their order
 pub record AreBehind (p : Project) (f : OpenNode) (lists : List (List ℕ)) : Type 0 where
   pub all : (gone : List ℕ) → IsMinimalDelayingAlternative p f.node.capacities f.active gone → IsLexBefore f.last gone → Contains lists gone
   pub only : (gone : List ℕ) → Contains lists gone → IsMinimalDelayingAlternative p f.node.capacities f.active gone × IsLexBefore f.last gone
@@ -76,7 +76,7 @@ pub record IsOpened (p : Project) (capacities : List ℕ) (window : Bounds) (tim
   pub at : v.time ≡ time
   pub clash : IsConflict p v.capacities v.early v.time active
 
--- what a line asks of the window's node, and of the text behind it
+-- what a line asks of the window's node, and of the text after it
 abbrev pub IsStepped : Project → List ℕ → Ending → List (ℕ × SearchNode) → ℕ → Bounds → List OpenNode → Step → List ℕ → Type 0
 IsStepped p capacities Ends closed n window frames (L job) more =
     ((v : SearchNode) × IsNodeOf p capacities window v × IsTooLate p v job) × Follow p capacities Ends closed (n + 1) frames more
@@ -86,7 +86,7 @@ IsStepped p capacities Ends closed n window frames (D time) more =
     (v : SearchNode) × (active : List ℕ) × IsOpened p capacities window time v active ×
     Follow p capacities Ends closed (n + 1) (record { number = n; node = v; active = active; last = [] } ∷ frames) more
 
--- a text ends with blocks that hold and the last line, and behind the vectors so far theirs are all that are wanted
+-- a text ends with blocks that hold and the last line, and after the vectors so far theirs are all that are wanted
 pub record IsRest (p : Project) (wanted : List (List ℕ)) (root : Bounds) (vectors : List (List ℕ)) (closed : List (ℕ × SearchNode)) (n : ℕ) (text : List ℕ) : Type 0 where
   pub blocks : List Block
   pub whole : text ≡ flat_map block_text blocks ++ last_line

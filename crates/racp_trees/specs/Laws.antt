@@ -9,7 +9,7 @@ use Rattle.racp_cutset.specs.Covering.{SearchNode}
 use Rattle.racp_trees.specs.Trees.{Trees, divided, Hold, AreRefutedNodes}
 use Rattle.racp_trees.specs.Certificates.{IsCertificate}
 
--- trees that hold for windows, where the nodes that were closed before are refuted: each window's question is a no, and the
+-- trees that hold for windows, if the nodes that were closed before are refuted: each window's question is infeasible, and the
 -- nodes that they close are refuted
 abbrev pub TreesRefute : Type 0
 TreesRefute =
@@ -18,7 +18,7 @@ TreesRefute =
     Hold p capacities closed n windows trees →
     ((window : Bounds) → Contains windows window → IsNo p capacities window) × AreRefutedNodes p (divided n trees)
 
--- where a text is a certificate, no capacities that are enough stand before the plan's
+-- if a text is a certificate, no capacities that are enough stand before the plan's
 abbrev pub CertificateProves : Type 0
 CertificateProves =
     (p : Project) (terms : Terms) (capacities text : List ℕ) → IsSound p → AreTermsOf p terms → IsCertificate p terms capacities text →

@@ -67,7 +67,7 @@ pub record HasMadeTree (p : Project) (capacities : List ℕ) (root : Bounds) (ol
       (later : List (ℕ × SearchNode)) × HasRead p root.upper later new ×
       (IsRest p wanted root vectors later new.number rest → AsksNext p capacities wanted root vectors nodes old root.lower (lines ++ rest))
 
--- a block was added to a text: where a certificate's rest follows, with its vector among those so far, the block and that are one
+-- a block was added to a text: if a certificate's rest follows, with its vector among those so far, the block and that are one
 pub record HasMadeBlock (p : Project) (capacities : List ℕ) (root : Bounds) (old : Reader) (text : List ℕ) (new : Reader) (whole : List ℕ) : Type 0 where
   pub lines : List ℕ
   pub added : whole ≡ text ++ lines
@@ -77,7 +77,7 @@ pub record HasMadeBlock (p : Project) (capacities : List ℕ) (root : Bounds) (o
       (later : List (ℕ × SearchNode)) × HasRead p root.upper later new ×
       (IsRest p wanted root (vectors ++ capacities ∷ []) later new.number rest → IsRest p wanted root vectors nodes old.number (lines ++ rest))
 
--- a block was added to a text, and its vector behind those so far
+-- a block was added to a text, and its vector after those so far
 pub record HasAddedBlock (p : Project) (root : Bounds) (old : Reader) (before : List (Vec ℕ Global)) (text : List ℕ) (new : Reader) (blocks : List (Vec ℕ Global)) (whole : List ℕ) : Type 0 where
   pub block : Vec ℕ Global
   pub places : length block.items ≡ p.resources

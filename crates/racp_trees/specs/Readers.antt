@@ -49,7 +49,7 @@ pub record IsOpenedBy (p : Project) (capacities : List ℕ) (window : Bounds) (t
   pub branches : new.branches.items ≡ old.branches.items ++ branch ∷ []
   pub closed : new.closed ≡ old.closed
 
--- whether a line holds of the node of a window; where it divides the node, that is open then
+-- whether a line holds of the node of a window; if it divides the node, that is open then
 abbrev pub IsLineAnswer : Project → List ℕ → Bounds → Reader → Step → Bool → Reader → Type 0
 IsLineAnswer p capacities window old (L job) yes' new =
     (new.branches.items ≡ old.branches.items) × (new.closed ≡ old.closed) × (IsTrue yes' ↔ ((v : SearchNode) × IsNodeOf p capacities window v × IsTooLate p v job))
@@ -59,7 +59,7 @@ IsLineAnswer p capacities window old (C node) yes' new =
 IsLineAnswer p capacities window old (D time) yes' new =
     MatchBool yes' (IsOpenedBy p capacities window time old new) ((v : SearchNode) (active : List ℕ) → IsOpened p capacities window time v active → ⊥)
 
--- what has to follow the tree of a block: the rest of a certificate, where these are the vectors of all blocks and of those so far
+-- what has to follow the tree of a block: the rest of a certificate, if these are the vectors of all blocks and of those so far
 abbrev pub rest_of : Project → List (List ℕ) → Bounds → List (List ℕ) → Ending
 rest_of p wanted root vectors = λ closed n text. IsRest p wanted root vectors closed n text
 
@@ -68,7 +68,7 @@ abbrev pub Asks : Project → List ℕ → List (List ℕ) → Bounds → List (
 Asks p capacities wanted root vectors nodes reader text =
     Follow p capacities (rest_of p wanted root vectors) nodes reader.number (open_nodes capacities root.upper reader.branches.items) text
 
--- the same, where the tree of the window with these lower bounds is next
+-- the same, if the tree of the window with these lower bounds is next
 abbrev pub AsksNext : Project → List ℕ → List (List ℕ) → Bounds → List (List ℕ) → List (ℕ × SearchNode) → Reader → List ℕ → List ℕ → Type 0
 AsksNext p capacities wanted root vectors nodes reader lower text =
     IsNext p capacities (rest_of p wanted root vectors) nodes reader.number (record { lower = lower; upper = root.upper }) (open_nodes capacities root.upper reader.branches.items) text
@@ -111,7 +111,7 @@ IsGoneOn p capacities old branch new (Some lower) =
 IsGoneOn p capacities old branch new None =
     IsClosedBy p capacities old branch new × ((upper : List ℕ) → IsReadUp p (open_node capacities upper branch))
 
--- the tree of the root window was read from a text: what is left, and that the text is a certificate's rest exactly where that is
+-- the tree of the root window was read from a text: what is left, and that the text is a certificate's rest exactly if that is
 pub record HasReadTree (p : Project) (capacities : List ℕ) (root : Bounds) (old : Reader) (text : List ℕ) (new : Reader) (rest : List ℕ) : Type 0 where
   pub ready : IsReady p capacities new
   pub places : (node : ℕ) → HasPlace old.closed node → HasPlace new.closed node
@@ -124,7 +124,7 @@ pub record HasReadTree (p : Project) (capacities : List ℕ) (root : Bounds) (ol
       (later : List (ℕ × SearchNode)) × HasRead p root.upper later new ×
       (AsksNext p capacities wanted root vectors nodes old root.lower text ↔ IsRest p wanted root vectors later new.number rest)
 
--- what reading a tree answers: what is left, or none where a text does not begin with one that holds
+-- what reading a tree answers: what is left, or none if a text does not begin with one that holds
 abbrev pub IsTreeAnswer : Project → List ℕ → Bounds → Reader → List ℕ → Reader → Option (Bor (List ℕ)) → Type 0
 IsTreeAnswer p capacities root old text new (Some rest) = HasReadTree p capacities root old text new rest.now
 IsTreeAnswer p capacities root old text new None =

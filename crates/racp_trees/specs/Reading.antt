@@ -7,32 +7,32 @@ use Rattle.racp_trees.specs.Texts.{step_line, step_number, vector_line, most_num
 use Rattle.racp_trees.specs.declared.step.Step.{Step}
 use Rattle.racp_trees.specs.declared.step.Step.TheVariants.{C}
 
--- what stands behind these words, or none where a text begins otherwise
+-- what stands after these words, or none if a text begins otherwise
 abbrev pub IsBehind : List ℕ → List ℕ → Option (Bor (List ℕ)) → Type 0
 IsBehind words text (Some rest) = text ≡ words ++ rest.now
 IsBehind words text None = (rest : List ℕ) → text ≡ words ++ rest → ⊥
 
--- the number that digits spell, or none where they spell none up to the greatest
+-- the number that digits spell, or none if they spell none up to the greatest
 abbrev pub IsSpelled : List ℕ → Option ℕ → Type 0
 IsSpelled digits (Some n) = (n ≤ most_number) × (digits ≡ decimal n)
 IsSpelled digits None = (n : ℕ) → n ≤ most_number → digits ≡ decimal n → ⊥
 
--- the number that a text begins with and what stands behind it and this byte, or none
+-- the number that a text begins with and what stands after it and this byte, or none
 abbrev pub IsNumberBefore : ℕ → List ℕ → Option (ℕ × Bor (List ℕ)) → Type 0
 IsNumberBefore end text (Some x) = (x.0 ≤ most_number) × (text ≡ decimal x.0 ++ end ∷ x.1.now)
 IsNumberBefore end text None = (n : ℕ) (rest : List ℕ) → n ≤ most_number → text ≡ decimal n ++ end ∷ rest → ⊥
 
--- the same behind words
+-- the same after words
 abbrev pub IsNumberOn : List ℕ → List ℕ → Option (ℕ × Bor (List ℕ)) → Type 0
 IsNumberOn words text (Some x) = (x.0 ≤ most_number) × (text ≡ words ++ (decimal x.0 ++ 10 ∷ x.1.now))
 IsNumberOn words text None = (n : ℕ) (rest : List ℕ) → n ≤ most_number → text ≡ words ++ (decimal n ++ 10 ∷ rest) → ⊥
 
--- the line of a tree that a text begins with, and what stands behind it, or none
+-- the line of a tree that a text begins with, and what stands after it, or none
 abbrev pub IsStepAnswer : List ℕ → Option (Step × Bor (List ℕ)) → Type 0
 IsStepAnswer text (Some x) = (step_number x.0 ≤ most_number) × (text ≡ step_line x.0 ++ x.1.now)
 IsStepAnswer text None = (step : Step) (more : List ℕ) → step_number step ≤ most_number → text ≡ step_line step ++ more → ⊥
 
--- the vector of so many numbers on the line that a text begins with, and what stands behind it, or none
+-- the vector of this many numbers on the line that a text begins with, and what stands after it, or none
 abbrev pub IsVectorAnswer : ℕ → List ℕ → Option (Vec ℕ Global × Bor (List ℕ)) → Type 0
 IsVectorAnswer count text (Some x) =
     (length x.0.items ≡ count) × All (λ n. n ≤ most_number) x.0.items × (text ≡ vector_line x.0.items ++ x.1.now)

@@ -7,11 +7,11 @@ use Rattle.racp_trees.specs.Reading.{IsNamed}
 use Rattle.racp_trees.specs.declared.record.Record.{Record}
 use Rattle.racp_trees.specs.declared.closed.Closed.{Closed}
 
--- how long a bound is behind a time, as far as two bytes can tell
+-- how long a bound is after a time, as far as two bytes can tell
 abbrev pub wait_of : ℕ → ℕ → ℕ
 wait_of bound time = min 65535 (bound - time)
 
--- the bound that a wait tells: behind the time, or, where two bytes are not enough, the far one
+-- the bound that a wait tells: after the time, or, if two bytes are not enough, the far one
 abbrev pub bound_by : ℕ → ℕ → ℕ → ℕ
 bound_by time wait far = if wait == 65535 then max time far else time + wait
 
@@ -19,7 +19,7 @@ bound_by time wait far = if wait == 65535 then max time far else time + wait
 abbrev pub bound_at : Record → ℕ → ℕ
 bound_at kept i = bound_by kept.time (slice_index kept.waits.items i) (slice_index kept.far.value.items i)
 
--- the record of a node: of each job its end, if it is started, and its lower bound else; and the node's time where that is later
+-- the record of a node: of each job its end, if it is started, and its lower bound else; and the node's time if that is later
 pub record IsRecordOf (p : Project) (v : SearchNode) (kept : Record) : Type 0 where
   pub capacities : kept.capacities.items ≡ v.capacities
   pub time : kept.time ≡ v.time
@@ -49,7 +49,7 @@ pub record HasRows (p : Project) (kept : Record) : Type 0 where
   pub capacities : length kept.capacities.items ≡ p.resources
   pub bounds : length kept.waits.items ≡ length p.jobs
 
--- what is kept for the node with a number: none where no line names it, and no record where it is not closed
+-- what is kept for the node with a number: none if no line names it, and no record if it is not closed
 abbrev pub record_at : Closed → ℕ → Option (Option Record)
 record_at closed number = get nat_eq closed.records number
 
@@ -58,7 +58,7 @@ pub record AreNamed (text : List ℕ) (closed : Closed) : Type 0 where
   pub named : (node : ℕ) → IsNamed text node → (place : Option Record) × (record_at closed node ≡ Some place)
   pub empty : (node : ℕ) (kept : Record) → record_at closed node ≡ Some (Some kept) → ⊥
 
--- the record is kept where the node has a place
+-- the record is kept if the node has a place
 pub record IsKept (old : Closed) (number : ℕ) (kept : Record) (new : Closed) : Type 0 where
   pub others : (node : ℕ) → node ≢ number → record_at new node ≡ record_at old node
   pub named : (place : Option Record) → record_at old number ≡ Some place → record_at new number ≡ Some (Some kept)

@@ -1,9 +1,8 @@
--- Trees of nodes of the search, as a certificate has them: each line says why the question of its node is a no.
+-- Trees of nodes of the search, as a certificate has them: each line says why the question of its node is infeasible.
 use Rattle.std.specs.Prelude.{◌≡◌, ℕ, ◌+◌, ◌<◌, ◌≤◌, List, [], ◌∷◌, ◌++◌, length, slice_index, Contains}
-use Rattle.racp_model.specs.Project.{Project, IsNumber}
+use Rattle.racp_model.specs.Project.{Project, place, IsNumber}
 use Rattle.racp_model.specs.Path.{IsEarly}
 use Rattle.racp_model.specs.Window.{Bounds, IsNo}
-use Rattle.racp_delay.specs.Alternatives.{place}
 use Rattle.racp_delay.specs.Branching.{IsFirstExcess, IsConflict}
 use Rattle.racp_cutset.specs.Covering.{SearchNode, IsNode, Covers}
 use Rattle.racp_trees.specs.Children.{AreChildren}
@@ -24,7 +23,7 @@ lines_of (tree v step children others) = step ∷ (lines_of children ++ lines_of
 abbrev pub node_count : Trees → ℕ
 node_count trees = length (lines_of trees)
 
--- the nodes of D lines, each with its number, where the first node of the trees has number n: what a C line after the trees
+-- the nodes of D lines, each with its number, if the first node of the trees has number n: what a C line after the trees
 -- may name
 unfoldable pub divided : ℕ → Trees → List (ℕ × SearchNode)
 divided n none = []

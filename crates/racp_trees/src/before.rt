@@ -1,3 +1,5 @@
+//! How capacity vectors of a certificate stand to each other.
+
 ghost use Rattle.std.specs.Prelude.{◌≡◌, ◌↔◌, ◌≤◌, ℕ, ◌<◌, IsTrue, IsSome, IfSome, IfNone, Contains, length, slice_index, slice_index_or};
 ghost use Rattle.racp_model.specs.Terms.{IsBefore};
 ghost use Rattle.racp_trees.specs.Enough.{IsAtMost, IsBlockAnswer, IsClaim};

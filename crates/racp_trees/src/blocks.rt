@@ -1,3 +1,5 @@
+//! Reading a certificate, block by block.
+
 ghost use Rattle.std.specs.Prelude.{◌≡◌, ◌↔◌, ◌+◌, ◌<◌, ◌^◌, ℕ, IfOk, IsTrue, length};
 ghost use Rattle.racp_model.specs.Formed.{HasBounds};
 ghost use Rattle.racp_trees.specs.Texts.{last_line};
@@ -12,8 +14,8 @@ use crate::reading::{behind, read_vector};
 use racp_model::{Capacities, Network, Window};
 use std::alloc::{AllocError, Global};
 
-/// The capacity vectors of the blocks of a certificate's text, in their order; `None` where the text is not one of blocks that
-/// hold with the root window. Whether the blocks are enough is not looked at.
+/// The capacity vectors of the blocks of a certificate's text, in their order; `None` if the text is not one of blocks
+/// that hold with the root window. Whether the blocks are enough is not looked at.
 ///
 /// # Errors
 ///
@@ -34,7 +36,7 @@ pub fn block_vectors(
     read_blocks(alloc, net, root, reader, rest)
 }
 
-/// The vectors of the blocks that a text has up to its last line, or `None` where it has other lines.
+/// The vectors of the blocks that a text has up to its last line, or `None` if it has other lines.
 fn read_blocks(
     alloc: Global,
     net: &Network,
@@ -62,8 +64,8 @@ fn read_blocks(
     }
 }
 
-/// Reads the block that a text begins with, and answers its vector and what stands behind it; `None` where the text does not
-/// begin with a block that holds.
+/// Reads the block that a text begins with, and answers its vector and what stands after it; `None` if the text does
+/// not begin with a block that holds.
 fn read_block<'t>(
     alloc: Global,
     net: &Network,

@@ -7,8 +7,8 @@ ghost use Rattle.racp_trees.specs.Records.{IsRecordOf};
 ghost use Rattle.racp_trees.specs.Branches.{open_node, IsBranch, IsChildAnswer, IsAlternativeAnswer, IsWindowAnswer, IsRaised};
 
 use crate::record::Record;
-use racp_delay::{Alternative, JobSet, first_end, laws};
-use racp_model::{Capacities, Network, Starts};
+use racp_delay::{Alternative, first_end, laws};
+use racp_model::{Capacities, JobSet, Network, Starts};
 use std::alloc::{AllocError, Global};
 use std::cmp::max;
 use std::rc::Rc;
@@ -26,7 +26,7 @@ pub(crate) struct Branch {
 }
 
 impl Branch {
-    /// The lower bounds of the next child window, or `None` where no child is to come. Looks for one alternative alone.
+    /// The lower bounds of the next child window, or `None` if no child is to come. Looks for one alternative alone.
     pub(crate) fn next_child(
         &mut self,
         alloc: Global,
@@ -50,7 +50,7 @@ impl Branch {
         Ok(Some(lower))
     }
 
-    /// What is kept of the node once it is closed. It shares the row of usual bounds where it can.
+    /// What is kept of the node once it is closed. It shares the row of usual bounds if it can.
     pub(crate) fn record(
         &self,
         alloc: Global,
@@ -74,7 +74,7 @@ impl Branch {
         Ok(kept)
     }
 
-    /// The next alternative behind the one whose child was read last.
+    /// The next alternative after the one whose child was read last.
     fn next_alternative(
         &self,
         alloc: Global,
@@ -93,7 +93,7 @@ impl Branch {
         Ok(Some(copied(alloc, next.jobs())?))
     }
 
-    /// The lower bounds of the child window of an alternative, or `None` where no active job stays.
+    /// The lower bounds of the child window of an alternative, or `None` if no active job stays.
     fn child_of(
         &self,
         alloc: Global,
@@ -114,7 +114,7 @@ impl Branch {
     }
 }
 
-/// The same numbers.
+/// A copy of the numbers.
 pub(crate) fn copied(alloc: Global, numbers: &[u32]) -> Result<Vec<u32>, AllocError>
     ensures { IfOk result (λ copy. copy.items ≡ numbers.now) }
 {
@@ -144,7 +144,7 @@ fn is_among(jobs: &[u32], job: u32) -> bool
     jobs.contains(&job)
 }
 
-/// The later of two times, where it is to be; else the first one.
+/// The later of two times, if it is to be; else the first one.
 fn later(time: u32, end: u32, goes: bool) -> u32
     ensures { MatchBool goes (result ≡ max time end) (result ≡ time) }
 {

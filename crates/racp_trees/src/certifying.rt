@@ -14,11 +14,12 @@ ghost use Rattle.racp_trees.specs.Texts.{first_line, last_line};
 use crate::before::{is_at_most, is_before};
 use crate::claim::Claim;
 use crate::enough::gap;
-use crate::maker::{MOST_BYTES, Maker};
+use crate::maker::Maker;
 use crate::reader::Ground;
 use crate::writer::push_vector;
 use racp_model::{Capacities, Network, Window};
 use racp_prices::Order;
+use racp_text::MOST_TEXT_BYTES;
 use std::alloc::{AllocError, Global};
 
 /// How many blocks a certificate has at most. One has 13 bytes or more.
@@ -33,10 +34,10 @@ struct Given<'a> {
     hints: &'a [Vec<u32>],
 }
 
-/// A certificate that no capacities before these are enough; or `None` where none was made, since some capacities before
-/// them are enough, or it would have more than 16,777,216 bytes. Blocks are made while some vector up to the roofs stands
-/// before the capacities and is above each block: for one of the hints at or above it, or else for a vector before the
-/// capacities that is as great as can be. A hint is a capacity vector, by place from 0, of which the caller
+/// A certificate that no capacities before these are enough; or `None` if none was made, since some capacities before
+/// them are enough, or it would have more than 16,777,216 bytes. Blocks are made while some vector up to the roofs
+/// stands before the capacities and is above each block: for one of the hints at or above it, or else for a vector
+/// before the capacities that is as great as can be. A hint is a capacity vector, by place from 0, of which the caller
 /// knows that it is not enough; others cost the certificate. There are a roof, cut to the ceiling, and a capacity for
 /// each resource, and the window is the root window of the order.
 ///
@@ -70,7 +71,7 @@ pub fn certificate(
     Ok(if is_made { Some(text) } else { None })
 }
 
-/// Adds the lines behind the first one. False where some block was not made, or the text has too many bytes.
+/// Adds the lines after the first one. False if some block was not made, or the text has too many bytes.
 fn push_rest(alloc: Global, given: &Given, text: &mut Vec<u8>) -> Result<bool, AllocError>
     requires given { IsGiven given.now }
     requires begun { text.old.items ≡ first_line }
@@ -80,7 +81,7 @@ fn push_rest(alloc: Global, given: &Given, text: &mut Vec<u8>) -> Result<bool, A
     push_blocks(alloc, given, &mut maker, text)
 }
 
-/// Adds blocks until they are enough, and then the last line. False where some block was not made, or the text has too
+/// Adds blocks until they are enough, and then the last line. False if some block was not made, or the text has too
 /// many bytes.
 fn push_blocks(
     alloc: Global,
@@ -109,15 +110,15 @@ fn push_blocks(
     Ok(false)
 }
 
-/// Adds the last line. False where the text has too many bytes.
+/// Adds the last line. False if the text has too many bytes.
 fn push_end(text: &mut Vec<u8>) -> Result<bool, AllocError>
     ensures { IfOk result (λ _. text.new.items ≡ text.old.items ++ last_line) }
 {
     text.extend_from_slice(b"end\n")?;
-    Ok(text.len() <= MOST_BYTES)
+    Ok(text.len() <= MOST_TEXT_BYTES)
 }
 
-/// Adds a block above a vector that stands before the capacities. False where none was made.
+/// Adds a block above a vector that stands before the capacities. False if none was made.
 fn push_next(
     alloc: Global,
     given: &Given,
@@ -146,7 +147,7 @@ fn push_next(
     Ok(true)
 }
 
-/// Adds the block of these capacities. False where none was made.
+/// Adds the block of these capacities. False if none was made.
 fn push_block(
     alloc: Global,
     maker: &mut Maker,

@@ -3,8 +3,8 @@
 use racp_model::Network;
 use racp_prices::Order;
 
-/// What blocks are to prove: that no capacity vector up to the roofs that stands before the capacities is enough, on the
-/// terms of an order.
+/// What blocks are to prove: that no capacity vector up to the roofs that stands before the capacities is enough, on
+/// the terms of an order.
 #[derive(Clone, Copy)]
 pub(crate) struct Claim<'a> {
     pub(crate) net: &'a Network,

@@ -66,7 +66,7 @@ impl Closed {
         Ok(())
     }
 
-    /// The record of the closed node with a number, or `None` where no such node is closed or no line names it.
+    /// The record of the closed node with a number, or `None` if no such node is closed or no line names it.
     pub(crate) fn record(&self, number: u64) -> Option<&Record>
         ensures { MatchOption result ((kept : Record) → record_at self.now number ≡ Some (Some kept) → ⊥) (λ kept. record_at self.now number ≡ Some (Some kept.now)) }
     {
@@ -85,7 +85,7 @@ fn add_place(records: &mut HashMap<u64, Option<Record>>, number: u64) -> Result<
     Ok(())
 }
 
-/// The node that is named by the line from this place on, or `None` where no line that names one begins there.
+/// The node that is named by the line from this place on, or `None` if no line that names one begins there.
 fn named_at(text: &[u8], at: usize) -> Option<u32>
     requires { at < length text.now }
     ensures { IsNamedAt text.now at result }

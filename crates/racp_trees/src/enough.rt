@@ -1,3 +1,5 @@
+//! Whether the blocks of a certificate are enough.
+
 ghost use Rattle.std.specs.Prelude.{◌≡◌, ◌↔◌, ◌≤◌, ℕ, ◌<◌, IfOk, IsTrue, length, slice_index, slice_index_or};
 ghost use Rattle.racp_model.specs.Project.{IsSound};
 ghost use Rattle.racp_model.specs.Terms.{AreTermsOf};
@@ -10,8 +12,8 @@ use racp_model::Network;
 use racp_prices::Order;
 use std::alloc::{AllocError, Global};
 
-/// Whether each capacity vector up to the roofs that stands before the capacities is at most that of some block. Goes by
-/// boxes of vectors: a box whose least vector is at most some block's goes on as the parts of it that are above that
+/// Whether each capacity vector up to the roofs that stands before the capacities is at most that of some block. Goes
+/// by boxes of vectors: a box whose least vector is at most some block's goes on as the parts of it that are above that
 /// block, each at its first such place.
 ///
 /// # Errors
@@ -41,7 +43,7 @@ pub fn are_enough(
     Ok(gap(alloc, &claim, blocks)?.is_none())
 }
 
-/// A capacity vector up to the roofs that stands before the capacities and is above each block, or `None` where the blocks
+/// A capacity vector up to the roofs that stands before the capacities and is above each block, or `None` if the blocks
 /// are enough.
 pub(crate) fn gap(
     alloc: Global,

@@ -13,7 +13,7 @@ pub fn trees_refute()
     covering_refutes();
 }
 
-/// Where a certificate holds, no capacities that are enough stand before the plan's.
+/// If a certificate holds, no capacities that are enough stand before the plan's.
 pub fn certificate_proves()
     ensures { CertificateProves }
 {

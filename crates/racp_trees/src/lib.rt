@@ -3,12 +3,16 @@
 //! Nodes are numbered from 1; jobs and resources too, and their places in lists count from 0. Times are whole time
 //! units.
 //!
-//! A search that refutes a question leaves a tree of windows behind. A certificate has that tree as lines, a node a
-//! line: `L j` says that the early start of job j exceeds its upper bound, `D t` that the first conflict of the early
-//! starts is at time t, and that the children follow, one for each minimal delaying alternative (Demeulemeester and
-//! Herroelen 1992), and `C n` that the node with number n, which is closed, covers this one. Each tree stands in a
-//! block, behind the capacities that it refutes. Of the five jobs of examples/a.sm with the deadline 4, this refutes 2
-//! units, and so 1 and 0:
+//! A search that refutes a question goes through a tree of windows. A certificate has that tree as lines, one for each
+//! node:
+//!
+//! - `L j`: the early start of job j exceeds its upper bound.
+//! - `D t`: the first conflict of the early starts is at time t. The children follow, one for each minimal delaying
+//!   alternative (Demeulemeester and Herroelen 1992).
+//! - `C n`: the node with number n, which is closed, covers this one.
+//!
+//! Each tree stands in a block, after the capacities that it refutes. For the five jobs of examples/a.sm with the
+//! deadline 4, this text refutes 2 units, and so 1 and 0:
 //!
 //! ```text
 //! proof
@@ -27,26 +31,26 @@
 //!
 //! The text is read line by line. `Follow` in specs/ says what has to come of it while nodes are open, and each line
 //! changes that in one of three ways. Of an open node the reader knows the alternative whose child was read last, and
-//! looks for the one behind it once that child is closed; so no line makes it list alternatives for which the text has
-//! no lines. Of a closed node it keeps a record, two bytes for each job, and only where some line of the text names the
-//! node: which numbers lines name is told by a pass over the text before. The two bytes tell how long the job's bound is
-//! behind the node's time; where they are not enough, as for a job that has to wait long anyhow, the bound stands in a row
-//! that records share.
+//! looks for the next one once that child is closed. So no line makes it list alternatives for which the text has no
+//! lines. Of a closed node it keeps a record, two bytes for each job, but only if some line of the text names the node;
+//! a pass over the text before tells which numbers lines name. The two bytes tell how long after the node's time the
+//! job's bound is. If they are not enough, as for a job that has to wait long anyhow, the bound stands in a row that
+//! records share.
 //!
-//! A certificate is made by a reader of the lines that are chosen (`Maker`): of the next window a late job, if there is
+//! A certificate is made by a reader of the lines that are chosen (`Maker`): for the next window a late job if there is
 //! one, else the newest closed node of the block that covers it, else its first conflict. Each line is written and then
-//! read as any reader reads it, so how it was chosen needs no proof. Blocks are made for vectors above all blocks so far,
-//! until there is none. What `certificate` makes is proved to be a certificate.
+//! read as any reader reads it, so how it was chosen needs no proof. Blocks are made for vectors above all blocks so
+//! far, until there is none. What `certificate` makes is proved to be a certificate.
 //!
-//! Blocks are enough where each vector within the roofs that stands before the plan is at most the vector of some
-//! block. That is decided by boxes of vectors, in `are_enough`: the least vector of a box that is at most a block's
-//! leads to the parts of the box above that block, one for each place that can be the first such place.
+//! Blocks are enough if each vector within the roofs that stands before the plan is at most the vector of some block.
+//! That is decided by boxes of vectors, in `are_enough`: the least vector of a box that is at most a block's leads to
+//! the parts of the box above that block, one for each place that can be the first such place.
 //!
-//! Proved: the vectors of a text are answered exactly where it is one of blocks that hold, and they are those of its
-//! blocks; the tree of a block is read exactly where the text begins with one that holds, and of the closed nodes those
-//! that lines name are known after it; `are_enough` is true exactly where the blocks are enough. In `laws`: trees that
-//! hold refute their windows, and where a text is a certificate, no capacities that are enough stand before the plan's.
-//! Not proved: how many boxes `are_enough` takes; of m blocks and R resources it can be about m ^ (R / 2).
+//! Proved: the vectors of a text are answered exactly if it consists of blocks that hold, and they are those of its
+//! blocks; the tree of a block is read exactly if the text begins with one that holds, and after it the closed nodes
+//! that lines name are known; `are_enough` is true exactly if the blocks are enough. In `laws`: trees that hold refute
+//! their windows, and if a text is a certificate, no capacities that are enough stand before the plan's. Not proved:
+//! how many boxes `are_enough` takes; of m blocks and R resources it can be about m ^ (R / 2).
 #![tactic(auto)]
 
 mod before;

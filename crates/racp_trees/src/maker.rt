@@ -18,11 +18,9 @@ use crate::writer::push_step;
 use racp_cpm::early;
 use racp_delay::{conflict, laws};
 use racp_model::{Network, Starts, Window};
+use racp_text::MOST_TEXT_BYTES;
 use std::alloc::{AllocError, Global};
 use std::rc::Rc;
-
-/// How many bytes a certificate has at most.
-pub(crate) const MOST_BYTES: usize = 16_777_216;
 
 /// A maker of trees: a reader of the lines that it makes itself, and the nodes that may cover others.
 #[derive(Drop)]
@@ -46,7 +44,8 @@ impl Maker {
     }
 
     /// Makes the tree of the root window, and adds its lines to the text. Each line that is chosen is read as a reader
-    /// of the text reads it. False where some window of the tree has starts that fit, or the text would have too many bytes.
+    /// of the text reads it. False if some window of the tree has starts that fit, or the text would have too many
+    /// bytes.
     pub(crate) fn make_tree(
         &mut self,
         alloc: Global,
@@ -63,7 +62,7 @@ impl Maker {
         laws::conflict_is_one();
         self.forget(alloc, ground.net);
         let mut lower = copied(alloc, ground.root.lower())?;
-        while text.len() < MOST_BYTES {
+        while text.len() < MOST_TEXT_BYTES {
             if !self.make_line(alloc, ground, lower, text)? {
                 return Ok(false);
             }
@@ -75,7 +74,7 @@ impl Maker {
         Ok(false)
     }
 
-    /// Makes the line of the window with these lower bounds, adds it to the text, and reads it. False where the window has
+    /// Makes the line of the window with these lower bounds, adds it to the text, and reads it. False if the window has
     /// starts that fit.
     fn make_line(
         &mut self,
@@ -112,7 +111,7 @@ impl Maker {
         self.offers = Offers::new(alloc, net);
     }
 
-    /// A line for the node of the window with these lower bounds, or `None` where its early starts fit. A node that is
+    /// A line for the node of the window with these lower bounds, or `None` if its early starts fit. A node that is
     /// divided may cover others once it is closed.
     fn choose(
         &mut self,
@@ -157,7 +156,7 @@ impl Maker {
         Ok(())
     }
 
-    /// Forgets all closed nodes where there is no room for another one.
+    /// Forgets all closed nodes if there is no room for another one.
     fn make_room(&mut self, alloc: Global, net: &Network)
         ensures { IsThinnedReader self.old.reader self.new.reader }
     {
@@ -178,8 +177,8 @@ impl Maker {
     }
 }
 
-/// The record of the node of a window with these lower bounds and early starts, at this time. It shares the row of usual
-/// bounds where it can.
+/// The record of the node of a window with these lower bounds and early starts, at this time. It shares the row of
+/// usual bounds if it can.
 fn row_of(
     alloc: Global,
     ground: &Ground,

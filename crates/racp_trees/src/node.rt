@@ -1,18 +1,17 @@
 //! What a line says of the node of its window.
 
 ghost use Rattle.std.specs.Prelude.{◌≡◌, ◌↔◌, ◌≤◌, ◌<◌, ℕ, IsTrue, IfOk, List, length, slice_index};
-ghost use Rattle.racp_model.specs.Project.{IsNumber};
+ghost use Rattle.racp_model.specs.Project.{place, IsNumber};
 ghost use Rattle.racp_model.specs.Path.{IsEarly};
-ghost use Rattle.racp_model.specs.Limits.{most_bound, most_early};
-ghost use Rattle.racp_delay.specs.Alternatives.{place};
+ghost use Rattle.racp_model.specs.Limits.{most_early};
 ghost use Rattle.racp_cutset.specs.Covering.{SearchNode};
 ghost use Rattle.racp_trees.specs.Nodes.{IsDivisionAnswer, AreRecords, HaveRows, HasPlace, IsCoveredHere};
 
 use crate::before::is_at_most;
 use crate::closed::Closed;
 use crate::record::Record;
-use racp_delay::{JobSet, conflict};
-use racp_model::{Capacities, Network, Starts};
+use racp_delay::conflict;
+use racp_model::{Capacities, JobSet, Network, Starts};
 use std::alloc::{AllocError, Global};
 use std::rc::Rc;
 
@@ -27,7 +26,7 @@ pub(crate) fn is_too_late(upper: &[u32], early: &[u32], job: u32) -> bool
     upper[job as usize - 1] < early[job as usize - 1]
 }
 
-/// The jobs that are active at the first conflict of early starts, where that is at this time and none of them exceeds
+/// The jobs that are active at the first conflict of early starts, if that is at this time and none of them exceeds
 /// its upper bound; else `None`.
 pub(crate) fn active_at(
     net: &Network,

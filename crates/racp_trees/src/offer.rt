@@ -6,12 +6,11 @@ ghost use Rattle.racp_trees.specs.Records.{HasRows};
 
 use crate::closed::Closed;
 use crate::record::Record;
-use racp_delay::JobSet;
-use racp_model::Network;
+use racp_model::{JobSet, Network};
 use std::alloc::{AllocError, Global};
 use std::collections::HashMap;
 
-/// How many nodes with the same started jobs are looked at; where there are more, the oldest gives way.
+/// How many nodes with the same started jobs are looked at; if there are more, the oldest gives way.
 const MOST_PLACES: usize = 64;
 
 /// How many bytes the records of all nodes take at most, about.
@@ -43,7 +42,7 @@ impl Offers {
         self.room == 0
     }
 
-    /// The number of a closed node that covers one with this record, the newest one; or `None` where none is offered.
+    /// The number of a closed node that covers one with this record, the newest one; or `None` if none is offered.
     pub(crate) fn covering(&self, net: &Network, closed: &Closed, row: &Record) -> Option<u32>
         requires rows { HaveRows net.now closed.now }
         requires row { HasRows net.now row.now }

@@ -1,3 +1,5 @@
+//! Boxes of capacity vectors, and the parts of a box that are above a block.
+
 ghost use Rattle.std.specs.Prelude.{◌≡◌, ◌<◌, ℕ, IfOk, OnOk, length, slice_index, set};
 ghost use Rattle.racp_trees.specs.Enough.{IsPartAt, ArePartsAdded, IsCutBefore};
 

@@ -29,8 +29,8 @@ pub(crate) struct Ground<'a> {
     pub(crate) capacities: &'a Capacities,
 }
 
-/// Where a reader stands: the closed nodes that lines name, the nodes that are open, the innermost last, the number of the
-/// next node, and the bounds that are usual.
+/// Where a reader stands: the closed nodes that lines name, the nodes that are open, the innermost last, the number of
+/// the next node, and the bounds that are usual.
 #[derive(Drop)]
 pub(crate) struct Reader {
     pub(crate) closed: Closed,
@@ -55,7 +55,7 @@ impl Reader {
         })
     }
 
-    /// Reads the tree of the root window, and answers what stands behind it; `None` where a text does not begin with a
+    /// Reads the tree of the root window, and answers what stands after it; `None` if a text does not begin with a
     /// tree that holds.
     pub(crate) fn read_tree<'t>(
         &mut self,
@@ -88,7 +88,7 @@ impl Reader {
         Ok(None)
     }
 
-    /// Whether a line holds of the node of the window with these lower bounds. Where it divides the node, that is open
+    /// Whether a line holds of the node of the window with these lower bounds. If it divides the node, that is open
     /// then.
     pub(crate) fn read_line(
         &mut self,
@@ -162,7 +162,7 @@ impl Reader {
         Ok(true)
     }
 
-    /// The lower bounds of the next window, or `None` where no node is open any more. Open nodes without children to
+    /// The lower bounds of the next window, or `None` if no node is open any more. Open nodes without children to
     /// come are closed.
     pub(crate) fn next_window(
         &mut self,
@@ -183,7 +183,7 @@ impl Reader {
         Ok(None)
     }
 
-    /// The lower bounds of the next child window of a node, which is open then; or `None` where none is to come, and it
+    /// The lower bounds of the next child window of a node, which is open then; or `None` if none is to come, and it
     /// is closed.
     fn go_on(
         &mut self,

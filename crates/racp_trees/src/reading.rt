@@ -8,14 +8,14 @@ use racp_plan::number::{after_words, plain_number};
 use racp_text::cut_at;
 use std::alloc::{AllocError, Global};
 
-/// What stands behind these words, or `None` where a text begins otherwise.
+/// What stands after these words, or `None` if a text begins otherwise.
 pub(crate) fn behind<'a>(text: &'a [u8], words: &str) -> Option<&'a [u8]>
     ensures { IsBehind words.now text.now result }
 {
     after_words(text, words)
 }
 
-/// The number that digits spell, or `None` where they spell none of 32 bits.
+/// The number that digits spell, or `None` if they spell none of 32 bits.
 fn spelled(digits: &[u8]) -> Option<u32>
     ensures { IsSpelled digits.now result }
 {
@@ -27,7 +27,7 @@ fn spelled(digits: &[u8]) -> Option<u32>
     }
 }
 
-/// The number that a text begins with, and what stands behind it and this byte, or `None` where it begins otherwise.
+/// The number that a text begins with, and what stands after it and this byte, or `None` if it begins otherwise.
 fn number_before(text: &[u8], end: u8) -> Option<(u32, &[u8])>
     requires { end < 48 }
     ensures { IsNumberBefore end text.now result }
@@ -37,14 +37,14 @@ fn number_before(text: &[u8], end: u8) -> Option<(u32, &[u8])>
     Some((number, rest))
 }
 
-/// The number behind these words on the first line, and what stands behind that line, or `None` where it is another.
+/// The number after these words on the first line, and what stands after that line, or `None` if it is another.
 fn number_on<'a>(text: &'a [u8], words: &str) -> Option<(u32, &'a [u8])>
     ensures { IsNumberOn words.now text.now result }
 {
     number_before(behind(text, words)?, b'\n')
 }
 
-/// The line of a tree that a text begins with, and what stands behind it, or `None` where it begins with none.
+/// The line of a tree that a text begins with, and what stands after it, or `None` if it begins with none.
 pub(crate) fn read_step(text: &[u8]) -> Option<(Step, &[u8])>
     ensures { IsStepAnswer text.now result }
 {
@@ -58,7 +58,7 @@ pub(crate) fn read_step(text: &[u8]) -> Option<(Step, &[u8])>
     Some((Step::C(node), rest))
 }
 
-/// The vector of so many numbers on the line that a text begins with, and what stands behind it, or `None` where it
+/// The vector of this many numbers on the line that a text begins with, and what stands after it, or `None` if it
 /// begins otherwise.
 pub(crate) fn read_vector(
     alloc: Global,

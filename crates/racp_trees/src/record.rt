@@ -8,8 +8,7 @@ ghost use Rattle.racp_trees.specs.Records.{IsRecordOf, RecordCovers, AreAlike, A
 use crate::before::is_at_most;
 use crate::branch::copied;
 use racp_cutset::started_before;
-use racp_delay::JobSet;
-use racp_model::Network;
+use racp_model::{JobSet, Network};
 use std::alloc::{AllocError, Global};
 use std::cmp::max;
 use std::rc::Rc;
@@ -17,9 +16,9 @@ use std::rc::Rc;
 /// The wait of a job whose bound stands in the row of far bounds.
 const FAR: u16 = u16::MAX;
 
-/// What tells which nodes a closed node covers. It tells one bound for each job: the end of a started job, the lower bound
-/// of another, and the node's time where that is later. It keeps in two bytes how long that is behind the time; where two
-/// bytes are not enough, the bound stands in a row of far bounds, which records share.
+/// What tells which nodes a closed node covers. It tells one bound for each job: the end of a started job, the lower
+/// bound of another, and the node's time if that is later. It keeps in two bytes how long that is after the time; if
+/// two bytes are not enough, the bound stands in a row of far bounds, which records share.
 #[derive(Drop)]
 pub(crate) struct Record {
     pub(crate) capacities: Vec<u32>,
@@ -30,8 +29,8 @@ pub(crate) struct Record {
 }
 
 impl Record {
-    /// The record of a node of these capacities and lower bounds, with these early starts and this time. It shares the row
-    /// of usual bounds where its far bounds are among them.
+    /// The record of a node of these capacities and lower bounds, with these early starts and this time. It shares the
+    /// row of usual bounds if its far bounds are among them.
     pub(crate) fn new(
         alloc: Global,
         net: &Network,
@@ -91,7 +90,7 @@ impl Record {
     }
 }
 
-/// The number at a place, or 0 where there is none.
+/// The number at a place, or 0 if there is none.
 fn number_at(numbers: &[u32], place: usize) -> u32
     ensures { result ≡ slice_index numbers.now place }
 {
@@ -124,7 +123,7 @@ fn bounds_of(
     Ok(bounds)
 }
 
-/// How long each bound is behind a time, as far as two bytes can tell.
+/// How long each bound is after a time, as far as two bytes can tell.
 fn waits_of(alloc: Global, bounds: &[u32], time: u32) -> Result<Vec<u16>, AllocError>
     ensures { IfOk result (λ waits. AreWaits bounds.now time (length bounds.now) waits.items) }
 {
@@ -135,14 +134,14 @@ fn waits_of(alloc: Global, bounds: &[u32], time: u32) -> Result<Vec<u16>, AllocE
     Ok(waits)
 }
 
-/// How long a bound is behind a time, as far as two bytes can tell.
+/// How long a bound is after a time, as far as two bytes can tell.
 fn wait_of(bound: u32, time: u32) -> u16
     ensures { result ≡ wait_of bound time }
 {
     bound.saturating_sub(time).min(FAR as u32) as u16
 }
 
-/// A row in which the far bounds stand: that of usual bounds where they are among those, or else one of their own.
+/// A row in which the far bounds stand: that of usual bounds if they are among those, or else one of their own.
 fn far_of(
     alloc: Global,
     bounds: Vec<u32>,

@@ -14,7 +14,7 @@ use Rattle.racp_words.specs.Tools.{IsToolOf}
 use Rattle.clap.specs.Kinds.{Kinds, or_else}
 use Rattle.clap.specs.ValueTests.{is_unsigned_in}
 use Rattle.clap.specs.declared.error.kind.ErrorKind.TheVariants.{ValueValidation}
-use Rattle.racp_words.specs.declared.request.Crew.{Crew}
+use Rattle.racp_words.specs.declared.request.CrewOptions.{CrewOptions}
 use Rattle.racp_words.specs.declared.request.Request.{Request}
 use Rattle.racp_words.specs.declared.request.Request.TheVariants.{Cpm, Plan, Prove, Check, Verify, Tool}
 use Rattle.racp_words.specs.declared.request.Tool as declared
@@ -180,7 +180,7 @@ unfolding racp clap_on_literals with_crew
 workers_words name a b d net order digits p q r = rw (p, p, q, q, r, r) refl
 
 -- without an option about workers none are asked for
-no_crew : (words : List Row) (crew : Option Crew) → has_crew_option words ≡ false → IsCrew words crew → crew ≡ None
+no_crew : (words : List Row) (crew : Option CrewOptions) → has_crew_option words ≡ false → IsCrew words crew → crew ≡ None
 no_crew words None none asked = refl
 no_crew words (Some crew) none asked = absurd (search (rules, none, asked.0))
 
@@ -223,7 +223,7 @@ some_number : IsUnsignedIn 1 64 [] → ⊥
 some_number in_range = omega (arith, in_range.0.0)
 
 -- where `--workers` alone is given, so many workers are asked for
-workers_crew : (words : List Row) (crew : Option Crew) (number : Text) → first_of (codes "workers") words ≡ Some number → first_of (codes "turns") words ≡ None →
+workers_crew : (words : List Row) (crew : Option CrewOptions) (number : Text) → first_of (codes "workers") words ≡ Some number → first_of (codes "turns") words ≡ None →
     first_of (codes "time-limit") words ≡ None → is_set (codes "stats") words ≡ false → is_set (codes "progress") words ≡ false → IsUnsignedIn 1 64 number → IsCrew words crew → IsOfWorkers (number_in number) crew
 workers_crew words None number workers turns limit stats progress in_range asked =
     let given : has_crew_option words ≡ true = ap (λ (w : Option Text). is_some w || (is_some (first_of (codes "turns") words) || (is_set (codes "stats") words || (is_some (first_of (codes "time-limit") words) || is_set (codes "progress") words)))) workers in

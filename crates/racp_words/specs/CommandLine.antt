@@ -5,7 +5,7 @@ use Rattle.clap.specs.Words.{App, IsUnsignedIn, Row, Text, first_of, new_app, ne
 use Rattle.clap.specs.Words.{with_subcommand}
 use Rattle.racp_words.specs.Rules.{AreOrderFiles, ArePlanFiles, AreProofFiles, IsNumberOf, file_rule, flag_rule, is_set, number_in, number_rule, of_order, of_plan, of_workers}
 use Rattle.racp_words.specs.Tools.{IsNoTool, IsToolOf, curve, explain, show, order as order_app}
-use Rattle.racp_words.specs.declared.request.Crew.{Crew}
+use Rattle.racp_words.specs.declared.request.CrewOptions.{CrewOptions}
 use Rattle.racp_words.specs.declared.request.Request.{Request}
 use Rattle.racp_words.specs.declared.request.Request.TheVariants.{Cpm, Plan, Prove, Check, Verify, Tool}
 use Rattle.racp_words.specs.declared.request.Source.{Source}
@@ -61,7 +61,7 @@ racp_charting = with_subcommand (with_subcommand (with_subcommand racp_checking 
 unfoldable pub racp : App
 racp = with_subcommand racp_charting explain.top
 
--- standard input where no word names a file, or `-` does; else the file of this path
+-- standard input if no word names a file, or `-` does; else the file of this path
 abbrev pub IsSource : Option Text → Source → Type 0
 IsSource word StandardInput = (word ≡ None) ⊎ (word ≡ Some (codes "-"))
 IsSource word (File path) = (word ≡ Some path.now) × (path.now ≢ codes "-")
@@ -81,7 +81,7 @@ IsLimitOf None limit = limit ≡ None
 IsLimitOf (Some word) limit = IsUnsignedIn 1 1000000000 word → limit ≡ Some (number_in word)
 
 -- these workers are asked for; or none, and so one thread
-abbrev pub IsCrew : List Row → Option Crew → Type 0
+abbrev pub IsCrew : List Row → Option CrewOptions → Type 0
 IsCrew words None = has_crew_option words ≡ false
 IsCrew words (Some crew) = (has_crew_option words ≡ true) ×
     IsNumberOf 64 1 (first_of (codes "workers") words) crew.workers ×
@@ -108,7 +108,7 @@ IsRequested (Some command) (Check files) = (command.0 ≡ codes "check") × AreP
 IsRequested (Some command) (Verify files) = (command.0 ≡ codes "verify") × AreProofFiles command.1 files
 IsRequested (Some command) (Tool tool) = IsToolOf command tool
 
--- faults are explained where the command that is named has the flag for it
+-- faults are explained if the command that is named has the flag for it
 abbrev pub is_explained : Option (Text × List Row) → Bool
 is_explained None = false
 is_explained (Some command) = is_set (codes "explain") command.1
@@ -166,14 +166,14 @@ abbrev pub IsWorkersLine : List Text → Text → Text → Text → Type 0
 IsWorkersLine words net order number = (name : Text) × IsPath net × IsPath order × IsUnsignedIn 1 64 number ×
     (words ≡ name ∷ codes "plan" ∷ net ∷ order ∷ codes "--workers" ∷ number ∷ [])
 
--- so many workers, as many pieces as there may be, no limit of time, and nothing is told of them
-abbrev pub IsOfWorkers : ℕ → Option Crew → Type 0
+-- this many workers, as many pieces as there may be, no limit of time, and nothing is told of them
+abbrev pub IsOfWorkers : ℕ → Option CrewOptions → Type 0
 IsOfWorkers workers None = ⊥
 IsOfWorkers workers (Some crew) =
     (crew.workers ≡ workers) × (crew.turns ≡ 1000000000000) × (crew.time_limit ≡ None) × (crew.stats ≡ false) ×
     (crew.progress ≡ false)
 
--- `plan` of the files with these paths, by so many workers, with records of at most 1,024 mebibytes
+-- `plan` of the files with these paths, by this many workers, with records of at most 1,024 mebibytes
 abbrev pub AsksForWorkers : Text → Text → ℕ → Request → Type 0
 AsksForWorkers net order workers (Cpm network) = ⊥
 AsksForWorkers net order workers (Plan files memory crew) =

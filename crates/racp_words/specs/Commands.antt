@@ -22,7 +22,7 @@ rule_of_word (Text id name help) = text_rule id.now
 rule_of_word (Needed id name help) = record (text_rule id.now) { required = true }
 rule_of_word (Flag id help) = flag_rule id.now
 
--- a command with these words behind its own, in this order
+-- a command with these words after its own, in this order
 abbrev pub with_words : App → List Word → App
 with_words app [] = app
 with_words app (word ∷ words) = with_words (with_rule app (rule_of_word word)) words

@@ -71,7 +71,7 @@ pub record AreTerms (words : List Row) (terms : Terms) : Type 0 where
   pub owned : option_map (λ word. word.now) terms.owned ≡ first_of (codes "owned") words
   pub ceiling : option_map (λ word. word.now) terms.ceiling ≡ first_of (codes "ceiling") words
 
--- so many workers are asked for; or none, and so one thread
+-- this many workers are asked for; or none, and so one thread
 abbrev pub AreWorkers : List Row → Option Workers → Type 0
 AreWorkers words None = (is_some (first_of (codes "workers") words) || is_some (first_of (codes "turns") words)) ≡ false
 AreWorkers words (Some workers) =

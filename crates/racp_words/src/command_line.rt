@@ -11,17 +11,17 @@ use crate::commands::{
     MOST_MEBIBYTES, MOST_SECONDS, MOST_TURNS, MOST_WIDTH, MOST_WORKERS, command,
 };
 use crate::request::{
-    Crew, Look, Memory, OrderFiles, PlanFiles, ProofFiles, Request, Source, Task, Terms, Tool,
-    Workers,
+    CrewOptions, Look, Memory, OrderFiles, PlanFiles, ProofFiles, Request, Source, Task, Terms,
+    Tool, Workers,
 };
 use clap::{ArgMatches, Error};
 use racp_show::Form;
 use std::alloc::Global;
 
-/// How many mebibytes records are given where no option says so.
+/// How many mebibytes records are given if no option says so.
 const DEFAULT_MEBIBYTES: u64 = 1024;
 
-/// How many columns a line has where no option says so.
+/// How many columns a line has if no option says so.
 const DEFAULT_WIDTH: u64 = 80;
 
 /// What the words ask for. The first of them is the program's name.
@@ -36,7 +36,7 @@ pub fn asked<'a>(alloc: Global, words: &'a [String]) -> Result<Task<'a>, Error>
     // With `plan` and two paths, too.
     ensures plan { (net order : List ℕ) → IsPlanLine (map string_bytes words.entry.now) net order
         → MatchResult result (λ task. AsksForPlan net order task.request) (λ error. kind_of error ≡ OutOfMemory) }
-    // With `--workers` and a number from 1 to 64 behind these, too.
+    // With `--workers` and a number from 1 to 64 after these, too.
     ensures workers { (net order number : List ℕ) → IsWorkersLine (map string_bytes words.entry.now) net order number
         → MatchResult result (λ task. AsksForWorkers net order (number_in number) task.request) (λ error. kind_of error ≡ OutOfMemory) }
     // With `prove` and two paths, too.
@@ -106,7 +106,7 @@ fn request_named<'a>(name: &str, words: &ArgMatches<'a>) -> Request<'a>
     }
 }
 
-/// The tool with this name that these words ask for, where there is one of the name.
+/// The tool with this name that these words ask for, if there is one of the name.
 fn tool_named<'a>(name: &str, words: &ArgMatches<'a>) -> Option<Tool<'a>>
     ensures some { IfSome result (IsToolOf (name.now, rows_of (found_of words.now))) }
     ensures none { IfNone result (IsNoTool name.now) }
@@ -239,8 +239,8 @@ fn memory_of(words: &ArgMatches<'_>) -> Memory
     }
 }
 
-/// How workers are to make the plan, where an option says so.
-fn crew_of(words: &ArgMatches<'_>) -> Option<Crew>
+/// How workers are to make the plan, if an option says so.
+fn crew_of(words: &ArgMatches<'_>) -> Option<CrewOptions>
     ensures { IsCrew (rows_of (found_of words.now)) result }
 {
     let workers = text_of(words, "workers");
@@ -251,7 +251,7 @@ fn crew_of(words: &ArgMatches<'_>) -> Option<Crew>
     if workers.is_none() && turns.is_none() && !stats && limit.is_none() && !progress {
         return None;
     }
-    Some(Crew {
+    Some(CrewOptions {
         workers: number_of(workers, MOST_WORKERS, 1) as usize,
         turns: number_of(turns, MOST_TURNS, MOST_TURNS),
         time_limit: limit_of(limit),
@@ -260,7 +260,7 @@ fn crew_of(words: &ArgMatches<'_>) -> Option<Crew>
     })
 }
 
-/// How many workers are to make the plans of a curve, where an option says so.
+/// How many workers are to make the plans of a curve, if an option says so.
 fn workers_of(words: &ArgMatches<'_>) -> Option<Workers>
     ensures { AreWorkers (rows_of (found_of words.now)) result }
 {

@@ -25,10 +25,11 @@ pub(crate) const MOST_WIDTH: u64 = 1000;
 /// The most seconds after which planning can be asked to stop.
 pub(crate) const MOST_SECONDS: u64 = 1_000_000_000;
 
-/// The version, and what the program was proved with: the logic is named by its sum, which several kits of the toolchain share.
+/// The version, and what the program was proved with: the logic is named by its sum, which several kits of the
+/// toolchain share.
 const VERSION: &str = "0.1.0\nproved with Rattle, logic dac8208d650f15bf";
 
-/// What stands behind the list of commands.
+/// What stands after the list of commands.
 const BEHIND_HELP: &str =
     "A network is a text as those of PSPLIB (.sm). An order is a text in TOML: \
 deadline = 49, prices = [3, 5, 2, 7].
@@ -304,7 +305,7 @@ fn command_of<'a>(alloc: Global, line: &Line<'a>) -> Result<Command<'a>, AllocEr
     command
 }
 
-/// The command with another below it, where there are both.
+/// The command with another below it, if there are both.
 fn with_command<'a>(
     command: Result<Command<'a>, AllocError>,
     below: Result<Command<'a>, AllocError>,
@@ -315,7 +316,7 @@ fn with_command<'a>(
     command?.subcommand(below?)
 }
 
-/// The command with another argument, where there is one.
+/// The command with another argument, if there is one.
 fn with_argument<'a>(
     command: Result<Command<'a>, AllocError>,
     argument: Arg<'a>,

@@ -1,8 +1,8 @@
 //! The words of the command line of the program `racp`, and what they ask for.
 //!
-//! The library `clap` reads the words: `command` in `commands` tells it the commands of the program and their words, from
-//! a table, and `asked` turns what it found into a `Request`. The crate is apart from the others, so that a change of a
-//! help text leaves them as they were proved. The first of the words is the program's name; words are UTF-8.
+//! The library `clap` reads the words: `command` in `commands` tells it the commands of the program and their words,
+//! from a table, and `asked` turns what it found into a `Task`. The crate is apart from the others, so that a change of
+//! a help text leaves them as they were proved. The first of the words is the program's name; words are UTF-8.
 //!
 //! ```text
 //! words                                    asked(alloc, &words) answers
@@ -10,7 +10,7 @@
 //! racp cpm -                               Cpm(StandardInput)
 //! racp cpm a.sm                            Cpm(File) with the path a.sm
 //! racp plan b.sm b3.toml                   Plan with the paths b.sm and b3.toml, 1,024 MiB, and None: one thread
-//! racp plan b.sm b3.toml --workers 4       the same, and a Crew of 4 workers
+//! racp plan b.sm b3.toml --workers 4       the same, and a CrewOptions of 4 workers
 //! racp plan b.sm b3.toml --memory 64       the same on one thread, with 64 MiB
 //! racp prove b.sm b3.toml                  Prove with the paths b.sm and b3.toml
 //! racp check a.sm a4.toml p                Check with the paths a.sm, a4.toml and p
@@ -25,26 +25,29 @@
 //! racp --help                              an error of the kind DisplayHelp
 //! ```
 //!
-//! Each of the options `--workers N`, `--turns N`, `--stats`, `--time-limit S` and `--progress` asks for a crew: 1 worker,
-//! 1,000,000,000,000 pieces, no limit of time and nothing told, where the others do not say otherwise. `--memory MIB` says
-//! how much memory the records of a search take at most, with a crew or without. `curve` takes the first two and `--memory`.
+//! Each of the options `--workers N`, `--turns N`, `--stats`, `--time-limit S` and `--progress` asks for a crew: 1
+//! worker, 1,000,000,000,000 pieces, no limit of time and nothing told, unless the others say otherwise. `--memory MIB`
+//! says how much memory the records of a search take at most, with or without a crew. `curve` takes the first two and
+//! `--memory`.
 //!
-//! What is asked for is a `Task`: a request, and whether faults are explained, which the flag `--explain` of `cpm`, `plan`,
-//! `check` and `verify` says.
+//! What is asked for is a `Task`: a request, and whether faults are explained, which the flag `--explain` of `cpm`,
+//! `plan`, `check` and `verify` says.
 //!
-//! The commands stand in `specs/` a second time, as values of the library's definitions: `racp`, `cpm`, `plan`, `of_order`,
-//! `of_plan`, `check`, `verify`, `show`, `curve`, `order` and `explain`. What `clap` is proved to do with them says what any words ask for.
+//! The commands stand in `specs/` a second time, as values of the library's definitions: `racp`, `cpm`, `plan`,
+//! `of_order`, `of_plan`, `check`, `verify`, `show`, `curve`, `order` and `explain`. What `clap` is proved to do with
+//! them says what any words ask for.
 //!
 //! Proved: without words, with `cpm`, and with `cpm` and a word that does not begin with a hyphen or is a hyphen alone,
-//! `cpm` is asked for, of standard input or of the file with that path; with `plan` or `prove` and two paths, `check` and
-//! three, and `verify` and four, that command of these files, and `plan` on one thread; with `--workers` and a number from
-//! 1 to 64 behind the two paths, `plan` by a crew of so many. In these cases only memory can fail. A path here is a word that is not empty
-//! and does not begin with a hyphen. For any other words `asked` answers what `clap` is proved to find, or refuses with
-//! the kind of error that it is proved to give: `plan` asks for a crew exactly where `clap` finds one of the five
-//! options, and where it finds a number that is in range the crew has it, or the memory; `show`, `curve`, `order` and `explain` ask for
-//! what their words and flags say (`IsToolOf`), and faults are explained exactly where it finds the flag. No crew has more than 64 workers
-//! or 1,000,000,000,000 pieces, and no more than 1,048,576 MiB are asked for. Tested alone, over the built program: the
-//! texts of help, of the version and of errors.
+//! `cpm` is asked for, of standard input or of the file with that path; with `plan` or `prove` and two paths, `check`
+//! and three, and `verify` and four, that command of these files, and `plan` on one thread; with `--workers` and a
+//! number from 1 to 64 after the two paths, `plan` by a crew of that many workers. In these cases only memory can fail.
+//! A path here is a word that is not empty and does not begin with a hyphen. For any other words `asked` answers what
+//! `clap` is proved to find, or refuses with the kind of error that it is proved to give: `plan` asks for a crew
+//! exactly if `clap` finds one of the five options, and a number that it finds and that is in range is that of the
+//! crew, or of the memory; `show`, `curve`, `order` and `explain` ask for what their words and flags say (`IsToolOf`),
+//! and faults are explained exactly if it finds the flag. No crew has more than 64 workers or 1,000,000,000,000 pieces,
+//! and no more than 1,048,576 MiB are asked for. Tested alone, over the built program: the texts of help, of the
+//! version and of errors.
 #![tactic(auto)]
 
 mod command_line;
@@ -53,6 +56,6 @@ mod request;
 
 pub use command_line::asked;
 pub use request::{
-    Crew, Look, Memory, OrderFiles, PlanFiles, ProofFiles, Request, Source, Task, Terms, Tool,
-    Workers,
+    CrewOptions, Look, Memory, OrderFiles, PlanFiles, ProofFiles, Request, Source, Task, Terms,
+    Tool, Workers,
 };

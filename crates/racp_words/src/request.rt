@@ -16,9 +16,9 @@ pub struct Task<'a> {
 pub enum Request<'a> {
     /// The critical length and the early starts of a network.
     Cpm(Source<'a>),
-    /// The plan of a network on the terms of an order, with so much memory for records: made on one thread, or by workers
-    /// where an option is given.
-    Plan(OrderFiles<'a>, Memory, Option<Crew>),
+    /// The plan of a network on the terms of an order, with so much memory for records: made on one thread, or by
+    /// workers if an option is given.
+    Plan(OrderFiles<'a>, Memory, Option<CrewOptions>),
     /// A certificate for the plan of a network on the terms of an order.
     Prove(OrderFiles<'a>),
     /// Whether a plan is one of a network on the terms of an order.
@@ -33,8 +33,8 @@ pub enum Request<'a> {
 pub enum Tool<'a> {
     /// A picture of a plan of a network on the terms of an order.
     Show(PlanFiles<'a>, Look<'a>),
-    /// What each deadline up to that of an order costs, with so much memory for records: on one thread, or by workers where an
-    /// option is given; as a picture where that is said.
+    /// What each deadline up to that of an order costs, with so much memory for records: on one thread, or by workers
+    /// if an option is given; as a picture if that is said.
     Curve(OrderFiles<'a>, Memory, Option<Workers>, bool),
     /// The text of an order for a network with this path.
     Order(&'a str, Terms<'a>),
@@ -45,9 +45,9 @@ pub enum Tool<'a> {
 /// How a plan is shown.
 #[derive(Drop)]
 pub struct Look<'a> {
-    /// The path of the names of jobs and resources, where there is one.
+    /// The path of the names of jobs and resources, if there is one.
     pub names: Option<&'a str>,
-    /// How many columns a line has at most, 1 to 1,000; 80 where no option says so.
+    /// How many columns a line has at most, 1 to 1,000; 80 if no option says so.
     pub width: u64,
     /// What is written.
     pub form: Form,
@@ -57,15 +57,15 @@ pub struct Look<'a> {
 /// The words for the terms of an order.
 #[derive(Drop)]
 pub struct Terms<'a> {
-    /// By what the critical length is multiplied, where the deadline is told in this way.
+    /// By what the critical length is multiplied, if the deadline is told in this way.
     pub factor: Option<&'a str>,
-    /// The deadline, where it is told itself.
+    /// The deadline, if it is told itself.
     pub deadline: Option<&'a str>,
     /// The prices.
     pub prices: &'a str,
-    /// How many units are owned, where that is told.
+    /// How many units are owned, if that is told.
     pub owned: Option<&'a str>,
-    /// How many units there may be, where that is told.
+    /// How many units there may be, if that is told.
     pub ceiling: Option<&'a str>,
 }
 
@@ -81,19 +81,19 @@ pub struct OrderFiles<'a> {
 /// How much memory the records of refuted nodes of a search take at most, about.
 #[derive(Clone, Copy)]
 pub struct Memory {
-    /// How many mebibytes, 1 to 1,048,576; 1,024 where no option says so.
+    /// How many mebibytes, 1 to 1,048,576; 1,024 if no option says so.
     pub mebibytes: usize,
     pub ghost mebibytes_few: { mebibytes ≤ 1048576 },
 }
 
 /// How workers make a plan.
 #[derive(Clone, Copy)]
-pub struct Crew {
-    /// How many workers there are, 1 to 64; 1 where no option says so.
+pub struct CrewOptions {
+    /// How many workers there are, 1 to 64; 1 if no option says so.
     pub workers: usize,
-    /// How many pieces they take at most, 1 to 1,000,000,000,000; so many where no option says so.
+    /// How many pieces they take at most, 1 to 1,000,000,000,000; the most if no option says so.
     pub turns: u64,
-    /// After how many seconds planning stops, 1 to 1,000,000,000; `None` where no option says so.
+    /// After how many seconds planning stops, 1 to 1,000,000,000; `None` if no option says so.
     pub time_limit: Option<u64>,
     /// Whether the work that was done is told.
     pub stats: bool,
@@ -106,9 +106,9 @@ pub struct Crew {
 /// How many workers make the plans of a curve.
 #[derive(Clone, Copy)]
 pub struct Workers {
-    /// How many workers there are, 1 to 64; 1 where no option says so.
+    /// How many workers there are, 1 to 64; 1 if no option says so.
     pub count: usize,
-    /// How many pieces they take at most, 1 to 1,000,000,000,000; so many where no option says so.
+    /// How many pieces they take at most, 1 to 1,000,000,000,000; the most if no option says so.
     pub turns: u64,
     pub ghost count_few: { count ≤ 64 },
     pub ghost turns_few: { turns ≤ 1000000000000 },

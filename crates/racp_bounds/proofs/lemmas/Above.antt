@@ -9,7 +9,7 @@ use Rattle.racp_model.proofs.lemmas.Usage.{use_of-active, usage-roof}
 use Rattle.racp_model.proofs.lemmas.CoreTimes.{active_at_core, core_use-use}
 use Rattle.racp_model.proofs.lemmas.Cuts.{cut_admitting}
 use Rattle.racp_cpm.proofs.lemmas.Roots.{root_in_time}
-use Rattle.racp_model.specs.Core.{core_use}
+use Rattle.racp_model.specs.CoreTimes.{core_use}
 use Rattle.racp_bounds.specs.Floors.{IsAtBounds, IsFloor, AreRoofs}
 use Rattle.racp_bounds.specs.Laws.{CoreIsActive, AdmittingIsAboveFloors, CutToRoofsAdmits, FloorsAreBelowRoofs}
 use Rattle.racp_bounds.proofs.Energy.{div_ceil-le}

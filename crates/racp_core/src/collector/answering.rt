@@ -40,8 +40,9 @@ impl<N: OfNetwork, S: Series> Core<N, S> {
         }
     }
 
-    /// The same, with the starts moved out. Where the answer is open, also the capacities that were reached: those of
-    /// the first open question, of the last asked where that one is not asked, or none. Takes no memory.
+    /// What is known of the series, with the starts moved out. If the answer is open, also the capacities that were
+    /// reached: those of the first open question, of the last asked one if that is not asked yet, or none. Takes no
+    /// memory.
     pub fn into_answer(self) -> (Outcome, Option<Capacities>)
         ensures answer { IsOutcome self result.0 }
         ensures known { IsOutcomeKnown N.network (all_questions self) result.0 }
@@ -113,7 +114,7 @@ struct Known {
     ended: bool,
 }
 
-/// The capacities of the question at a place, or of the last one where there is none.
+/// The capacities of the question at a place, or of the last one if there is none.
 fn capacities_of(rows: Vec<Row>, place: usize) -> Option<Capacities>
     ensures { result ≡ capacities_at rows.items place }
 {

@@ -59,7 +59,7 @@ fn fetch<S: Series>(next: &mut Option<Question>, series: &mut S) -> Result<(), A
     Ok(())
 }
 
-/// Puts the question that is held behind the rows, with its window open. Answers whether there was one.
+/// Puts the question that is held after the rows, with its window open. Answers whether there was one.
 fn open(
     alloc: Global,
     next: &mut Option<Question>,

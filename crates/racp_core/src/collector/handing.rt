@@ -19,7 +19,7 @@ use std::alloc::AllocError;
 
 impl<N: OfNetwork, S: Series> Core<N, S> {
     /// Takes in a finding. A yes discards the open windows of its question and of each later one; else what is left of
-    /// the piece is open again, where its question stands before each known yes. Whether the finding is true is not
+    /// the piece is open again, if its question stands before each known yes. Whether the finding is true is not
     /// tested: its type keeps that.
     ///
     /// # Errors
@@ -51,7 +51,7 @@ impl<N: OfNetwork, S: Series> Core<N, S> {
         Ok(Merged::Taken)
     }
 
-    /// Takes back a piece that was not searched: its window is open again, where its question stands before each known
+    /// Takes back a piece that was not searched: its window is open again, if its question stands before each known
     /// yes. Takes no memory.
     pub fn give_back(&mut self, piece: Piece<N>) -> Merged
         ensures step { Step self.old (GiveBack piece result) self.new }
@@ -127,7 +127,7 @@ impl<N: OfNetwork, S: Series> Core<N, S> {
     }
 }
 
-/// Takes a place away where nothing of its question is open or out.
+/// Takes a place away if nothing of its question is open or out.
 fn remove_if_done(undecided: &mut Undecided, rows: &[Row], index: usize)
     requires { index < length rows.now }
     ensures { IsRemovedIfDone rows.now undecided.old index undecided.new }

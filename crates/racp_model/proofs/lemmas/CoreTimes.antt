@@ -3,7 +3,7 @@ use Rattle.std.proofs.Common.{◌≡◌, ℕ, ◌+◌, ◌<◌, ◌≤◌, inl, 
 use Rattle.racp_model.specs.Project.{Project, IsSound, duration, request}
 use Rattle.racp_model.specs.Schedule.{IsActive, use_of}
 use Rattle.racp_model.specs.Window.{Bounds, LiesIn}
-use Rattle.racp_model.specs.Core.{IsCoreTime, core_use}
+use Rattle.racp_model.specs.CoreTimes.{IsCoreTime, core_use}
 use Rattle.racp_model.proofs.lemmas.Parts.{part, on_cases, part-on, part-off}
 use Rattle.racp_model.proofs.lemmas.Sums.{sum_below-step, sum_below-none, request-small}
 use Rattle.racp_model.proofs.lemmas.Usage.{use_of-active}

@@ -15,7 +15,7 @@ use std::marker::Brand;
 /// A call, its answer, and then what is known and how many questions are undecided.
 type Row = (Call, Heard, Known, usize);
 
-/// The yes of the second question comes first, and counts once the first question is a no.
+/// The yes of the second question comes first, and counts once the first question is infeasible.
 const LATER_YES: &[Row] = &[
     (Ask, Heard::Question(0), Pending(0), 1),
     (Ask, Heard::Question(1), Pending(0), 2),
@@ -43,8 +43,8 @@ const GIVEN_BACK: &[Row] = &[
     (Hand(2, Nothing, Some(1)), Heard::Taken, Pending(0), 1),
 ];
 
-/// Four questions, a piece of each, and the yes of the fourth. Some of the third is searched, and a piece of what is left goes
-/// out. Then the yes of the second question discards the other, and what is open of the third.
+/// Four questions, a piece of each, and the yes of the fourth. Some of the third is searched, and a piece of what is
+/// left goes out. Then the yes of the second question discards the other, and what is open of the third.
 const EARLIER_YES: &[Row] = &[
     (Ask, Heard::Question(0), Pending(0), 1),
     (Ask, Heard::Question(1), Pending(0), 2),
@@ -75,7 +75,7 @@ const UNSEARCHED: &[Row] = &[
     (Hand(0, Nothing, None), Heard::Taken, First(1), 0),
 ];
 
-/// All questions are a no.
+/// All questions are infeasible.
 const NO_YES: &[Row] = &[
     (Take(1), Heard::Nothing, Pending(0), 0),
     (Ask, Heard::Question(0), Pending(0), 1),
@@ -96,7 +96,8 @@ const NO_YES: &[Row] = &[
     (Take(1), Heard::Done, NoYes, 0),
 ];
 
-/// Pieces of two questions are out, of the numbers 0 and 1 and the seats 1 and 2. None that differs in one thing counts.
+/// Pieces of two questions are out, of the numbers 0 and 1 and the seats 1 and 2. None that differs in one thing
+/// counts.
 const STALE: &[Row] = &[
     (Ask, Heard::Question(0), Pending(0), 1),
     (Ask, Heard::Question(1), Pending(0), 2),
@@ -123,7 +124,7 @@ const STALE: &[Row] = &[
     (Hand(0, Nothing, None), Heard::Taken, First(1), 0),
 ];
 
-/// The vectors of 1 and 2 units of two resources, where each unit costs 1.
+/// The vectors of 1 and 2 units of two resources, if each unit costs 1.
 const FROM_1: Boxed = Boxed {
     prices: &[1, 1],
     owned: &[0, 0],
@@ -215,7 +216,7 @@ fn follows<N: OfNetwork>(
     are_whole(&trial.pieces, script.pieces)
 }
 
-/// Whether a call is answered so, and this is known behind it.
+/// Whether a call is answered so, and this is known after it.
 fn is_answered<N: OfNetwork>(alloc: Global, net: &Network, trial: &mut Trial<N>, row: &Row) -> bool
     requires { net.now ≡ N.network }
 {
@@ -256,7 +257,7 @@ fn holds<N: OfNetwork>(alloc: Global, net: &Network, script: &Script) -> bool
     ends(trial, script.end, script.reached) && followed
 }
 
-/// A collector, which is made once more where memory is refused.
+/// A collector, which is made once more if memory is refused.
 fn begun<N: OfNetwork>(alloc: Global, net: &Network, row: &Boxed) -> Option<Trial<N>>
     requires { net.now ≡ N.network }
 {
@@ -266,7 +267,7 @@ fn begun<N: OfNetwork>(alloc: Global, net: &Network, row: &Boxed) -> Option<Tria
     }
 }
 
-/// Whether a script of the six jobs is answered as it is to be. The network is made once more where memory is refused.
+/// Whether a script of the six jobs is answered as it is to be. The network is made once more if memory is refused.
 fn holds_of_six(alloc: Global, script: &Script) -> bool {
     match crossed(alloc) {
         Ok(net) => holds::<Brand>(alloc, &net, script),

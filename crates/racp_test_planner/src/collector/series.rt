@@ -11,8 +11,8 @@ use racp_prices::Order;
 use racp_samples::root_window;
 use std::alloc::{AllocError, Global};
 
-/// The vectors of a box that no pair excludes, asked for the deadline 3; or `None` where it is none of the network, or memory is
-/// refused.
+/// The vectors of a box that no pair excludes, asked for the deadline 3; or `None` if it is none of the network, or
+/// memory is refused.
 pub(crate) fn vectors(alloc: Global, net: &Network, row: &Boxed) -> Option<Vectors>
     ensures { IfSome result (λ series. AreFormed net.now series) }
 {
@@ -25,7 +25,7 @@ pub(crate) fn vectors(alloc: Global, net: &Network, row: &Boxed) -> Option<Vecto
     }
 }
 
-/// The same, of its parts and this window.
+/// The vectors of a box that no pair excludes, from the parts of the box and a window.
 fn of_parts(alloc: Global, net: &Network, parts: Parts, window: &Window) -> Option<Vectors>
     requires { HasBounds net.now window.now }
     ensures { IfSome result (λ series. AreFormed net.now series) }

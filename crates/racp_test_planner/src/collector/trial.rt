@@ -24,7 +24,8 @@ pub(crate) enum Change {
     Window,
 }
 
-/// A call. Pieces are told by their number; a piece that is handed in was searched, where so many nodes at most were entered.
+/// A call. Pieces are told by their number; a piece that is handed in was searched, where this many nodes at most were
+/// entered.
 #[derive(Clone, Copy)]
 pub(crate) enum Call {
     Ask,
@@ -34,8 +35,8 @@ pub(crate) enum Call {
     Halt,
 }
 
-/// What a call answers: the place of a question, the number of a piece and the place of its question, or why there is none.
-/// `Refused` is a call to which memory was refused when it was made once more.
+/// What a call answers: the place of a question, the number of a piece and the place of its question, or why there is
+/// none. `Refused` is a call to which memory was refused when it was made once more.
 #[derive(Clone, Copy, PartialEq)]
 pub(crate) enum Heard {
     Question(usize),
@@ -50,7 +51,8 @@ pub(crate) enum Heard {
     Refused,
 }
 
-/// What is known of the series: the place of the first yes, that there is none, or the place of the first open question.
+/// What is known of the series: the place of the first yes, that there is none, or the place of the first open
+/// question.
 #[derive(Clone, Copy, PartialEq)]
 pub(crate) enum Known {
     First(usize),
@@ -76,7 +78,7 @@ pub(crate) struct Trial<N: OfNetwork> {
     pub(crate) pieces: Vec<Held>,
 }
 
-/// A collector of the vectors of a box; or `None` where there is none, or memory is refused.
+/// A collector of the vectors of a box; or `None` if there is none, or memory is refused.
 pub(crate) fn start<N: OfNetwork>(alloc: Global, net: &Network, row: &Boxed) -> Option<Trial<N>>
     requires { net.now ≡ N.network }
 {
@@ -89,7 +91,7 @@ pub(crate) fn start<N: OfNetwork>(alloc: Global, net: &Network, row: &Boxed) -> 
     }
 }
 
-/// Makes a call, and makes it once more where memory is refused. A piece that was never taken is stale.
+/// Makes a call, and makes it once more if memory is refused. A piece that was never taken is stale.
 pub(crate) fn make<N: OfNetwork>(
     alloc: Global,
     net: &Network,
@@ -172,7 +174,7 @@ fn kept<N: OfNetwork>(piece: Piece<N>, pieces: &mut Vec<Held>) -> Heard {
     }
 }
 
-/// The piece, with a change; or `None` where memory is refused.
+/// The piece, with a change; or `None` if memory is refused.
 fn piece<N: OfNetwork>(
     alloc: Global,
     net: &Network,
@@ -221,7 +223,7 @@ fn hand<N: OfNetwork>(
     }
 }
 
-/// Hands a finding in, and hands it in once more where memory is refused.
+/// Hands a finding in, and hands it in once more if memory is refused.
 fn hand_in<N: OfNetwork>(core: &mut Core<N, Vectors>, finding: Finding<N>) -> Heard {
     let finding = match core.hand(finding) {
         Ok(merged) => return of_merged(merged),
@@ -236,7 +238,7 @@ fn hand_in<N: OfNetwork>(core: &mut Core<N, Vectors>, finding: Finding<N>) -> He
     }
 }
 
-/// What a search of the piece finds, with a change. It is searched once more where memory is refused.
+/// What a search of the piece finds, with a change. It is searched once more if memory is refused.
 fn explored<N: OfNetwork>(
     alloc: Global,
     net: &Network,
@@ -310,7 +312,7 @@ pub(crate) fn verdict<N: OfNetwork>(core: &Core<N, Vectors>) -> Known {
     }
 }
 
-/// Whether this is known at the end, with these capacities reached, of which there are none where none are reached.
+/// Whether this is known at the end, with these capacities reached, of which there are none if none are reached.
 pub(crate) fn ends<N: OfNetwork>(trial: Trial<N>, wanted: Known, units: &[u32]) -> bool {
     let (outcome, reached) = trial.core.into_answer();
     let known = match outcome {

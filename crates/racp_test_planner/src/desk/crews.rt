@@ -14,8 +14,8 @@ use std::sync::atomic::{AtomicU64, Ordering};
 use std::thread;
 use std::thread::Threads;
 
-/// How many workers there are, and which pieces are held up, by seed after seed: bit k, counted from 0, holds up the pieces of
-/// the numbers k, k + 64, and so on.
+/// How many workers there are, and which pieces are held up, by seed after seed: bit k, counted from 0, holds up the
+/// pieces of the numbers k, k + 64, and so on.
 struct Crew {
     workers: usize,
     seeds: &'static [u64],
@@ -82,7 +82,7 @@ impl Gate for Seeded {
     }
 }
 
-/// Whether so many workers, of which some are held up, find the first yes of each row in pieces of so many nodes.
+/// Whether this many workers, of which some are held up, find the first yes of each row in pieces of this many nodes.
 fn finds_each<N: OfNetwork + Send + Sync, R: Threads + Wait + Sync>(
     rt: &R,
     alloc: Global,
@@ -132,7 +132,7 @@ fn finds_with<N: OfNetwork + Send + Sync, R: Threads + Wait + Sync>(
         && finds_each::<N, R>(rt, alloc, net, workers, 1000, &gate)
 }
 
-/// The same with each of its seeds.
+/// Whether a crew finds the first yes with each of its seeds.
 fn finds_with_each<N: OfNetwork + Send + Sync, R: Threads + Wait + Sync>(
     rt: &R,
     alloc: Global,
@@ -220,7 +220,7 @@ impl Gate for Pair {
     }
 }
 
-/// Whether two of so many workers search at once, and find the first yes.
+/// Whether two of this many workers search at once, and find the first yes.
 fn are_two_at_once<N: OfNetwork + Send + Sync, R: Threads + Wait + Sync>(
     rt: &R,
     alloc: Global,
@@ -246,7 +246,7 @@ fn are_two_at_once<N: OfNetwork + Send + Sync, R: Threads + Wait + Sync>(
     ended == Some(wanted) && gate.both()
 }
 
-/// The same, of the six jobs.
+/// Whether two of this many workers search the six jobs at once, and find the first yes.
 fn are_two_of_six<R: Threads + Wait + Sync>(rt: &R, alloc: Global, workers: usize) -> bool
     requires { workers ≤ 64 }
 {

@@ -13,11 +13,11 @@ use std::marker::Brand;
 use std::sync::Wait;
 use std::thread::Threads;
 
-/// The question that one worker leaves open which has used up so many turns, from 0 on, beside one unit of the second
+/// The question that one worker leaves open which has used up this many turns, from 0 on, beside one unit of the second
 /// resource. By the third turn the first yes is found, of the question at place 2.
 const OPEN: &[Option<usize>] = &[Some(0), Some(1), Some(2), None];
 
-/// Whether a run by one worker with so many turns leaves that question open, or finds the first yes.
+/// Whether a run by one worker with this many turns leaves that question open, or finds the first yes.
 fn run_out<N: OfNetwork + Send + Sync, R: Threads + Wait + Sync>(
     rt: &R,
     alloc: Global,
@@ -41,7 +41,7 @@ fn run_out<N: OfNetwork + Send + Sync, R: Threads + Wait + Sync>(
     ended == Some(Ended { yes, open, halted })
 }
 
-/// The same, of the six jobs.
+/// Whether a run by one worker leaves a question about the six jobs open after `turns` turns, or finds the first yes.
 fn run_out_of_six<R: Threads + Wait + Sync>(
     rt: &R,
     alloc: Global,
@@ -64,7 +64,7 @@ fn turns_run_out(rt: HostRuntime) {
     }
 }
 
-/// How a run by two workers beside so many units of the second resource ends.
+/// How a run by two workers beside this many units of the second resource ends.
 fn ended_by_two<N: OfNetwork + Send + Sync, R: Threads + Wait + Sync>(
     rt: &R,
     alloc: Global,
@@ -83,8 +83,8 @@ fn ended_by_two<N: OfNetwork + Send + Sync, R: Threads + Wait + Sync>(
     run_with::<N, Open, AtCall, R>(rt, alloc, net, numbers, &Open, stop)
 }
 
-/// Whether a run of a series of four questions, of which the first yes is this one, may end so where a stop came, or
-/// not: with the first yes, or none; or, where a stop came, open at a question before which each is a no.
+/// Whether a run of a series of four questions, of which the first yes is this one, may end so if a stop came, or
+/// not: with the first yes, or none; or, if a stop came, open at a question before which each is infeasible.
 fn may_end(ended: Ended, yes: Option<usize>, came: bool) -> bool {
     let halted = if came { Some(Cause::Stop) } else { None };
     let answered = match ended.open {
@@ -94,7 +94,7 @@ fn may_end(ended: Ended, yes: Option<usize>, came: bool) -> bool {
     answered && ended.halted == halted
 }
 
-/// Whether the run of each row ends as it may where a stop is asked for at the call of this number.
+/// Whether the run of each row ends as it may if a stop is asked for at the call of this number.
 fn end_as_they_may<N: OfNetwork + Send + Sync, R: Threads + Wait + Sync>(
     rt: &R,
     alloc: Global,
@@ -130,7 +130,7 @@ fn decides_nothing<N: OfNetwork + Send + Sync, R: Threads + Wait + Sync>(
     }
 }
 
-/// Whether runs of the six jobs end as they may where a stop is asked for at the call of this number.
+/// Whether runs of the six jobs end as they may if a stop is asked for at the call of this number.
 fn end_of_six<R: Threads + Wait + Sync>(rt: &R, alloc: Global, number: u64) -> bool {
     match crossed(alloc) {
         Ok(net) => end_as_they_may::<Brand, R>(rt, alloc, &net, number),

@@ -38,8 +38,8 @@ fn told_by(probe: Result<Probe, AskStop>) -> Told {
     }
 }
 
-/// Units of the second resource in a question of the project beside one of the first, the bound on its nodes, how many turns
-/// there are, whether a stop is asked for at each call, and what is told.
+/// Units of the second resource in a question of the project beside one of the first, the bound on its nodes, how many
+/// turns there are, whether a stop is asked for at each call, and what is told.
 struct Row {
     second: u32,
     most: Option<u64>,
@@ -90,7 +90,7 @@ const ROWS: &[Row] = &[
     },
 ];
 
-/// Whether two workers tell of a question what the row says, and took a turn where that is a yes or a no.
+/// Whether two workers tell of a question what the row says, and took a turn if that is a yes or infeasible.
 fn tell<N: OfNetwork + Send + Sync, R: Threads + Wait + Sync>(
     rt: &R,
     alloc: Global,
@@ -127,7 +127,7 @@ fn tell<N: OfNetwork + Send + Sync, R: Threads + Wait + Sync>(
     told == row.told && (took || !matches!(told, Told::Yes | Told::No))
 }
 
-/// The question of so many units of the second resource beside one of the first, by the deadline 3.
+/// The question of this many units of the second resource beside one of the first, by the deadline 3.
 fn asked(alloc: Global, net: &Network, second: u32) -> Result<Question, SampleFault>
     ensures { IfOk result (IsFormed net.now) }
 {
@@ -155,7 +155,7 @@ fn holds<N: OfNetwork + Send + Sync, R: Threads + Wait + Sync>(
     holds
 }
 
-/// The same, of the six jobs.
+/// Whether a row holds for the six jobs.
 fn holds_of_six<R: Threads + Wait + Sync>(rt: &R, alloc: Global, row: &Row) -> bool {
     match crossed(alloc) {
         Ok(net) => holds::<Brand, R>(rt, alloc, &net, row),

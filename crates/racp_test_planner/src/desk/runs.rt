@@ -27,8 +27,8 @@ pub(crate) struct Numbers {
     pub(crate) turns: u64,
 }
 
-/// How a run ended: the place of the first yes, or of the first open question, or neither where all are a no; and for
-/// what it was halted.
+/// How a run ended: the place of the first yes, or of the first open question, or neither if all are infeasible; and
+/// for what it was halted.
 #[derive(Clone, Copy, PartialEq)]
 pub(crate) struct Ended {
     pub(crate) yes: Option<usize>,
@@ -51,7 +51,7 @@ fn end_of(closed: &Closed) -> Ended {
     Ended { yes, open, halted }
 }
 
-/// How a run with these numbers ends; `None` where memory or a thread was refused.
+/// How a run with these numbers ends; `None` if memory or a thread was refused.
 pub(crate) fn run_with<
     N: OfNetwork + Send + Sync,
     G: Gate + Sync,

@@ -16,7 +16,7 @@ use std::alloc::{AllocError, Global};
 use std::marker::Brand;
 use std::sync::ledger::{Blank, Share};
 
-/// Some calls of a desk about the units of the first resource beside so many of the second, each with its answer; the
+/// Some calls of a desk about the units of the first resource beside this many of the second, each with its answer; the
 /// place of the first yes, or of the first question that is open; and the capacities that were reached, if any.
 struct Script {
     second: u32,
@@ -145,7 +145,7 @@ fn holds<N: OfNetwork>(alloc: Global, net: &Network, script: &Script) -> bool
     }
 }
 
-/// The same, of the six jobs.
+/// Whether a desk over the six jobs does as the script says.
 fn holds_of_six(alloc: Global, script: &Script) -> bool {
     match crossed(alloc) {
         Ok(net) => holds::<Brand>(alloc, &net, script),

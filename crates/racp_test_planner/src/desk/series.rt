@@ -8,8 +8,8 @@ use racp_model::{Capacities, Network, Window};
 use racp_samples::root_window;
 use std::alloc::{AllocError, Global};
 
-/// The questions of 0, 1, 2 and 3 units of the first resource beside so many of the second, for the deadline 3; `None` where
-/// memory was refused.
+/// The questions of 0, 1, 2 and 3 units of the first resource beside this many of the second, for the deadline 3;
+/// `None` if memory was refused.
 pub(crate) fn units_of_the_first(alloc: Global, net: &Network, second: u32) -> Option<Singles>
     ensures { IfSome result (λ series. AreFormed net.now series) }
 {
@@ -25,7 +25,7 @@ pub(crate) fn units_of_the_first(alloc: Global, net: &Network, second: u32) -> O
     }
 }
 
-/// The same, in a window.
+/// The questions of 0, 1, 2 and 3 units of the first resource beside `second` units of the second, in a window.
 fn units_in(
     alloc: Global,
     net: &Network,

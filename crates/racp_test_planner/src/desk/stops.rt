@@ -3,7 +3,7 @@
 use racp_search::Stop;
 use std::sync::atomic::{AtomicU64, Ordering};
 
-/// A stop that is asked for at the call of this number, from 1, and, where it lasts, at each behind it.
+/// A stop that is asked for at the call of this number, from 1, and, if it lasts, at each after it.
 #[derive(Drop)]
 pub(crate) struct AtCall {
     number: u64,

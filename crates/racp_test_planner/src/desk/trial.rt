@@ -34,7 +34,8 @@ pub(crate) enum Call {
     Halt,
 }
 
-/// What a call answers: the place of a question, the number of a piece, or why there is none, also where memory was refused.
+/// What a call answers: the place of a question, the number of a piece, or why there is none, also if memory was
+/// refused.
 #[derive(Clone, Copy, PartialEq)]
 pub(crate) enum Heard {
     Question(usize),
@@ -153,7 +154,7 @@ fn again<N: OfNetwork>(
     Ok(Piece::new(held.number, seat, held.index, asked))
 }
 
-/// What a search of the piece finds; or `None` where memory is refused.
+/// What a search of the piece finds; or `None` if memory is refused.
 fn explored<N: OfNetwork>(alloc: Global, net: &Network, held: &Held, how: How) -> Option<Finding<N>>
     requires { net.now ≡ N.network }
     ensures { IfSome result (λ finding. finding.nodes ≤ 1000000) }

@@ -1,6 +1,6 @@
 use Rattle.std.proofs.Common.{◌≡◌, ◌*◌, ◌≤◌}
 use Rattle.racp_model.specs.Schedule.{sum_below}
-use Rattle.racp_model.specs.Core.{core_use}
+use Rattle.racp_model.specs.CoreTimes.{core_use}
 use Rattle.racp_bounds.proofs.floor.core_usage_at.Given as goal
 
 abbrev pub invariant-loop-i : goal.invariant-loop-i

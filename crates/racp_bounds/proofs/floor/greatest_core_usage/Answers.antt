@@ -1,5 +1,5 @@
 use Rattle.std.proofs.Common.{ℕ, length, slice_index, arith, ap}
-use Rattle.racp_model.specs.Core.{core_usage}
+use Rattle.racp_model.specs.CoreTimes.{core_usage}
 use Rattle.racp_bounds.proofs.Cores.{greatest_core, greatest_next}
 use Rattle.racp_bounds.proofs.floor.greatest_core_usage.Goals as goal
 

@@ -1,6 +1,6 @@
 use Rattle.std.proofs.Common.{ℕ, ◌<◌, ◌≤◌, slice_index}
 use Rattle.racp_model.specs.Plan.{IsLeast}
-use Rattle.racp_model.specs.Core.{core_usage}
+use Rattle.racp_model.specs.CoreTimes.{core_usage}
 use Rattle.racp_bounds.proofs.floor.greatest_core_usage.Given as goal
 
 abbrev pub invariant-loop-time : goal.invariant-loop-time

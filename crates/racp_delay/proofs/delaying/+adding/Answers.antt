@@ -1,7 +1,7 @@
 use Rattle.std.proofs.Common.{◌≡◌, ℕ, refl, ◌+◌, ◌∷◌, arith, ◌∙◌, length, slice_index, vec_len}
 use Rattle.std.proofs.lemmas.Result.{IfOk-weaker}
-use Rattle.racp_model.specs.Project.{request, IsNumber}
-use Rattle.racp_delay.specs.Alternatives.{job_lists, place}
+use Rattle.racp_model.specs.Project.{place, request, IsNumber}
+use Rattle.racp_delay.specs.Alternatives.{job_lists}
 use Rattle.racp_delay.specs.Found.{AreAdded}
 use Rattle.racp_delay.proofs.Chosen.{among-fewer, among-goes, among-same, goes-added, stays-added, stays-over}
 use Rattle.racp_delay.proofs.Adding.{all-same, added-over, added-loose, added-here, added-both, lists-push, popped_after, left-is, none-left}

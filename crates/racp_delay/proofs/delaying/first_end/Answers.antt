@@ -2,7 +2,7 @@ use Rattle.std.proofs.Common.{◌∙◌}
 use Rattle.std.proofs.Common.{ℕ, List, ◌+◌, slice_index, arith, subst, Contains, Decides, eqb, ap, length}
 use Rattle.std.proofs.lemmas.Bool.Decides.{Decides-eqb}
 use Rattle.std.proofs.lemmas.List.Elements.{Decides-contains, contains_decides}
-use Rattle.racp_delay.specs.Alternatives.{place}
+use Rattle.racp_model.specs.Project.{place}
 use Rattle.racp_delay.specs.Branching.{IsFirstEndAnswer}
 use Rattle.racp_delay.proofs.Ending.{next-is, seeking-start, seeking-skip, seeking-next, seeking-end}
 use Rattle.racp_delay.proofs.delaying.first_end.Goals as goal

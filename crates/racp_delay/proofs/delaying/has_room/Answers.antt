@@ -1,7 +1,6 @@
 use Rattle.std.proofs.Common.{◌≡◌, slice_index, true≢false, arith, sym, refl}
-use Rattle.racp_model.specs.Project.{request}
+use Rattle.racp_model.specs.Project.{place, request}
 use Rattle.racp_model.proofs.lemmas.Sums.{request-small}
-use Rattle.racp_delay.specs.Alternatives.{place}
 use Rattle.racp_delay.proofs.delaying.has_room.Goals as goal
 
 pub overflow_add-loads : goal.overflow_add-loads

@@ -1,6 +1,5 @@
 use Rattle.std.proofs.Common.{ℕ, ◌+◌, ◌<◌, ◌≤◌, slice_index}
-use Rattle.racp_model.specs.Project.{request}
-use Rattle.racp_delay.specs.Alternatives.{place}
+use Rattle.racp_model.specs.Project.{place, request}
 use Rattle.racp_delay.proofs.delaying.has_room.Given as goal
 
 abbrev pub invariant-loop-k : goal.invariant-loop-k

@@ -1,7 +1,6 @@
 use Rattle.std.proofs.Common.{◌≡◌, ◌+◌, ◌∷◌, arith, refl, length, slice_index, vec_len}
 use Rattle.std.proofs.lemmas.Result.{IfOk-weaker}
-use Rattle.racp_model.specs.Project.{request, IsNumber}
-use Rattle.racp_delay.specs.Alternatives.{place}
+use Rattle.racp_model.specs.Project.{place, request, IsNumber}
 use Rattle.racp_delay.specs.Found.{IsAny, IsExtended}
 use Rattle.racp_delay.proofs.Adding.{all-same}
 use Rattle.racp_delay.proofs.Chosen.{among-fewer, among-goes, among-same, goes-extended, stays-extended, stays-over}

@@ -1,7 +1,6 @@
 use Rattle.std.proofs.Common.{◌≡◌, ◌+◌, ◌∷◌, ◌++◌, [], arith, ap, ◌∙◌, refl, length, slice_index, vec_len}
 use Rattle.std.proofs.lemmas.Result.{IfOk-weaker}
-use Rattle.racp_model.specs.Project.{request, IsNumber}
-use Rattle.racp_delay.specs.Alternatives.{place}
+use Rattle.racp_model.specs.Project.{place, request, IsNumber}
 use Rattle.racp_model.specs.Terms.{IsLexBefore}
 use Rattle.racp_delay.specs.Found.{IsAny, IsExtended, HasNoExtension}
 use Rattle.racp_delay.proofs.Adding.{all-same}

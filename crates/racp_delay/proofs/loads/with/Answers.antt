@@ -1,6 +1,6 @@
 use Rattle.std.proofs.Common.{arith}
+use Rattle.racp_model.specs.Project.{place}
 use Rattle.racp_model.proofs.lemmas.Sums.{request-small}
-use Rattle.racp_delay.specs.Alternatives.{place}
 use Rattle.racp_delay.proofs.loads.with.Goals as goal
 
 pub overflow_add-sums : goal.overflow_add-sums

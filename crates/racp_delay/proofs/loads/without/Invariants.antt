@@ -1,6 +1,5 @@
 use Rattle.std.proofs.Common.{◌-◌, slice_index}
-use Rattle.racp_model.specs.Project.{request}
-use Rattle.racp_delay.specs.Alternatives.{place}
+use Rattle.racp_model.specs.Project.{place, request}
 use Rattle.racp_delay.proofs.Rows.{AreWritten}
 use Rattle.racp_delay.proofs.loads.without.Given as goal
 

@@ -1,5 +1,5 @@
 use Rattle.std.proofs.Common.{rules, ◌<◌, ◌≤◌, replicate, arith}
-use Rattle.racp_model.specs.Core.{IsCoreTime}
+use Rattle.racp_model.specs.CoreTimes.{IsCoreTime}
 use Rattle.racp_model.proofs.lemmas.Zeros.{zeros}
 use Rattle.racp_timetable.proofs.Cores.{core-none, core-more, core-same, loads-small}
 use Rattle.racp_timetable.proofs.core_times.core_at.Goals as goal

@@ -1,5 +1,5 @@
 use Rattle.std.proofs.Common.{List, ℕ, ap, set}
-use Rattle.racp_delay.specs.Alternatives.{place}
+use Rattle.racp_model.specs.Project.{place}
 use Rattle.racp_delay.proofs.profile.Profile.move_job.Goals as goal
 
 pub returns : goal.returns

@@ -2,9 +2,8 @@ use Rattle.std.proofs.Common.{◌↔◌, ◌∙◌, ◌<◌, ◌≤◌, refl, sy
 use Rattle.std.specs.Prelude.{IfOk}
 use Rattle.std.proofs.lemmas.Result.{IfOk-weaker}
 use Rattle.racp_model.specs.Limits.{most_bound}
-use Rattle.racp_model.specs.Project.{IsNumber}
+use Rattle.racp_model.specs.Project.{place, IsNumber}
 use Rattle.racp_model.specs.Path.{IsEarly}
-use Rattle.racp_delay.specs.Alternatives.{place}
 use Rattle.racp_trees.specs.Nodes.{IsCoveredHere}
 use Rattle.racp_trees.specs.Readers.{IsLineAnswer}
 use Rattle.racp_trees.specs.declared.step.Step.{Step}

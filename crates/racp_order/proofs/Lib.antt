@@ -1,4 +1,0 @@
-mod Factors
-mod Commas
-mod Tables
-mod ReadBack

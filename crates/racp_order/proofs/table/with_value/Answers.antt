@@ -1,5 +1,0 @@
-use Rattle.racp_order.proofs.Tables.{put-is}
-use Rattle.racp_order.proofs.table.with_value.Goals as goal
-
-pub returns : goal.returns
-returns c = put-is c.args.table.entries c.insert.new.self.entries c.in_ok-key.key c.args.value c.args.key.now c.in_ok-insert.ensures.entries c.in_ok-key.ensures.ok

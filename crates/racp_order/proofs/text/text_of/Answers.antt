@@ -1,4 +1,0 @@
-use Rattle.racp_order.proofs.text.text_of.Goals as goal
-
-pub returns-in-Ok : goal.returns-in-Ok
-returns-in-Ok c = c.in-Ok.ensures.reads_back

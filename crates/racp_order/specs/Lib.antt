@@ -1,4 +1,0 @@
-pub mod Factors
-pub mod Numbers
-pub mod Wishes
-pub mod Steps
