@@ -1,4 +1,3 @@
-mod Children
 mod Refuting
 mod Looking
 mod Boxes

@@ -1,5 +1,3 @@
-pub mod Children
-pub mod Trees
 pub mod Texts
 pub mod Certificates
 pub mod Following

@@ -1,17 +1,8 @@
-//! Laws of certificates. Each function does nothing; its contract is the law.
+//! Laws of certificates. The function does nothing; its contract is the law.
 
-ghost use Rattle.racp_trees.specs.Laws.{TreesRefute, CertificateProves};
+ghost use Rattle.racp_trees.specs.Laws.{CertificateProves};
 
-use racp_cutset::laws::covering_refutes;
-use racp_delay::laws::children_cover;
-
-/// Trees that hold refute their windows and the nodes that they close.
-pub fn trees_refute()
-    ensures { TreesRefute }
-{
-    children_cover();
-    covering_refutes();
-}
+use racp_refutation::laws::trees_refute;
 
 /// If a certificate holds, no capacities that are enough stand before the plan's.
 pub fn certificate_proves()

@@ -68,10 +68,9 @@ mod parts;
 mod reader;
 mod reading;
 mod record;
-mod step;
 mod writer;
 
 pub use blocks::block_vectors;
 pub use certifying::certificate;
 pub use enough::are_enough;
-pub use step::Step;
+pub use racp_refutation::Step;

@@ -13,7 +13,7 @@ use crate::closed::Closed;
 use crate::offer::Offers;
 use crate::reader::{Ground, Reader};
 use crate::record::Record;
-use crate::step::Step;
+use racp_refutation::Step;
 use crate::writer::push_step;
 use racp_cpm::early;
 use racp_delay::{conflict, laws};

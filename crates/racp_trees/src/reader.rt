@@ -8,13 +8,13 @@ ghost use Rattle.racp_trees.specs.Nodes.{HasPlace};
 ghost use Rattle.racp_trees.specs.Reading.{IsNamed};
 ghost use Rattle.racp_trees.specs.Readers.{IsReady, IsLineAnswer, IsNextAnswer, IsClosedBy, IsGoneOn, IsTreeAnswer, StaysReady};
 ghost use Rattle.racp_trees.specs.Branches.{IsBranch};
-ghost use Rattle.racp_trees.specs.declared.step.Step.TheVariants.{C, D};
+ghost use Rattle.racp_refutation.specs.declared.step.Step.TheVariants.{C, D};
 
 use crate::branch::{Branch, copied};
 use crate::closed::Closed;
 use crate::node::{active_at, is_covered, is_too_late};
 use crate::reading::read_step;
-use crate::step::Step;
+use racp_refutation::Step;
 use racp_cpm::early;
 use racp_delay::laws;
 use racp_model::{Capacities, Network, Starts, Window};

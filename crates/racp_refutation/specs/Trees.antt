@@ -5,9 +5,9 @@ use Rattle.racp_model.specs.Path.{IsEarly}
 use Rattle.racp_model.specs.Window.{Bounds, IsNo}
 use Rattle.racp_delay.specs.Branching.{IsFirstExcess, IsConflict}
 use Rattle.racp_cutset.specs.Covering.{SearchNode, IsNode, Covers}
-use Rattle.racp_trees.specs.Children.{AreChildren}
-use Rattle.racp_trees.specs.declared.step.Step.{Step}
-use Rattle.racp_trees.specs.declared.step.Step.TheVariants.{L, D, C}
+use Rattle.racp_refutation.specs.Children.{AreChildren}
+use Rattle.racp_refutation.specs.declared.step.Step.{Step}
+use Rattle.racp_refutation.specs.declared.step.Step.TheVariants.{L, D, C}
 
 -- trees, one after another: of the first its node, what its line says and the trees of its children; then the others
 pub data Trees : Type 0 where

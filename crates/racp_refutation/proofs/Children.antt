@@ -7,7 +7,7 @@ use Rattle.racp_model.proofs.lemmas.Relations.{member_cases, member_first, membe
 use Rattle.racp_delay.specs.Alternatives.{Splits}
 use Rattle.racp_delay.specs.Branching.{IsChild}
 use Rattle.racp_delay.specs.Laws.{HaveChildren}
-use Rattle.racp_trees.specs.Children.{IsChildFor, AreChildrenOf, AreChildren}
+use Rattle.racp_refutation.specs.Children.{IsChildFor, AreChildrenOf, AreChildren}
 
 module _ (p : Project) (early active : List ℕ) (window : Bounds) where
   -- the child of each list in which some stay

@@ -1,0 +1,2 @@
+-- Lemmas on refuted nodes, which the crates above may cite too.
+pub mod Numbered
