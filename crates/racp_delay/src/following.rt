@@ -1,6 +1,6 @@
 //! Minimal delaying alternatives one at a time, each after a given one.
 
-ghost use Rattle.std.specs.Prelude.{◌≡◌, ℕ, [], IfOk, All, length, slice_index};
+ghost use Rattle.std.specs.Prelude.{◌≡◌, ℕ, [], IfOk, IsErrOf, IsTrue, All, length, slice_index};
 ghost use Rattle.racp_model.specs.Project.{IsNumber};
 ghost use Rattle.racp_model.specs.Terms.{IsLexBefore};
 ghost use Rattle.racp_model.specs.JobSets.{AreJobs};
@@ -10,95 +10,147 @@ ghost use Rattle.racp_delay.specs.Found.{AreWithin, IsAny, IsChoice, IsExtended,
 use crate::choosing::Choice;
 use crate::delaying::some_have_room;
 use crate::loads::{Loads, are_within, with};
+use crate::stop::Stop;
 use racp_model::limits::MOST_RESOURCES;
 use racp_model::{Capacities, JobSet, Network};
-use std::alloc::{AllocError, Global};
+use std::alloc::{AllocError, AllocFailed, Global};
 use std::marker::Model;
+
+/// Why it is not known whether there is an alternative.
+#[derive(Clone, Copy)]
+pub enum Unfound {
+    /// Memory was refused.
+    Memory,
+    /// The search was stopped.
+    Stopped,
+}
+
+impl From<AllocError> for Unfound {
+    ghost use Rattle.std.specs.Prelude.{◌≡◌};
+    ghost use Rattle.racp_delay.specs.declared.following.Unfound.TheVariants.{Memory};
+
+    ghost from_gives = { λ _ e. e ≡ Memory };
+
+    fn from(_error: AllocError) -> Unfound {
+        Unfound::Memory
+    }
+}
+
+impl<T: Drop> From<AllocFailed<T>> for Unfound {
+    ghost use Rattle.std.specs.Prelude.{◌≡◌};
+    ghost use Rattle.racp_delay.specs.declared.following.Unfound.TheVariants.{Memory};
+
+    ghost from_gives = { λ _ e. e ≡ Memory };
+
+    fn from(_error: AllocFailed<T>) -> Unfound {
+        Unfound::Memory
+    }
+}
 
 /// Extends `gone` to the first alternative, in lexicographic order, in which its jobs go, and of the undecided those
 /// that have to. Answers whether there is one; else `gone` is as before.
 #[cycle(extending)]
-fn extend(choice: &Choice, gone: &mut Vec<u32>) -> Result<bool, AllocError>
+fn extend<S: Stop>(choice: &Choice, gone: &mut Vec<u32>, stop: &S) -> Result<bool, Unfound>
     requires choice { IsChoice choice.now }
     requires gone { All (IsNumber (length choice.now.net.now.jobs)) gone.old.items }
-    ensures { IfOk result (λ found. IsExtended choice.now.net.now choice.now.capacities.now
+    ensures found { IfOk result (λ found. IsExtended choice.now.net.now choice.now.capacities.now
         (slice_index choice.now.kept) gone.old.items choice.now.undecided.now IsAny found gone.new.items) }
+    ensures quiet { IsTrue S.QUIET → IsErrOf result Unfound.Stopped → ⊥ }
 {
+    if stop.asked() {
+        return Err(Unfound::Stopped);
+    }
     if some_have_room(choice.net, choice.capacities, &choice.left, gone) {
         return Ok(false);
     }
     if are_within(choice.net, choice.capacities, &choice.left) {
         return Ok(true);
     }
-    branch(choice, gone)
+    branch(choice, gone, stop)
 }
 
 /// Extends `gone` as `extend` does, for kept and undecided jobs that together exceed the capacities, so that one of the
 /// undecided has to go.
 #[cycle(extending)]
-fn branch(choice: &Choice, gone: &mut Vec<u32>) -> Result<bool, AllocError>
+fn branch<S: Stop>(choice: &Choice, gone: &mut Vec<u32>, stop: &S) -> Result<bool, Unfound>
     requires choice { IsChoice choice.now }
     requires gone { All (IsNumber (length choice.now.net.now.jobs)) gone.old.items }
     requires over { AreWithin choice.now.net.now choice.now.capacities.now (slice_index choice.now.left) → ⊥ }
-    ensures { IfOk result (λ found. IsExtended choice.now.net.now choice.now.capacities.now
+    ensures found { IfOk result (λ found. IsExtended choice.now.net.now choice.now.capacities.now
         (slice_index choice.now.kept) gone.old.items choice.now.undecided.now IsAny found gone.new.items) }
+    ensures quiet { IsTrue S.QUIET → IsErrOf result Unfound.Stopped → ⊥ }
 {
     let Some((job, others)) = choice.undecided.split_first() else {
         return Ok(false);
     };
     gone.push(*job)?;
     let less = choice.where_goes(*job, others);
-    if extend(&less, gone)? {
+    if extend(&less, gone, stop)? {
         return Ok(true);
     }
     gone.pop();
     let Some(more) = choice.where_stays(*job, others) else {
         return Ok(false);
     };
-    branch(&more, gone)
+    branch(&more, gone, stop)
 }
 
 /// Extends `gone` as `extend` does, but to the first alternative whose further jobs stand after `last`.
 #[cycle(extending_behind)]
-fn extend_behind(choice: &Choice, gone: &mut Vec<u32>, last: &[u32]) -> Result<bool, AllocError>
+fn extend_behind<S: Stop>(
+    choice: &Choice,
+    gone: &mut Vec<u32>,
+    last: &[u32],
+    stop: &S,
+) -> Result<bool, Unfound>
     requires choice { IsChoice choice.now }
     requires gone { All (IsNumber (length choice.now.net.now.jobs)) gone.old.items }
-    ensures { IfOk result (λ found. IsExtended choice.now.net.now choice.now.capacities.now
+    ensures found { IfOk result (λ found. IsExtended choice.now.net.now choice.now.capacities.now
         (slice_index choice.now.kept) gone.old.items choice.now.undecided.now (IsLexBefore last.now) found
         gone.new.items) }
+    ensures quiet { IsTrue S.QUIET → IsErrOf result Unfound.Stopped → ⊥ }
 {
+    if stop.asked() {
+        return Err(Unfound::Stopped);
+    }
     if some_have_room(choice.net, choice.capacities, &choice.left, gone)
         || are_within(choice.net, choice.capacities, &choice.left)
     {
         return Ok(false);
     }
-    branch_behind(choice, gone, last)
+    branch_behind(choice, gone, last, stop)
 }
 
 /// Extends `gone` as `extend_behind` does, for kept and undecided jobs that together exceed the capacities, so that one
 /// of the undecided has to go.
 #[cycle(extending_behind)]
-fn branch_behind(choice: &Choice, gone: &mut Vec<u32>, last: &[u32]) -> Result<bool, AllocError>
+fn branch_behind<S: Stop>(
+    choice: &Choice,
+    gone: &mut Vec<u32>,
+    last: &[u32],
+    stop: &S,
+) -> Result<bool, Unfound>
     requires choice { IsChoice choice.now }
     requires gone { All (IsNumber (length choice.now.net.now.jobs)) gone.old.items }
     requires over { AreWithin choice.now.net.now choice.now.capacities.now (slice_index choice.now.left) → ⊥ }
-    ensures { IfOk result (λ found. IsExtended choice.now.net.now choice.now.capacities.now
+    ensures found { IfOk result (λ found. IsExtended choice.now.net.now choice.now.capacities.now
         (slice_index choice.now.kept) gone.old.items choice.now.undecided.now (IsLexBefore last.now) found
         gone.new.items) }
+    ensures quiet { IsTrue S.QUIET → IsErrOf result Unfound.Stopped → ⊥ }
 {
     let Some((first, rest)) = last.split_first() else {
-        return branch(choice, gone);
+        return branch(choice, gone, stop);
     };
     let Some((job, others)) = choice.undecided.split_first() else {
         return Ok(false);
     };
     if *first < *job {
-        return branch(choice, gone);
+        return branch(choice, gone, stop);
     }
     if *first == *job {
         gone.push(*job)?;
         let less = choice.where_goes(*job, others);
-        if extend_behind(&less, gone, rest)? {
+        if extend_behind(&less, gone, rest, stop)? {
             return Ok(true);
         }
         gone.pop();
@@ -106,7 +158,7 @@ fn branch_behind(choice: &Choice, gone: &mut Vec<u32>, last: &[u32]) -> Result<b
     let Some(more) = choice.where_stays(*job, others) else {
         return Ok(false);
     };
-    branch_behind(&more, gone, last)
+    branch_behind(&more, gone, last, stop)
 }
 
 /// Puts the free jobs of a set into a list, in place of what was there, and sums up what the others request of each
@@ -167,21 +219,25 @@ impl Alternative {
     /// `false` if there is none. The empty list stands before all alternatives of a conflict, so a search starts
     /// with it and goes on with what it found last. If all active jobs are free it finds all alternatives.
     ///
+    /// The stop is asked about each job that is chosen to go.
+    ///
     /// # Errors
     ///
-    /// Memory was refused; then the alternative is any.
-    pub fn find_behind(
+    /// Memory was refused, or the search was stopped; then the alternative is any.
+    pub fn find_behind<S: Stop>(
         &mut self,
         net: &Network,
         capacities: &Capacities,
         active: &JobSet,
         free: &JobSet,
         last: &[u32],
-    ) -> Result<bool, AllocError>
+        stop: &S,
+    ) -> Result<bool, Unfound>
         requires capacities { length capacities.now ≡ net.now.resources }
         requires active { All (IsNumber (length net.now.jobs)) active.now }
-        ensures { IfOk result (λ more.
+        ensures found { IfOk result (λ more.
             IsFollowing net.now capacities.now active.now free.now last.now more self.new) }
+        ensures quiet { IsTrue S.QUIET → IsErrOf result Unfound.Stopped → ⊥ }
     {
         self.gone.clear();
         let (kept, left) = split_free(net, active, free, &mut self.free)?;
@@ -192,7 +248,7 @@ impl Alternative {
             left,
             undecided: &self.free,
         };
-        extend_behind(&choice, &mut self.gone, last)
+        extend_behind(&choice, &mut self.gone, last, stop)
     }
 
     /// The numbers, from 1 and rising, of the jobs that go.

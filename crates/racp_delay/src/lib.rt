@@ -59,8 +59,10 @@ pub mod laws;
 mod loads;
 mod profile;
 mod scans;
+mod stop;
 
 pub use conflicts::{Clash, conflict, conflict_from};
 pub use delaying::{DelayingAlternatives, alternatives, first_end};
-pub use following::Alternative;
+pub use following::{Alternative, Unfound};
 pub use profile::Profile;
+pub use stop::{Never, Steps, Stop};

@@ -64,7 +64,6 @@ mod frame;
 mod glance;
 mod piece;
 mod room;
-mod stop;
 mod subject;
 mod workspace;
 
@@ -73,4 +72,4 @@ pub use entry_points::{decide, explore, pursue};
 pub use finding::{Finding, Rest};
 pub use piece::{Collector, Piece};
 pub use room::make_room;
-pub use stop::{Never, Stop};
+pub use racp_delay::{Never, Stop};

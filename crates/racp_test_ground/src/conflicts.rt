@@ -4,7 +4,9 @@ ghost use Rattle.std.specs.Prelude.{◌≡◌, All, length};
 ghost use Rattle.racp_model.specs.Project.{IsNumber};
 
 use crate::samples::{Sample, Setting, set_up};
-use racp_delay::{Alternative, Clash, DelayingAlternatives, alternatives, conflict, first_end};
+use racp_delay::{
+    Alternative, Clash, DelayingAlternatives, Never, alternatives, conflict, first_end,
+};
 use racp_model::JobSet;
 use smallvec::SmallVec;
 use std::alloc::{AllocError, Global};
@@ -269,7 +271,14 @@ fn is_behind(
     requires active { All (IsNumber (length setting.now.net.jobs)) conflict.now.active }
 {
     let active = &conflict.active;
-    match found.find_behind(&setting.net, &setting.capacities, active, free, last) {
+    match found.find_behind(
+        &setting.net,
+        &setting.capacities,
+        active,
+        free,
+        last,
+        &Never,
+    ) {
         Ok(true) => expected.is_some_and(|jobs| found.jobs() == jobs),
         Ok(false) => expected.is_none(),
         Err(_) => false,

@@ -7,7 +7,7 @@ use Rattle.racp_delay.proofs.Freed.{freed-left, freed-numbers, freed-rises, foll
 use Rattle.racp_delay.proofs.following.Alternative.find_behind.Goals as goal
 
 pub extend_behind-requires-clause-choice : goal.extend_behind-requires-clause-choice
-extend_behind-requires-clause-choice c =
+extend_behind-requires-clause-choice g c =
     let s : IsSplitByFree c.args.net.now c.args.active.now c.args.free.now c.deref.result.now c.in_ok-kept.kept c.in_ok-kept.left = subst (λ (xs : List ℕ). IsSplitByFree c.args.net.now c.args.active.now c.args.free.now xs c.in_ok-kept.kept c.in_ok-kept.left) (sym c.deref.ensures.value) c.in_ok-kept.ensures.free in
     record {
       units = ap length c.as_slice.ensures ∙ c.requires.capacities;
@@ -17,8 +17,8 @@ extend_behind-requires-clause-choice c =
       small = s.left_sums.small;
     }
 
-pub returns : goal.returns
-returns c =
+pub returns-clause-found : goal.returns-clause-found
+returns-clause-found g c =
     let p = c.args.net.now in
     let last = c.args.last.now in
     let new = c.extend_behind.new.gone.items in
@@ -30,4 +30,4 @@ returns c =
     (λ found h.
     subst (λ (xs : List ℕ). IsFollowing p xs c.args.active.now c.args.free.now last found new) capacities
     (followed p c.as_slice.result.now c.args.active.now c.args.free.now c.deref.result.now c.in_ok-kept.kept c.in_ok-kept.left s c.in_ok-kept.ensures.jobs.rises last c.clear.new.self.items new found c.clear.ensures.items h))
-    c.extend_behind.ensures
+    c.extend_behind.ensures.found
