@@ -14,3 +14,4 @@ mod Leaving
 mod Resting
 mod Pursuing
 mod Exploring
+mod Settling

@@ -1,9 +1,10 @@
 -- The places of lists of job numbers in lexicographic order.
-use Rattle.std.proofs.Common.{◌≡◌, ℕ, zero, suc, ◌+◌, ◌*◌, ◌^◌, ◌<◌, ◌≤◌, inl, inr, List, [], ◌∷◌, length, slice_index, All, arith, subst, ap, sym, ◌∙◌}
-use Rattle.std.proofs.Math.Nat.{mul-le-mul_left, pow-suc}
+use Rattle.std.proofs.Common.{◌≡◌, ℕ, zero, suc, ◌+◌, ◌-◌, ◌*◌, ◌^◌, ◌<◌, ◌≤◌, inl, inr, List, [], ◌∷◌, length, slice_index, All, arith, refl, subst, ap, sym, ◌∙◌}
+use Rattle.std.proofs.Math.Nat.{mul-le-mul_left, one-le-pow, pow-suc}
 use Rattle.std.proofs.lemmas.Bool.{cases_lt}
 use Rattle.std.proofs.lemmas.Bool.Decides.{nat_tests}
 use Rattle.std.proofs.lemmas.Cmp.{tied_itself, nat_cmp_total}
+use Rattle.std.specs.List.Sorted.{IsStrictlyIncreasing}
 use Rattle.std.specs.declared.cmp.Ordering.TheVariants.{Less, Equal}
 use Rattle.std.specs.Ordering.{nat_cmp, ordering_then}
 use Rattle.racp_model.specs.Project.{IsNumber}
@@ -87,3 +88,30 @@ place-rises xs ys a b h = rank-rises 512 xs ys (few-jobs ys b) (numbers_of xs a.
 pub place-less : (xs : List ℕ) → AreJobs xs → rank 512 xs < most_lists
 unfolding most_lists
 place-less xs a = rank-less 512 xs (numbers_of xs a.numbers)
+
+-- the rank of the empty list
+rank-none : (n : ℕ) → rank n [] ≡ 0
+unfolding rank
+rank-none zero = refl
+rank-none (suc n) = refl
+
+-- behind a rising list there are as many places as there are lists of all but its first number
+room-behind : (n : ℕ) (xs : List ℕ) → AreNumbers xs → IsStrictlyIncreasing xs → rank (suc n) xs + 513 ^ n ≤ 513 ^ (suc n)
+unfolding rank
+room-behind n [] are up = omega (arith, power-more n)
+room-behind n (x ∷ []) are up =
+    let most : 513 ^ n * x ≤ 513 ^ n * 512 = mul-le-mul_left (513 ^ n) are.0.1 in
+    omega (arith, power-more n, most, rank-none n)
+room-behind n (x ∷ (y ∷ ys)) are up =
+    let next : x < y = up 0 (omega arith) in
+    let most : 513 ^ n * x ≤ 513 ^ n * 511 = mul-le-mul_left (513 ^ n) (let m : x ≤ 511 = omega (arith, next, are.1.0.1) in m) in
+    omega (arith, power-more n, most, rank-less n (y ∷ ys) are.1)
+
+-- so there are at least 512 places behind a set of jobs
+pub place-room : (xs : List ℕ) → AreJobs xs → 512 ≤ most_lists - rank 512 xs
+unfolding most_lists
+place-room xs a =
+    let some : 1 ≤ 513 ^ 510 = one-le-pow 510 513 (let l : 0 < 513 = omega arith in l) in
+    let many : 513 ^ 511 ≡ 513 * 513 ^ 510 = power-more 510 in
+    let room : rank 512 xs + 513 ^ 511 ≤ 513 ^ 512 = room-behind 511 xs (numbers_of xs a.numbers) a.rises in
+    omega (arith, some, many, room)

@@ -1,20 +1,22 @@
 -- What a frame gives: the child window that is searched next, or the windows that are left of it.
 use Rattle.std.proofs.Common.{◌≡◌, ◌⊎◌, inl, inr, ◌∙◌, ℕ, ◌≤◌, List, [], ◌∷◌, ◌++◌, length, map, Contains, true, false, Bool, arith, refl, sym, subst, ap, append_assoc, Result, Ok, Err, IfOk}
-use Rattle.std.proofs.lemmas.List.{append-nil}
+use Rattle.std.proofs.lemmas.List.{append-nil, length-append}
 use Rattle.std.proofs.lemmas.List.Elements.{Contains-append_left, Contains-append_right, Contains-append_cases}
 use Rattle.racp_model.specs.Project.{Project}
 use Rattle.racp_model.specs.Schedule.{Fits}
 use Rattle.racp_model.specs.Window.{Bounds, LiesIn, IsInside}
+use Rattle.racp_model.specs.JobSets.{AreJobs}
 use Rattle.racp_model.proofs.lemmas.Relations.{member_cases, member_first, no_member}
 use Rattle.racp_delay.specs.Alternatives.{Splits}
 use Rattle.racp_delay.specs.Laws.{EachHasChild, ChildIsInside, EachJobAloneCovers, SubsetsGo}
 use Rattle.std.specs.List.Sorted.{IsStrictlyIncreasing}
 use Rattle.racp_cutset.specs.Covering.{SearchNode}
 use Rattle.racp_search.specs.Children.{IsChildFor, IsEmptyChild}
-use Rattle.racp_search.specs.DepthFirst.{SearchFrame, Part, LiesInPart, LiesBehind, PartsCover, HasActive, IsFrame, IsBelow, IsQuiet, IsGoneOn, IsTaken, IsUsedUp, IsRestOfFrame, child_windows, parts_of, part_behind, weights}
+use Rattle.racp_search.specs.DepthFirst.{SearchFrame, Part, LiesInPart, LiesBehind, PartsCover, HasActive, IsFrame, IsBelow, IsQuiet, IsGoneOn, IsTaken, IsUsedUp, IsRestOfFrame, IsEachAlone, child_windows, parts_of, part_behind, weights}
 use Rattle.racp_search.specs.DepthFirst.Part.{all_of, behind}
 use Rattle.racp_search.specs.declared.child.Child.{Child}
-use Rattle.racp_search.proofs.Going.{child_parts, child_parts-append, windows-append, frame_with}
+use Rattle.racp_search.proofs.Going.{child_parts, child_parts-append, windows-append, as-many, frame_with}
+use Rattle.racp_search.proofs.Ranks.{few-jobs}
 use Rattle.racp_search.proofs.Leaving.{in_map, from_map}
 
 -- the parts with one child more
@@ -82,12 +84,16 @@ module _ (p : Project) (v : SearchNode) (active : List ℕ) where
     pub parts : yielded ++ left ≡ active
     pub seen : (job : ℕ) → Contains yielded job → IsSeenAlone rest job
     pub below : (w : Bounds) → Contains rest w → IsBelow p v.window w
+    pub quiet : (w : Bounds) → Contains rest w → IsQuiet p v.capacities w v.time
+    pub few : length rest ≤ length yielded
 
   pub putting-start : (left : List ℕ) (rest : List Bounds) → left ≡ active → rest ≡ [] → IsPuttingOff [] left rest
   putting-start left rest e none = record {
     parts = e;
     seen = λ job c. absurd (no_member job c);
     below = λ w c. absurd (no_member w (subst (λ (xs : List Bounds). Contains xs w) none c));
+    quiet = λ w c. absurd (no_member w (subst (λ (xs : List Bounds). Contains xs w) none c));
+    few = omega (arith, ap (λ (xs : List Bounds). length xs) none);
   }
 
   -- the next job is active, and can go alone
@@ -111,6 +117,8 @@ module _ (p : Project) (v : SearchNode) (active : List ℕ) where
       | inr now ↦ elim (member_cases job [] i now) [ inl same ↦ inr (subst (λ x. IsEmptyChild p v active (x ∷ [])) same empty) | inr none ↦ absurd (no_member i none) ]
     ];
     below = h.below;
+    quiet = h.quiet;
+    few = omega (arith, h.few, length-append yielded (job ∷ []));
   }
 
   -- or a window more
@@ -128,6 +136,11 @@ module _ (p : Project) (v : SearchNode) (active : List ℕ) where
       | inl before ↦ h.below x before
       | inr now ↦ elim (member_cases w [] x now) [ inl same ↦ subst (λ (y : Bounds). IsBelow p v.window y) same child.below | inr none ↦ absurd (no_member x none) ]
     ];
+    quiet = λ x c. elim (Contains-append_cases rest (w ∷ []) x c) [
+      | inl before ↦ h.quiet x before
+      | inr now ↦ elim (member_cases w [] x now) [ inl same ↦ subst (λ (y : Bounds). IsQuiet p v.capacities y v.time) same child.quiet | inr none ↦ absurd (no_member x none) ]
+    ];
+    few = omega (arith, h.few, length-append yielded (job ∷ []), length-append rest (w ∷ []));
   })
 
   -- what lies inside a window lies in it
@@ -173,6 +186,14 @@ module _ (p : Project) (v : SearchNode) (active : List ℕ) where
             let w = from_map p f.windows part starts child lies in
             subst (λ (x : SearchNode). LiesIn p x.window starts) node (lies-inside f.node.window w.0 starts (is.below w.0 w.1).part.inside w.2)
       ]
+
+-- and each is a child window of the node, of which there are no more than active jobs
+pub each-alone : (p : Project) (capacities : List ℕ) (f : SearchFrame) (v : SearchNode) (active yielded left : List ℕ) (cs : List Child) → AreJobs active → f.node ≡ v → IsRestOfFrame p capacities f (child_windows cs) → IsPuttingOff p v active yielded left (child_windows cs) → IsEachAlone p capacities f cs
+each-alone p capacities f v active yielded left cs jobs node rest h = record {
+  rest = rest;
+  quiet = λ w c. subst (λ (x : SearchNode). IsQuiet p x.capacities w x.time) (sym node) (h.quiet w c);
+  few = omega (arith, h.few, as-many cs, length-append yielded left, ap (λ (xs : List ℕ). length xs) h.parts, few-jobs active jobs);
+}
 
 -- a frame with fewer child windows
 pub frame-less : (p : Project) (v : SearchNode) (active last : List ℕ) (more : Bool) (cs left others : List Child) → cs ≡ left ++ others → IsFrame p (frame_with v active cs last more) → IsFrame p (frame_with v active left last more)

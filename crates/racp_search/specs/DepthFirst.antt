@@ -210,6 +210,12 @@ pub record IsRestOfFrame (p : Project) (capacities : List ℕ) (frame : SearchFr
   pub covers : (part : Part) → Contains (parts_of frame) part → PartsCover p capacities part (map all_of rest)
   pub below : (w : Bounds) → Contains rest w → IsBelow p frame.node.window w
 
+-- the child windows of a frame's node in which one active job alone is put off: they cover its parts, and are few
+pub record IsEachAlone (p : Project) (capacities : List ℕ) (frame : SearchFrame) (children : List Child) : Type 0 where
+  pub rest : IsRestOfFrame p capacities frame (child_windows children)
+  pub quiet : (w : Bounds) → Contains (child_windows children) w → IsQuiet p frame.node.capacities w frame.node.time
+  pub few : length children ≤ 512
+
 -- how many lists may still be looked at
 abbrev pub steps_left : Bool → List ℕ → ℕ
 steps_left true last = most_lists - rank 512 last

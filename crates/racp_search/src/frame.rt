@@ -1,8 +1,8 @@
-ghost use Rattle.std.specs.Prelude.{◌≡◌, ◌≢◌, ℕ, List, ◌<◌, ◌≤◌, [], ◌∷◌, IfOk, IsTrue, true, length, slice_index};
+ghost use Rattle.std.specs.Prelude.{◌≡◌, ◌≢◌, ℕ, List, ◌<◌, ◌≤◌, [], ◌∷◌, IfOk, IsTrue, IsFalse, true, length, slice_index};
 ghost use Rattle.racp_model.specs.Formed.{HasBounds};
 ghost use Rattle.racp_model.specs.Path.{IsEarly};
 ghost use Rattle.racp_delay.specs.Alternatives.{AreAlternatives, IsMinimalDelayingAlternative, job_lists};
-ghost use Rattle.racp_search.specs.DepthFirst.{HasActive, IsFrameOf, IsGoneOn, IsNextToLookAt, IsRestOfFrame, IsTakenUp, child_windows, steps_left};
+ghost use Rattle.racp_search.specs.DepthFirst.{HasActive, IsEachAlone, IsFrameOf, IsGoneOn, IsNextToLookAt, IsRestOfFrame, IsTakenUp, child_windows, steps_left};
 ghost use Rattle.racp_search.specs.Glances.{HasConflict, IsExpanded};
 ghost use Rattle.racp_search.specs.Steps.{IsTakenAnswer};
 
@@ -10,7 +10,7 @@ use crate::child::{Child, child_of, free_of, insert, windows_of};
 use crate::subject::Subject;
 use crate::workspace::{Spare, Workspace};
 use racp_cutset::{Local, Node};
-use racp_delay::{Clash, laws};
+use racp_delay::{Clash, Steps, Unfound, laws};
 use racp_model::{Capacities, JobSet, OfNetwork, Question, Starts, Window};
 use smallvec::SmallVec;
 use std::alloc::{AllocError, Global};
@@ -18,6 +18,10 @@ use std::marker::Model;
 
 /// How many child windows are made at a time, those with the most slack to be searched first.
 const MOST_CHILDREN: usize = 64;
+
+/// How many steps, of those that `find_behind` counts, may be taken to make child windows. The paths to 64 alternatives of
+/// 512 jobs are fewer.
+const MOST_STEPS: u32 = 50_000;
 
 /// Up to this number of active jobs all alternatives are listed at once: they are 70 at the most.
 const FEW_ACTIVE: usize = 8;
@@ -129,7 +133,7 @@ impl<N: OfNetwork> Frame<N> {
         1
     }
 
-    /// Makes child windows until there are enough or none is left.
+    /// Makes child windows until there are enough or none is left. That takes a bounded number of steps.
     fn find_children(
         &mut self,
         workspace: &mut Workspace,
@@ -140,18 +144,21 @@ impl<N: OfNetwork> Frame<N> {
         ensures further { IfOk result (λ _. IsGoneOn N.network subject.now.capacities self.old self.new) }
         ensures enough { IfOk result (λ _. IsTrue self.new.more → enough ≤ length self.new.windows) }
     {
+        let steps = Steps::new(MOST_STEPS);
         while self.more && self.children.len() < enough {
-            self.find_child(workspace, subject)?;
+            self.find_child(workspace, subject, &steps)?;
         }
         Ok(())
     }
 
     /// Looks at the next alternative in which only free jobs go, and makes its child window where something may lie in
-    /// it. Nothing lies in the child windows of those that are passed over.
+    /// it. Nothing lies in the child windows of those that are passed over. Where too many steps were taken, all that is
+    /// left are then the windows in which each active job alone is put off.
     fn find_child(
         &mut self,
         workspace: &mut Workspace,
         subject: &Subject<N>,
+        steps: &Steps,
     ) -> Result<(), AllocError>
         requires same { self.old.node.capacities ≡ subject.now.capacities }
         requires more { IsTrue self.old.more }
@@ -165,11 +172,27 @@ impl<N: OfNetwork> Frame<N> {
         let (net, capacities) = (subject.network(), subject.capacities());
         let free = free_of(net, &self.node, &self.active);
         let next = &mut workspace.next;
-        if !next.find_behind(net, capacities, &self.active, &free, &self.last)? {
-            self.more = false;
-            return Ok(());
+        match next.find_behind(net, capacities, &self.active, &free, &self.last, steps) {
+            Ok(true) => self.take_up(&mut workspace.spare, subject, workspace.next.jobs()),
+            Ok(false) => {
+                self.more = false;
+                Ok(())
+            }
+            Err(Unfound::Stopped) => self.settle(&mut workspace.spare, subject),
+            Err(Unfound::Memory) => Err(AllocError),
         }
-        self.take_up(&mut workspace.spare, subject, workspace.next.jobs())
+    }
+
+    /// Puts the windows in which each active job alone is put off in place of all that is left.
+    fn settle(&mut self, spare: &mut Spare, subject: &Subject<N>) -> Result<(), AllocError>
+        requires same { self.old.node.capacities ≡ subject.now.capacities }
+        requires more { IsTrue self.old.more }
+        ensures further { IfOk result (λ _. IsGoneOn N.network subject.now.capacities self.old self.new) }
+        ensures done { IfOk result (λ _. IsFalse self.new.more) }
+    {
+        self.children = self.put_off_each(spare, subject)?;
+        self.more = false;
+        Ok(())
     }
 
     /// Takes up the next alternative: makes its child window where something may lie in it.
@@ -238,34 +261,32 @@ impl<N: OfNetwork> Frame<N> {
             return Err(error);
         }
         if self.more {
-            let rest = self.put_off_each(alloc, workspace, subject);
+            let rest = self.put_off_each(&mut workspace.spare, subject);
             // Dropped here once, not at each way out.
             drop(self);
-            return rest;
+            return windows_of(alloc, rest?);
         }
         windows_of(alloc, self.into_children())
     }
 
-    /// For each active job the window in which it alone is put off.
+    /// For each active job the child window in which it alone is put off, where something may lie in it.
     fn put_off_each(
         &self,
-        alloc: Global,
-        workspace: &mut Workspace,
+        spare: &mut Spare,
         subject: &Subject<N>,
-    ) -> Result<Vec<Window>, AllocError>
+    ) -> Result<Vec<Child>, AllocError>
         requires { self.now.node.capacities ≡ subject.now.capacities }
-        ensures { IfOk result (λ rest. IsRestOfFrame N.network subject.now.capacities self.now rest.items) }
+        ensures { IfOk result (λ rest. IsEachAlone N.network subject.now.capacities self.now rest.items) }
     {
         laws::each_job_alone_covers();
         laws::each_has_child();
         laws::child_is_inside();
         laws::subsets_go();
-        let mut rest = Vec::new(alloc);
+        let mut rest = spare.list();
         for job in self.active.iter() {
             let gone = [job];
-            let spare = &mut workspace.spare;
             if let Some(child) = child_of(spare, subject, &self.node, &self.active, &gone)? {
-                rest.push(child.window)?;
+                rest.push(child)?;
             }
         }
         Ok(rest)
