@@ -90,7 +90,7 @@ not_first [] h = absurd (cc h)
 not_first (x ∷ xs) h = absurd (cc h)
 
 -- an element of a list, whatever stands for those that are not there
-same_default : (lists : List (List ℕ)) (j : ℕ) (d e : List ℕ) → j < length lists → slice_index_or lists j d ≡ slice_index_or lists j e
+pub same_default : (lists : List (List ℕ)) (j : ℕ) (d e : List ℕ) → j < length lists → slice_index_or lists j d ≡ slice_index_or lists j e
 same_default lists j d e l = get_or_default lists j d e l
 
 -- before each list of jobs stands the empty one

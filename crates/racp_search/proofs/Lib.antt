@@ -15,3 +15,5 @@ mod Resting
 mod Pursuing
 mod Exploring
 mod Settling
+mod Dividing
+mod Lines

@@ -4,3 +4,4 @@ pub mod DepthFirst
 pub mod Steps
 pub mod Glances
 pub mod Ends
+pub mod Refuting

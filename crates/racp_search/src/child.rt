@@ -118,7 +118,12 @@ pub(crate) fn windows_of(alloc: Global, children: Vec<Child>) -> Result<Vec<Wind
 }
 
 /// The window with the lower bounds of these jobs raised to a time.
-fn put_off(spare: &mut Spare, window: &Window, gone: &[u32], end: u32) -> Result<Window, AllocError>
+pub(crate) fn put_off(
+    spare: &mut Spare,
+    window: &Window,
+    gone: &[u32],
+    end: u32,
+) -> Result<Window, AllocError>
     requires gone { All (IsNumber (length window.now.lower)) gone.now }
     requires end { end ≤ most_bound }
     ensures { IfOk result (IsPutOff window.now gone.now end) }

@@ -47,7 +47,11 @@ pub(crate) fn look_at(
 }
 
 /// The early starts above lower bounds, in a row that is used again.
-fn early_in(spare: &mut Spare, net: &Network, lower: &[u32]) -> Result<Starts, AllocError>
+pub(crate) fn early_in(
+    spare: &mut Spare,
+    net: &Network,
+    lower: &[u32],
+) -> Result<Starts, AllocError>
     requires places { length lower.now ≡ length net.now.jobs }
     requires small { All (λ x. x ≤ most_bound) lower.now }
     ensures { IfOk result (IsEarly net.now (slice_index lower.now)) }
