@@ -10,6 +10,8 @@ mod plans;
 #[cfg(test)]
 mod records;
 #[cfg(test)]
+mod refuting;
+#[cfg(test)]
 mod searches;
 #[cfg(test)]
 mod series;
