@@ -8,6 +8,8 @@ mod desk;
 #[cfg(test)]
 mod plans;
 #[cfg(test)]
+mod questions;
+#[cfg(test)]
 mod records;
 #[cfg(test)]
 mod refuting;
