@@ -4,4 +4,5 @@ mod Asking
 mod Growing
 mod Telling
 mod OneCurve
+mod SomeCurve
 mod TextLines

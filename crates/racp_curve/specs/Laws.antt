@@ -1,8 +1,11 @@
 -- Laws of deadlines and curves. Each is the contract of a public function.
-use Rattle.std.specs.Prelude.{◌≡◌, ◌⊎◌, ℕ, ◌≤◌, List, Contains}
-use Rattle.racp_model.specs.Project.{Project}
-use Rattle.racp_model.specs.Terms.{Terms, IsBefore}
+use Rattle.std.specs.Prelude.{◌≡◌, ◌≢◌, ◌⊎◌, ℕ, ◌≤◌, List, [], Contains}
+use Rattle.racp_model.specs.Project.{Project, IsSound}
+use Rattle.racp_model.specs.Terms.{Terms, AreTermsOf, IsBefore}
 use Rattle.racp_model.specs.Plan.{IsEnough, NoneIsEnough}
+use Rattle.racp_lexfix.specs.Answers.{IsAnswer}
+use Rattle.racp_lexfix.specs.Laws.{IsNoPlan}
+use Rattle.racp_lexfix.specs.declared.answer.Answer.{Answer}
 use Rattle.racp_curve.specs.Curves.{order_by, ArePlanned, IsCurve}
 use Rattle.racp_curve.specs.declared.step.Step.{Step}
 
@@ -30,6 +33,13 @@ NotEnoughSooner =
 abbrev pub CurveIsOne : Type 0
 CurveIsOne =
     (p : Project) (terms : Terms) (steps others : List Step) → IsCurve p terms steps → IsCurve p terms others → steps ≡ others
+
+-- an order for a network has a curve with a step, or a reason why there is no plan for its own deadline
+abbrev pub CurveExists : Type 0
+CurveExists =
+    (p : Project) (terms : Terms) → IsSound p → AreTermsOf p terms →
+    ((steps : List Step) × IsCurve p terms steps × (steps ≢ [])) ⊎
+    ((answer : Answer) × IsAnswer p terms answer × IsNoPlan answer)
 
 -- a curve tells of each deadline up to the order's: there is no plan, or a step has the capacities of the plan
 abbrev pub CurveTells : Type 0

@@ -1,6 +1,8 @@
 //! Laws of deadlines and curves. The contract of each function is the law.
 
-ghost use Rattle.racp_curve.specs.Laws.{EnoughLater, NotEnoughSooner, PlannedBetween, CurveIsOne, CurveTells};
+ghost use Rattle.racp_curve.specs.Laws.{EnoughLater, NotEnoughSooner, PlannedBetween, CurveIsOne, CurveExists, CurveTells};
+
+use racp_lexfix::laws::answer_exists;
 
 /// What is enough for a deadline is enough for each later one.
 pub fn enough_later()
@@ -22,6 +24,13 @@ pub fn planned_between()
 pub fn curve_is_one()
     ensures { CurveIsOne }
 {}
+
+/// An order for a network has a curve, or a reason why there is no plan for its own deadline.
+pub fn curve_exists()
+    ensures { CurveExists }
+{
+    answer_exists();
+}
 
 /// A curve tells of each deadline up to the order's: there is no plan, or a step has the capacities of the plan.
 pub fn curve_tells()
