@@ -2,6 +2,7 @@
 
 mod crews;
 mod halts;
+mod pairs;
 mod probes;
 mod runs;
 mod scripts;
