@@ -4,6 +4,8 @@
 #[cfg(test)]
 mod commands;
 #[cfg(test)]
+mod crowds;
+#[cfg(test)]
 mod devices;
 #[cfg(test)]
 mod networks;
