@@ -50,10 +50,10 @@ module _ (p : Project) (a : List ℕ) (root : Bounds) (goes : SomeJobGoes) (one 
 
   -- what the next line asks
   next_line : (later : List (ℕ × SearchNode)) (now : Reader) (lower rest : List ℕ) (s : Step) (more : List ℕ) → step_number s ≤ most_number → rest ≡ step_line s ++ more →
-      Nexts later now lower rest ↔ IsStepped p a (rest_of p wanted root vectors) later now.number (window_of lower) (open_nodes a root.upper now.branches.items) s more
+      Nexts later now lower rest ↔ IsStepped p a (rest_of p wanted root vectors) later now.number (window_of lower) (open_nodes p a root.upper now.branches.items) s more
   next_line later now lower rest s more small same =
-      subst (λ (xs : List ℕ). Nexts later now lower xs ↔ IsStepped p a (rest_of p wanted root vectors) later now.number (window_of lower) (open_nodes a root.upper now.branches.items) s more) (sym same)
-      (line_follows p a (rest_of p wanted root vectors) (rest_stays p wanted root vectors) some later now.number (window_of lower) (open_nodes a root.upper now.branches.items) s more small)
+      subst (λ (xs : List ℕ). Nexts later now lower xs ↔ IsStepped p a (rest_of p wanted root vectors) later now.number (window_of lower) (open_nodes p a root.upper now.branches.items) s more) (sym same)
+      (line_follows p a (rest_of p wanted root vectors) (rest_stays p wanted root vectors) some later now.number (window_of lower) (open_nodes p a root.upper now.branches.items) s more small)
 
   never : (b : Bool) → b ≡ false → IsTrue b → ⊥
   never b e y = absurd (cc (e, y))
@@ -73,10 +73,10 @@ module _ (p : Project) (a : List ℕ) (root : Bounds) (goes : SomeJobGoes) (one 
 
   -- a reader that read a line without children
   leaf_asks : (later : List (ℕ × SearchNode)) (now mid : Reader) (more : List ℕ) → mid.branches.items ≡ now.branches.items → mid.number ≡ now.number + 1 →
-      Follow p a (rest_of p wanted root vectors) later (now.number + 1) (open_nodes a root.upper now.branches.items) more ↔ All' later mid more
+      Follow p a (rest_of p wanted root vectors) later (now.number + 1) (open_nodes p a root.upper now.branches.items) more ↔ All' later mid more
   leaf_asks later now mid more same next =
-      subst (λ (xs : List Branch). Follow p a (rest_of p wanted root vectors) later (now.number + 1) (open_nodes a root.upper now.branches.items) more ↔ Follow p a (rest_of p wanted root vectors) later mid.number (open_nodes a root.upper xs) more) (sym same)
-      (subst (λ k. Follow p a (rest_of p wanted root vectors) later (now.number + 1) (open_nodes a root.upper now.branches.items) more ↔ Follow p a (rest_of p wanted root vectors) later k (open_nodes a root.upper now.branches.items) more) (sym next) ((λ x. x), λ x. x))
+      subst (λ (xs : List Branch). Follow p a (rest_of p wanted root vectors) later (now.number + 1) (open_nodes p a root.upper now.branches.items) more ↔ Follow p a (rest_of p wanted root vectors) later mid.number (open_nodes p a root.upper xs) more) (sym same)
+      (subst (λ k. Follow p a (rest_of p wanted root vectors) later (now.number + 1) (open_nodes p a root.upper now.branches.items) more ↔ Follow p a (rest_of p wanted root vectors) later k (open_nodes p a root.upper now.branches.items) more) (sym next) ((λ x. x), λ x. x))
 
   pub line_holds : (later : List (ℕ × SearchNode)) (now after mid : Reader) (lower rest : List ℕ) (s : Step) (more : List ℕ) (yes' : Bool) → HasRead p root.upper later now → step_number s ≤ most_number → rest ≡ step_line s ++ more →
       IsLineAnswer p a (window_of lower) now s yes' after → yes' ≡ true → mid.branches.items ≡ after.branches.items → mid.closed ≡ after.closed → mid.number ≡ now.number + 1 → Passed later now mid lower rest more
@@ -94,9 +94,9 @@ module _ (p : Project) (a : List ℕ) (root : Bounds) (goes : SomeJobGoes) (one 
   line_holds later now after mid lower rest (D time) more true h small same answer yes'' branches closed next =
       let o : IsOpenedBy p a (window_of lower) time now mid = record { branch = answer.branch; is = answer.is; opened = answer.opened; number = answer.number; last = answer.last; branches = branches ∙ answer.branches; closed = closed ∙ answer.closed } in
       let line = next_line later now lower rest (D time) more small same in
-      let frames : List OpenNode = open_nodes a root.upper now.branches.items in
-      let f : OpenNode = open_node a root.upper o.branch in
-      let mids : open_nodes a root.upper mid.branches.items ≡ f ∷ frames = ap (λ (xs : List Branch). open_nodes a root.upper xs) o.branches ∙ open_more a root.upper [] now.branches.items o.branch in
+      let frames : List OpenNode = open_nodes p a root.upper now.branches.items in
+      let f : OpenNode = open_node p a root.upper o.branch in
+      let mids : open_nodes p a root.upper mid.branches.items ≡ f ∷ frames = ap (λ (xs : List Branch). open_nodes p a root.upper xs) o.branches ∙ open_more p a root.upper [] now.branches.items o.branch in
       let asks : Follow p a (rest_of p wanted root vectors) later (now.number + 1) (f ∷ frames) more ↔ All' later mid more =
       subst (λ (fs : List OpenNode). Follow p a (rest_of p wanted root vectors) later (now.number + 1) (f ∷ frames) more ↔ Follow p a (rest_of p wanted root vectors) later mid.number fs more) (sym mids)
       (subst (λ k. Follow p a (rest_of p wanted root vectors) later (now.number + 1) (f ∷ frames) more ↔ Follow p a (rest_of p wanted root vectors) later k (f ∷ frames) more) (sym next) ((λ x. x), λ x. x)) in
@@ -164,7 +164,7 @@ module _ (p : Project) (a : List ℕ) (root : Bounds) (old : Reader) (text : Lis
       AsksNext p a wanted root vectors nodes old root.lower text → ⊥
   tree_missing none wanted vectors nodes h x =
       let told = is.told wanted vectors nodes h in
-      line_missing p a (rest_of p wanted root vectors) (rest_stays p wanted root vectors) told.0 now.number window (open_nodes a root.upper now.branches.items) rest none (told.2.0 x)
+      line_missing p a (rest_of p wanted root vectors) (rest_stays p wanted root vectors) told.0 now.number window (open_nodes p a root.upper now.branches.items) rest none (told.2.0 x)
 
   module _ (s : Step) (more : List ℕ) (little : step_number s ≤ most_number) (same : rest ≡ step_line s ++ more) where
     -- the node that a line names has a place
@@ -224,7 +224,7 @@ module _ (p : Project) (a : List ℕ) (root : Bounds) (old : Reader) (text : Lis
               let passed = held wanted vectors told.0 told.1 in
               let on = h.1 wanted vectors told.0 more passed.read in
               let rest_is : Asks p a wanted root vectors on.0 new more ↔ IsRest p wanted root vectors on.0 new.number more =
-              subst (λ (xs : List Branch). Follow p a (rest_of p wanted root vectors) on.0 new.number (open_nodes a root.upper xs) more ↔ IsRest p wanted root vectors on.0 new.number more) (sym h.0) ((λ x. x), λ x. x) in
+              subst (λ (xs : List Branch). Follow p a (rest_of p wanted root vectors) on.0 new.number (open_nodes p a root.upper xs) more ↔ IsRest p wanted root vectors on.0 new.number more) (sym h.0) ((λ x. x), λ x. x) in
               (on.0, on.1, ((λ x. rest_is.0 (on.2.0 (passed.asks.0 (told.2.0 x)))), λ x. told.2.1 (passed.asks.1 (on.2.1 (rest_is.1 x)))));
         }
 

@@ -15,23 +15,24 @@ use Rattle.racp_delay.specs.Branching.{IsFirstEnd}
 use Rattle.racp_delay.specs.Laws.{OthersStay, SubsetsGo}
 use Rattle.racp_delay.proofs.lemmas.Conflicts.{conflict_numbers}
 use Rattle.racp_refutation.specs.Children.{NoneStays}
+use Rattle.racp_trees.specs.Rows.{early_of}
 use Rattle.racp_trees.specs.Following.{OpenNode, read_on, IsNextBehind, IsNoneBehind}
 use Rattle.racp_trees.specs.Branches.{IsBranch, open_node, IsRaised, HasLower}
 use Rattle.racp_trees.specs.declared.branch.Branch.{Branch}
 
 pub branch_numbers : (p : Project) (a : List ℕ) (b : Branch) → IsBranch p a b → All (IsNumber (length p.jobs)) b.active
-branch_numbers p a b is = conflict_numbers p a b.early b.time b.active is.conflict
+branch_numbers p a b is = conflict_numbers p a (early_of p b.lower) b.time b.active is.conflict
 
 module _ (p : Project) (a : List ℕ) (b : Branch) (is : IsBranch p a b) (law : SubsetsGo) where
   -- only active jobs go
   free : (upper gone : List ℕ) → IsMinimalDelayingAlternative p a b.active gone → IsFreeAlternative p a b.active b.active gone
   free upper gone minimal = record { minimal = minimal; only = ((law b.active gone is.conflict.set.rises).0 (minimal.delays.0, minimal.delays.1)).1 }
 
-  pub next_is : (more : Bool) (gone : List ℕ) → more ≡ true → IsFollowing p a b.active b.active b.last.items more gone → (upper : List ℕ) → IsNextBehind p (open_node a upper b) gone
+  pub next_is : (more : Bool) (gone : List ℕ) → more ≡ true → IsFollowing p a b.active b.active b.last.items more gone → (upper : List ℕ) → IsNextBehind p (open_node p a upper b) gone
   next_is true gone e h upper = record { minimal = h.is.minimal; behind = h.behind; first = λ other minimal later. h.first other (free upper other minimal) later }
   next_is false gone e h upper = absurd (cc e)
 
-  pub none_is : (more : Bool) (gone : List ℕ) → more ≡ false → IsFollowing p a b.active b.active b.last.items more gone → (upper : List ℕ) → IsNoneBehind p (open_node a upper b)
+  pub none_is : (more : Bool) (gone : List ℕ) → more ≡ false → IsFollowing p a b.active b.active b.last.items more gone → (upper : List ℕ) → IsNoneBehind p (open_node p a upper b)
   none_is true gone e h upper = absurd (cc e)
   none_is false gone e h upper = λ other minimal later. h other (free upper other minimal) later
 
@@ -53,7 +54,7 @@ none_behind_whole p f gone next stay other minimal later = go minimal.delays.0 m
     go (job ∷ kept) s e = next.minimal.least other (job ∷ kept) (subst (λ (xs : List ℕ). Splits xs other (job ∷ kept)) all s) (λ same. absurd (cc same)) minimal.delays
 
 -- the first end is small
-pub end_small : (p : Project) (a : List ℕ) (b : Branch) (gone kept : List ℕ) (end : ℕ) → IsBranch p a b → OthersStay → IsSound p → Splits b.active gone kept → IsFirstEnd p b.early kept end → end ≤ 10010000
+pub end_small : (p : Project) (a : List ℕ) (b : Branch) (gone kept : List ℕ) (end : ℕ) → IsBranch p a b → OthersStay → IsSound p → Splits b.active gone kept → IsFirstEnd p (early_of p b.lower) kept end → end ≤ 10010000
 end_small p a b gone kept end is law sound s first =
     let job : ℕ = first.some.0 in
     let active = (law b.active gone kept is.conflict.set.rises s job).0 first.some.1 in
@@ -62,8 +63,8 @@ end_small p a b gone kept end is law sound s first =
     omega (arith, first.some.2, is.below (place job) inside, duration-small p (place job) sound inside)
 
 -- the lower bounds of a child
-pub lower_is : (p : Project) (a : List ℕ) (b : Branch) (gone : List ℕ) (end : ℕ) (lower : List ℕ) → IsBranch p a b → (kept : List ℕ) → Splits b.active gone kept → ((kept : List ℕ) → Splits b.active gone kept → IsFirstEnd p b.early kept end) →
-    IsRaised b.lower.items gone end (length b.lower.items) lower → All (λ x. x ≤ most_bound) lower → HasLower p b gone lower
+pub lower_is : (p : Project) (a : List ℕ) (b : Branch) (gone : List ℕ) (end : ℕ) (lower : List ℕ) → IsBranch p a b → (kept : List ℕ) → Splits b.active gone kept → ((kept : List ℕ) → Splits b.active gone kept → IsFirstEnd p (early_of p b.lower) kept end) →
+    IsRaised b.lower gone end (length b.lower) lower → All (λ x. x ≤ most_bound) lower → HasLower p b gone lower
 lower_is p a b gone end lower is kept s ends raised small = record {
   some = λ stay. let first = ends kept s in no_member first.some.0 (subst (λ (xs : List ℕ). Contains xs first.some.0) (stay kept s) first.some.1);
   small = small;

@@ -7,6 +7,7 @@ use Rattle.racp_model.proofs.lemmas.Relations.{member_cases, member_first, membe
 use Rattle.racp_delay.specs.Alternatives.{Splits}
 use Rattle.racp_cutset.specs.Covering.{SearchNode}
 use Rattle.racp_refutation.specs.Children.{IsChildFor}
+use Rattle.racp_trees.specs.Rows.{early_of}
 use Rattle.racp_trees.specs.Following.{OpenNode, read_on, Follow, IsNext}
 use Rattle.racp_trees.specs.Branches.{IsBranch, open_node, IsNextChild, IsReadUp}
 use Rattle.racp_trees.specs.Readers.{open_nodes, IsReady, rest_of, Asks, AsksNext, IsPassedOn, IsPassedTo, StaysReady}
@@ -64,13 +65,13 @@ module _ (p : Project) (a : List ℕ) (wanted : List (List ℕ)) (root : Bounds)
 
   -- the next child of a branch is the next window
   pub branch_goes_on : (old new : Branch) (lower : List ℕ) → IsBranch p a old → IsNextChild p a old new lower → (upper : List ℕ) (frames : List OpenNode) (text : List ℕ) →
-      Follows nodes (open_node a upper old ∷ frames) text ↔ IsNext p a (rest_of p wanted root vectors) nodes n (record { lower = lower; upper = upper }) (open_node a upper new ∷ frames) text
+      Follows nodes (open_node p a upper old ∷ frames) text ↔ IsNext p a (rest_of p wanted root vectors) nodes n (record { lower = lower; upper = upper }) (open_node p a upper new ∷ frames) text
   branch_goes_on old new lower is next upper frames text =
-      let f : OpenNode = open_node a upper old in
+      let f : OpenNode = open_node p a upper old in
       let child : Bounds = record { lower = lower; upper = upper } in
       let minimal = (next.next upper).minimal in
       let told = child_next p a (rest_of p wanted root vectors) (rest_stays p wanted root vectors) f next.gone (next.next upper) child next.window.some (next.window.child upper)
-      (λ other h. child_one p old.early old.active (record { lower = old.lower.items; upper = upper }) next.gone minimal.delays.0 other child is.places minimal.delays.1 h (next.window.child upper)) nodes n frames text in
+      (λ other h. child_one p (early_of p old.lower) old.active (record { lower = old.lower; upper = upper }) next.gone minimal.delays.0 other child is.places minimal.delays.1 h (next.window.child upper)) nodes n frames text in
       subst (λ (g : OpenNode). Follows nodes (f ∷ frames) text ↔ IsNext p a (rest_of p wanted root vectors) nodes n child (g ∷ frames) text) (sym (next.read upper)) told
 
 -- a reader that passes on, whatever it closes
@@ -111,11 +112,11 @@ module _ (p : Project) (a : List ℕ) (root : Bounds) (old now new : Reader) (re
   front_branch x c = is.stays.ready.branches x (subst (λ (xs : List Branch). Contains xs x) (sym before) (Contains-append_left rest (b ∷ []) x c))
 
   -- the open nodes, the last one apart
-  apart_frames : open_nodes a root.upper now.branches.items ≡ open_node a root.upper b ∷ open_nodes a root.upper rest
-  apart_frames = ap (λ (xs : List Branch). open_nodes a root.upper xs) before ∙ open_more a root.upper [] rest b
+  apart_frames : open_nodes p a root.upper now.branches.items ≡ open_node p a root.upper b ∷ open_nodes p a root.upper rest
+  apart_frames = ap (λ (xs : List Branch). open_nodes p a root.upper xs) before ∙ open_more p a root.upper [] rest b
 
   -- its last branch is closed
-  pub passing_closed : (row : Record) → new.branches.items ≡ rest → new.number ≡ now.number → IsKept now.closed b.number row new.closed → ((upper : List ℕ) → IsRecordOf p (open_node a upper b).node row) → ((upper : List ℕ) → IsReadUp p (open_node a upper b)) → IsPassing p a root old new
+  pub passing_closed : (row : Record) → new.branches.items ≡ rest → new.number ≡ now.number → IsKept now.closed b.number row new.closed → ((upper : List ℕ) → IsRecordOf p (open_node p a upper b).node row) → ((upper : List ℕ) → IsReadUp p (open_node p a upper b)) → IsPassing p a root old new
   passing_closed row after same kept rows up = record {
     stays = record {
       ready = record {
@@ -128,30 +129,30 @@ module _ (p : Project) (a : List ℕ) (root : Bounds) (old now new : Reader) (re
     passed = λ wanted vectors nodes text h.
         let told = is.passed wanted vectors nodes text h in
         let later = told.0 in
-        let more : List (ℕ × SearchNode) = (b.number, (open_node a root.upper b).node) ∷ later in
-        let closes = branch_closes p a wanted root vectors later now.number (open_node a root.upper b) (up root.upper) (open_nodes a root.upper rest) text in
-        let split : Asks p a wanted root vectors later now text ↔ Follow p a (rest_of p wanted root vectors) more now.number (open_nodes a root.upper rest) text =
-        subst (λ (fs : List OpenNode). Follow p a (rest_of p wanted root vectors) later now.number fs text ↔ Follow p a (rest_of p wanted root vectors) more now.number (open_nodes a root.upper rest) text) (sym apart_frames) closes in
+        let more : List (ℕ × SearchNode) = (b.number, (open_node p a root.upper b).node) ∷ later in
+        let closes = branch_closes p a wanted root vectors later now.number (open_node p a root.upper b) (up root.upper) (open_nodes p a root.upper rest) text in
+        let split : Asks p a wanted root vectors later now text ↔ Follow p a (rest_of p wanted root vectors) more now.number (open_nodes p a root.upper rest) text =
+        subst (λ (fs : List OpenNode). Follow p a (rest_of p wanted root vectors) later now.number fs text ↔ Follow p a (rest_of p wanted root vectors) more now.number (open_nodes p a root.upper rest) text) (sym apart_frames) closes in
         let all : Asks p a wanted root vectors later now text ↔ Asks p a wanted root vectors more new text =
-        subst (λ (xs : List Branch). Asks p a wanted root vectors later now text ↔ Follow p a (rest_of p wanted root vectors) more new.number (open_nodes a root.upper xs) text) (sym after)
-        (subst (λ k. Asks p a wanted root vectors later now text ↔ Follow p a (rest_of p wanted root vectors) more k (open_nodes a root.upper rest) text) (sym same) split) in
+        subst (λ (xs : List Branch). Asks p a wanted root vectors later now text ↔ Follow p a (rest_of p wanted root vectors) more new.number (open_nodes p a root.upper xs) text) (sym after)
+        (subst (λ k. Asks p a wanted root vectors later now text ↔ Follow p a (rest_of p wanted root vectors) more k (open_nodes p a root.upper rest) text) (sym same) split) in
         (more, read_closed p a root.upper later now new rest b row told.1 before after same places high last_branch kept (rows root.upper), ((λ x. all.0 (told.2.0 x)), λ x. told.2.1 (all.1 x)));
   }
 
   -- it goes on to its next child
-  module _ (next : Branch) (lower : List ℕ) (after : new.branches.items ≡ rest ++ next ∷ []) (kept : new.closed ≡ now.closed) (same : new.number ≡ now.number) (number' : next.number ≡ b.number) (early' : next.early ≡ b.early) (fine : IsBranch p a next) (child : IsNextChild p a b next lower) where
+  module _ (next : Branch) (lower : List ℕ) (after : new.branches.items ≡ rest ++ next ∷ []) (kept : new.closed ≡ now.closed) (same : new.number ≡ now.number) (number' : next.number ≡ b.number) (lower' : next.lower ≡ b.lower) (fine : IsBranch p a next) (child : IsNextChild p a b next lower) where
     pub passing_child : IsPassedTo p a root old new lower
     passing_child wanted vectors nodes text h =
         let told = is.passed wanted vectors nodes text h in
         let later = told.0 in
-        let goes = branch_goes_on p a wanted root vectors later now.number b next lower last_branch child root.upper (open_nodes a root.upper rest) text in
-        let frames : open_nodes a root.upper new.branches.items ≡ open_node a root.upper next ∷ open_nodes a root.upper rest = ap (λ (xs : List Branch). open_nodes a root.upper xs) after ∙ open_more a root.upper [] rest next in
-        let split : Asks p a wanted root vectors later now text ↔ IsNext p a (rest_of p wanted root vectors) later now.number (record { lower = lower; upper = root.upper }) (open_node a root.upper next ∷ open_nodes a root.upper rest) text =
-        subst (λ (fs : List OpenNode). Follow p a (rest_of p wanted root vectors) later now.number fs text ↔ IsNext p a (rest_of p wanted root vectors) later now.number (record { lower = lower; upper = root.upper }) (open_node a root.upper next ∷ open_nodes a root.upper rest) text) (sym apart_frames) goes in
+        let goes = branch_goes_on p a wanted root vectors later now.number b next lower last_branch child root.upper (open_nodes p a root.upper rest) text in
+        let frames : open_nodes p a root.upper new.branches.items ≡ open_node p a root.upper next ∷ open_nodes p a root.upper rest = ap (λ (xs : List Branch). open_nodes p a root.upper xs) after ∙ open_more p a root.upper [] rest next in
+        let split : Asks p a wanted root vectors later now text ↔ IsNext p a (rest_of p wanted root vectors) later now.number (record { lower = lower; upper = root.upper }) (open_node p a root.upper next ∷ open_nodes p a root.upper rest) text =
+        subst (λ (fs : List OpenNode). Follow p a (rest_of p wanted root vectors) later now.number fs text ↔ IsNext p a (rest_of p wanted root vectors) later now.number (record { lower = lower; upper = root.upper }) (open_node p a root.upper next ∷ open_nodes p a root.upper rest) text) (sym apart_frames) goes in
         let all : Asks p a wanted root vectors later now text ↔ AsksNext p a wanted root vectors later new lower text =
         subst (λ (fs : List OpenNode). Asks p a wanted root vectors later now text ↔ IsNext p a (rest_of p wanted root vectors) later new.number (record { lower = lower; upper = root.upper }) fs text) (sym frames)
-        (subst (λ k. Asks p a wanted root vectors later now text ↔ IsNext p a (rest_of p wanted root vectors) later k (record { lower = lower; upper = root.upper }) (open_node a root.upper next ∷ open_nodes a root.upper rest) text) (sym same) split) in
-        (later, read_again p root.upper later now new rest b next told.1 before after number' early' kept same, ((λ x. all.0 (told.2.0 x)), λ x. told.2.1 (all.1 x)))
+        (subst (λ k. Asks p a wanted root vectors later now text ↔ IsNext p a (rest_of p wanted root vectors) later k (record { lower = lower; upper = root.upper }) (open_node p a root.upper next ∷ open_nodes p a root.upper rest) text) (sym same) split) in
+        (later, read_again p root.upper later now new rest b next told.1 before after number' lower' kept same, ((λ x. all.0 (told.2.0 x)), λ x. told.2.1 (all.1 x)))
 
     pub child_places : length lower ≡ length p.jobs
     child_places = (child.window.child root.upper).0 ∙ last_branch.places
@@ -195,8 +196,8 @@ passing_ends p a root old now new is items size kept same =
       λ wanted vectors nodes text h.
           let told = is.passed wanted vectors nodes text h in
           let all : Asks p a wanted root vectors told.0 now text ↔ Asks p a wanted root vectors told.0 new text =
-          subst (λ (xs : List Branch). Asks p a wanted root vectors told.0 now text ↔ Follow p a (rest_of p wanted root vectors) told.0 new.number (open_nodes a root.upper xs) text) (sym equal)
-          (subst (λ k. Asks p a wanted root vectors told.0 now text ↔ Follow p a (rest_of p wanted root vectors) told.0 k (open_nodes a root.upper now.branches.items) text) (sym same) ((λ x. x), λ x. x)) in
+          subst (λ (xs : List Branch). Asks p a wanted root vectors told.0 now text ↔ Follow p a (rest_of p wanted root vectors) told.0 new.number (open_nodes p a root.upper xs) text) (sym equal)
+          (subst (λ k. Asks p a wanted root vectors told.0 now text ↔ Follow p a (rest_of p wanted root vectors) told.0 k (open_nodes p a root.upper now.branches.items) text) (sym same) ((λ x. x), λ x. x)) in
           (told.0, read_further p root.upper told.0 now new told.1 equal kept (omega (arith, same)), ((λ x. all.0 (told.2.0 x)), λ x. told.2.1 (all.1 x))),
     )
   where

@@ -38,7 +38,7 @@ block_made p a root old new text begun whole some places small none begins made 
         λ x.
             subst (λ (xs : List ℕ). IsRest p wanted root vectors nodes old.number xs) (sym (append_assoc (vector_line a) made.lines rest))
             ((block_next p wanted root vectors nodes old.number a more some places small).1
-            (subst (λ (bs : List Branch). IsNext p a (rest_of p wanted root (vectors ++ a ∷ [])) nodes old.number root (open_nodes a root.upper bs) more) none (told.2 x))),
+            (subst (λ (bs : List Branch). IsNext p a (rest_of p wanted root (vectors ++ a ∷ [])) nodes old.number root (open_nodes p a root.upper bs) more) none (told.2 x))),
       );
 }
 

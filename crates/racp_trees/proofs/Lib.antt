@@ -20,3 +20,5 @@ mod Branching
 mod Closing
 mod Covered
 mod Following
+mod Rounds
+mod Changing

@@ -85,8 +85,8 @@ pub thinned_asks : (p : Project) (a : List ℕ) (wanted : List (List ℕ)) (root
     AsksNext p a wanted root vectors nodes old lower rest ↔ AsksNext p a wanted root vectors nodes new lower rest
 thinned_asks p a wanted root vectors nodes old new lower rest thin =
     let window : Bounds = record { lower = lower; upper = root.upper } in
-    subst (λ (xs : Vec Branch Global). AsksNext p a wanted root vectors nodes old lower rest ↔ IsNext p a (rest_of p wanted root vectors) nodes new.number window (open_nodes a root.upper xs.items) rest) (sym thin.branches)
-    (subst (λ k. AsksNext p a wanted root vectors nodes old lower rest ↔ IsNext p a (rest_of p wanted root vectors) nodes k window (open_nodes a root.upper old.branches.items) rest) (sym thin.number) ((λ x. x), λ x. x))
+    subst (λ (xs : Vec Branch Global). AsksNext p a wanted root vectors nodes old lower rest ↔ IsNext p a (rest_of p wanted root vectors) nodes new.number window (open_nodes p a root.upper xs.items) rest) (sym thin.branches)
+    (subst (λ k. AsksNext p a wanted root vectors nodes old lower rest ↔ IsNext p a (rest_of p wanted root vectors) nodes k window (open_nodes p a root.upper old.branches.items) rest) (sym thin.number) ((λ x. x), λ x. x))
 
 -- lines of a tree were added to a text: with any rest they are read up to where the maker stands
 pub record IsMaking (p : Project) (a : List ℕ) (root : Bounds) (old : Reader) (text : List ℕ) (now : Reader) (lower whole : List ℕ) : Type 0 where

@@ -1,19 +1,21 @@
 -- What a line says of the node of a window, told by its early starts.
 use Rattle.std.proofs.Common.{◌≡◌, ◌↔◌, ◌∙◌, ℕ, ◌<◌, ◌≤◌, List, [], ◌∷◌, ◌++◌, length, slice_index, All, IsTrue, Bool, arith, refl, sym, subst, ap}
 use Rattle.std.specs.Prelude.{Some, None}
-use Rattle.racp_model.specs.Project.{Project, place, IsNumber}
+use Rattle.racp_model.specs.Project.{Project, IsSound, place, IsNumber}
 use Rattle.racp_model.specs.Path.{IsEarly}
 use Rattle.racp_model.specs.Window.{Bounds}
 use Rattle.racp_model.specs.Limits.{most_bound, most_start}
 use Rattle.racp_delay.specs.Branching.{IsConflict}
 use Rattle.racp_cutset.specs.Covering.{SearchNode}
 use Rattle.racp_refutation.specs.Trees.{IsNodeOf, IsTooLate}
+use Rattle.racp_trees.specs.Rows.{early_of}
 use Rattle.racp_trees.specs.Following.{IsOpened}
 use Rattle.racp_trees.specs.Nodes.{IsDivisionAnswer}
 use Rattle.racp_trees.specs.Enough.{IsAtMost}
 use Rattle.racp_trees.specs.Readers.{IsOpenedBy}
 use Rattle.racp_trees.specs.declared.branch.Branch.{Branch}
 use Rattle.racp_trees.specs.declared.reader.Reader.{Reader}
+use Rattle.racp_trees.proofs.Rounds.{early_is}
 use Rattle.racp_trees.proofs.Covered.{node_at, node_is}
 
 module _ (p : Project) (a lower upper early : List ℕ) (h : IsEarly p (slice_index lower) early) where
@@ -41,14 +43,15 @@ module _ (p : Project) (a lower upper early : List ℕ) (h : IsEarly p (slice_in
   not_divided time none v active o = let parts = opened_parts time v active o in none active parts.0 parts.1
 
   -- the branch that is opened
-  pub divided_by : (time : ℕ) (active : List ℕ) (branch : Branch) (old new : Reader) → IsDivisionAnswer p a upper early time (Some active) → length lower ≡ length p.jobs → All (λ x. x ≤ most_bound) lower → length upper ≡ length p.jobs → All (λ x. x ≤ most_start) upper →
-      branch.lower.items ≡ lower → branch.early ≡ early → branch.active ≡ active → branch.time ≡ time → branch.number ≡ old.number → branch.last.items ≡ [] → new.branches.items ≡ old.branches.items ++ branch ∷ [] → new.closed ≡ old.closed →
+  pub divided_by : (time : ℕ) (active : List ℕ) (branch : Branch) (old new : Reader) → IsSound p → IsDivisionAnswer p a upper early time (Some active) → length lower ≡ length p.jobs → All (λ x. x ≤ most_bound) lower → length upper ≡ length p.jobs → All (λ x. x ≤ most_start) upper →
+      branch.lower ≡ lower → branch.active ≡ active → branch.time ≡ time → branch.number ≡ old.number → branch.last.items ≡ [] → new.branches.items ≡ old.branches.items ++ branch ∷ [] → new.closed ≡ old.closed →
       IsOpenedBy p a window time old new
-  divided_by time active branch old new answer low small high top is_lower is_early is_active is_time is_number is_last pushed kept =
-      let conflict : IsConflict p a branch.early branch.time branch.active =
+  divided_by time active branch old new sound answer low small high top is_lower is_active is_time is_number is_last pushed kept =
+      let is_early : early_of p branch.lower ≡ early = ap (λ (xs : List ℕ). early_of p xs) is_lower ∙ early_is p lower early sound h in
+      let conflict : IsConflict p a (early_of p branch.lower) branch.time branch.active =
       subst (λ (xs : List ℕ). IsConflict p a xs branch.time branch.active) (sym is_early) (subst (λ (t : ℕ). IsConflict p a early t branch.active) (sym is_time) (subst (λ (xs : List ℕ). IsConflict p a early time xs) (sym is_active) answer.1)) in
-      let starts : IsEarly p (slice_index branch.lower.items) branch.early =
-      subst (λ (xs : List ℕ). IsEarly p (slice_index xs) branch.early) (sym is_lower) (subst (λ (xs : List ℕ). IsEarly p (slice_index lower) xs) (sym is_early) h) in
+      let starts : IsEarly p (slice_index branch.lower) (early_of p branch.lower) =
+      subst (λ (xs : List ℕ). IsEarly p (slice_index xs) (early_of p branch.lower)) (sym is_lower) (subst (λ (xs : List ℕ). IsEarly p (slice_index lower) xs) (sym is_early) h) in
       record {
         branch = branch;
         is = record {

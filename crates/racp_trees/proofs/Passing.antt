@@ -12,6 +12,7 @@ use Rattle.racp_refutation.specs.Trees.{node_count, divided}
 use Rattle.racp_trees.specs.Texts.{Block, step_line}
 use Rattle.racp_trees.specs.Certificates.{AllHold}
 use Rattle.racp_trees.specs.Reading.{IsNamed}
+use Rattle.racp_trees.specs.Rows.{early_of}
 use Rattle.racp_trees.specs.Following.{OpenNode}
 use Rattle.racp_trees.specs.Branches.{IsBranch, open_node}
 use Rattle.racp_trees.specs.Nodes.{AreRecords}
@@ -25,9 +26,9 @@ use Rattle.racp_refutation.specs.declared.step.Step.TheVariants.{C}
 use Rattle.racp_trees.proofs.Following.{Within, Stays, hold-more}
 
 -- open nodes of one branch more
-pub open_more : (a upper : List ℕ) (frames : List OpenNode) (branches : List Branch) (b : Branch) → open_onto a upper frames (branches ++ b ∷ []) ≡ open_node a upper b ∷ open_onto a upper frames branches
-open_more a upper frames [] b = refl
-open_more a upper frames (x ∷ branches) b = open_more a upper (open_node a upper x ∷ frames) branches b
+pub open_more : (p : Project) (a upper : List ℕ) (frames : List OpenNode) (branches : List Branch) (b : Branch) → open_onto p a upper frames (branches ++ b ∷ []) ≡ open_node p a upper b ∷ open_onto p a upper frames branches
+open_more p a upper frames [] b = refl
+open_more p a upper frames (x ∷ branches) b = open_more p a upper (open_node p a upper x ∷ frames) branches b
 
 -- more closed nodes
 within-more : (xs ys zs : List (ℕ × SearchNode)) → Within xs ys → Within (zs ++ xs) (zs ++ ys)
@@ -111,7 +112,7 @@ read_opened p a window time nodes old new h o next = record {
   ];
   fits = λ b c i l. elim (last_or old.branches.items o.branch b (subst (λ (xs : List Branch). Contains xs b) o.branches c)) [
     | inl before ↦ h.fits b before i l
-    | inr same ↦ subst (λ (x : Branch). slice_index x.early i ≤ slice_index window.upper i) same (o.opened.below i l)
+    | inr same ↦ subst (λ (x : Branch). slice_index (early_of p x.lower) i ≤ slice_index window.upper i) same (o.opened.below i l)
   ];
   rising = subst (λ (xs : List Branch). AllPairs Earlier xs) (sym o.branches) (rising_push old.branches.items o.branch h.rising (λ x c. omega (arith, h.opened x c, o.number)));
   apart = λ b c. elim (last_or old.branches.items o.branch b (subst (λ (xs : List Branch). Contains xs b) o.branches c)) [
@@ -145,8 +146,8 @@ rising_front (y ∷ branches) b h =
 
 -- the last branch went on
 pub read_again : (p : Project) (upper : List ℕ) (nodes : List (ℕ × SearchNode)) (old new : Reader) (rest : List Branch) (b c : Branch) → HasRead p upper nodes old → old.branches.items ≡ rest ++ b ∷ [] → new.branches.items ≡ rest ++ c ∷ [] →
-    c.number ≡ b.number → c.early ≡ b.early → new.closed ≡ old.closed → new.number ≡ old.number → HasRead p upper nodes new
-read_again p upper nodes old new rest b c h before after number' early' kept same = record {
+    c.number ≡ b.number → c.lower ≡ b.lower → new.closed ≡ old.closed → new.number ≡ old.number → HasRead p upper nodes new
+read_again p upper nodes old new rest b c h before after number' lower' kept same = record {
   records = subst (λ (k : Closed). AreRecords p upper nodes k) (sym kept) h.records;
   closed = λ m v k. omega (arith, h.closed m v k, same);
   opened = λ x k. elim (last_or rest c x (subst (λ (xs : List Branch). Contains xs x) after k)) [
@@ -155,7 +156,7 @@ read_again p upper nodes old new rest b c h before after number' early' kept sam
   ];
   fits = λ x k i l. elim (last_or rest c x (subst (λ (xs : List Branch). Contains xs x) after k)) [
     | inl there ↦ h.fits x (old_front x there) i l
-    | inr here ↦ omega (arith, h.fits b old_last i l, ap (λ (xs : List ℕ). slice_index xs i) early', ap (λ (z : Branch). slice_index z.early i) here)
+    | inr here ↦ omega (arith, h.fits b old_last i l, ap (λ (xs : List ℕ). slice_index (early_of p xs) i) lower', ap (λ (z : Branch). slice_index (early_of p z.lower) i) here)
   ];
   rising =
       let fronts = rising_front rest b (subst (λ (xs : List Branch). AllPairs Earlier xs) before h.rising) in
@@ -190,9 +191,9 @@ kept_node r s e = let inner : Some r ≡ Some s = cc e in cc inner
 
 -- the last branch is closed
 module _ (p : Project) (a upper : List ℕ) (nodes : List (ℕ × SearchNode)) (old new : Reader) (rest : List Branch) (b : Branch) (row : Record) (h : HasRead p upper nodes old) (before : old.branches.items ≡ rest ++ b ∷ []) (after : new.branches.items ≡ rest)
-    (same : new.number ≡ old.number) (places : length a ≡ p.resources) (high : length upper ≡ length p.jobs) (is : IsBranch p a b) (kept : IsKept old.closed b.number row new.closed) (is_row : IsRecordOf p (open_node a upper b).node row) where
+    (same : new.number ≡ old.number) (places : length a ≡ p.resources) (high : length upper ≡ length p.jobs) (is : IsBranch p a b) (kept : IsKept old.closed b.number row new.closed) (is_row : IsRecordOf p (open_node p a upper b).node row) where
   abbrev node : SearchNode
-  node = (open_node a upper b).node
+  node = (open_node p a upper b).node
 
   abbrev more : List (ℕ × SearchNode)
   more = (b.number, node) ∷ nodes

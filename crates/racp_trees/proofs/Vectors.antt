@@ -48,7 +48,7 @@ module _ (p : Project) (root : Bounds) (old : Reader) (text : List ℕ) (between
     asks : (wanted vectors : List (List ℕ)) (nodes : List (ℕ × SearchNode)) → IsRest p wanted root vectors nodes old.number text ↔ AsksNext p a wanted root (vectors ++ a ∷ []) nodes old root.lower more
     asks wanted vectors nodes =
         subst (λ (xs : List ℕ). IsRest p wanted root vectors nodes old.number xs ↔ AsksNext p a wanted root (vectors ++ a ∷ []) nodes old root.lower more) (sym whole)
-        (subst (λ (bs : List Branch). IsRest p wanted root vectors nodes old.number (vector_line a ++ more) ↔ IsNext p a (rest_of p wanted root (vectors ++ a ∷ [])) nodes old.number root (open_nodes a root.upper bs) more) (sym between.none_open)
+        (subst (λ (bs : List Branch). IsRest p wanted root vectors nodes old.number (vector_line a ++ more) ↔ IsNext p a (rest_of p wanted root (vectors ++ a ∷ [])) nodes old.number root (open_nodes p a root.upper bs) more) (sym between.none_open)
         (block_next p wanted root vectors nodes old.number a more some size small))
 
     -- its tree is not

@@ -6,25 +6,26 @@ use Rattle.racp_model.specs.Limits.{most_bound, most_start}
 use Rattle.racp_model.specs.Path.{IsEarly}
 use Rattle.racp_delay.specs.Branching.{IsConflict}
 use Rattle.racp_refutation.specs.Children.{NoneStays, IsChildFor}
+use Rattle.racp_trees.specs.Rows.{early_of}
 use Rattle.racp_trees.specs.Following.{OpenNode, read_on, IsNextBehind, IsNoneBehind}
 use Rattle.racp_trees.specs.declared.branch.Branch.{Branch}
 
 -- the node that is read, of these capacities and upper bounds
-abbrev pub open_node : List ℕ → List ℕ → Branch → OpenNode
-open_node capacities upper branch = record {
+abbrev pub open_node : Project → List ℕ → List ℕ → Branch → OpenNode
+open_node p capacities upper branch = record {
   number = branch.number;
-  node = record { capacities = capacities; window = record { lower = branch.lower.items; upper = upper }; early = branch.early; time = branch.time };
+  node = record { capacities = capacities; window = record { lower = branch.lower; upper = upper }; early = early_of p branch.lower; time = branch.time };
   active = branch.active;
   last = branch.last.items;
 }
 
 -- what holds of each: the early starts have their first conflict at its time
 pub record IsBranch (p : Project) (capacities : List ℕ) (branch : Branch) : Type 0 where
-  pub places : length branch.lower.items ≡ length p.jobs
-  pub small : All (λ x. x ≤ most_bound) branch.lower.items
-  pub starts : IsEarly p (slice_index branch.lower.items) branch.early
-  pub below : (i : ℕ) → i < length p.jobs → slice_index branch.early i ≤ most_start
-  pub conflict : IsConflict p capacities branch.early branch.time branch.active
+  pub places : length branch.lower ≡ length p.jobs
+  pub small : All (λ x. x ≤ most_bound) branch.lower
+  pub starts : IsEarly p (slice_index branch.lower) (early_of p branch.lower)
+  pub below : (i : ℕ) → i < length p.jobs → slice_index (early_of p branch.lower) i ≤ most_start
+  pub conflict : IsConflict p capacities (early_of p branch.lower) branch.time branch.active
 
 -- the times of these jobs are raised to a time, and the others stay
 pub record IsRaised (old gone : List ℕ) (end m : ℕ) (new : List ℕ) : Type 0 where
@@ -34,14 +35,14 @@ pub record IsRaised (old gone : List ℕ) (end m : ℕ) (new : List ℕ) : Type 
 
 -- the next alternative, or that there is none
 abbrev pub IsAlternativeAnswer : Project → List ℕ → Branch → Option (Vec ℕ Global) → Type 0
-IsAlternativeAnswer p capacities branch (Some gone) = (upper : List ℕ) → IsNextBehind p (open_node capacities upper branch) gone.items
-IsAlternativeAnswer p capacities branch None = (upper : List ℕ) → IsNoneBehind p (open_node capacities upper branch)
+IsAlternativeAnswer p capacities branch (Some gone) = (upper : List ℕ) → IsNextBehind p (open_node p capacities upper branch) gone.items
+IsAlternativeAnswer p capacities branch None = (upper : List ℕ) → IsNoneBehind p (open_node p capacities upper branch)
 
 -- the child window of an alternative has these lower bounds
 pub record HasLower (p : Project) (branch : Branch) (gone lower : List ℕ) : Type 0 where
   pub some : NoneStays branch.active gone → ⊥
   pub small : All (λ x. x ≤ most_bound) lower
-  pub child : (upper : List ℕ) → IsChildFor p branch.early branch.active (record { lower = branch.lower.items; upper = upper }) gone (record { lower = lower; upper = upper })
+  pub child : (upper : List ℕ) → IsChildFor p (early_of p branch.lower) branch.active (record { lower = branch.lower; upper = upper }) gone (record { lower = lower; upper = upper })
 
 -- its lower bounds, or that no active job stays
 abbrev pub IsWindowAnswer : Project → Branch → List ℕ → Option (Vec ℕ Global) → Type 0
@@ -51,9 +52,9 @@ IsWindowAnswer p branch gone None = NoneStays branch.active gone
 -- the next child has these lower bounds
 pub record IsNextChild (p : Project) (capacities : List ℕ) (old new : Branch) (lower : List ℕ) : Type 0 where
   pub gone : List ℕ
-  pub next : (upper : List ℕ) → IsNextBehind p (open_node capacities upper old) gone
+  pub next : (upper : List ℕ) → IsNextBehind p (open_node p capacities upper old) gone
   pub window : HasLower p old gone lower
-  pub read : (upper : List ℕ) → open_node capacities upper new ≡ read_on (open_node capacities upper old) gone
+  pub read : (upper : List ℕ) → open_node p capacities upper new ≡ read_on (open_node p capacities upper old) gone
 
 -- no child is to come: no alternative is, or only that of all active jobs
 abbrev pub IsReadUp : Project → OpenNode → Type 0
@@ -62,4 +63,4 @@ IsReadUp p f = IsNoneBehind p f ⊎ ((gone : List ℕ) × IsNextBehind p f gone 
 -- what looking for the next child answers
 abbrev pub IsChildAnswer : Project → List ℕ → Branch → Branch → Option (Vec ℕ Global) → Type 0
 IsChildAnswer p capacities old new (Some lower) = IsNextChild p capacities old new lower.items
-IsChildAnswer p capacities old new None = (upper : List ℕ) → IsReadUp p (open_node capacities upper old)
+IsChildAnswer p capacities old new None = (upper : List ℕ) → IsReadUp p (open_node p capacities upper old)

@@ -1,4 +1,5 @@
 pub mod Texts
+pub mod Rows
 pub mod Certificates
 pub mod Following
 pub mod Enough

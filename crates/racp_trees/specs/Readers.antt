@@ -7,6 +7,7 @@ use Rattle.racp_model.specs.Limits.{most_bound}
 use Rattle.racp_model.specs.Window.{Bounds}
 use Rattle.racp_cutset.specs.Covering.{SearchNode}
 use Rattle.racp_refutation.specs.Trees.{IsNodeOf, IsTooLate}
+use Rattle.racp_trees.specs.Rows.{early_of}
 use Rattle.racp_trees.specs.Following.{OpenNode, Ending, Follow, IsNext, IsOpened, IsRest}
 use Rattle.racp_trees.specs.Branches.{IsBranch, open_node, IsNextChild, IsReadUp}
 use Rattle.racp_trees.specs.Records.{IsRecordOf, IsKept}
@@ -18,12 +19,12 @@ use Rattle.racp_refutation.specs.declared.step.Step.TheVariants.{L, D, C}
 use Rattle.racp_trees.specs.declared.reader.Reader.{Reader}
 
 -- the open nodes of branches, the last one first
-abbrev pub open_onto : List ℕ → List ℕ → List OpenNode → List Branch → List OpenNode
-open_onto capacities upper frames [] = frames
-open_onto capacities upper frames (branch ∷ branches) = open_onto capacities upper (open_node capacities upper branch ∷ frames) branches
+abbrev pub open_onto : Project → List ℕ → List ℕ → List OpenNode → List Branch → List OpenNode
+open_onto p capacities upper frames [] = frames
+open_onto p capacities upper frames (branch ∷ branches) = open_onto p capacities upper (open_node p capacities upper branch ∷ frames) branches
 
-abbrev pub open_nodes : List ℕ → List ℕ → List Branch → List OpenNode
-open_nodes capacities upper branches = open_onto capacities upper [] branches
+abbrev pub open_nodes : Project → List ℕ → List ℕ → List Branch → List OpenNode
+open_nodes p capacities upper branches = open_onto p capacities upper [] branches
 
 -- what holds of a reader whatever was read: records have rows for the network, and branches are nodes of it
 pub record IsReady (p : Project) (capacities : List ℕ) (reader : Reader) : Type 0 where
@@ -35,7 +36,7 @@ pub record HasRead (p : Project) (upper : List ℕ) (nodes : List (ℕ × Search
   pub records : AreRecords p upper nodes reader.closed
   pub closed : (number : ℕ) (v : SearchNode) → Contains nodes (number, v) → number < reader.number
   pub opened : (branch : Branch) → Contains reader.branches.items branch → branch.number < reader.number
-  pub fits : (branch : Branch) → Contains reader.branches.items branch → (i : ℕ) → i < length p.jobs → slice_index branch.early i ≤ slice_index upper i
+  pub fits : (branch : Branch) → Contains reader.branches.items branch → (i : ℕ) → i < length p.jobs → slice_index (early_of p branch.lower) i ≤ slice_index upper i
   pub rising : AllPairs (λ (a : Branch) (b : Branch). a.number < b.number) reader.branches.items
   pub apart : (branch : Branch) → Contains reader.branches.items branch → (v : SearchNode) → Contains nodes (branch.number, v) → ⊥
 
@@ -43,7 +44,7 @@ pub record HasRead (p : Project) (upper : List ℕ) (nodes : List (ℕ × Search
 pub record IsOpenedBy (p : Project) (capacities : List ℕ) (window : Bounds) (time : ℕ) (old new : Reader) : Type 0 where
   pub branch : Branch
   pub is : IsBranch p capacities branch
-  pub opened : IsOpened p capacities window time (open_node capacities window.upper branch).node branch.active
+  pub opened : IsOpened p capacities window time (open_node p capacities window.upper branch).node branch.active
   pub number : branch.number ≡ old.number
   pub last : branch.last.items ≡ []
   pub branches : new.branches.items ≡ old.branches.items ++ branch ∷ []
@@ -66,12 +67,12 @@ rest_of p wanted root vectors = λ closed n text. IsRest p wanted root vectors c
 -- a text goes on as the open nodes of a reader ask; and then as a certificate does
 abbrev pub Asks : Project → List ℕ → List (List ℕ) → Bounds → List (List ℕ) → List (ℕ × SearchNode) → Reader → List ℕ → Type 0
 Asks p capacities wanted root vectors nodes reader text =
-    Follow p capacities (rest_of p wanted root vectors) nodes reader.number (open_nodes capacities root.upper reader.branches.items) text
+    Follow p capacities (rest_of p wanted root vectors) nodes reader.number (open_nodes p capacities root.upper reader.branches.items) text
 
 -- the same, if the tree of the window with these lower bounds is next
 abbrev pub AsksNext : Project → List ℕ → List (List ℕ) → Bounds → List (List ℕ) → List (ℕ × SearchNode) → Reader → List ℕ → List ℕ → Type 0
 AsksNext p capacities wanted root vectors nodes reader lower text =
-    IsNext p capacities (rest_of p wanted root vectors) nodes reader.number (record { lower = lower; upper = root.upper }) (open_nodes capacities root.upper reader.branches.items) text
+    IsNext p capacities (rest_of p wanted root vectors) nodes reader.number (record { lower = lower; upper = root.upper }) (open_nodes p capacities root.upper reader.branches.items) text
 
 -- a reader passes on, and asks the same of each text, of the nodes that are closed then
 abbrev pub IsPassedOn : Project → List ℕ → Bounds → Reader → Reader → Type 0
@@ -101,15 +102,15 @@ pub record StaysReady (p : Project) (capacities : List ℕ) (old new : Reader) :
 abbrev pub IsClosedBy : Project → List ℕ → Reader → Branch → Reader → Type 0
 IsClosedBy p capacities old branch new =
     (kept : Record) × (new.branches.items ≡ old.branches.items) × (new.number ≡ old.number) × IsKept old.closed branch.number kept new.closed ×
-    ((upper : List ℕ) → IsRecordOf p (open_node capacities upper branch).node kept)
+    ((upper : List ℕ) → IsRecordOf p (open_node p capacities upper branch).node kept)
 
 -- it goes on to its next child, or is closed
 abbrev pub IsGoneOn : Project → List ℕ → Reader → Branch → Reader → Option (Vec ℕ Global) → Type 0
 IsGoneOn p capacities old branch new (Some lower) =
-    (next : Branch) × (new.branches.items ≡ old.branches.items ++ next ∷ []) × (new.closed ≡ old.closed) × (new.number ≡ old.number) × (next.number ≡ branch.number) × (next.early ≡ branch.early) ×
+    (next : Branch) × (new.branches.items ≡ old.branches.items ++ next ∷ []) × (new.closed ≡ old.closed) × (new.number ≡ old.number) × (next.number ≡ branch.number) × (next.lower ≡ branch.lower) ×
     IsBranch p capacities next × IsNextChild p capacities branch next lower.items
 IsGoneOn p capacities old branch new None =
-    IsClosedBy p capacities old branch new × ((upper : List ℕ) → IsReadUp p (open_node capacities upper branch))
+    IsClosedBy p capacities old branch new × ((upper : List ℕ) → IsReadUp p (open_node p capacities upper branch))
 
 -- the tree of the root window was read from a text: what is left, and that the text is a certificate's rest exactly if that is
 pub record HasReadTree (p : Project) (capacities : List ℕ) (root : Bounds) (old : Reader) (text : List ℕ) (new : Reader) (rest : List ℕ) : Type 0 where

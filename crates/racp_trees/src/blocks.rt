@@ -1,6 +1,6 @@
 //! Reading a certificate, block by block.
 
-ghost use Rattle.std.specs.Prelude.{◌≡◌, ◌↔◌, ◌+◌, ◌<◌, ◌^◌, ℕ, IfOk, IsTrue, length};
+ghost use Rattle.std.specs.Prelude.{◌≡◌, ◌↔◌, ◌+◌, ◌<◌, ◌^◌, ℕ, IfOk, IsErrOf, IsTrue, length};
 ghost use Rattle.racp_model.specs.Formed.{HasBounds};
 ghost use Rattle.racp_trees.specs.Texts.{last_line};
 ghost use Rattle.racp_trees.specs.Certificates.{IsBlocksAnswer};
@@ -9,8 +9,10 @@ ghost use Rattle.racp_trees.specs.Nodes.{HasPlace};
 ghost use Rattle.racp_trees.specs.Blocks.{IsBetween, IsBlockRead, AreBlocksRead};
 
 use crate::closed::Closed;
+use crate::patience::{Patience, Until};
 use crate::reader::{Ground, Reader};
 use crate::reading::{behind, read_vector};
+use racp_delay::{Never, Stop, Unfound};
 use racp_model::{Capacities, Network, Window};
 use std::alloc::{AllocError, Global};
 
@@ -29,21 +31,45 @@ pub fn block_vectors(
     requires root { HasBounds net.now root.now }
     ensures { IfOk result (IsBlocksAnswer net.now root.now text.now) }
 {
+    match block_vectors_until(alloc, net, root, text, &Never) {
+        Ok(found) => Ok(found),
+        Err(_) => Err(AllocError),
+    }
+}
+
+/// The same as `block_vectors`, unless it is stopped. The stop is asked at each line of a tree, and about each job that
+/// is chosen to go where the next child of a node is looked for.
+///
+/// # Errors
+///
+/// Memory was refused, or the stop said so; a quiet one never does.
+pub fn block_vectors_until<S: Stop>(
+    alloc: Global,
+    net: &Network,
+    root: &Window,
+    text: &[u8],
+    stop: &S,
+) -> Result<Option<Vec<Vec<u32>>>, Unfound>
+    requires root { HasBounds net.now root.now }
+    ensures vectors { IfOk result (IsBlocksAnswer net.now root.now text.now) }
+    ensures quiet { IsTrue S.QUIET → IsErrOf result Unfound.Stopped → ⊥ }
+{
     let Some(rest) = behind(text, "proof\n") else {
         return Ok(None);
     };
     let reader = Reader::new(alloc, root, Closed::for_text(alloc, rest)?)?;
-    read_blocks(alloc, net, root, reader, rest)
+    read_blocks(alloc, net, root, reader, rest, &Until { stop })
 }
 
 /// The vectors of the blocks that a text has up to its last line, or `None` if it has other lines.
-fn read_blocks(
+fn read_blocks<P: Patience>(
     alloc: Global,
     net: &Network,
     root: &Window,
     reader: Reader,
     text: &[u8],
-) -> Result<Option<Vec<Vec<u32>>>, AllocError>
+    patience: &P,
+) -> Result<Option<Vec<Vec<u32>>>, Unfound>
     requires root { HasBounds net.now root.now }
     requires between { IsBetween net.now reader }
     requires places { (node : ℕ) → IsNamed text.now node → HasPlace reader.closed node }
@@ -53,7 +79,7 @@ fn read_blocks(
     let mut reader = reader;
     let mut vectors = Vec::new(alloc);
     let mut rest = text;
-    while let Some((vector, more)) = read_block(alloc, net, root, &mut reader, rest)? {
+    while let Some((vector, more)) = read_block(alloc, net, root, &mut reader, rest, patience)? {
         vectors.push(vector)?;
         rest = more;
     }
@@ -66,13 +92,14 @@ fn read_blocks(
 
 /// Reads the block that a text begins with, and answers its vector and what stands after it; `None` if the text does
 /// not begin with a block that holds.
-fn read_block<'t>(
+fn read_block<'t, P: Patience>(
     alloc: Global,
     net: &Network,
     root: &Window,
     reader: &mut Reader,
     text: &'t [u8],
-) -> Result<Option<(Vec<u32>, &'t [u8])>, AllocError>
+    patience: &P,
+) -> Result<Option<(Vec<u32>, &'t [u8])>, Unfound>
     requires root { HasBounds net.now root.now }
     requires between { IsBetween net.now reader.old }
     requires places { (node : ℕ) → IsNamed text.now node → HasPlace reader.old.closed node }
@@ -88,7 +115,7 @@ fn read_block<'t>(
         root,
         capacities: &capacities,
     };
-    match reader.read_tree(alloc, &ground, more)? {
+    match reader.read_tree(alloc, &ground, more, patience)? {
         Some(rest) => Ok(Some((capacities.into_vec(), rest))),
         None => Ok(None),
     }

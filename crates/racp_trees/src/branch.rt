@@ -6,20 +6,23 @@ ghost use Rattle.racp_delay.specs.Alternatives.{Splits};
 ghost use Rattle.racp_trees.specs.Records.{IsRecordOf};
 ghost use Rattle.racp_trees.specs.Branches.{open_node, IsBranch, IsChildAnswer, IsAlternativeAnswer, IsWindowAnswer, IsRaised};
 
+use crate::patience::Patience;
 use crate::record::Record;
-use racp_delay::{Alternative, first_end, laws};
-use racp_model::{Capacities, JobSet, Network, Starts};
+use crate::shared_row::SharedRow;
+use racp_cpm::early;
+use racp_delay::{Alternative, Unfound, first_end, laws};
+use racp_model::{Capacities, JobSet, Network};
 use std::alloc::{AllocError, Global};
 use std::cmp::max;
 use std::rc::Rc;
 
-/// A node of a `D` line that is not closed yet: its number, the lower bounds of its window, its early starts, the jobs
-/// that are active at their first conflict, its time, and the alternative whose child was read last.
+/// A node of a `D` line that is not closed yet: its number, the lower bounds of its window, the jobs that are active at
+/// the first conflict of its early starts, its time, and the alternative whose child was read last. The early starts
+/// are computed again where they are needed.
 #[derive(Drop)]
 pub(crate) struct Branch {
     pub(crate) number: u64,
-    pub(crate) lower: Vec<u32>,
-    pub(crate) early: Starts,
+    pub(crate) lower: SharedRow,
     pub(crate) active: JobSet,
     pub(crate) time: u32,
     pub(crate) last: Vec<u32>,
@@ -27,20 +30,21 @@ pub(crate) struct Branch {
 
 impl Branch {
     /// The lower bounds of the next child window, or `None` if no child is to come. Looks for one alternative alone.
-    pub(crate) fn next_child(
+    pub(crate) fn next_child<P: Patience>(
         &mut self,
         alloc: Global,
         net: &Network,
         capacities: &Capacities,
-    ) -> Result<Option<Vec<u32>>, AllocError>
+        patience: &P,
+    ) -> Result<Option<Vec<u32>>, Unfound>
         requires capacities { length capacities.now ≡ net.now.resources }
         requires branch { IsBranch net.now capacities.now self.old }
         ensures child { IfOk result (IsChildAnswer net.now capacities.now self.old self.new) }
-        ensures node { (capacities upper : List ℕ) → (open_node capacities upper self.new).node ≡ (open_node capacities upper self.old).node }
+        ensures node { (capacities upper : List ℕ) → (open_node net.now capacities upper self.new).node ≡ (open_node net.now capacities upper self.old).node }
         ensures number { self.new.number ≡ self.old.number }
         ensures stays { IsBranch net.now capacities.now self.new }
     {
-        let Some(gone) = self.next_alternative(alloc, net, capacities)? else {
+        let Some(gone) = self.next_alternative(alloc, net, capacities, patience)? else {
             return Ok(None);
         };
         let Some(lower) = self.child_of(alloc, net, capacities, &gone)? else {
@@ -59,15 +63,16 @@ impl Branch {
         usual: &Rc<Vec<u32>>,
     ) -> Result<Record, AllocError>
         requires branch { IsBranch net.now capacities.now self.now }
-        ensures { IfOk result (λ kept. (upper : List ℕ) → IsRecordOf net.now (open_node capacities.now upper self.now).node kept) }
+        ensures { IfOk result (λ kept. (upper : List ℕ) → IsRecordOf net.now (open_node net.now capacities.now upper self.now).node kept) }
     {
-        let early = self.early.as_slice();
+        let lower = self.lower.bounds(alloc)?;
+        let early = early(alloc, net, &lower)?;
         let kept = Record::new(
             alloc,
             net,
             capacities.as_slice(),
-            &self.lower,
-            early,
+            &lower,
+            early.as_slice(),
             self.time,
             usual,
         )?;
@@ -75,19 +80,21 @@ impl Branch {
     }
 
     /// The next alternative after the one whose child was read last.
-    fn next_alternative(
+    fn next_alternative<P: Patience>(
         &self,
         alloc: Global,
         net: &Network,
         capacities: &Capacities,
-    ) -> Result<Option<Vec<u32>>, AllocError>
+        patience: &P,
+    ) -> Result<Option<Vec<u32>>, Unfound>
         requires capacities { length capacities.now ≡ net.now.resources }
         requires branch { IsBranch net.now capacities.now self.now }
         ensures { IfOk result (IsAlternativeAnswer net.now capacities.now self.now) }
     {
         laws::subsets_go();
         let mut next = Alternative::new(alloc);
-        if !next.find_behind(net, capacities, &self.active, &self.active, &self.last)? {
+        let (active, last) = (&self.active, &self.last);
+        if !patience.find_behind(&mut next, net, capacities, active, last)? {
             return Ok(None);
         }
         Ok(Some(copied(alloc, next.jobs())?))
@@ -107,10 +114,12 @@ impl Branch {
     {
         laws::others_stay();
         prove!(net.job_count() == net.job_count());
-        let Some(end) = first_end(net, &self.early, &self.active, gone) else {
+        let lower = self.lower.bounds(alloc)?;
+        let early = early(alloc, net, &lower)?;
+        let Some(end) = first_end(net, &early, &self.active, gone) else {
             return Ok(None);
         };
-        Ok(Some(raised(alloc, &self.lower, gone, end as u32)?))
+        Ok(Some(raised(alloc, &lower, gone, end as u32)?))
     }
 }
 

@@ -35,7 +35,8 @@ struct Given<'a> {
 }
 
 /// A certificate that no capacities before these are enough; or `None` if none was made, since some capacities before
-/// them are enough, or it would have more than 16,777,216 bytes. Blocks are made while some vector up to the roofs
+/// them are enough, it would have more than 16,777,216 bytes, or the search for the next child of some node took more
+/// than 1,000,000 steps. Blocks are made while some vector up to the roofs
 /// stands before the capacities and is above each block: for one of the hints at or above it, or else for a vector
 /// before the capacities that is as great as can be. A hint is a capacity vector, by place from 0, of which the caller
 /// knows that it is not enough; others cost the certificate. There are a roof, cut to the ceiling, and a capacity for

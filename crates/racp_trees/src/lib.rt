@@ -65,12 +65,14 @@ mod maker;
 mod node;
 mod offer;
 mod parts;
+mod patience;
 mod reader;
 mod reading;
 mod record;
+mod shared_row;
 mod writer;
 
-pub use blocks::block_vectors;
+pub use blocks::{block_vectors, block_vectors_until};
 pub use certifying::certificate;
 pub use enough::are_enough;
 pub use racp_refutation::Step;

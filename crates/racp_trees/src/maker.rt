@@ -1,6 +1,6 @@
 //! Making the tree of a block, line by line.
 
-ghost use Rattle.std.specs.Prelude.{◌≡◌, ◌≤◌, ℕ, [], All, IfOk, IsTrue, OnOk, None, length, slice_index};
+ghost use Rattle.std.specs.Prelude.{◌≡◌, ◌≤◌, ℕ, [], All, IfOk, IsFalse, IsTrue, OnOk, None, length, slice_index};
 ghost use Rattle.racp_model.specs.Formed.{HasBounds};
 ghost use Rattle.racp_model.specs.Limits.{most_bound};
 ghost use Rattle.racp_model.specs.Path.{IsEarly};
@@ -11,12 +11,13 @@ ghost use Rattle.racp_trees.specs.Records.{HasRows, record_at};
 use crate::branch::copied;
 use crate::closed::Closed;
 use crate::offer::Offers;
+use crate::patience::Brief;
 use crate::reader::{Ground, Reader};
 use crate::record::Record;
 use racp_refutation::Step;
 use crate::writer::push_step;
 use racp_cpm::early;
-use racp_delay::{conflict, laws};
+use racp_delay::{Unfound, conflict, laws};
 use racp_model::{Network, Starts, Window};
 use racp_text::MOST_TEXT_BYTES;
 use std::alloc::{AllocError, Global};
@@ -44,8 +45,8 @@ impl Maker {
     }
 
     /// Makes the tree of the root window, and adds its lines to the text. Each line that is chosen is read as a reader
-    /// of the text reads it. False if some window of the tree has starts that fit, or the text would have too many
-    /// bytes.
+    /// of the text reads it. False if some window of the tree has starts that fit, the text would have too many bytes,
+    /// or the search for some child took too many steps.
     pub(crate) fn make_tree(
         &mut self,
         alloc: Global,
@@ -66,7 +67,11 @@ impl Maker {
             if !self.make_line(alloc, ground, lower, text)? {
                 return Ok(false);
             }
-            match self.reader.next_window(alloc, ground)? {
+            let next = match self.reader.next_window(alloc, ground, &Brief) {
+                Ok(next) => next,
+                Err(unfound) => return given_up(unfound),
+            };
+            match next {
                 Some(next) => lower = next,
                 None => return Ok(true),
             }
@@ -174,6 +179,16 @@ impl Maker {
         };
         self.reader.closed.forget(oldest as u64);
         Ok(())
+    }
+}
+
+/// That no tree was made, if the search for a child took too many steps.
+fn given_up(unfound: Unfound) -> Result<bool, AllocError>
+    ensures { IfOk result (λ made. IsFalse made) }
+{
+    match unfound {
+        Unfound::Memory => Err(AllocError),
+        Unfound::Stopped => Ok(false),
     }
 }
 

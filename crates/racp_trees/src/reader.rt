@@ -13,10 +13,12 @@ ghost use Rattle.racp_refutation.specs.declared.step.Step.TheVariants.{C, D};
 use crate::branch::{Branch, copied};
 use crate::closed::Closed;
 use crate::node::{active_at, is_covered, is_too_late};
+use crate::patience::Patience;
 use crate::reading::read_step;
+use crate::shared_row::SharedRow;
 use racp_refutation::Step;
 use racp_cpm::early;
-use racp_delay::laws;
+use racp_delay::{Unfound, laws};
 use racp_model::{Capacities, Network, Starts, Window};
 use std::alloc::{AllocError, Global};
 use std::rc::Rc;
@@ -56,13 +58,14 @@ impl Reader {
     }
 
     /// Reads the tree of the root window, and answers what stands after it; `None` if a text does not begin with a
-    /// tree that holds.
-    pub(crate) fn read_tree<'t>(
+    /// tree that holds. The stop is asked at each line, and in each search for a child.
+    pub(crate) fn read_tree<'t, P: Patience>(
         &mut self,
         alloc: Global,
         ground: &Ground,
         text: &'t [u8],
-    ) -> Result<Option<&'t [u8]>, AllocError>
+        patience: &P,
+    ) -> Result<Option<&'t [u8]>, Unfound>
         requires capacities { length ground.now.capacities.now ≡ ground.now.net.now.resources }
         requires root { HasBounds ground.now.net.now ground.now.root.now }
         requires ready { IsReady ground.now.net.now ground.now.capacities.now self.old }
@@ -75,12 +78,15 @@ impl Reader {
         let mut lower = copied(alloc, ground.root.lower())?;
         let mut rest = text;
         while let Some((step, more)) = read_step(rest) {
+            if patience.asked() {
+                return Err(Unfound::Stopped);
+            }
             if !self.read_line(alloc, ground, step, lower)? {
                 return Ok(None);
             }
             self.number += 1;
             rest = more;
-            match self.next_window(alloc, ground)? {
+            match self.next_window(alloc, ground, patience)? {
                 Some(next) => lower = next,
                 None => return Ok(Some(rest)),
             }
@@ -124,7 +130,7 @@ impl Reader {
                     &self.usual,
                 )
             }
-            Step::D(time) => self.open(alloc, ground, lower, early, time),
+            Step::D(time) => self.open(alloc, ground, lower, &early, time),
         }
     }
 
@@ -134,26 +140,31 @@ impl Reader {
         alloc: Global,
         ground: &Ground,
         lower: Vec<u32>,
-        early: Starts,
+        early: &Starts,
         time: u32,
     ) -> Result<bool, AllocError>
         requires capacities { length ground.now.capacities.now ≡ ground.now.net.now.resources }
         requires root { HasBounds ground.now.net.now ground.now.root.now }
         requires lower { length lower.items ≡ length ground.now.net.now.jobs }
         requires small { All (λ x. x ≤ most_bound) lower.items }
-        requires early { IsEarly ground.now.net.now (slice_index lower.items) early }
+        requires early { IsEarly ground.now.net.now (slice_index lower.items) early.now }
         ensures line { IfOk result (λ yes. IsLineAnswer ground.now.net.now ground.now.capacities.now (record { lower = lower.items; upper = ground.now.root.now.upper }) self.old (D time) yes self.new) }
         ensures number { self.new.number ≡ self.old.number }
     {
+        prove!(ground.net.job_count() == ground.net.job_count());
         let upper = ground.root.upper();
-        let Some(active) = active_at(ground.net, ground.capacities, upper, &early, time) else {
+        let Some(active) = active_at(ground.net, ground.capacities, upper, early, time) else {
             return Ok(false);
         };
+        let near = match self.branches.last() {
+            Some(branch) => branch.lower.whole(),
+            None => &self.usual,
+        };
+        let lower = SharedRow::new(alloc, near, lower)?;
         let last = Vec::new(alloc);
         let branch = Branch {
             number: self.number,
             lower,
-            early,
             active,
             time,
             last,
@@ -164,11 +175,12 @@ impl Reader {
 
     /// The lower bounds of the next window, or `None` if no node is open any more. Open nodes without children to
     /// come are closed.
-    pub(crate) fn next_window(
+    pub(crate) fn next_window<P: Patience>(
         &mut self,
         alloc: Global,
         ground: &Ground,
-    ) -> Result<Option<Vec<u32>>, AllocError>
+        patience: &P,
+    ) -> Result<Option<Vec<u32>>, Unfound>
         requires capacities { length ground.now.capacities.now ≡ ground.now.net.now.resources }
         requires root { HasBounds ground.now.net.now ground.now.root.now }
         requires ready { IsReady ground.now.net.now ground.now.capacities.now self.old }
@@ -176,7 +188,7 @@ impl Reader {
         ensures ready { IfOk result (λ _. StaysReady ground.now.net.now ground.now.capacities.now self.old self.new) }
     {
         while let Some(branch) = self.branches.pop() {
-            if let Some(lower) = self.go_on(alloc, ground, branch)? {
+            if let Some(lower) = self.go_on(alloc, ground, branch, patience)? {
                 return Ok(Some(lower));
             }
         }
@@ -185,18 +197,19 @@ impl Reader {
 
     /// The lower bounds of the next child window of a node, which is open then; or `None` if none is to come, and it
     /// is closed.
-    fn go_on(
+    fn go_on<P: Patience>(
         &mut self,
         alloc: Global,
         ground: &Ground,
         branch: Branch,
-    ) -> Result<Option<Vec<u32>>, AllocError>
+        patience: &P,
+    ) -> Result<Option<Vec<u32>>, Unfound>
         requires capacities { length ground.now.capacities.now ≡ ground.now.net.now.resources }
         requires branch { IsBranch ground.now.net.now ground.now.capacities.now branch }
         ensures { IfOk result (IsGoneOn ground.now.net.now ground.now.capacities.now self.old branch self.new) }
     {
         let mut branch = branch;
-        if let Some(lower) = branch.next_child(alloc, ground.net, ground.capacities)? {
+        if let Some(lower) = branch.next_child(alloc, ground.net, ground.capacities, patience)? {
             self.branches.push(branch)?;
             return Ok(Some(lower));
         }

@@ -15,6 +15,6 @@ returns-then-not-branch c =
 
 pub returns : goal.returns
 returns c upper =
-    subst (λ (gone : List ℕ). IsNextBehind c.args.net.now (open_node c.args.capacities.now upper c.args.self.now) gone) (sym (c.in_ok-copied.ensures ∙ c.jobs.ensures))
+    subst (λ (gone : List ℕ). IsNextBehind c.args.net.now (open_node c.args.net.now c.args.capacities.now upper c.args.self.now) gone) (sym (c.in_ok-copied.ensures ∙ c.jobs.ensures))
     (next_is c.args.net.now c.args.capacities.now c.args.self.now c.requires.branch c.subsets_go.ensures c.in_ok-find_behind.field-0 c.find_behind.new.self c.if-not-branch.false
     (subst (λ (last : List ℕ). IsFollowing c.args.net.now c.args.capacities.now c.args.self.now.active c.args.self.now.active last c.in_ok-find_behind.field-0 c.find_behind.new.self) c.deref.ensures.value c.in_ok-find_behind.ensures) upper)

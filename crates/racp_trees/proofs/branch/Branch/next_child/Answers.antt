@@ -14,9 +14,9 @@ child_of-requires-clause-gone c =
 
 pub returns-in_default-2-clause-child : goal.returns-in_default-2-clause-child
 returns-in_default-2-clause-child c upper =
-    let next : IsNextBehind c.args.net.now (open_node c.args.capacities.now upper c.args.self.now) c.in-Some.gone.items = (subst (λ (o : Option (Vec ℕ Global)). IsAlternativeAnswer c.args.net.now c.args.capacities.now c.args.self.now o) c.in-Some.is c.in_ok-gone.ensures) upper in
+    let next : IsNextBehind c.args.net.now (open_node c.args.net.now c.args.capacities.now upper c.args.self.now) c.in-Some.gone.items = (subst (λ (o : Option (Vec ℕ Global)). IsAlternativeAnswer c.args.net.now c.args.capacities.now c.args.self.now o) c.in-Some.is c.in_ok-gone.ensures) upper in
     let none : NoneStays c.args.self.now.active c.in-Some.gone.items = subst (λ (gone : List ℕ). NoneStays c.args.self.now.active gone) c.deref.ensures.value (subst (λ (o : Option (Vec ℕ Global)). IsWindowAnswer c.args.net.now c.args.self.now c.deref.result.now o) c.in_default-2.is c.in_ok-lower.ensures) in
-    inr (c.in-Some.gone.items, next, none, none_behind_whole c.args.net.now (open_node c.args.capacities.now upper c.args.self.now) c.in-Some.gone.items next none)
+    inr (c.in-Some.gone.items, next, none, none_behind_whole c.args.net.now (open_node c.args.net.now c.args.capacities.now upper c.args.self.now) c.in-Some.gone.items next none)
 
 pub returns-clause-child : goal.returns-clause-child
 returns-clause-child c = record {

@@ -1,0 +1,93 @@
+//! How long a reader searches for the next child of a node.
+
+ghost use Rattle.std.specs.Prelude.{◌≡◌, All, IfOk, IsErrOf, IsFalse, IsTrue, length};
+ghost use Rattle.racp_model.specs.Project.{IsNumber};
+ghost use Rattle.racp_delay.specs.Alternatives.{IsFollowing};
+
+use racp_delay::{Alternative, Steps, Stop, Unfound};
+use racp_model::{Capacities, JobSet, Network};
+
+/// How many steps a search takes at most where a tree is made.
+const MOST_STEPS: u32 = 1_000_000;
+
+/// How long a reader reads, and searches for the next alternative of a node.
+pub(crate) trait Patience {
+    ghost use Rattle.std.specs.Prelude.{Bool};
+
+    ghost QUIET: { Bool };
+
+    /// Whether the reader is to stop now.
+    fn asked(&self) -> bool
+        ensures { IsTrue QUIET → IsFalse result };
+
+    /// Finds the next alternative of some jobs after a list of them, as `Alternative::find_behind` does.
+    fn find_behind(
+        &self,
+        next: &mut Alternative,
+        net: &Network,
+        capacities: &Capacities,
+        active: &JobSet,
+        last: &[u32],
+    ) -> Result<bool, Unfound>
+        requires capacities { length capacities.now ≡ net.now.resources }
+        requires active { All (IsNumber (length net.now.jobs)) active.now }
+        ensures found { IfOk result (λ more. IsFollowing net.now capacities.now active.now active.now last.now more next.new) }
+        ensures quiet { IsTrue QUIET → IsErrOf result Unfound.Stopped → ⊥ };
+}
+
+/// As long as a stop does not say otherwise.
+#[derive(Drop)]
+pub(crate) struct Until<'a, S: Stop> {
+    pub(crate) stop: &'a S,
+}
+
+impl<'a, S: Stop> Patience for Until<'a, S> {
+    ghost QUIET = { S.QUIET };
+
+    fn asked(&self) -> bool {
+        self.stop.asked()
+    }
+
+    fn find_behind(
+        &self,
+        next: &mut Alternative,
+        net: &Network,
+        capacities: &Capacities,
+        active: &JobSet,
+        last: &[u32],
+    ) -> Result<bool, Unfound> {
+        next.find_behind(net, capacities, active, active, last, self.stop)
+    }
+}
+
+/// As long as each search takes 1,000,000 steps at most.
+#[derive(Drop)]
+pub(crate) struct Brief;
+
+impl Patience for Brief {
+    ghost use Rattle.std.specs.Prelude.{false};
+
+    ghost QUIET = { false };
+
+    fn asked(&self) -> bool {
+        false
+    }
+
+    fn find_behind(
+        &self,
+        next: &mut Alternative,
+        net: &Network,
+        capacities: &Capacities,
+        active: &JobSet,
+        last: &[u32],
+    ) -> Result<bool, Unfound> {
+        next.find_behind(
+            net,
+            capacities,
+            active,
+            active,
+            last,
+            &Steps::new(MOST_STEPS),
+        )
+    }
+}
