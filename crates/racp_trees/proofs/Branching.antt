@@ -5,10 +5,12 @@ use Rattle.std.proofs.lemmas.Bool.{cases_lt}
 use Rattle.std.proofs.lemmas.List.Elements.{All-push}
 use Rattle.racp_model.specs.Project.{Project, IsNumber, IsSound, number, place}
 use Rattle.racp_model.specs.Limits.{most_bound}
+use Rattle.racp_model.specs.Path.{IsEarly}
 use Rattle.racp_model.specs.Terms.{IsLexBefore}
 use Rattle.racp_model.proofs.lemmas.Relations.{no_member}
 use Rattle.racp_model.proofs.lemmas.Costs.{lex_apart}
 use Rattle.racp_model.proofs.lemmas.Sums.{duration-small}
+use Rattle.racp_cutset.specs.Told.{early_unique}
 use Rattle.racp_delay.specs.Alternatives.{Splits, IsMinimalDelayingAlternative, IsFollowing, IsFreeAlternative}
 use Rattle.racp_delay.specs.Alternatives.Splits.{none, goes, stays}
 use Rattle.racp_delay.specs.Branching.{IsFirstEnd}
@@ -52,6 +54,10 @@ none_behind_whole p f gone next stay other minimal later = go minimal.delays.0 m
     go : (kept : List ℕ) → Splits f.active other kept → kept ≡ minimal.delays.0 → ⊥
     go [] s e = lex_apart other (subst (λ (xs : List ℕ). IsLexBefore xs other) (sym all ∙ whole_goes s refl) later)
     go (job ∷ kept) s e = next.minimal.least other (job ∷ kept) (subst (λ (xs : List ℕ). Splits xs other (job ∷ kept)) all s) (λ same. absurd (cc same)) minimal.delays
+
+-- the early starts, computed again
+pub early_again : (p : Project) (a : List ℕ) (b : Branch) (lower early : List ℕ) → IsBranch p a b → lower ≡ b.lower → IsEarly p (slice_index lower) early → early ≡ early_of p b.lower
+early_again p a b lower early is same h = early_unique p lower b.lower early (early_of p b.lower) same h is.starts
 
 -- the first end is small
 pub end_small : (p : Project) (a : List ℕ) (b : Branch) (gone kept : List ℕ) (end : ℕ) → IsBranch p a b → OthersStay → IsSound p → Splits b.active gone kept → IsFirstEnd p (early_of p b.lower) kept end → end ≤ 10010000

@@ -93,8 +93,7 @@ impl Branch {
     {
         laws::subsets_go();
         let mut next = Alternative::new(alloc);
-        let (active, last) = (&self.active, &self.last);
-        if !patience.find_behind(&mut next, net, capacities, active, last)? {
+        if !patience.find_behind(&mut next, net, capacities, &self.active, &self.last)? {
             return Ok(None);
         }
         Ok(Some(copied(alloc, next.jobs())?))

@@ -27,6 +27,7 @@ pub(crate) struct SharedRow {
 
 impl Model for SharedRow {
     ghost use Rattle.std.specs.Prelude.{ℕ, List};
+    ghost use Rattle.racp_trees.specs.Rows.{changed};
 
     ghost Value = { List ℕ };
 

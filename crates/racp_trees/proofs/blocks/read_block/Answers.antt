@@ -8,23 +8,23 @@ use Rattle.racp_trees.proofs.Vectors.{block_missing, block_named, block_fails, b
 use Rattle.racp_trees.proofs.blocks.read_block.Goals as goal
 
 pub read_vector-requires : goal.read_vector-requires
-read_vector-requires c = omega (arith, c.resource_count.ensures.count, c.resource_count.ensures.sound.limits.some_resource)
+read_vector-requires g c = omega (arith, c.resource_count.ensures.count, c.resource_count.ensures.sound.limits.some_resource)
 
 pub returns-in_default : goal.returns-in_default
-returns-in_default c =
+returns-in_default g c =
     let count = c.resource_count.ensures.count in
     let none : IsVectorAnswer c.resource_count.result c.args.text.now None = subst (λ (r : Option (Vec ℕ Global × Bor (List ℕ))). IsVectorAnswer c.resource_count.result c.args.text.now r) c.in_default.is c.in_ok-vector.ensures in
     block_missing c.args.net.now c.args.root.now c.args.reader.now c.args.text.now c.requires.between c.args.reader.now (subst (λ n. IsVectorAnswer n c.args.text.now None) count none)
 
 pub read_tree-requires-clause-places : goal.read_tree-requires-clause-places
-read_tree-requires-clause-places c =
+read_tree-requires-clause-places g c =
     let count = c.resource_count.ensures.count in
     let a = c.in-Some.vector.items in
     let there : IsVectorAnswer c.resource_count.result c.args.text.now (Some (c.in-Some.vector, c.in-Some.more)) = subst (λ (r : Option (Vec ℕ Global × Bor (List ℕ))). IsVectorAnswer c.resource_count.result c.args.text.now r) c.in-Some.is c.in_ok-vector.ensures in
     λ node named. c.requires.places node (block_named c.args.net.now c.args.root.now c.args.reader.now c.args.text.now c.requires.between a c.in-Some.more.now c.resource_count.ensures.sound.limits.some_resource (there.0 ∙ count) there.1 there.2 node named)
 
 pub returns-in-Some-2 : goal.returns-in-Some-2
-returns-in-Some-2 c =
+returns-in-Some-2 g c =
     let p = c.args.net.now in
     let root = c.args.root.now in
     let old = c.args.reader.now in
@@ -41,7 +41,7 @@ returns-in-Some-2 c =
     (block_read p root old text c.requires.between a more c.resource_count.ensures.sound.limits.some_resource (there.0 ∙ count) there.1 there.2 new c.in-Some-2.rest.now tree)
 
 pub returns : goal.returns
-returns c =
+returns g c =
     let p = c.args.net.now in
     let root = c.args.root.now in
     let old = c.args.reader.now in

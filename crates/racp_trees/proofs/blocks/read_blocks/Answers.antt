@@ -7,7 +7,7 @@ use Rattle.racp_trees.proofs.Vectors.{IsReadingBlocks, reading_on, reading_ends,
 use Rattle.racp_trees.proofs.blocks.read_blocks.Goals as goal
 
 pub loop-vectors-preserved : goal.loop-vectors-preserved
-loop-vectors-preserved c =
+loop-vectors-preserved g c =
     let p = c.args.net.now in
     let root = c.args.root.now in
     let new = c.read_block.new.reader in
@@ -17,11 +17,11 @@ loop-vectors-preserved c =
     (reading_on p root c.args.reader c.args.text.now c.loop-vectors.reader c.loop-vectors.vectors.items c.loop-vectors.rest.now c.loop-vectors.invariant new c.in-Some.vector c.in-Some.more.now read)
 
 pub returns-then-is_last_line : goal.returns-then-is_last_line
-returns-then-is_last_line c =
+returns-then-is_last_line g c =
     reading_ends c.args.net.now c.args.root.now c.args.reader c.args.text.now c.loop-vectors.reader c.loop-vectors.vectors.items c.loop-vectors.rest.now c.loop-vectors.invariant (c.is_last_line.ensures.0 c.if-is_last_line.true)
 
 pub returns : goal.returns
-returns c =
+returns g c =
     let p = c.args.net.now in
     let root = c.args.root.now in
     let new = c.read_block.new.reader in

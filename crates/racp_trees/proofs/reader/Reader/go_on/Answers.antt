@@ -6,22 +6,22 @@ use Rattle.racp_trees.specs.Branches.{IsChildAnswer}
 use Rattle.racp_trees.proofs.reader.Reader.go_on.Goals as goal
 
 pub returns-in-Some : goal.returns-in-Some
-returns-in-Some c = (
+returns-in-Some g c = (
   c.next_child.new.self,
   c.in_ok-push.ensures.items,
   refl,
   refl,
   c.next_child.ensures.number,
-  ap (λ (v : SearchNode). v.early) (c.next_child.ensures.node [] []),
+  ap (λ (v : SearchNode). v.window.lower) (c.next_child.ensures.node [] []),
   c.next_child.ensures.stays,
   subst (λ (o : Option (Vec ℕ Global)). IsChildAnswer c.args.ground.now.net.now c.args.ground.now.capacities.now c.args.branch c.next_child.new.self o) c.in-Some.is c.in_ok-lower.ensures.child,
 )
 
 pub close-closed-requires : goal.close-closed-requires
-close-closed-requires c = c.next_child.ensures.stays
+close-closed-requires g c = c.next_child.ensures.stays
 
 pub returns : goal.returns
-returns c =
+returns g c =
     let is = c.in_ok-closed.ensures in (
       (
         is.0,

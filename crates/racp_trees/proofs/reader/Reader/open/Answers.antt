@@ -15,11 +15,11 @@ active_at-requires-clause-upper c = ap (λ (xs : List ℕ). length xs) c.upper-u
 
 pub returns-in_default-clause-line : goal.returns-in_default-clause-line
 returns-in_default-clause-line c =
-    not_divided c.args.ground.now.net.now c.args.ground.now.capacities.now c.args.lower.items c.args.ground.now.root.now.upper c.args.early c.requires.early c.args.time
-    (subst (λ (xs : List ℕ). IsDivisionAnswer c.args.ground.now.net.now c.args.ground.now.capacities.now xs c.args.early c.args.time None) c.upper-upper.ensures.bounds c.in_default.ensures)
+    not_divided c.args.ground.now.net.now c.args.ground.now.capacities.now c.args.lower.items c.args.ground.now.root.now.upper c.args.early.now c.requires.early c.args.time
+    (subst (λ (xs : List ℕ). IsDivisionAnswer c.args.ground.now.net.now c.args.ground.now.capacities.now xs c.args.early.now c.args.time None) c.upper-upper.ensures.bounds c.in_default.ensures)
 
 pub returns-clause-line : goal.returns-clause-line
 returns-clause-line c =
-    divided_by c.args.ground.now.net.now c.args.ground.now.capacities.now c.args.lower.items c.args.ground.now.root.now.upper c.args.early c.requires.early c.args.time c.in-Some.active _ c.args.self.now _
-    (subst (λ (xs : List ℕ). IsDivisionAnswer c.args.ground.now.net.now c.args.ground.now.capacities.now xs c.args.early c.args.time (Some c.in-Some.active)) c.upper-upper.ensures.bounds c.in-Some.ensures)
-    c.requires.lower c.requires.small c.requires.root.upper c.upper-upper.ensures.small refl refl refl refl refl c.new-last.ensures.items c.in_ok-push.ensures.items refl
+    divided_by c.args.ground.now.net.now c.args.ground.now.capacities.now c.args.lower.items c.args.ground.now.root.now.upper c.args.early.now c.requires.early c.args.time c.in-Some.active _ c.args.self.now _ c.job_count.ensures.sound
+    (subst (λ (xs : List ℕ). IsDivisionAnswer c.args.ground.now.net.now c.args.ground.now.capacities.now xs c.args.early.now c.args.time (Some c.in-Some.active)) c.upper-upper.ensures.bounds c.in-Some.ensures)
+    c.requires.lower c.requires.small c.requires.root.upper c.upper-upper.ensures.small c.in_ok-lower.ensures refl refl refl c.new-last.ensures.items c.in_ok-push.ensures.items refl
