@@ -74,7 +74,8 @@ fn read_blocks<P: Patience>(
     requires between { IsBetween net.now reader }
     requires places { (node : ℕ) → IsNamed text.now node → HasPlace reader.closed node }
     requires room { reader.number + length text.now < 2 ^ 64 }
-    ensures { IfOk result (AreBlocksRead net.now root.now reader text.now) }
+    ensures quiet { IsTrue P.QUIET → IsErrOf result Unfound.Stopped → ⊥ }
+    ensures blocks { IfOk result (AreBlocksRead net.now root.now reader text.now) }
 {
     let mut reader = reader;
     let mut vectors = Vec::new(alloc);
@@ -104,7 +105,8 @@ fn read_block<'t, P: Patience>(
     requires between { IsBetween net.now reader.old }
     requires places { (node : ℕ) → IsNamed text.now node → HasPlace reader.old.closed node }
     requires room { reader.old.number + length text.now < 2 ^ 64 }
-    ensures { IfOk result (IsBlockRead net.now root.now reader.old text.now reader.new) }
+    ensures quiet { IsTrue P.QUIET → IsErrOf result Unfound.Stopped → ⊥ }
+    ensures block { IfOk result (IsBlockRead net.now root.now reader.old text.now reader.new) }
 {
     let Some((vector, more)) = read_vector(alloc, text, net.resource_count())? else {
         return Ok(None);

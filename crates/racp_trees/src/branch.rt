@@ -1,6 +1,6 @@
 //! Nodes whose children are being read.
 
-ghost use Rattle.std.specs.Prelude.{◌≡◌, ◌↔◌, ◌≤◌, ℕ, All, Contains, IfOk, IsTrue, List, MatchBool, length, max};
+ghost use Rattle.std.specs.Prelude.{◌≡◌, ◌↔◌, ◌≤◌, ℕ, All, Contains, IfOk, IsErrOf, IsTrue, List, MatchBool, length, max};
 ghost use Rattle.racp_model.specs.Limits.{most_bound};
 ghost use Rattle.racp_delay.specs.Alternatives.{Splits};
 ghost use Rattle.racp_trees.specs.Records.{IsRecordOf};
@@ -43,6 +43,7 @@ impl Branch {
         ensures node { (capacities upper : List ℕ) → (open_node net.now capacities upper self.new).node ≡ (open_node net.now capacities upper self.old).node }
         ensures number { self.new.number ≡ self.old.number }
         ensures stays { IsBranch net.now capacities.now self.new }
+        ensures quiet { IsTrue P.QUIET → IsErrOf result Unfound.Stopped → ⊥ }
     {
         let Some(gone) = self.next_alternative(alloc, net, capacities, patience)? else {
             return Ok(None);
@@ -89,7 +90,8 @@ impl Branch {
     ) -> Result<Option<Vec<u32>>, Unfound>
         requires capacities { length capacities.now ≡ net.now.resources }
         requires branch { IsBranch net.now capacities.now self.now }
-        ensures { IfOk result (IsAlternativeAnswer net.now capacities.now self.now) }
+        ensures next { IfOk result (IsAlternativeAnswer net.now capacities.now self.now) }
+        ensures quiet { IsTrue P.QUIET → IsErrOf result Unfound.Stopped → ⊥ }
     {
         laws::subsets_go();
         let mut next = Alternative::new(alloc);

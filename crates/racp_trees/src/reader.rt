@@ -1,6 +1,6 @@
 //! Reading the tree of a block, line by line.
 
-ghost use Rattle.std.specs.Prelude.{◌≡◌, ◌+◌, ◌<◌, ◌≤◌, ◌^◌, ℕ, All, [], IfOk, OnOk, length, slice_index};
+ghost use Rattle.std.specs.Prelude.{◌≡◌, ◌+◌, ◌<◌, ◌≤◌, ◌^◌, ℕ, All, [], IfOk, IsErrOf, IsTrue, OnOk, length, slice_index};
 ghost use Rattle.racp_model.specs.Path.{IsEarly};
 ghost use Rattle.racp_model.specs.Formed.{HasBounds};
 ghost use Rattle.racp_model.specs.Limits.{most_bound, most_start};
@@ -71,7 +71,8 @@ impl Reader {
         requires ready { IsReady ground.now.net.now ground.now.capacities.now self.old }
         requires places { (node : ℕ) → IsNamed text.now node → HasPlace self.old.closed node }
         requires room { self.old.number + length text.now < 2 ^ 64 }
-        ensures { IfOk result (IsTreeAnswer ground.now.net.now ground.now.capacities.now ground.now.root.now self.old text.now self.new) }
+        ensures quiet { IsTrue P.QUIET → IsErrOf result Unfound.Stopped → ⊥ }
+        ensures tree { IfOk result (IsTreeAnswer ground.now.net.now ground.now.capacities.now ground.now.root.now self.old text.now self.new) }
     {
         laws::some_job_goes();
         laws::conflict_is_one();
@@ -156,11 +157,7 @@ impl Reader {
         let Some(active) = active_at(ground.net, ground.capacities, upper, early, time) else {
             return Ok(false);
         };
-        let near = match self.branches.last() {
-            Some(branch) => branch.lower.whole(),
-            None => &self.usual,
-        };
-        let lower = SharedRow::new(alloc, near, lower)?;
+        let lower = self.shared(alloc, lower)?;
         let last = Vec::new(alloc);
         let branch = Branch {
             number: self.number,
@@ -171,6 +168,17 @@ impl Reader {
         };
         self.branches.push(branch)?;
         Ok(true)
+    }
+
+    /// These lower bounds, as a row that may share the one of the innermost open node, or the usual one.
+    fn shared(&self, alloc: Global, lower: Vec<u32>) -> Result<SharedRow, AllocError>
+        requires { length lower.items ≤ 512 }
+        ensures { IfOk result (λ row. row ≡ lower.items) }
+    {
+        match self.branches.last() {
+            Some(branch) => SharedRow::new(alloc, branch.lower.whole(), lower),
+            None => SharedRow::new(alloc, &self.usual, lower),
+        }
     }
 
     /// The lower bounds of the next window, or `None` if no node is open any more. Open nodes without children to
@@ -184,6 +192,7 @@ impl Reader {
         requires capacities { length ground.now.capacities.now ≡ ground.now.net.now.resources }
         requires root { HasBounds ground.now.net.now ground.now.root.now }
         requires ready { IsReady ground.now.net.now ground.now.capacities.now self.old }
+        ensures quiet { IsTrue P.QUIET → IsErrOf result Unfound.Stopped → ⊥ }
         ensures window { IfOk result (IsNextAnswer ground.now.net.now ground.now.capacities.now ground.now.root.now self.old self.new) }
         ensures ready { IfOk result (λ _. StaysReady ground.now.net.now ground.now.capacities.now self.old self.new) }
     {
@@ -206,7 +215,8 @@ impl Reader {
     ) -> Result<Option<Vec<u32>>, Unfound>
         requires capacities { length ground.now.capacities.now ≡ ground.now.net.now.resources }
         requires branch { IsBranch ground.now.net.now ground.now.capacities.now branch }
-        ensures { IfOk result (IsGoneOn ground.now.net.now ground.now.capacities.now self.old branch self.new) }
+        ensures quiet { IsTrue P.QUIET → IsErrOf result Unfound.Stopped → ⊥ }
+        ensures gone { IfOk result (IsGoneOn ground.now.net.now ground.now.capacities.now self.old branch self.new) }
     {
         let mut branch = branch;
         if let Some(lower) = branch.next_child(alloc, ground.net, ground.capacities, patience)? {

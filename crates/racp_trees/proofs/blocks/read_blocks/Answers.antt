@@ -16,12 +16,12 @@ loop-vectors-preserved g c =
     subst (λ (vs : List (Vec ℕ Global)). IsReadingBlocks p root c.args.reader c.args.text.now new vs c.in-Some.more.now) (sym c.in_ok-push.ensures.items)
     (reading_on p root c.args.reader c.args.text.now c.loop-vectors.reader c.loop-vectors.vectors.items c.loop-vectors.rest.now c.loop-vectors.invariant new c.in-Some.vector c.in-Some.more.now read)
 
-pub returns-then-is_last_line : goal.returns-then-is_last_line
-returns-then-is_last_line g c =
+pub returns-then-is_last_line-clause-blocks : goal.returns-then-is_last_line-clause-blocks
+returns-then-is_last_line-clause-blocks g c =
     reading_ends c.args.net.now c.args.root.now c.args.reader c.args.text.now c.loop-vectors.reader c.loop-vectors.vectors.items c.loop-vectors.rest.now c.loop-vectors.invariant (c.is_last_line.ensures.0 c.if-is_last_line.true)
 
-pub returns : goal.returns
-returns g c =
+pub returns-clause-blocks : goal.returns-clause-blocks
+returns-clause-blocks g c =
     let p = c.args.net.now in
     let root = c.args.root.now in
     let new = c.read_block.new.reader in

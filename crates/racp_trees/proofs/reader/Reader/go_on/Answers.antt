@@ -5,8 +5,8 @@ use Rattle.racp_trees.specs.Records.{IsRecordOf, IsKept}
 use Rattle.racp_trees.specs.Branches.{IsChildAnswer}
 use Rattle.racp_trees.proofs.reader.Reader.go_on.Goals as goal
 
-pub returns-in-Some : goal.returns-in-Some
-returns-in-Some g c = (
+pub returns-in-Some-clause-gone : goal.returns-in-Some-clause-gone
+returns-in-Some-clause-gone g c = (
   c.next_child.new.self,
   c.in_ok-push.ensures.items,
   refl,
@@ -20,8 +20,8 @@ returns-in-Some g c = (
 pub close-closed-requires : goal.close-closed-requires
 close-closed-requires g c = c.next_child.ensures.stays
 
-pub returns : goal.returns
-returns g c =
+pub returns-clause-gone : goal.returns-clause-gone
+returns-clause-gone g c =
     let is = c.in_ok-closed.ensures in (
       (
         is.0,

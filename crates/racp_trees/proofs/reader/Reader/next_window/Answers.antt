@@ -19,7 +19,7 @@ loop-branch-smaller g c =
     let p = c.args.ground.now.net.now in
     let a : List ℕ = c.args.ground.now.capacities.now in
     let popped : Reader = record { closed = c.loop-branch.self.closed; branches = c.pop.new.self; number = c.loop-branch.self.number; usual = c.loop-branch.self.usual } in
-    let g = subst (λ (o : Option (Vec ℕ Global)). IsGoneOn p a popped c.in-Some.branch c.go_on.new.self o) c.in_default-2.is c.in_ok-lower.ensures in
+    let g = subst (λ (o : Option (Vec ℕ Global)). IsGoneOn p a popped c.in-Some.branch c.go_on.new.self o) c.in_default-2.is c.in_ok-lower.ensures.gone in
     omega (arith, ap (λ (xs : List Branch). length xs) g.0.1, ap (λ (xs : List Branch). length xs) c.in-Some.ensures.items, length-append c.pop.new.self.items (c.in-Some.branch ∷ []))
 
 pub returns-clause-ready : goal.returns-clause-ready
@@ -32,7 +32,7 @@ returns-in-Some-2-clause-window g c =
     let p = c.args.ground.now.net.now in
     let a : List ℕ = c.args.ground.now.capacities.now in
     let popped : Reader = record { closed = c.loop-branch.self.closed; branches = c.pop.new.self; number = c.loop-branch.self.number; usual = c.loop-branch.self.usual } in
-    let g = subst (λ (o : Option (Vec ℕ Global)). IsGoneOn p a popped c.in-Some.branch c.go_on.new.self o) c.in-Some-2.is c.in_ok-lower.ensures in (
+    let g = subst (λ (o : Option (Vec ℕ Global)). IsGoneOn p a popped c.in-Some.branch c.go_on.new.self o) c.in-Some-2.is c.in_ok-lower.ensures.gone in (
       child_places p a c.args.ground.now.root.now c.args.self.now c.loop-branch.self c.go_on.new.self c.pop.new.self.items c.in-Some.branch c.requires.capacities c.requires.root.upper c.loop-branch.invariant c.in-Some.ensures.items g.0 c.in-Some-2.lower.items g.1 g.2 g.3 g.4 g.5 g.6 g.7,
       g.7.window.small,
       passing_child p a c.args.ground.now.root.now c.args.self.now c.loop-branch.self c.go_on.new.self c.pop.new.self.items c.in-Some.branch c.requires.capacities c.requires.root.upper c.loop-branch.invariant c.in-Some.ensures.items g.0 c.in-Some-2.lower.items g.1 g.2 g.3 g.4 g.5 g.6 g.7,
@@ -43,7 +43,7 @@ returns-in-Some-2-clause-ready g c =
     let p = c.args.ground.now.net.now in
     let a : List ℕ = c.args.ground.now.capacities.now in
     let popped : Reader = record { closed = c.loop-branch.self.closed; branches = c.pop.new.self; number = c.loop-branch.self.number; usual = c.loop-branch.self.usual } in
-    let g = subst (λ (o : Option (Vec ℕ Global)). IsGoneOn p a popped c.in-Some.branch c.go_on.new.self o) c.in-Some-2.is c.in_ok-lower.ensures in
+    let g = subst (λ (o : Option (Vec ℕ Global)). IsGoneOn p a popped c.in-Some.branch c.go_on.new.self o) c.in-Some-2.is c.in_ok-lower.ensures.gone in
     child_stays p a c.args.ground.now.root.now c.args.self.now c.loop-branch.self c.go_on.new.self c.pop.new.self.items c.in-Some.branch c.requires.capacities c.requires.root.upper c.loop-branch.invariant c.in-Some.ensures.items g.0 c.in-Some-2.lower.items g.1 g.2 g.3 g.4 g.5 g.6 g.7
 
 pub loop-branch-preserved : goal.loop-branch-preserved
@@ -51,7 +51,7 @@ loop-branch-preserved g c =
     let p = c.args.ground.now.net.now in
     let a : List ℕ = c.args.ground.now.capacities.now in
     let popped : Reader = record { closed = c.loop-branch.self.closed; branches = c.pop.new.self; number = c.loop-branch.self.number; usual = c.loop-branch.self.usual } in
-    let g = subst (λ (o : Option (Vec ℕ Global)). IsGoneOn p a popped c.in-Some.branch c.go_on.new.self o) c.in_default-2.is c.in_ok-lower.ensures in
+    let g = subst (λ (o : Option (Vec ℕ Global)). IsGoneOn p a popped c.in-Some.branch c.go_on.new.self o) c.in_default-2.is c.in_ok-lower.ensures.gone in
     passing_closed p a c.args.ground.now.root.now c.args.self.now c.loop-branch.self c.go_on.new.self c.pop.new.self.items c.in-Some.branch c.requires.capacities c.requires.root.upper c.loop-branch.invariant c.in-Some.ensures.items g.0.0 g.0.1 g.0.2 g.0.3 g.0.4 g.1
 
 pub returns-clause-window : goal.returns-clause-window

@@ -6,8 +6,8 @@ use Rattle.racp_trees.specs.declared.reader.Reader.{Reader}
 use Rattle.racp_trees.proofs.Advancing.{tree_first, tree_missing, tree_fails, tree_more, tree_ends, line_ready, line_shorter}
 use Rattle.racp_trees.proofs.reader.Reader.read_tree.Goals as goal
 
-pub returns-then-not-branch : goal.returns-then-not-branch
-returns-then-not-branch g c =
+pub returns-then-not-branch-clause-tree : goal.returns-then-not-branch-clause-tree
+returns-then-not-branch-clause-tree g c =
     tree_fails c.args.ground.now.net.now c.args.ground.now.capacities.now c.args.ground.now.root.now c.args.self.now c.args.text.now c.loop-step.self c.loop-step.lower.items c.loop-step.rest.now c.loop-step.invariant c.in-Some.step c.in-Some.more.now c.in-Some.ensures.0 c.in-Some.ensures.1
     c.some_job_goes.ensures c.conflict_is_one.ensures c.read_line.new.self c.in_ok-read_line.field-0 c.in_ok-read_line.ensures.line c.if-not-branch.true
 
@@ -36,8 +36,8 @@ loop-step-preserved g c =
     c.some_job_goes.ensures c.conflict_is_one.ensures c.read_line.new.self c.in_ok-read_line.field-0 c.in_ok-read_line.ensures.line mid c.if-not-branch.false refl refl (omega (arith, c.read_line.ensures.number)) c.next_window.new.self c.in-Some-2.next
     (subst (λ (o : Option (Vec ℕ Global)). IsNextAnswer p a root mid c.next_window.new.self o) c.in-Some-2.is c.in_ok-next.ensures.window) c.in_ok-next.ensures.ready ready.1
 
-pub returns-in-None : goal.returns-in-None
-returns-in-None g c =
+pub returns-in-None-clause-tree : goal.returns-in-None-clause-tree
+returns-in-None-clause-tree g c =
     let p = c.args.ground.now.net.now in
     let a : List ℕ = c.args.ground.now.capacities.now in
     let root : Bounds = c.args.ground.now.root.now in
@@ -48,8 +48,8 @@ returns-in-None g c =
     c.some_job_goes.ensures c.conflict_is_one.ensures c.read_line.new.self c.in_ok-read_line.field-0 c.in_ok-read_line.ensures.line mid c.if-not-branch.false refl refl (omega (arith, c.read_line.ensures.number)) c.next_window.new.self
     (subst (λ (o : Option (Vec ℕ Global)). IsNextAnswer p a root mid c.next_window.new.self o) c.in-None.is c.in_ok-next.ensures.window) c.in_ok-next.ensures.ready ready.1
 
-pub returns : goal.returns
-returns g c =
+pub returns-clause-tree : goal.returns-clause-tree
+returns-clause-tree g c =
     tree_missing c.args.ground.now.net.now c.args.ground.now.capacities.now c.args.ground.now.root.now c.args.self.now c.args.text.now c.loop-step.self c.loop-step.lower.items c.loop-step.rest.now c.loop-step.invariant c.in_default.ensures
 
 pub loop-step-init : goal.loop-step-init
