@@ -12,7 +12,7 @@ loop-vectors-preserved g c =
     let root = c.args.root.now in
     let new = c.read_block.new.reader in
     let read : IsBlockRead p root c.loop-vectors.reader c.loop-vectors.rest.now new (Some (c.in-Some.vector, c.in-Some.more)) =
-    subst (λ (r : Option (Vec ℕ Global × Bor (List ℕ))). IsBlockRead p root c.loop-vectors.reader c.loop-vectors.rest.now new r) c.in-Some.is c.in_ok-vector.ensures in
+    subst (λ (r : Option (Vec ℕ Global × Bor (List ℕ))). IsBlockRead p root c.loop-vectors.reader c.loop-vectors.rest.now new r) c.in-Some.is c.in_ok-vector.ensures.block in
     subst (λ (vs : List (Vec ℕ Global)). IsReadingBlocks p root c.args.reader c.args.text.now new vs c.in-Some.more.now) (sym c.in_ok-push.ensures.items)
     (reading_on p root c.args.reader c.args.text.now c.loop-vectors.reader c.loop-vectors.vectors.items c.loop-vectors.rest.now c.loop-vectors.invariant new c.in-Some.vector c.in-Some.more.now read)
 
@@ -26,5 +26,5 @@ returns-clause-blocks g c =
     let root = c.args.root.now in
     let new = c.read_block.new.reader in
     let none : IsBlockRead p root c.loop-vectors.reader c.loop-vectors.rest.now new None =
-    subst (λ (r : Option (Vec ℕ Global × Bor (List ℕ))). IsBlockRead p root c.loop-vectors.reader c.loop-vectors.rest.now new r) c.in_default.is c.in_ok-vector.ensures in
+    subst (λ (r : Option (Vec ℕ Global × Bor (List ℕ))). IsBlockRead p root c.loop-vectors.reader c.loop-vectors.rest.now new r) c.in_default.is c.in_ok-vector.ensures.block in
     reading_breaks p root c.args.reader c.args.text.now c.loop-vectors.reader c.loop-vectors.vectors.items c.loop-vectors.rest.now c.loop-vectors.invariant new none (iff_false c.is_last_line.ensures c.if-is_last_line.false)

@@ -38,7 +38,7 @@ loop-alloc-preserved c =
     let is = making_thinned p a root c.forget.new.self.reader c.args.text.now.items c.loop-alloc.self.reader c.loop-alloc.lower.items c.loop-alloc.text.items c.loop-alloc.invariant made.thin made.thinned in
     making_more p a root c.forget.new.self.reader c.args.text.now.items made.thin c.loop-alloc.lower.items c.loop-alloc.text.items is made.step made.little
     c.some_job_goes.ensures c.conflict_is_one.ensures made.read true made.answer c.make_line.new.self.reader refl made.branches made.closed made.number made.kept c.next_window.new.self c.make_line.new.text.items made.added
-    c.in-Some.next (subst (λ (o : Option (Vec ℕ Global)). IsNextAnswer p a root c.make_line.new.self.reader c.next_window.new.self o) c.in-Some.is c.in_ok-next.ensures.window) c.in_ok-next.ensures.ready
+    c.in-Some.next (subst (λ (o : Option (Vec ℕ Global)). IsNextAnswer p a root c.make_line.new.self.reader c.next_window.new.self o) c.in-Some.is c.in-Ok.ensures.window) c.in-Ok.ensures.ready
 
 pub returns-in-None : goal.returns-in-None
 returns-in-None c whole =
@@ -49,7 +49,7 @@ returns-in-None c whole =
     let is = making_thinned p a root c.forget.new.self.reader c.args.text.now.items c.loop-alloc.self.reader c.loop-alloc.lower.items c.loop-alloc.text.items c.loop-alloc.invariant made.thin made.thinned in
     making_ends p a root c.forget.new.self.reader c.args.text.now.items made.thin c.loop-alloc.lower.items c.loop-alloc.text.items is made.step made.little
     c.some_job_goes.ensures c.conflict_is_one.ensures made.read true made.answer c.make_line.new.self.reader refl made.branches made.closed made.number made.kept c.next_window.new.self c.make_line.new.text.items made.added
-    (subst (λ (o : Option (Vec ℕ Global)). IsNextAnswer p a root c.make_line.new.self.reader c.next_window.new.self o) c.in-None.is c.in_ok-next.ensures.window) c.in_ok-next.ensures.ready c.args.self.now.reader c.forget.ensures.thinned c.requires.room
+    (subst (λ (o : Option (Vec ℕ Global)). IsNextAnswer p a root c.make_line.new.self.reader c.next_window.new.self o) c.in-None.is c.in-Ok.ensures.window) c.in-Ok.ensures.ready c.args.self.now.reader c.forget.ensures.thinned c.requires.room
 
 pub make_line-requires-clause-lower : goal.make_line-requires-clause-lower
 make_line-requires-clause-lower c = (c.loop-alloc.invariant.reading []).low
