@@ -1,6 +1,7 @@
 """A slow reader of orders: rule by rule over the table of an order. Made from 'The order' and its 'Faults' in docs/FORMATS.md."""
 
 import collections
+import math
 import tomllib
 
 from shared import Written
@@ -29,9 +30,17 @@ def is_whole(value):
     return isinstance(value, int) and not isinstance(value, bool)
 
 
+def finite(word):
+    """A float as it stands in a text. Python takes one beyond 64 bits for infinity; it is no TOML."""
+    number = float(word)
+    if math.isinf(number) and "inf" not in word:
+        raise refused("NotToml")
+    return number
+
+
 def table_of(text):
     try:
-        table = tomllib.loads(text)
+        table = tomllib.loads(text, parse_float=finite)
     except tomllib.TOMLDecodeError:
         raise refused("NotToml")
     if not all(-2**63 <= number < 2**63 for number in whole_numbers(table)):

@@ -2,6 +2,7 @@
 that it succeeds. Made from 'The network text', its 'Faults' and 'What `cpm` writes' in docs/FORMATS.md, sentence by sentence."""
 
 from shared import Run
+from slow.networks import Network
 
 FAULTS = ["NoJobs", "NoRenewable", "ManyProjects", "OtherResources", "NoPrecedence", "NoRequests", "BadNumber", "Limit",
           "BadRow", "NotSingleMode", "BadSuccessor", "TooFew", "TooMany", "Cycle"]
@@ -141,16 +142,16 @@ def read_successors(stream, jobs):
     return successors
 
 
-def read_durations(stream, jobs, resources):
-    durations = {}
+def read_jobs(stream, jobs, resources):
+    """For each job its duration, and its requests."""
+    durations, requests = {}, {}
     for job in range(1, jobs + 1):
         stream.expect(job, "BadRow")
         stream.expect(1, "NotSingleMode")
         durations[job] = stream.within(0, 10_000, "Limit")
-        for _ in range(resources):
-            stream.within(0, 10_000, "Limit")
+        requests[job] = [stream.within(0, 10_000, "Limit") for _ in range(resources)]
     stream.expect_end()
-    return durations
+    return durations, requests
 
 
 def is_dashes(words):
@@ -168,7 +169,7 @@ def has_ring(successors):
 
 
 def read(text):
-    """The successors and the durations of the jobs."""
+    """The number of resources, and the successors, the durations and the requests of the jobs."""
     lines = lines_of(text)
     title = first_line(lines, 0, is_exactly(b"PRECEDENCE", b"RELATIONS:"))
     jobs, resources = read_head(lines[:title])
@@ -180,10 +181,10 @@ def read(text):
     if title is None:
         raise Refused("NoRequests", 0)
     end = part_end(lines, title, b"RESOURCEAVAILABILITIES:")
-    durations = read_durations(Stream(lines, title, end, is_dashes), jobs, resources)
+    durations, requests = read_jobs(Stream(lines, title, end, is_dashes), jobs, resources)
     if has_ring(successors):
         raise Refused("Cycle", 0)
-    return successors, durations
+    return resources, successors, durations, requests
 
 
 def early_starts(successors, durations):
@@ -212,7 +213,7 @@ def refusal(name, line):
 
 def wanted_of(text):
     try:
-        successors, durations = read(text)
+        _, successors, durations, _ = read(text)
     except Refused as fault:
         return refusal(fault.name, fault.line)
     return answer(early_starts(successors, durations), durations)
@@ -220,6 +221,13 @@ def wanted_of(text):
 
 def critical_of(text):
     """The critical length of a network that is read."""
-    successors, durations = read(text)
+    _, successors, durations, _ = read(text)
     starts = early_starts(successors, durations)
     return max(starts[job] + durations[job] for job in starts)
+
+
+def network_of(text):
+    """A network that is read, whose jobs count from 0."""
+    resources, successors, durations, requests = read(text)
+    pairs = {(job - 1, successor - 1) for job in successors for successor in successors[job]}
+    return Network(resources, [*durations.values()], [*requests.values()], pairs)
