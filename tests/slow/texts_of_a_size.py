@@ -1,0 +1,52 @@
+"""Texts of a given size that ask for much time or memory beside what they say. Made from 'The order' and 'The certificate' in
+docs/FORMATS.md: each is right in its form, and with each certificate stands what `verify` has to say of it."""
+
+from slow.networks import Network, network_text
+from slow.orders import Order, order_text
+from slow.plans import Plan, plan_text
+
+LATEST = 10_000_000
+
+
+def texts_of(network, order, plan, proof):
+    return tuple(text.encode() for text in [network_text(network), order_text(order), plan_text(plan), proof])
+
+
+def nested_keys(count):
+    """An order with this many keys of twelve parts, each a table in a table. It must not have them."""
+    keys = "".join(f"{number:x}.a.a.a.a.a.a.a.a.a.a.a=1\n" for number in range(count))
+    return f"deadline = 4\nprices = [10]\n{keys}".encode()
+
+
+def open_lines(jobs, count):
+    """A certificate of this many `D` lines, of which none is closed: six of the jobs request more units than there are, and are
+    put off again and again. It is unproved, since it breaks off."""
+    requests = [[1, 0, 0], [0, 1, 0], [0, 0, 1], [1, 0, 2], [2, 1, 0], [0, 2, 1]] + [[0, 0, 0]] * (jobs - 6)
+    network = Network(3, [2] * 6 + [0] * (jobs - 6), requests, set())
+    rest = [0] * (jobs - 6)
+    order = Order(LATEST, [1] * 3, [0] * 3, None, [0, 1, 2, 0, 1, 2, *rest], [LATEST] * jobs)
+    plan = Plan(LATEST, 4, 12, [4] * 3, [0, 1, 2, 0, 1, 2, *rest])
+    return texts_of(network, order, plan, "proof\nvector 2 2 2\n" + "".join(f"D {time}\n" for time in range(1, count + 1)))
+
+
+def useless_blocks(chance, resources, most, count):
+    """A certificate for a job that requests all units of each resource. Blocks with a unit less of one of them are enough, and
+    before them stands this number of blocks of fewer units. It is verified."""
+    network = Network(resources, [1], [[most] * resources], set())
+    order = Order(1, [1] * resources, [0] * resources, None, [0], [1])
+    plan = Plan(1, 1, most * resources, [most] * resources, [0])
+    vectors = [[chance.randrange(most) for _ in range(resources)] for _ in range(count)]
+    vectors += [[most - (k == other) for k in range(resources)] for other in range(resources)]
+    blocks = "".join(f"vector {' '.join(map(str, vector))}\nD 0\n" for vector in vectors)
+    return texts_of(network, order, plan, f"proof\n{blocks}end\n")
+
+
+def odd_request(chance, jobs):
+    """A certificate for jobs of one time unit, all at time 0, with half of the units that they request together. The first job
+    requests one unit, and each other an even number, so few alternatives have the first job. It is unproved: that job is not
+    late."""
+    requests = [1, *(2 * chance.randint(5, 50) for _ in range(jobs - 1))]
+    network = Network(1, [1] * jobs, [[units] for units in requests], set())
+    order, all_units = Order(2, [1], [0], None, [0] * jobs, [2] * jobs), sum(requests)
+    plan = Plan(2, 1, all_units, [all_units], [0] * jobs)
+    return texts_of(network, order, plan, f"proof\nvector {all_units // 2}\nD 0\nL 1\nend\n")
