@@ -1,5 +1,5 @@
 -- What `curve` answers to the texts of a network and an order.
-use Rattle.std.specs.Prelude.{◌≡◌, ◌⊎◌, ℕ, ◌+◌, Bool, true, false, List, [], ◌∷◌, ◌++◌, ⊤, Option, Result}
+use Rattle.std.specs.Prelude.{◌≡◌, ◌⊎◌, ℕ, ◌+◌, Bool, true, false, List, [], ◌∷◌, ◌++◌, Option, Result, map}
 use Rattle.racp_model.specs.Project.{Project}
 use Rattle.racp_model.specs.Terms.{Terms}
 use Rattle.racp_lexfix.specs.Answers.{IsAnswer}
@@ -10,22 +10,28 @@ use Rattle.racp_lexfix.specs.declared.answer.Answer.{Answer}
 use Rattle.racp_curve.specs.Curves.{first_deadline, AreSteps, AreNotAfterEnough, IsCurve}
 use Rattle.racp_curve.specs.Texts.{curve_text, step_lines}
 use Rattle.racp_curve.specs.declared.step.Step.{Step}
+use Rattle.racp_show.specs.CostPictures.{cost_picture}
+use Rattle.racp_show.specs.declared.costs.Corner.{Corner}
 use Rattle.racp_cli.specs.Texts.{stopped_line}
 use Rattle.racp_cli.specs.Crowds.{IsNoThreadLine}
 use Rattle.racp_cli.specs.Plans.{IsNetworkLine, IsOrderLine, IsMemoryLine}
 use Rattle.racp_cli.specs.Streams.{Reader, IsRun, ToTwo}
 use Rattle.racp_cli.specs.declared.fault.StreamFault.{StreamFault}
 
--- the lines of a curve; nothing is said of its picture
-abbrev pub IsCurveText : Bool → List Step → List ℕ → Type 0
-IsCurveText false steps text = text ≡ curve_text steps
-IsCurveText true steps text = ⊤
+-- the corner of a step in a picture: its deadline and its cost
+abbrev pub corner_of : Step → Corner
+corner_of step = record { deadline = step.deadline; cost = step.cost }
+
+-- the lines of a curve, or the picture of a corner for each step, up to a last deadline
+abbrev pub IsCurveText : Bool → ℕ → List Step → List ℕ → Type 0
+IsCurveText false last steps text = text ≡ curve_text steps
+IsCurveText true last steps text = text ≡ cost_picture (map corner_of steps) last
 
 -- the curve of an order, as lines or as a picture
 pub record IsTextOfCurve (is_drawn : Bool) (network : Project) (terms : Terms) (status : ℕ) (text : List ℕ) : Type 0 where
   pub steps : List Step
   pub right : IsCurve network terms steps
-  pub with_text : IsCurveText is_drawn steps text
+  pub with_text : IsCurveText is_drawn terms.deadline steps text
   pub with_status : status ≡ 0
 
 -- why there is no plan for an order, as a line

@@ -6,31 +6,42 @@ use Rattle.racp_plan.specs.declared.plan.Plan.{Plan}
 use Rattle.racp_plan.specs.Texts.{line}
 use Rattle.racp_check.specs.PlanFaults.{IsChecked}
 use Rattle.racp_show.specs.Called.{names_of}
+use Rattle.racp_show.specs.PlanPictures.{picture}
+use Rattle.racp_show.specs.Sheets.{IsSheet}
 use Rattle.racp_show.specs.Tables.{table_text}
 use Rattle.racp_cli.specs.Checks.{AreRead, HasRightHead, IsCheck, check_status, check_text}
 use Rattle.racp_cli.specs.Streams.{Reader, IsRun, ToFour}
 use Rattle.racp_cli.specs.declared.check_fault.CheckFault.{CheckFault}
 use Rattle.racp_cli.specs.declared.fault.StreamFault.{StreamFault}
+use Rattle.racp_show.specs.declared.sheet.Sheet.{Sheet}
 use Rattle.racp_show.specs.declared.form.Form.{Form}
 use Rattle.racp_show.specs.declared.form.Form.TheVariants.{Text, Ascii, Svg, Json, Csv}
 use Rattle.racp_cli.specs.declared.show.Look.{Look}
 
--- what is written of a plan: as CSV its table; nothing is said here of the other forms, whose values racp_show speaks of
-abbrev pub IsPicture : Form → Project → Plan → List (List ℕ) → List ℕ → Type 0
-IsPicture Text network plan names text = ⊤
-IsPicture Ascii network plan names text = ⊤
-IsPicture Svg network plan names text = ⊤
-IsPicture Json network plan names text = ⊤
-IsPicture Csv network plan names text = text ≡ table_text network plan.starts names
+-- the picture of a plan's sheet
+pub record IsSheetPicture (network : Project) (terms : Terms) (plan : Plan) (names : List (List ℕ))
+    (text : List ℕ) : Type 0 where
+  pub sheet : Sheet
+  pub right : IsSheet network terms plan names sheet
+  pub drawn : text ≡ picture sheet
+
+-- what is written of a plan: as SVG the picture of its sheet, as CSV its table; nothing is said here of the other forms, whose
+-- values racp_show speaks of
+abbrev pub IsPicture : Form → Project → Terms → Plan → List (List ℕ) → List ℕ → Type 0
+IsPicture Text network terms plan names text = ⊤
+IsPicture Ascii network terms plan names text = ⊤
+IsPicture Svg network terms plan names text = IsSheetPicture network terms plan names text
+IsPicture Json network terms plan names text = ⊤
+IsPicture Csv network terms plan names text = text ≡ table_text network plan.starts names
 
 -- the line if names are not UTF-8
 abbrev pub names_line : List ℕ
 names_line = line (codes "refused names 1 NotUtf8")
 
 -- the plan with these names, or that they are none
-abbrev pub IsNamed : Look → Project → Plan → List ℕ → ℕ → List ℕ → Type 0
-IsNamed look network plan names status text =
-    (IsUtf8 names × (status ≡ 0) × IsPicture look.form network plan (names_of names) text) ⊎
+abbrev pub IsNamed : Look → Project → Terms → Plan → List ℕ → ℕ → List ℕ → Type 0
+IsNamed look network terms plan names status text =
+    (IsUtf8 names × (status ≡ 0) × IsPicture look.form network terms plan (names_of names) text) ⊎
     ((IsUtf8 names → ⊥) × (status ≡ 5) × (text ≡ names_line))
 
 -- the plan, with which nothing is wrong
@@ -41,7 +52,7 @@ pub record IsShown (look : Look) (net order plan names : List ℕ) (status : ℕ
   pub are_read : AreRead net order plan network terms found
   pub head : HasRightHead network terms found
   pub checked : IsChecked network terms found (Ok tt)
-  pub named : IsNamed look network found names status text
+  pub named : IsNamed look network terms found names status text
 
 -- what `check` says of it
 pub record IsFaulty (net order plan : List ℕ) (status : ℕ) (text : List ℕ) : Type 0 where

@@ -1,10 +1,11 @@
 //! `curve`: what each deadline up to that of an order costs.
 
-ghost use Rattle.std.specs.Prelude.{◌≤◌, IfOk};
+ghost use Rattle.std.specs.Prelude.{◌≡◌, ◌≤◌, IfOk, map};
 ghost use Rattle.racp_model.specs.Project.{Project};
 ghost use Rattle.racp_model.specs.Terms.{AreTermsOf};
 ghost use Rattle.racp_curve.specs.Curves.{IsCurveAnswer as IsAnswerOfCurve};
-ghost use Rattle.racp_cli.specs.CurveAnswers.{IsCurveAnswer, IsCurveRun, IsCurveText, IsToldCurve};
+ghost use Rattle.racp_cli.specs.CurveAnswers.{IsCurveAnswer, IsCurveRun, IsCurveText, IsToldCurve, corner_of};
+ghost use Rattle.racp_show.specs.CostPictures.{cost_picture};
 
 use crate::fault::StreamFault;
 use crate::respond::respond;
@@ -107,17 +108,28 @@ pub(crate) fn curve_answer(
 
 /// The steps of a curve up to a last deadline as lines, or as a picture.
 fn text_of(alloc: Global, steps: &[Step], last: u32, is_drawn: bool) -> Result<Vec<u8>, AllocError>
-    ensures { IfOk result (λ text. IsCurveText is_drawn steps.now text.items) }
+    ensures { IfOk result (λ text. IsCurveText is_drawn last steps.now text.items) }
 {
     if is_drawn {
-        let corners = corners_of(alloc, steps)?;
-        return Ok(costs_svg(alloc, &corners, last)?.into_bytes());
+        picture(alloc, steps, last)
+    } else {
+        curve_text(alloc, steps)
     }
-    curve_text(alloc, steps)
+}
+
+/// The picture of a curve up to a last deadline.
+fn picture(alloc: Global, steps: &[Step], last: u32) -> Result<Vec<u8>, AllocError>
+    ensures { IfOk result (λ text. text.items ≡ cost_picture (map corner_of steps.now) last) }
+{
+    let corners = corners_of(alloc, steps)?;
+    let picture = costs_svg(alloc, &corners, last)?;
+    Ok(picture.into_bytes())
 }
 
 /// The corners of a curve.
-fn corners_of(alloc: Global, steps: &[Step]) -> Result<Vec<Corner>, AllocError> {
+fn corners_of(alloc: Global, steps: &[Step]) -> Result<Vec<Corner>, AllocError>
+    ensures { IfOk result (λ corners. corners.items ≡ map corner_of steps.now) }
+{
     let mut corners = Vec::new(alloc);
     for step in steps {
         corners.push(Corner {

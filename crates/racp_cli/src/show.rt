@@ -3,7 +3,7 @@
 ghost use Rattle.std.specs.Prelude.{◌≡◌, IfOk, length};
 ghost use Rattle.racp_model.specs.Terms.{AreTermsOf};
 ghost use Rattle.racp_check.specs.PlanFaults.{IsFitting};
-ghost use Rattle.racp_cli.specs.ShowAnswers.{IsNamed, IsPicture, IsShowAnswer, IsShowRun};
+ghost use Rattle.racp_cli.specs.ShowAnswers.{IsNamed, IsPicture, IsSheetPicture, IsShowAnswer, IsShowRun};
 
 use crate::check::{Checked, read_checked};
 use crate::fault::StreamFault;
@@ -88,7 +88,7 @@ fn named(
     requires terms { AreTermsOf found.now.net found.now.order }
     requires capacities { length found.now.plan.capacities ≡ found.now.net.resources }
     requires fitting { IsFitting found.now.net found.now.order found.now.plan }
-    ensures { IfOk result (λ answer. IsNamed look found.now.net found.now.plan names.now answer.0 answer.1.items) }
+    ensures { IfOk result (λ answer. IsNamed look found.now.net found.now.order found.now.plan names.now answer.0 answer.1.items) }
 {
     match Names::read(alloc, names)? {
         Some(names) => {
@@ -111,17 +111,32 @@ fn picture(
     requires terms { AreTermsOf net.now order.now }
     requires capacities { length plan.now.capacities ≡ net.now.resources }
     requires fitting { IsFitting net.now order.now plan.now }
-    ensures { IfOk result (λ text. IsPicture look.form net.now plan.now names.now text.items) }
+    ensures { IfOk result (λ text. IsPicture look.form net.now order.now plan.now names.now text.items) }
 {
     let text = match look.form {
         Form::Text => chart_text(alloc, net, order, plan, names, look.width, false)?,
         Form::Ascii => chart_text(alloc, net, order, plan, names, look.width, true)?,
-        Form::Svg => {
-            let sheet = sheet_of(alloc, net, order, plan, names)?;
-            svg_text(alloc, net, names, &sheet)?
-        }
+        Form::Svg => return sheet_picture(alloc, net, order, plan, names),
         Form::Json => json_text(alloc, &sheet_of(alloc, net, order, plan, names)?)?,
         Form::Csv => return csv_text(alloc, net, order, plan, names),
     };
     Ok(text.into_bytes())
+}
+
+/// The picture of a plan.
+fn sheet_picture(
+    alloc: Global,
+    net: &Network,
+    order: &Order,
+    plan: &Plan,
+    names: &Names,
+) -> Result<Vec<u8>, AllocError>
+    requires terms { AreTermsOf net.now order.now }
+    requires capacities { length plan.now.capacities ≡ net.now.resources }
+    requires fitting { IsFitting net.now order.now plan.now }
+    ensures { IfOk result (λ text. IsSheetPicture net.now order.now plan.now names.now text.items) }
+{
+    let sheet = sheet_of(alloc, net, order, plan, names)?;
+    let picture = svg_text(alloc, &sheet)?;
+    Ok(picture.into_bytes())
 }

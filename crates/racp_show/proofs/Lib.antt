@@ -6,3 +6,6 @@ mod Fitting
 mod Drawn
 mod Listing
 mod Naming
+mod Pieces
+mod Marks
+mod Cutting

@@ -1,6 +1,10 @@
 //! What deadlines cost, as a picture.
 
-use crate::svg::{MOST_MARKS, mark_of, push_head, push_mark, push_move, push_step};
+ghost use Rattle.std.specs.Prelude.{◌≡◌, ◌<◌, ◌^◌, ◌++◌, IfOk, OnOk, flat_map, string_bytes};
+ghost use Rattle.racp_show.specs.CostPictures.{corner_element, corner_step, cost_axis, cost_mark, cost_picture, cost_stair, deadline_axis, deadline_mark, picture_in, range_of, stair_corners};
+
+use crate::page::{MOST_MARKS, push_begin, push_head, push_step};
+use crate::range::{Range, push_cost, push_deadline};
 use std::alloc::{AllocError, Global};
 
 /// A deadline from which on a plan costs so much.
@@ -12,63 +16,6 @@ pub struct Corner {
     pub cost: u64,
 }
 
-/// Where the deadlines begin, from the left.
-const LEFT: u64 = 120;
-
-/// How wide all deadlines are drawn.
-const SPAN: u64 = 760;
-
-/// Where the greatest cost is drawn, from above.
-const TOP: u64 = 40;
-
-/// How high the greatest cost is drawn.
-const HEIGHT: u64 = 300;
-
-/// Where the deadlines are written, from above.
-const NUMBERS: u64 = 358;
-
-/// How high the picture is.
-const BOTTOM: u64 = 400;
-
-/// What the deadlines of a picture are, and its greatest cost.
-#[derive(Clone, Copy)]
-struct Range {
-    first: u64,
-    last: u64,
-    most: u64,
-}
-
-impl Range {
-    /// The range of some corners, up to a last deadline.
-    fn of(corners: &[Corner], last: u32) -> Range {
-        let last = last as u64;
-        let mut range = Range {
-            first: last,
-            last,
-            most: 1,
-        };
-        for corner in corners {
-            range.first = range.first.min(corner.deadline as u64);
-            range.most = range.most.max(corner.cost);
-        }
-        range
-    }
-
-    /// Where a deadline is drawn, from the left.
-    fn across(&self, deadline: u64) -> u64 {
-        let all = self.last.saturating_sub(self.first).max(1);
-        let part = deadline.saturating_sub(self.first).min(all);
-        LEFT.saturating_add(part.saturating_mul(SPAN) / all)
-    }
-
-    /// Where a cost is drawn, from above.
-    fn down(&self, cost: u64) -> u64 {
-        let most = self.most.max(1);
-        let part = (cost.min(most) as u128 * HEIGHT as u128 / most as u128) as u64;
-        TOP.saturating_add(HEIGHT).saturating_sub(part)
-    }
-}
-
 /// What deadlines cost, as a picture in SVG: a stair over the deadlines from that of the first corner up to `last`,
 /// with round numbers on both axes, and with the deadline and the cost of each corner as a tooltip. The corners rise by
 /// deadline. The text grows with the corners, and not with the deadlines.
@@ -76,88 +23,117 @@ impl Range {
 /// # Errors
 ///
 /// Memory was refused.
-pub fn costs_svg(alloc: Global, corners: &[Corner], last: u32) -> Result<String, AllocError> {
+pub fn costs_svg(alloc: Global, corners: &[Corner], last: u32) -> Result<String, AllocError>
+    ensures { IfOk result (λ text. string_bytes text ≡ cost_picture corners.now last) }
+{
     let mut text = String::new(alloc);
-    push_picture(&mut text, corners, &Range::of(corners, last))?;
+    push_picture(&mut text, corners, last)?;
     Ok(text)
 }
 
 /// Adds the picture of some corners.
-fn push_picture(text: &mut String, corners: &[Corner], range: &Range) -> Result<(), AllocError> {
-    push_head(text, BOTTOM)?;
+fn push_picture(text: &mut String, corners: &[Corner], last: u32) -> Result<(), AllocError>
+    ensures { OnOk result (string_bytes text.new ≡ string_bytes text.old ++ cost_picture corners.now last) }
+{
+    push_parts(text, corners, &Range::of(corners, last))
+}
+
+/// Adds the picture of some corners of this range.
+fn push_parts(text: &mut String, corners: &[Corner], range: &Range) -> Result<(), AllocError>
+    ensures { OnOk result (string_bytes text.new ≡ string_bytes text.old ++ picture_in range.now corners.now) }
+{
+    push_head(text, 400)?;
     push_deadlines(text, range)?;
     push_costs(text, range)?;
     push_stair(text, corners, range)?;
-    for corner in corners {
-        push_corner(text, corner, range)?;
-    }
-    text.push_str("</svg>\n")
+    push_corners(text, corners, range)?;
+    text.push_str("</svg>\n")?;
+    Ok(())
 }
 
 /// Adds the axis of deadlines.
-fn push_deadlines(text: &mut String, range: &Range) -> Result<(), AllocError> {
-    let mark = mark_of(range.last.saturating_sub(range.first)).max(1);
-    let begin = range.first.div_ceil(mark);
-    let base = TOP.saturating_add(HEIGHT);
-    for number in 0..MOST_MARKS + 1 {
-        let deadline = begin.saturating_add(number).saturating_mul(mark);
-        if deadline <= range.last {
-            push_mark(text, deadline, range.across(deadline), TOP, base, NUMBERS)?;
-        }
+#[tactic(auto, unfolding(crate::specs::CostPictures::deadline_axis))]
+fn push_deadlines(text: &mut String, range: &Range) -> Result<(), AllocError>
+    ensures { OnOk result (string_bytes text.new ≡ string_bytes text.old ++ deadline_axis range.now) }
+{
+    for place in 0..MOST_MARKS + 1 {
+        push_deadline(text, range, place)?;
     }
     text.push_str("<text x=\"500\" y=\"382\" text-anchor=\"middle\">deadline</text>\n")
 }
 
 /// Adds the axis of costs.
-fn push_costs(text: &mut String, range: &Range) -> Result<(), AllocError> {
-    let mark = mark_of(range.most).max(1);
-    for number in 0..MOST_MARKS + 1 {
-        let cost = mark.saturating_mul(number);
-        if cost <= range.most {
-            push_cost(text, cost, range.down(cost))?;
-        }
+#[tactic(auto, unfolding(crate::specs::CostPictures::cost_axis))]
+fn push_costs(text: &mut String, range: &Range) -> Result<(), AllocError>
+    ensures { OnOk result (string_bytes text.new ≡ string_bytes text.old ++ cost_axis range.now) }
+{
+    for place in 0..MOST_MARKS + 1 {
+        push_cost(text, range, place)?;
     }
     text.push_str("<text x=\"112\" y=\"24\" text-anchor=\"end\">cost</text>\n")
 }
 
-/// Adds a number of the axis of costs: a line at the height `y`, and the number.
-fn push_cost(text: &mut String, cost: u64, y: u64) -> Result<(), AllocError> {
-    let right = LEFT.saturating_add(SPAN);
-    let base = y.saturating_add(4);
-    writeln!(
-        text,
-        "<path d=\"M{LEFT} {y}H{right}\" stroke=\"#ddd\"/>\
-         <text x=\"112\" y=\"{base}\" text-anchor=\"end\">{cost}</text>"
-    )
+/// Adds the stair.
+fn push_stair(text: &mut String, corners: &[Corner], range: &Range) -> Result<(), AllocError>
+    ensures { OnOk result (string_bytes text.new ≡ string_bytes text.old ++ cost_stair range.now corners.now) }
+{
+    text.push_str("<path d=\"")?;
+    push_steps(text, corners, range)?;
+    text.push_str("H880\" fill=\"none\" stroke=\"#4a7ebb\" stroke-width=\"2\"/>\n")?;
+    Ok(())
 }
 
-/// Adds the stair.
-fn push_stair(text: &mut String, corners: &[Corner], range: &Range) -> Result<(), AllocError> {
-    text.push_str("<path d=\"")?;
+/// Adds where the stair begins, and its steps.
+fn push_steps(text: &mut String, corners: &[Corner], range: &Range) -> Result<(), AllocError>
+    ensures { OnOk result (string_bytes text.new ≡ string_bytes text.old ++ stair_corners range.now 0 corners.now) }
+{
     for (place, corner) in corners.iter().enumerate() {
-        let x = range.across(corner.deadline as u64);
-        let y = range.down(corner.cost);
-        if place == 0 {
-            push_move(text, x, y)?;
-        } else {
-            push_step(text, x, y)?;
-        }
+        push_turn(text, corner, range, place)?;
     }
-    let right = LEFT.saturating_add(SPAN);
-    writeln!(
-        text,
-        "H{right}\" fill=\"none\" stroke=\"#4a7ebb\" stroke-width=\"2\"/>"
-    )
+    Ok(())
+}
+
+/// Adds where the stair begins, or at another place, from 0, a step of it.
+fn push_turn(
+    text: &mut String,
+    corner: &Corner,
+    range: &Range,
+    place: usize,
+) -> Result<(), AllocError>
+    ensures { OnOk result
+        (string_bytes text.new ≡ string_bytes text.old ++ corner_step range.now place corner.now) }
+{
+    let x = range.across(corner.deadline as u128);
+    let y = range.down(corner.cost as u128);
+    if place == 0 {
+        push_begin(text, x, y)
+    } else {
+        push_step(text, x, y)
+    }
+}
+
+/// Adds the corners.
+fn push_corners(text: &mut String, corners: &[Corner], range: &Range) -> Result<(), AllocError>
+    ensures { OnOk result
+        (string_bytes text.new ≡ string_bytes text.old ++ flat_map (corner_element range.now) corners.now) }
+{
+    for corner in corners {
+        push_corner(text, corner, range)?;
+    }
+    Ok(())
 }
 
 /// Adds a corner.
-fn push_corner(text: &mut String, corner: &Corner, range: &Range) -> Result<(), AllocError> {
+#[tactic(auto, unfolding(crate::specs::CostPictures::corner_element))]
+fn push_corner(text: &mut String, corner: &Corner, range: &Range) -> Result<(), AllocError>
+    ensures { OnOk result (string_bytes text.new ≡ string_bytes text.old ++ corner_element range.now corner.now) }
+{
     let (deadline, cost) = (corner.deadline, corner.cost);
-    let x = range.across(deadline as u64);
-    let y = range.down(cost);
-    writeln!(
+    let x = range.across(deadline as u128);
+    let y = range.down(cost as u128);
+    write!(
         text,
         "<circle cx=\"{x}\" cy=\"{y}\" r=\"4\" fill=\"#4a7ebb\">\
-         <title>deadline {deadline}: {cost}</title></circle>"
+         <title>deadline {deadline}: {cost}</title></circle>\n"
     )
 }

@@ -1,8 +1,8 @@
 //! What stands at the left of a line.
 
-ghost use Rattle.std.specs.Prelude.{◌≡◌, ◌≤◌, IfOk, All, chars, false};
+ghost use Rattle.std.specs.Prelude.{◌≡◌, ◌≤◌, ◌++◌, IfOk, All, chars, codes, decimal, false, option_map, string_bytes};
 ghost use Rattle.unicode_width.specs.Width.{str_width};
-ghost use Rattle.racp_show.specs.Labels.{IsWithinColumns};
+ghost use Rattle.racp_show.specs.Labels.{IsWithinColumns, cut, label_text};
 
 use crate::names::Names;
 use racp_model::Network;
@@ -25,44 +25,50 @@ pub(crate) fn labels(
     let mut labels = Vec::new(alloc);
     let jobs = net.job_count();
     for i in 0..jobs {
-        labels.push(label(alloc, names.job(i), "job", i, most)?)?;
+        labels.push(label(alloc, names.job(i), "job", i + 1, most)?)?;
     }
     for k in 0..net.resource_count() {
-        labels.push(label(alloc, names.resource(jobs, k), "resource", k, most)?)?;
+        labels.push(label(alloc, names.resource(jobs, k), "resource", k + 1, most)?)?;
     }
     Ok(labels)
 }
 
-/// A name cut to this many columns; or a word and the number of what stands at this place.
-fn label(
+/// A name cut to this many columns; or a word and a number, if there is none.
+pub(crate) fn label(
     alloc: Global,
     name: Option<&str>,
     word: &str,
-    place: usize,
+    number: usize,
     most: usize,
 ) -> Result<String, AllocError>
-    ensures { IfOk result (IsWithinColumns most) }
+    ensures width { IfOk result (IsWithinColumns most) }
+    ensures text { IfOk result (λ label. string_bytes label ≡
+        label_text most (option_map (λ name. name.now) name.entry) word.now number) }
 {
     match name {
         Some(name) => cut(alloc, name, most),
-        None => {
-            let number = place.saturating_add(1);
-            let numbered = format!(in alloc; "{word} {number}")?;
-            cut(alloc, numbered.as_str(), most)
-        }
+        None => cut(alloc, numbered(alloc, word, number)?.as_str(), most),
     }
+}
+
+/// A word and a number.
+fn numbered(alloc: Global, word: &str, number: usize) -> Result<String, AllocError>
+    ensures { IfOk result (λ text. string_bytes text ≡ word.now ++ codes " " ++ decimal number) }
+{
+    format!(in alloc; "{word} {number}")
 }
 
 /// As much of a text as this many columns take.
 fn cut(alloc: Global, text: &str, most: usize) -> Result<String, AllocError>
-    ensures { IfOk result (IsWithinColumns most) }
+    ensures width { IfOk result (IsWithinColumns most) }
+    ensures text { IfOk result (λ label. string_bytes label ≡ cut most text.now) }
 {
     let mut label = String::new(alloc);
     for letter in text.chars().take(MOST_LETTERS) {
         let mut longer = label.clone()?;
         longer.push(letter)?;
         if most < columns_of(longer.as_str()) {
-            break;
+            return Ok(label);
         }
         label = longer;
     }

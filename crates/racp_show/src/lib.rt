@@ -36,23 +36,30 @@
 //! plan's; the usage in a column is the greatest at its times; how busy a resource is, is exact and rounded down; the
 //! steps of a usage are exact at all times; each number and each name of a sheet is the plan's, the order's or the one
 //! that was given; the names of a text are its lines without their control characters, at most one for each job and
-//! resource that there may be; `csv_text` gives exactly the table of the plan. In `laws`: a job is drawn in exactly the
-//! columns in whose times it runs, and in no column that is not there. All of them return. Tested alone: how charts and
-//! pictures are laid out, and the text of the JSON, which rests on what `serde` derives. Whether a plan is right is not
-//! looked at here: racp_check does.
+//! resource that there may be; `csv_text` gives exactly the table of the plan, `svg_text` exactly the picture of a
+//! sheet, with an element for each job and each step of a usage, and `costs_svg` exactly that of its corners. In `laws`:
+//! a job is drawn in exactly the columns in whose times it runs, and in no column that is not there. All of them return.
+//! Tested alone: how charts in text are laid out, and the text of the JSON, which rests on what `serde` derives. Whether
+//! a plan is right is not looked at here: racp_check does.
 #![tactic(auto)]
 
+mod axis;
+mod bars;
 mod cells;
 mod chart;
 mod costs;
+mod escape;
 mod form;
 mod json;
 mod label;
 pub mod laws;
 mod names;
 mod order;
+mod page;
+mod range;
 mod scale;
 mod sheet;
+mod stairs;
 mod svg;
 mod table;
 mod text;
