@@ -9,7 +9,7 @@ use Rattle.racp_delay.specs.Found.{AreWithin, SomeHaveRoom, Each, with_load, IsE
 use Rattle.racp_delay.proofs.Each.{Ascends, ascends, each-map}
 use Rattle.racp_delay.proofs.Adding.{popped}
 use Rattle.racp_delay.proofs.Searching.{less_before, IsMore}
-use Rattle.racp_delay.proofs.Extending.{lex_tails, none-over, none-loose, first-here, none_more, none-undecided, first-goes, first-stays, none-both, behind_empty, behind_less}
+use Rattle.racp_delay.proofs.Extending.{lex_tails, none-over, first-here, none_more, none-undecided, first-goes, first-stays, none-both, behind_empty, behind_less}
 
 -- the same of another way to look for the same extensions
 pub extended-same : (p : Project) (capacities : List ℕ) (kept : ℕ → ℕ) (chosen rest : List ℕ) (P Q : List ℕ → Type 0) → ((x : List ℕ) → IsExtension p capacities kept chosen rest x → P x → Q x) → ((x : List ℕ) → IsExtension p capacities kept chosen rest x → Q x → P x)
@@ -26,12 +26,6 @@ extended-same p capacities kept chosen rest P Q into back true new h = (
 extended-same p capacities kept chosen rest P Q into back false new h = (h.0, λ other e w. h.1 other e (back other e w))
 
 module _ (p : Project) (capacities : List ℕ) (kept left : ℕ → ℕ) (chosen rest : List ℕ) (IsWanted : List ℕ → Type 0) (is_left : (k : ℕ) → k < p.resources → left k ≡ with_load p kept rest k) where
-  -- some job that goes has room
-  pub extended-loose : (jobs : List ℕ) → jobs ≡ chosen → SomeHaveRoom p capacities left jobs → HasNoExtension p capacities kept chosen rest IsWanted
-  extended-loose jobs e loose =
-      let here : SomeHaveRoom p capacities left chosen = subst (λ (x : List ℕ). SomeHaveRoom p capacities left x) e loose in
-      none-loose p capacities kept chosen rest IsWanted (here.0, here.1, λ k l. omega (arith, is_left k l, here.2 k l))
-
   -- all others run
   pub extended-here : (jobs : List ℕ) → jobs ≡ chosen → AreWithin p capacities left → (SomeHaveRoom p capacities left jobs → ⊥) → IsWanted [] → (more : List ℕ) × (chosen ≡ chosen ++ more) × IsFirstExtension p capacities kept chosen rest IsWanted more
   extended-here jobs e runs tight wanted =

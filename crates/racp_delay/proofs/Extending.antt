@@ -12,7 +12,7 @@ use Rattle.racp_delay.specs.Alternatives.Splits.{none, goes, stays}
 use Rattle.racp_delay.specs.Found.{AreWithin, OneMoreRuns, SomeHaveRoom, Each, with_load, IsTight, IsExtension, IsFirstExtension, HasNoExtension}
 use Rattle.racp_delay.proofs.Each.{each-right, each-from}
 use Rattle.racp_delay.proofs.Splitting.{load-splits, splits-none, all_stay, each-gone}
-use Rattle.racp_delay.proofs.Searching.{less_before, found-over, found-loose, IsMore, tight-same}
+use Rattle.racp_delay.proofs.Searching.{less_before, found-over, IsMore, tight-same}
 
 -- lists with the same head are in the order of their tails
 pub lex_tails : (job : ℕ) (xs ys : List ℕ) → lex_cmp (job ∷ xs) (job ∷ ys) ≡ lex_cmp xs ys
@@ -21,12 +21,9 @@ lex_tails job xs ys =
     ap (λ o. ordering_then o (lex_cmp xs ys)) same
 
 module _ (p : Project) (capacities : List ℕ) (kept : ℕ → ℕ) (chosen rest : List ℕ) where
-  -- the kept cannot run, or some job that goes could stay with all the others
+  -- the kept cannot run
   pub none-over : (IsWanted : List ℕ → Type 0) → (AreWithin p capacities kept → ⊥) → HasNoExtension p capacities kept chosen rest IsWanted
   none-over IsWanted over other e w = no_member (chosen ++ other) ((found-over p capacities kept chosen rest over).all other e.0 e.1 e.2)
-
-  pub none-loose : (IsWanted : List ℕ → Type 0) → SomeHaveRoom p capacities (with_load p kept rest) chosen → HasNoExtension p capacities kept chosen rest IsWanted
-  none-loose IsWanted loose other e w = no_member (chosen ++ other) ((found-loose p capacities kept chosen rest loose).all other e.0 e.1 e.2)
 
   -- where the others run, no job more goes
   pub none_more : AreWithin p capacities (with_load p kept rest) → (other : List ℕ) → IsExtension p capacities kept chosen rest other → other ≡ []

@@ -23,3 +23,4 @@ mod Ending
 mod Alone
 mod Raising
 mod Scanning
+mod Reaching

@@ -4,3 +4,4 @@ pub mod Laws
 pub mod Found
 pub mod Sweeps
 pub mod Scans
+pub mod Reach

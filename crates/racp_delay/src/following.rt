@@ -3,15 +3,16 @@
 ghost use Rattle.std.specs.Prelude.{◌≡◌, ℕ, [], IfOk, IsErrOf, IsTrue, All, length, slice_index};
 ghost use Rattle.racp_model.specs.Project.{IsNumber};
 ghost use Rattle.racp_model.specs.Terms.{IsLexBefore};
-ghost use Rattle.racp_model.specs.JobSets.{AreJobs};
 ghost use Rattle.racp_delay.specs.Alternatives.{IsFollowing};
-ghost use Rattle.racp_delay.specs.Found.{AreWithin, IsAny, IsChoice, IsExtended, IsSplitByFree};
+ghost use Rattle.racp_delay.specs.Found.{AreWithin, IsChoice, IsExtended};
+ghost use Rattle.racp_delay.specs.Reach.{AreRows};
 
 use crate::choosing::Choice;
 use crate::delaying::some_have_room;
-use crate::loads::{Loads, are_within, with};
-use crate::stop::Stop;
-use racp_model::limits::MOST_RESOURCES;
+use crate::extension::branch;
+use crate::loads::{are_within, split_free};
+use crate::reach::{Divisors, put_rows, reach};
+use crate::stop::{Steps, Stop};
 use racp_model::{Capacities, JobSet, Network};
 use std::alloc::{AllocError, AllocFailed, Global};
 use std::marker::Model;
@@ -47,53 +48,8 @@ impl<T: Drop> From<AllocFailed<T>> for Unfound {
     }
 }
 
-/// Extends `gone` to the first alternative, in lexicographic order, in which its jobs go, and of the undecided those
-/// that have to. Answers whether there is one; else `gone` is as before.
-#[cycle(extending)]
-fn extend<S: Stop>(choice: &Choice, gone: &mut Vec<u32>, stop: &S) -> Result<bool, Unfound>
-    requires choice { IsChoice choice.now }
-    requires gone { All (IsNumber (length choice.now.net.now.jobs)) gone.old.items }
-    ensures found { IfOk result (λ found. IsExtended choice.now.net.now choice.now.capacities.now
-        (slice_index choice.now.kept) gone.old.items choice.now.undecided.now IsAny found gone.new.items) }
-    ensures quiet { IsTrue S.QUIET → IsErrOf result Unfound.Stopped → ⊥ }
-{
-    if stop.asked() {
-        return Err(Unfound::Stopped);
-    }
-    if some_have_room(choice.net, choice.capacities, &choice.left, gone) {
-        return Ok(false);
-    }
-    if are_within(choice.net, choice.capacities, &choice.left) {
-        return Ok(true);
-    }
-    branch(choice, gone, stop)
-}
-
-/// Extends `gone` as `extend` does, for kept and undecided jobs that together exceed the capacities, so that one of the
-/// undecided has to go.
-#[cycle(extending)]
-fn branch<S: Stop>(choice: &Choice, gone: &mut Vec<u32>, stop: &S) -> Result<bool, Unfound>
-    requires choice { IsChoice choice.now }
-    requires gone { All (IsNumber (length choice.now.net.now.jobs)) gone.old.items }
-    requires over { AreWithin choice.now.net.now choice.now.capacities.now (slice_index choice.now.left) → ⊥ }
-    ensures found { IfOk result (λ found. IsExtended choice.now.net.now choice.now.capacities.now
-        (slice_index choice.now.kept) gone.old.items choice.now.undecided.now IsAny found gone.new.items) }
-    ensures quiet { IsTrue S.QUIET → IsErrOf result Unfound.Stopped → ⊥ }
-{
-    let Some((job, others)) = choice.undecided.split_first() else {
-        return Ok(false);
-    };
-    gone.push(*job)?;
-    let less = choice.where_goes(*job, others);
-    if extend(&less, gone, stop)? {
-        return Ok(true);
-    }
-    gone.pop();
-    let Some(more) = choice.where_stays(*job, others) else {
-        return Ok(false);
-    };
-    branch(&more, gone, stop)
-}
+/// How many steps are taken before common divisors are made, which show that more choices lead to nothing.
+const FEW_STEPS: u32 = 1_000;
 
 /// Extends `gone` as `extend` does, but to the first alternative whose further jobs stand after `last`.
 #[cycle(extending_behind)]
@@ -101,10 +57,12 @@ fn extend_behind<S: Stop>(
     choice: &Choice,
     gone: &mut Vec<u32>,
     last: &[u32],
+    rows: &[Divisors],
     stop: &S,
 ) -> Result<bool, Unfound>
     requires choice { IsChoice choice.now }
     requires gone { All (IsNumber (length choice.now.net.now.jobs)) gone.old.items }
+    requires rows { AreRows choice.now.net.now choice.now.undecided.now rows.now }
     ensures found { IfOk result (λ found. IsExtended choice.now.net.now choice.now.capacities.now
         (slice_index choice.now.kept) gone.old.items choice.now.undecided.now (IsLexBefore last.now) found
         gone.new.items) }
@@ -113,12 +71,13 @@ fn extend_behind<S: Stop>(
     if stop.asked() {
         return Err(Unfound::Stopped);
     }
-    if some_have_room(choice.net, choice.capacities, &choice.left, gone)
+    let most = reach(choice, rows);
+    if some_have_room(choice.net, choice.capacities, &most, gone)
         || are_within(choice.net, choice.capacities, &choice.left)
     {
         return Ok(false);
     }
-    branch_behind(choice, gone, last, stop)
+    branch_behind(choice, gone, last, rows, stop)
 }
 
 /// Extends `gone` as `extend_behind` does, for kept and undecided jobs that together exceed the capacities, so that one
@@ -128,10 +87,12 @@ fn branch_behind<S: Stop>(
     choice: &Choice,
     gone: &mut Vec<u32>,
     last: &[u32],
+    rows: &[Divisors],
     stop: &S,
 ) -> Result<bool, Unfound>
     requires choice { IsChoice choice.now }
     requires gone { All (IsNumber (length choice.now.net.now.jobs)) gone.old.items }
+    requires rows { AreRows choice.now.net.now choice.now.undecided.now rows.now }
     requires over { AreWithin choice.now.net.now choice.now.capacities.now (slice_index choice.now.left) → ⊥ }
     ensures found { IfOk result (λ found. IsExtended choice.now.net.now choice.now.capacities.now
         (slice_index choice.now.kept) gone.old.items choice.now.undecided.now (IsLexBefore last.now) found
@@ -139,18 +100,18 @@ fn branch_behind<S: Stop>(
     ensures quiet { IsTrue S.QUIET → IsErrOf result Unfound.Stopped → ⊥ }
 {
     let Some((first, rest)) = last.split_first() else {
-        return branch(choice, gone, stop);
+        return branch(choice, gone, rows, stop);
     };
     let Some((job, others)) = choice.undecided.split_first() else {
         return Ok(false);
     };
     if *first < *job {
-        return branch(choice, gone, stop);
+        return branch(choice, gone, rows, stop);
     }
     if *first == *job {
         gone.push(*job)?;
         let less = choice.where_goes(*job, others);
-        if extend_behind(&less, gone, rest, stop)? {
+        if extend_behind(&less, gone, rest, rows, stop)? {
             return Ok(true);
         }
         gone.pop();
@@ -158,33 +119,40 @@ fn branch_behind<S: Stop>(
     let Some(more) = choice.where_stays(*job, others) else {
         return Ok(false);
     };
-    branch_behind(&more, gone, last, stop)
+    branch_behind(&more, gone, last, rows, stop)
 }
 
-/// Puts the free jobs of a set into a list, in place of what was there, and sums up what the others request of each
-/// resource, and what all do.
-fn split_free(
-    net: &Network,
-    active: &JobSet,
-    free: &JobSet,
-    list: &mut Vec<u32>,
-) -> Result<(Loads, Loads), AllocError>
-    requires { All (IsNumber (length net.now.jobs)) active.now }
-    ensures free { IfOk result (λ loads. IsSplitByFree net.now active.now free.now list.new.items loads.0 loads.1) }
-    ensures jobs { AreJobs active.now }
+/// Extends no jobs as `extend_behind` does. Few steps are taken without rows of divisors, for mostly they are enough; the
+/// stop is asked about them too.
+fn look_behind<S: Stop>(
+    choice: &Choice,
+    gone: &mut Vec<u32>,
+    last: &[u32],
+    rows: &mut Vec<Divisors>,
+    stop: &S,
+) -> Result<bool, Unfound>
+    requires choice { IsChoice choice.now }
+    requires gone { gone.old.items ≡ [] }
+    ensures found { IfOk result (λ found. IsExtended choice.now.net.now choice.now.capacities.now
+        (slice_index choice.now.kept) gone.old.items choice.now.undecided.now (IsLexBefore last.now) found
+        gone.new.items) }
+    ensures quiet { IsTrue S.QUIET → IsErrOf result Unfound.Stopped → ⊥ }
 {
-    list.clear();
-    let mut kept = [0; MOST_RESOURCES];
-    let mut left = [0; MOST_RESOURCES];
-    for job in active.iter() {
-        left = with(net, &left, job);
-        if !free.contains(job) {
-            kept = with(net, &kept, job);
-            continue;
+    let few = Steps::new(FEW_STEPS);
+    let answer = extend_behind(choice, gone, last, &[], &few);
+    for _ in few.left()..FEW_STEPS {
+        if stop.asked() {
+            return Err(Unfound::Stopped);
         }
-        list.push(job)?;
     }
-    Ok((kept, left))
+    match answer {
+        Ok(found) => return Ok(found),
+        Err(Unfound::Memory) => return Err(Unfound::Memory),
+        Err(Unfound::Stopped) => {}
+    }
+    gone.clear();
+    put_rows(choice.net, choice.undecided, rows)?;
+    extend_behind(choice, gone, last, rows, stop)
 }
 
 /// A minimal delaying alternative, in memory that is used again from one to the next. Contracts see the numbers of the
@@ -193,6 +161,7 @@ fn split_free(
 pub struct Alternative {
     free: Vec<u32>,
     gone: Vec<u32>,
+    rows: Vec<Divisors>,
 }
 
 impl Model for Alternative {
@@ -211,6 +180,7 @@ impl Alternative {
         Alternative {
             free: Vec::new(alloc),
             gone: Vec::new(alloc),
+            rows: Vec::new(alloc),
         }
     }
 
@@ -248,7 +218,7 @@ impl Alternative {
             left,
             undecided: &self.free,
         };
-        extend_behind(&choice, &mut self.gone, last, stop)
+        look_behind(&choice, &mut self.gone, last, &mut self.rows, stop)
     }
 
     /// The numbers, from 1 and rising, of the jobs that go.

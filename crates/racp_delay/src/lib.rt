@@ -30,9 +30,13 @@
 //! by one, each first to go and then to stay, so the lists come in lexicographic order. It leaves a branch if the jobs
 //! that stay exceed the capacities by themselves, and if one that goes has room beside all the others, of each resource
 //! that it requests. So a job without requests never goes. With one resource and equal requests each branch leads to an
-//! alternative. In general some do not, and the work for each alternative is not bounded by a polynomial. `find_behind`
-//! repeats the decisions of the list that it was given, and goes on from there. It decides on free jobs alone, and
-//! keeps the others from the start.
+//! alternative. In general some do not, and the work for each alternative is not bounded by a polynomial.
+//!
+//! `find_behind` repeats the decisions of the list that it was given, and goes on from there. It decides on free jobs
+//! alone, and keeps the others from the start. It asks a `Stop` at each step, so whoever calls it bounds the time:
+//! `Steps` stops it after a number of steps. Where it takes more than a few, it looks at common divisors too: of a
+//! resource for which the undecided jobs request even numbers, an odd unit that is left is of no use to those that
+//! stay. So it leaves a branch if one that goes has room beside all that the others can use.
 //!
 //! A `Profile` holds starts, of which `move_job` changes one at a time. `first_over` finds what `conflict` finds, but
 //! sorts nothing: it goes over the jobs once for each start up to the conflict. The early starts of a child window have
@@ -54,10 +58,12 @@
 mod choosing;
 mod conflicts;
 mod delaying;
+mod extension;
 mod following;
 pub mod laws;
 mod loads;
 mod profile;
+mod reach;
 mod scans;
 mod stop;
 

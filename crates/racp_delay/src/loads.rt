@@ -1,12 +1,14 @@
 //! What some jobs request together of each resource.
 
-ghost use Rattle.std.specs.Prelude.{◌≡◌, ◌↔◌, ℕ, ◌+◌, ◌<◌, ◌≤◌, IsTrue, length, slice_index};
+ghost use Rattle.std.specs.Prelude.{◌≡◌, ◌↔◌, ℕ, ◌+◌, ◌<◌, ◌≤◌, All, IfOk, IsTrue, length, slice_index};
 ghost use Rattle.racp_model.specs.Project.{place, request, IsNumber, IsSound};
-ghost use Rattle.racp_delay.specs.Found.{AreWithin};
+ghost use Rattle.racp_delay.specs.Found.{AreWithin, IsSplitByFree};
+ghost use Rattle.racp_model.specs.JobSets.{AreJobs};
 ghost use Rattle.racp_model.specs.Limits.{most_load};
 
-use racp_model::Network;
 use racp_model::limits::MOST_RESOURCES;
+use racp_model::{JobSet, Network};
+use std::alloc::AllocError;
 
 /// What some jobs request together of each resource, by place from 0.
 pub(crate) type Loads = [u32; MOST_RESOURCES];
@@ -48,4 +50,30 @@ pub(crate) fn are_within(net: &Network, capacities: &[u32], loads: &Loads) -> bo
     ensures { IsTrue result ↔ AreWithin net.now capacities.now (slice_index loads.now) }
 {
     (0..net.resource_count()).all(|k| loads[k] <= capacities[k])
+}
+
+/// Puts the free jobs of a set into a list, in place of what was there, and sums up what the others request of each
+/// resource, and what all do.
+pub(crate) fn split_free(
+    net: &Network,
+    active: &JobSet,
+    free: &JobSet,
+    list: &mut Vec<u32>,
+) -> Result<(Loads, Loads), AllocError>
+    requires { All (IsNumber (length net.now.jobs)) active.now }
+    ensures free { IfOk result (λ loads. IsSplitByFree net.now active.now free.now list.new.items loads.0 loads.1) }
+    ensures jobs { AreJobs active.now }
+{
+    list.clear();
+    let mut kept = [0; MOST_RESOURCES];
+    let mut left = [0; MOST_RESOURCES];
+    for job in active.iter() {
+        left = with(net, &left, job);
+        if !free.contains(job) {
+            kept = with(net, &kept, job);
+            continue;
+        }
+        list.push(job)?;
+    }
+    Ok((kept, left))
 }

@@ -48,6 +48,11 @@ impl Steps {
             left: Cell::new(most),
         }
     }
+
+    /// How many times it may still be asked.
+    pub(crate) fn left(&self) -> u32 {
+        self.left.get()
+    }
 }
 
 impl Stop for Steps {

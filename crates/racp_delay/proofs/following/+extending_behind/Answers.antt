@@ -5,7 +5,8 @@ use Rattle.racp_model.specs.Terms.{IsLexBefore}
 use Rattle.racp_delay.specs.Found.{IsAny, IsExtended, HasNoExtension}
 use Rattle.racp_delay.proofs.Adding.{all-same}
 use Rattle.racp_delay.proofs.Chosen.{among-fewer, among-goes, among-same, goes-extended, stays-extended, stays-over}
-use Rattle.racp_delay.proofs.Extended.{extended-loose, extended-past, extended-goes, as_before, none-goes, extended-over, extended-stays, not_behind, behind_same, behind_less_job, any-behind_empty, any-behind_less}
+use Rattle.racp_delay.proofs.Extended.{extended-past, extended-goes, as_before, none-goes, extended-over, extended-stays, not_behind, behind_same, behind_less_job, any-behind_empty, any-behind_less}
+use Rattle.racp_delay.proofs.Reaching.{none-reached, rows-among, same-loose}
 use Rattle.racp_delay.proofs.following.+extending_behind.Goals as goal
 use Rattle.racp_delay.proofs.following.+extending_behind.Goals.{branch_behind-then-first-job-2+in_ok-push+in_ok-extend_behind+else-branch, branch_behind-else-first-job-2, extend_behind-then-some_have_room-via-then-some_have_room, extend_behind-then-some_have_room-via-else-some_have_room+then-are_within}
 
@@ -37,7 +38,7 @@ branch_behind-extend_behind-requires g t c κs lives = (
     lives,
     (
       c.where_goes-less.ensures.among.choice,
-      among-goes c.args.choice.now c.where_goes-less.result c.in-Some-split_first.others.now c.where_goes-less.ensures.among c.in-Some-split_first.job.now c.args.gone.now.items c.push.new.self.items c.requires.choice c.in-Some-split_first.ensures.cases.0 c.in_ok-push.ensures.items c.requires.gone,
+      (among-goes c.args.choice.now c.where_goes-less.result c.in-Some-split_first.others.now c.where_goes-less.ensures.among c.in-Some-split_first.job.now c.args.gone.now.items c.push.new.self.items c.requires.choice c.in-Some-split_first.ensures.cases.0 c.in_ok-push.ensures.items c.requires.gone, rows-among c.args.choice.now c.where_goes-less.result c.in-Some-split_first.job.now c.in-Some-split_first.others.now c.args.rows.now c.where_goes-less.ensures.among c.in-Some-split_first.ensures.cases.0 c.requires.rows),
     ),
   ),
 )
@@ -92,7 +93,7 @@ branch_behind-branch_behind-requires g t c κs lives =
           c.in-Some-where_stays.ensures.among.choice,
           (
             among-same c.args.choice.now c.in-Some-where_stays.more c.in-Some-split_first.others.now c.in-Some-where_stays.ensures.among c.args.gone.now.items c.if-first-job-2.gone.items joined.0 c.requires.gone,
-            stays-over c.args.choice.now c.in-Some-where_stays.more c.in-Some-split_first.job.now c.in-Some-split_first.others.now c.in-Some-where_stays.ensures c.requires.over,
+            (rows-among c.args.choice.now c.in-Some-where_stays.more c.in-Some-split_first.job.now c.in-Some-split_first.others.now c.args.rows.now c.in-Some-where_stays.ensures.among c.in-Some-split_first.ensures.cases.0 c.requires.rows, stays-over c.args.choice.now c.in-Some-where_stays.more c.in-Some-split_first.job.now c.in-Some-split_first.others.now c.in-Some-where_stays.ensures c.requires.over),
           ),
         ),
       ),
@@ -126,7 +127,7 @@ extend_behind-returns-then-some_have_room-clause-found g t c = (
   refl,
   elim c.then-some_have_room.branch [
     | extend_behind-then-some_have_room-via-then-some_have_room w ↦
-        extended-loose c.args.choice.now.net.now c.args.choice.now.capacities.now (slice_index c.args.choice.now.kept) (slice_index c.args.choice.now.left) c.args.gone.now.items c.args.choice.now.undecided.now (IsLexBefore c.args.last.now) c.requires.choice.sums c.deref.result.now c.deref.ensures.value (c.some_have_room.ensures.0 w.if-some_have_room.true)
+        none-reached c.args.choice.now c.args.gone.now.items c.reach-most.result c.reach-most.ensures (IsLexBefore c.args.last.now) (same-loose c.args.choice.now.net.now c.args.choice.now.capacities.now (slice_index c.reach-most.result) c.deref.result.now c.args.gone.now.items c.deref.ensures.value (c.some_have_room.ensures.0 w.if-some_have_room.true))
     | extend_behind-then-some_have_room-via-else-some_have_room+then-are_within w ↦
         extended-past c.args.choice.now.net.now c.args.choice.now.capacities.now (slice_index c.args.choice.now.kept) (slice_index c.args.choice.now.left) c.args.gone.now.items c.args.choice.now.undecided.now (IsLexBefore c.args.last.now) c.requires.choice.sums (w.are_within.ensures.0 w.if-are_within.true) (not_behind c.args.last.now)
   ],
@@ -135,7 +136,7 @@ extend_behind-returns-then-some_have_room-clause-found g t c = (
 pub extend_behind-branch_behind-requires : goal.extend_behind-branch_behind-requires
 extend_behind-branch_behind-requires g t c κs lives = (
   omega (arith, c.decreases),
-  (lives, (c.requires.choice, (c.requires.gone, λ runs. cc (c.are_within.ensures.1 runs, c.if-are_within.false)))),
+  (lives, (c.requires.choice, (c.requires.gone, (c.requires.rows, λ runs. cc (c.are_within.ensures.1 runs, c.if-are_within.false))))),
 )
 
 pub extend_behind-some_have_room-requires-clause-capacities : goal.extend_behind-some_have_room-requires-clause-capacities
@@ -146,7 +147,7 @@ extend_behind-some_have_room-requires-clause-jobs g t c =
     all-same (IsNumber (length c.args.choice.now.net.now.jobs)) c.args.gone.now.items c.deref.result.now c.deref.ensures.value c.requires.gone
 
 pub extend_behind-some_have_room-requires-clause-small : goal.extend_behind-some_have_room-requires-clause-small
-extend_behind-some_have_room-requires-clause-small g t c = c.requires.choice.small
+extend_behind-some_have_room-requires-clause-small g t c k l = omega (arith, (c.reach-most.ensures k l).left, c.requires.choice.small k l)
 
 pub extend_behind-are_within-requires : goal.extend_behind-are_within-requires
 extend_behind-are_within-requires g t c = record { capacities = c.requires.choice.units }

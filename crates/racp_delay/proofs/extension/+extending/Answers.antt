@@ -4,8 +4,9 @@ use Rattle.racp_model.specs.Project.{place, request, IsNumber}
 use Rattle.racp_delay.specs.Found.{IsAny, IsExtended}
 use Rattle.racp_delay.proofs.Adding.{all-same}
 use Rattle.racp_delay.proofs.Chosen.{among-fewer, among-goes, among-same, goes-extended, stays-extended, stays-over}
-use Rattle.racp_delay.proofs.Extended.{extended-loose, extended-here, extended-goes, as_before, none-goes, extended-over, extended-stays}
-use Rattle.racp_delay.proofs.following.+extending.Goals as goal
+use Rattle.racp_delay.proofs.Extended.{extended-here, extended-goes, as_before, none-goes, extended-over, extended-stays}
+use Rattle.racp_delay.proofs.Reaching.{none-reached, room-reached, rows-among, same-loose}
+use Rattle.racp_delay.proofs.extension.+extending.Goals as goal
 
 pub branch-extend-requires : goal.branch-extend-requires
 branch-extend-requires g t c κs lives = (
@@ -14,7 +15,7 @@ branch-extend-requires g t c κs lives = (
     lives,
     (
       c.where_goes-less.ensures.among.choice,
-      among-goes c.args.choice.now c.where_goes-less.result c.in-Some.others.now c.where_goes-less.ensures.among c.in-Some.job.now c.args.gone.now.items c.push.new.self.items c.requires.choice c.in-Some.ensures.cases.0 c.in_ok-push.ensures.items c.requires.gone,
+      (among-goes c.args.choice.now c.where_goes-less.result c.in-Some.others.now c.where_goes-less.ensures.among c.in-Some.job.now c.args.gone.now.items c.push.new.self.items c.requires.choice c.in-Some.ensures.cases.0 c.in_ok-push.ensures.items c.requires.gone, rows-among c.args.choice.now c.where_goes-less.result c.in-Some.job.now c.in-Some.others.now c.args.rows.now c.where_goes-less.ensures.among c.in-Some.ensures.cases.0 c.requires.rows),
     ),
   ),
 )
@@ -49,7 +50,7 @@ branch-branch-more-requires g t c κs lives =
           c.in-Some-where_stays.ensures.among.choice,
           (
             among-same c.args.choice.now c.in-Some-where_stays.more c.in-Some.others.now c.in-Some-where_stays.ensures.among c.args.gone.now.items c.pop.new.self.items same c.requires.gone,
-            stays-over c.args.choice.now c.in-Some-where_stays.more c.in-Some.job.now c.in-Some.others.now c.in-Some-where_stays.ensures c.requires.over,
+            (rows-among c.args.choice.now c.in-Some-where_stays.more c.in-Some.job.now c.in-Some.others.now c.args.rows.now c.in-Some-where_stays.ensures.among c.in-Some.ensures.cases.0 c.requires.rows, stays-over c.args.choice.now c.in-Some-where_stays.more c.in-Some.job.now c.in-Some.others.now c.in-Some-where_stays.ensures c.requires.over),
           ),
         ),
       ),
@@ -73,17 +74,17 @@ branch-returns-clause-found g t c =
 
 pub extend-returns-then-some_have_room-clause-found : goal.extend-returns-then-some_have_room-clause-found
 extend-returns-then-some_have_room-clause-found g t c =
-    (refl, extended-loose c.args.choice.now.net.now c.args.choice.now.capacities.now (slice_index c.args.choice.now.kept) (slice_index c.args.choice.now.left) c.args.gone.now.items c.args.choice.now.undecided.now IsAny c.requires.choice.sums c.deref.result.now c.deref.ensures.value (c.some_have_room.ensures.0 c.if-some_have_room.true))
+    (refl, none-reached c.args.choice.now c.args.gone.now.items c.reach-most.result c.reach-most.ensures IsAny (same-loose c.args.choice.now.net.now c.args.choice.now.capacities.now (slice_index c.reach-most.result) c.deref.result.now c.args.gone.now.items c.deref.ensures.value (c.some_have_room.ensures.0 c.if-some_have_room.true)))
 
 pub extend-returns-then-are_within-clause-found : goal.extend-returns-then-are_within-clause-found
 extend-returns-then-are_within-clause-found g t c =
     extended-here c.args.choice.now.net.now c.args.choice.now.capacities.now (slice_index c.args.choice.now.kept) (slice_index c.args.choice.now.left) c.args.gone.now.items c.args.choice.now.undecided.now IsAny c.requires.choice.sums c.deref.result.now c.deref.ensures.value
-    (c.are_within.ensures.0 c.if-are_within.true) (λ loose. cc (c.some_have_room.ensures.1 loose, c.if-some_have_room.false)) tt
+    (c.are_within.ensures.0 c.if-are_within.true) (λ loose. cc (c.some_have_room.ensures.1 (room-reached c.args.choice.now c.deref.result.now c.reach-most.result c.reach-most.ensures loose), c.if-some_have_room.false)) tt
 
 pub extend-branch-choice-requires : goal.extend-branch-choice-requires
 extend-branch-choice-requires g t c κs lives = (
   omega (arith, c.decreases),
-  (lives, (c.requires.choice, (c.requires.gone, λ runs. cc (c.are_within.ensures.1 runs, c.if-are_within.false)))),
+  (lives, (c.requires.choice, (c.requires.gone, (c.requires.rows, λ runs. cc (c.are_within.ensures.1 runs, c.if-are_within.false))))),
 )
 
 pub extend-some_have_room-requires-clause-capacities : goal.extend-some_have_room-requires-clause-capacities
@@ -94,7 +95,7 @@ extend-some_have_room-requires-clause-jobs g t c =
     all-same (IsNumber (length c.args.choice.now.net.now.jobs)) c.args.gone.now.items c.deref.result.now c.deref.ensures.value c.requires.gone
 
 pub extend-some_have_room-requires-clause-small : goal.extend-some_have_room-requires-clause-small
-extend-some_have_room-requires-clause-small g t c = c.requires.choice.small
+extend-some_have_room-requires-clause-small g t c k l = omega (arith, (c.reach-most.ensures k l).left, c.requires.choice.small k l)
 
 pub extend-are_within-requires : goal.extend-are_within-requires
 extend-are_within-requires g t c = record { capacities = c.requires.choice.units }

@@ -1,7 +1,7 @@
 use Rattle.std.proofs.Common.{◌∙◌}
 use Rattle.racp_delay.proofs.Loading.{next-number, loads-small}
 use Rattle.racp_delay.proofs.Parting.{parting-start, parted-small, parting-free, parting-held, parting-end}
-use Rattle.racp_delay.proofs.following.split_free.Goals as goal
+use Rattle.racp_delay.proofs.loads.split_free.Goals as goal
 
 pub loop-job-init : goal.loop-job-init
 loop-job-init c = parting-start c.args.net.now c.args.active.now c.args.free.now c.clear.new.self.items c.into_iter-job-iterator.result 16 c.clear.ensures.items (c.into_iter-job-iterator.ensures.into_iter_gives ∙ c.iter-job-items.ensures.same)

@@ -1,5 +1,5 @@
 use Rattle.std.proofs.Common.{◌+◌, ◌*◌, length}
-use Rattle.racp_delay.proofs.following.+extending.Given as goal
+use Rattle.racp_delay.proofs.extension.+extending.Given as goal
 
 abbrev pub decreases-branch : goal.decreases-branch
 decreases-branch g l = 2 * length l.choice.now.undecided.now
