@@ -27,19 +27,25 @@
 //! 1; the alternative [3, 4] puts job 3 off to 3, past 2.
 //!
 //! `block_vectors` reads a whole text, block by block, and answers the capacities of its blocks; `are_enough` tells
-//! whether they are enough. `check_proof` of racp_check has both.
+//! whether they are enough. `check_proof` of racp_check has both. `block_vectors_until` asks at each line, and in each
+//! search for an alternative, whether it is to stop.
 //!
 //! The text is read line by line. `Follow` in specs/ says what has to come of it while nodes are open, and each line
 //! changes that in one of three ways. Of an open node the reader knows the alternative whose child was read last, and
 //! looks for the next one once that child is closed. So no line makes it list alternatives for which the text has no
-//! lines. Of a closed node it keeps a record, two bytes for each job, but only if some line of the text names the node;
-//! a pass over the text before tells which numbers lines name. The two bytes tell how long after the node's time the
-//! job's bound is. If they are not enough, as for a job that has to wait long anyhow, the bound stands in a row that
-//! records share.
+//! lines. It keeps the lower bounds of the node's window: a whole row, which open nodes inside it share, and the bounds
+//! that differ from it, 16 at most; if more differ, a whole row of its own. So a node takes about as much memory as the
+//! jobs that were put off for it. The early starts are computed again for each child.
+//!
+//! Of a closed node the reader keeps a record, two bytes for each job, but only if some line of the text names the
+//! node; a pass over the text before tells which numbers lines name. The two bytes tell how long after the node's time
+//! the job's bound is. If they are not enough, as for a job that has to wait long anyhow, the bound stands in a row
+//! that records share.
 //!
 //! A certificate is made by a reader of the lines that are chosen (`Maker`): for the next window a late job if there is
 //! one, else the newest closed node of the block that covers it, else its first conflict. Each line is written and then
-//! read as any reader reads it, so how it was chosen needs no proof. Blocks are made for vectors above all blocks so
+//! read as any reader reads it, so how it was chosen needs no proof. A tree is given up if the search for one
+//! alternative takes more than 1,000,000 steps. Blocks are made for vectors above all blocks so
 //! far, until there is none. What `certificate` makes is proved to be a certificate.
 //!
 //! Blocks are enough if each vector within the roofs that stands before the plan is at most the vector of some block.

@@ -16,10 +16,10 @@ use crate::node::{active_at, is_covered, is_too_late};
 use crate::patience::Patience;
 use crate::reading::read_step;
 use crate::shared_row::SharedRow;
-use racp_refutation::Step;
 use racp_cpm::early;
 use racp_delay::{Unfound, laws};
 use racp_model::{Capacities, Network, Starts, Window};
+use racp_refutation::Step;
 use std::alloc::{AllocError, Global};
 use std::rc::Rc;
 
