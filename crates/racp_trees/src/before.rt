@@ -28,7 +28,7 @@ pub(crate) fn is_at_most(first: &[u32], second: &[u32]) -> bool
 }
 
 /// The place of the first block at or above a vector.
-pub(crate) fn place_above(blocks: &[Vec<u32>], vector: &[u32]) -> Option<usize>
+pub(crate) fn first_above(blocks: &[Vec<u32>], vector: &[u32]) -> Option<usize>
     requires { (k : ℕ) → k < length blocks.now → (d : _) → length (slice_index_or blocks.now k d).items ≡ length vector.now }
     ensures { IsBlockAnswer blocks.now vector.now result }
 {

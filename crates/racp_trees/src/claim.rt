@@ -6,9 +6,13 @@ use racp_prices::Order;
 /// What blocks are to prove: that no capacity vector up to the roofs that stands before the capacities is enough, on
 /// the terms of an order.
 #[derive(Clone, Copy)]
-pub(crate) struct Claim<'a> {
-    pub(crate) net: &'a Network,
-    pub(crate) order: &'a Order,
-    pub(crate) roofs: &'a [u32],
-    pub(crate) capacities: &'a [u32],
+pub struct Claim<'a> {
+    /// The network.
+    pub net: &'a Network,
+    /// The order.
+    pub order: &'a Order,
+    /// The most units of each resource that are of use, by place from 0, cut to the order's ceilings.
+    pub roofs: &'a [u32],
+    /// The capacities before which none are enough, by place from 0.
+    pub capacities: &'a [u32],
 }

@@ -1,13 +1,15 @@
 //! Whether the blocks of a certificate are enough.
 
-ghost use Rattle.std.specs.Prelude.{◌≡◌, ◌↔◌, ◌≤◌, ℕ, ◌<◌, IfOk, IsTrue, length, slice_index, slice_index_or};
+ghost use Rattle.std.specs.Prelude.{◌≡◌, ◌↔◌, ◌≤◌, ℕ, ◌<◌, IfOk, IsErrOf, IsTrue, length, slice_index, slice_index_or};
 ghost use Rattle.racp_model.specs.Project.{IsSound};
 ghost use Rattle.racp_model.specs.Terms.{AreTermsOf};
 ghost use Rattle.racp_trees.specs.Enough.{AreEnoughBlocks, IsClaim, IsGapAnswer};
 
-use crate::before::{is_before, place_above};
+use crate::before::is_before;
 use crate::claim::Claim;
 use crate::parts::{Part, push_parts};
+use crate::splitting::place_above;
+use racp_delay::{Never, Stop, Unfound};
 use racp_model::Network;
 use racp_prices::Order;
 use std::alloc::{AllocError, Global};
@@ -43,6 +45,26 @@ pub fn are_enough(
     Ok(gap(alloc, &claim, blocks)?.is_none())
 }
 
+/// What `are_enough` tells of the blocks of a claim, unless it is stopped. The stop is asked at each box.
+///
+/// # Errors
+///
+/// Memory was refused, or the stop said so; a quiet one never does.
+pub fn are_enough_until<S: Stop>(
+    alloc: Global,
+    claim: &Claim,
+    blocks: &[Vec<u32>],
+    stop: &S,
+) -> Result<bool, Unfound>
+    requires sound { IsSound claim.now.net.now }
+    requires claim { IsClaim claim.now }
+    requires blocks { (k : ℕ) → k < length blocks.now → (d : _) → length (slice_index_or blocks.now k d).items ≡ claim.now.net.now.resources }
+    ensures told { IfOk result (λ yes. IsTrue yes ↔ AreEnoughBlocks claim.now.net.now claim.now.order.now claim.now.roofs.now claim.now.capacities.now blocks.now) }
+    ensures quiet { IsTrue S.QUIET → IsErrOf result Unfound.Stopped → ⊥ }
+{
+    Ok(gap_until(alloc, claim, blocks, stop)?.is_none())
+}
+
 /// A capacity vector up to the roofs that stands before the capacities and is above each block, or `None` if the blocks
 /// are enough.
 pub(crate) fn gap(
@@ -55,13 +77,36 @@ pub(crate) fn gap(
     requires blocks { (k : ℕ) → k < length blocks.now → (d : _) → length (slice_index_or blocks.now k d).items ≡ claim.now.net.now.resources }
     ensures { IfOk result (IsGapAnswer claim.now blocks.now) }
 {
+    // It is never stopped, so memory was refused.
+    match gap_until(alloc, claim, blocks, &Never) {
+        Ok(found) => Ok(found),
+        Err(_) => Err(AllocError),
+    }
+}
+
+/// What `gap` answers, unless it is stopped.
+fn gap_until<S: Stop>(
+    alloc: Global,
+    claim: &Claim,
+    blocks: &[Vec<u32>],
+    stop: &S,
+) -> Result<Option<Vec<u32>>, Unfound>
+    requires sound { IsSound claim.now.net.now }
+    requires claim { IsClaim claim.now }
+    requires blocks { (k : ℕ) → k < length blocks.now → (d : _) → length (slice_index_or blocks.now k d).items ≡ claim.now.net.now.resources }
+    ensures gap { IfOk result (IsGapAnswer claim.now blocks.now) }
+    ensures quiet { IsTrue S.QUIET → IsErrOf result Unfound.Stopped → ⊥ }
+{
     let mut parts = Vec::new(alloc);
     parts.push(whole(alloc, claim.roofs)?)?;
     while let Some(part) = parts.pop() {
+        if stop.asked() {
+            return Err(Unfound::Stopped);
+        }
         if !is_before(claim, &part.low) {
             continue;
         }
-        match place_above(blocks, &part.low) {
+        match place_above(claim, blocks, &part) {
             Some(k) => push_parts(alloc, &mut parts, &part.low, &part.high, &blocks[k])?,
             None => return Ok(Some(part.low)),
         }

@@ -50,7 +50,9 @@
 //!
 //! Blocks are enough if each vector within the roofs that stands before the plan is at most the vector of some block.
 //! That is decided by boxes of vectors, in `are_enough`: the least vector of a box that is at most a block's leads to
-//! the parts of the box above that block, one for each place that can be the first such place.
+//! the parts of the box above that block, one for each place that can be the first such place. Of several such blocks
+//! it is one whose parts leave least to be spent before the plan's cost; one that is at most another is not taken
+//! before that.
 //!
 //! Proved: the vectors of a text are answered exactly if it consists of blocks that hold, and they are those of its
 //! blocks; the tree of a block is read exactly if the text begins with one that holds, and after it the closed nodes
@@ -76,9 +78,11 @@ mod reader;
 mod reading;
 mod record;
 mod shared_row;
+mod splitting;
 mod writer;
 
 pub use blocks::{block_vectors, block_vectors_until};
 pub use certifying::certificate;
-pub use enough::are_enough;
+pub use claim::Claim;
+pub use enough::{are_enough, are_enough_until};
 pub use racp_refutation::Step;
