@@ -115,7 +115,7 @@ none_asked None (Cpm network) e asked = asked
 none_asked None (Plan files memory crew) e asked = asked
 none_asked None (Prove files) e asked = asked
 none_asked None (Check files) e asked = asked
-none_asked None (Verify files) e asked = asked
+none_asked None (Verify files limit) e asked = asked
 none_asked None (Tool tool) e asked = asked
 none_asked (Some command) request e asked = absurd (search rules)
 
@@ -133,7 +133,7 @@ cpm_asked (Some command) word (Prove files) e asked =
 cpm_asked (Some command) word (Check files) e asked =
     let same : codes "cpm" ≡ codes "check" = sym (ap (λ c. c.0) (same_Some _ _ e)) ∙ asked.0 in
     let letter : 112 ≡ 104 = ap (λ t. slice_index t 1) same in absurd (omega (arith, letter))
-cpm_asked (Some command) word (Verify files) e asked =
+cpm_asked (Some command) word (Verify files limit) e asked =
     let same : codes "cpm" ≡ codes "verify" = sym (ap (λ c. c.0) (same_Some _ _ e)) ∙ asked.0 in
     let letter : 99 ≡ 118 = ap (λ t. slice_index t 0) same in absurd (omega (arith, letter))
 cpm_asked (Some command) word (Tool tool) e asked = absurd (no_tool_cpm command tool (ap (λ c. c.0) (same_Some _ _ e)) asked)
@@ -203,7 +203,7 @@ plan_asked (Some command) net order (Prove files) e asked =
 plan_asked (Some command) net order (Check files) e asked =
     let same : codes "plan" ≡ codes "check" = sym (ap (λ c. c.0) (same_Some _ _ e)) ∙ asked.0 in
     let letter : 112 ≡ 99 = ap (λ t. slice_index t 0) same in absurd (omega (arith, letter))
-plan_asked (Some command) net order (Verify files) e asked =
+plan_asked (Some command) net order (Verify files limit) e asked =
     let same : codes "plan" ≡ codes "verify" = sym (ap (λ c. c.0) (same_Some _ _ e)) ∙ asked.0 in
     let letter : 112 ≡ 118 = ap (λ t. slice_index t 0) same in absurd (omega (arith, letter))
 plan_asked (Some command) net order (Tool tool) e asked = absurd (no_tool_plan command tool (ap (λ c. c.0) (same_Some _ _ e)) asked)
@@ -256,7 +256,7 @@ workers_asked (Some command) net order number (Prove files) in_range e asked =
 workers_asked (Some command) net order number (Check files) in_range e asked =
     let same : codes "plan" ≡ codes "check" = sym (ap (λ c. c.0) (same_Some _ _ e)) ∙ asked.0 in
     let letter : 112 ≡ 99 = ap (λ t. slice_index t 0) same in absurd (omega (arith, letter))
-workers_asked (Some command) net order number (Verify files) in_range e asked =
+workers_asked (Some command) net order number (Verify files limit) in_range e asked =
     let same : codes "plan" ≡ codes "verify" = sym (ap (λ c. c.0) (same_Some _ _ e)) ∙ asked.0 in
     let letter : 112 ≡ 118 = ap (λ t. slice_index t 0) same in absurd (omega (arith, letter))
 workers_asked (Some command) net order number (Tool tool) in_range e asked = absurd (no_tool_plan command tool (ap (λ c. c.0) (same_Some _ _ e)) asked)
@@ -285,7 +285,7 @@ prove_asked (Some command) net order (Prove files) e asked =
 prove_asked (Some command) net order (Check files) e asked =
     let same : codes "prove" ≡ codes "check" = sym (ap (λ c. c.0) (same_Some _ _ e)) ∙ asked.0 in
     let letter : 112 ≡ 99 = ap (λ t. slice_index t 0) same in absurd (omega (arith, letter))
-prove_asked (Some command) net order (Verify files) e asked =
+prove_asked (Some command) net order (Verify files limit) e asked =
     let same : codes "prove" ≡ codes "verify" = sym (ap (λ c. c.0) (same_Some _ _ e)) ∙ asked.0 in
     let letter : 112 ≡ 118 = ap (λ t. slice_index t 0) same in absurd (omega (arith, letter))
 prove_asked (Some command) net order (Tool tool) e asked = absurd (no_tool_prove command tool (ap (λ c. c.0) (same_Some _ _ e)) asked)
@@ -315,23 +315,26 @@ check_asked (Some command) net order plan (Prove files) e asked =
 check_asked (Some command) net order plan (Check files) e asked =
     let same = same_Some _ _ e in
     (asked.1.net ∙ ap (λ c. c.1.0) same, asked.1.order ∙ ap (λ c. c.1.1.0) same, asked.1.plan ∙ ap (λ c. c.1.1.1) same)
-check_asked (Some command) net order plan (Verify files) e asked =
+check_asked (Some command) net order plan (Verify files limit) e asked =
     let same : codes "check" ≡ codes "verify" = sym (ap (λ c. c.0) (same_Some _ _ e)) ∙ asked.0 in
     let letter : 99 ≡ 118 = ap (λ t. slice_index t 0) same in absurd (omega (arith, letter))
 check_asked (Some command) net order plan (Tool tool) e asked = absurd (no_tool_check command tool (ap (λ c. c.0) (same_Some _ _ e)) asked)
 
 -- the command that is named, and the paths of its words for a network, an order, a plan and a certificate
-with_four_paths : Option (Text × List Row) → Option (Text × (Text × (Text × (Text × Text))))
-with_four_paths = option_map (λ command. (command.0, (path_at (codes "NET") command.1, (path_at (codes "ORDER") command.1, (path_at (codes "PLAN") command.1, path_at (codes "PROOF") command.1)))))
+with_four_paths : Option (Text × List Row) → Option (Text × (Text × (Text × (Text × (Text × Option Text)))))
+with_four_paths = option_map (λ command. (
+  command.0,
+  (path_at (codes "NET") command.1, (path_at (codes "ORDER") command.1, (path_at (codes "PLAN") command.1, (path_at (codes "PROOF") command.1, first_of (codes "time-limit") command.1)))),
+))
 
 verify_paths : (name : Text) (a b d f : ℕ) (net order plan proof : Text) → (a == 45) ≡ false → (b == 45) ≡ false → (d == 45) ≡ false → (f == 45) ≡ false →
     (fault_of racp (name ∷ codes "verify" ∷ (a ∷ net) ∷ (b ∷ order) ∷ (d ∷ plan) ∷ (f ∷ proof) ∷ []) ≡ []) ×
-    (with_four_paths (subcommand_of racp (name ∷ codes "verify" ∷ (a ∷ net) ∷ (b ∷ order) ∷ (d ∷ plan) ∷ (f ∷ proof) ∷ [])) ≡ Some (codes "verify", (a ∷ net, (b ∷ order, (d ∷ plan, f ∷ proof)))))
+    (with_four_paths (subcommand_of racp (name ∷ codes "verify" ∷ (a ∷ net) ∷ (b ∷ order) ∷ (d ∷ plan) ∷ (f ∷ proof) ∷ [])) ≡ Some (codes "verify", (a ∷ net, (b ∷ order, (d ∷ plan, (f ∷ proof, None))))))
 unfolding racp clap_on_literals with_four_paths
 verify_paths name a b d f net order plan proof p q r s = (rw (p, p, q, q, r, r, s, s) refl, rw (p, p, q, q, r, r, s, s) refl)
 
 -- `verify` asks for the files with these paths
-verify_asked : (command : Option (Text × List Row)) (net order plan proof : Text) (request : Request) → with_four_paths command ≡ Some (codes "verify", (net, (order, (plan, proof)))) → IsRequested command request →
+verify_asked : (command : Option (Text × List Row)) (net order plan proof : Text) (request : Request) → with_four_paths command ≡ Some (codes "verify", (net, (order, (plan, (proof, None))))) → IsRequested command request →
     AsksForVerify net order plan proof request
 unfolding with_four_paths
 verify_asked None net order plan proof request e asked = absurd (search rules)
@@ -345,9 +348,14 @@ verify_asked (Some command) net order plan proof (Prove files) e asked =
 verify_asked (Some command) net order plan proof (Check files) e asked =
     let same : codes "verify" ≡ codes "check" = sym (ap (λ c. c.0) (same_Some _ _ e)) ∙ asked.0 in
     let letter : 118 ≡ 99 = ap (λ t. slice_index t 0) same in absurd (omega (arith, letter))
-verify_asked (Some command) net order plan proof (Verify files) e asked =
-    let same = same_Some _ _ e in
-    (asked.1.net ∙ ap (λ c. c.1.0) same, asked.1.order ∙ ap (λ c. c.1.1.0) same, asked.1.plan ∙ ap (λ c. c.1.1.1.0) same, asked.1.proof ∙ ap (λ c. c.1.1.1.1) same)
+verify_asked (Some command) net order plan proof (Verify files limit) e asked =
+    let same = same_Some _ _ e in (
+      asked.1.net ∙ ap (λ c. c.1.0) same,
+      asked.1.order ∙ ap (λ c. c.1.1.0) same,
+      asked.1.plan ∙ ap (λ c. c.1.1.1.0) same,
+      asked.1.proof ∙ ap (λ c. c.1.1.1.1.0) same,
+      subst (λ (w : Option Text). IsLimitOf w limit) (ap (λ c. c.1.1.1.1.1) same) asked.2,
+    )
 verify_asked (Some command) net order plan proof (Tool tool) e asked = absurd (no_tool_verify command tool (ap (λ c. c.0) (same_Some _ _ e)) asked)
 
 -- the parser takes each line that asks for `cpm`, and what is asked for is that

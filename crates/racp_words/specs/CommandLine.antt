@@ -36,9 +36,14 @@ plan = with_rule plan_timed (flag_rule (codes "explain"))
 abbrev pub check : App
 check = with_rule (of_plan (codes "check")) (flag_rule (codes "explain"))
 
--- `verify NET ORDER PLAN PROOF [--explain]`
+-- `verify NET ORDER PLAN PROOF [--time-limit S]`
+abbrev pub verify_timed : App
+verify_timed = with_rule (with_rule (of_plan (codes "verify")) (file_rule (codes "PROOF")))
+    (number_rule (codes "time-limit") 1000000000)
+
+-- `verify NET ORDER PLAN PROOF [--time-limit S] [--explain]`
 abbrev pub verify : App
-verify = with_rule (with_rule (of_plan (codes "verify")) (file_rule (codes "PROOF"))) (flag_rule (codes "explain"))
+verify = with_rule verify_timed (flag_rule (codes "explain"))
 
 -- a program that tells its version, in short and in long
 abbrev pub with_version : App → App
@@ -95,7 +100,7 @@ IsRequested None (Cpm network) = IsSource None network
 IsRequested None (Plan files memory crew) = ⊥
 IsRequested None (Prove files) = ⊥
 IsRequested None (Check files) = ⊥
-IsRequested None (Verify files) = ⊥
+IsRequested None (Verify files limit) = ⊥
 IsRequested None (Tool tool) = ⊥
 IsRequested (Some command) (Cpm network) =
     (command.0 ≢ codes "plan") × (command.0 ≢ codes "prove") × (command.0 ≢ codes "check") ×
@@ -105,7 +110,8 @@ IsRequested (Some command) (Plan files memory crew) =
     IsNumberOf 1048576 1024 (first_of (codes "memory") command.1) memory.mebibytes × IsCrew command.1 crew
 IsRequested (Some command) (Prove files) = (command.0 ≡ codes "prove") × AreOrderFiles command.1 files
 IsRequested (Some command) (Check files) = (command.0 ≡ codes "check") × ArePlanFiles command.1 files
-IsRequested (Some command) (Verify files) = (command.0 ≡ codes "verify") × AreProofFiles command.1 files
+IsRequested (Some command) (Verify files limit) =
+    (command.0 ≡ codes "verify") × AreProofFiles command.1 files × IsLimitOf (first_of (codes "time-limit") command.1) limit
 IsRequested (Some command) (Tool tool) = IsToolOf command tool
 
 -- faults are explained if the command that is named has the flag for it
@@ -138,7 +144,7 @@ AsksForCpm word (Cpm network) = IsSource word network
 AsksForCpm word (Plan files memory crew) = ⊥
 AsksForCpm word (Prove files) = ⊥
 AsksForCpm word (Check files) = ⊥
-AsksForCpm word (Verify files) = ⊥
+AsksForCpm word (Verify files limit) = ⊥
 AsksForCpm word (Tool tool) = ⊥
 
 -- a word that is not empty, and no option
@@ -158,7 +164,7 @@ AsksForPlan net order (Plan files memory crew) =
     (files.net.now ≡ net) × (files.order.now ≡ order) × (memory.mebibytes ≡ 1024) × (crew ≡ None)
 AsksForPlan net order (Prove files) = ⊥
 AsksForPlan net order (Check files) = ⊥
-AsksForPlan net order (Verify files) = ⊥
+AsksForPlan net order (Verify files limit) = ⊥
 AsksForPlan net order (Tool tool) = ⊥
 
 -- After the program's name come `plan`, these two paths, `--workers` and this number from 1 to 64.
@@ -180,7 +186,7 @@ AsksForWorkers net order workers (Plan files memory crew) =
     (files.net.now ≡ net) × (files.order.now ≡ order) × (memory.mebibytes ≡ 1024) × IsOfWorkers workers crew
 AsksForWorkers net order workers (Prove files) = ⊥
 AsksForWorkers net order workers (Check files) = ⊥
-AsksForWorkers net order workers (Verify files) = ⊥
+AsksForWorkers net order workers (Verify files limit) = ⊥
 AsksForWorkers net order workers (Tool tool) = ⊥
 
 -- After the program's name come `prove` and these two paths.
@@ -194,7 +200,7 @@ AsksForProve net order (Cpm network) = ⊥
 AsksForProve net order (Plan files memory crew) = ⊥
 AsksForProve net order (Prove files) = (files.net.now ≡ net) × (files.order.now ≡ order)
 AsksForProve net order (Check files) = ⊥
-AsksForProve net order (Verify files) = ⊥
+AsksForProve net order (Verify files limit) = ⊥
 AsksForProve net order (Tool tool) = ⊥
 
 -- After the program's name come `check` and these three paths.
@@ -210,7 +216,7 @@ AsksForCheck net order plan_path (Plan files memory crew) = ⊥
 AsksForCheck net order plan_path (Prove files) = ⊥
 AsksForCheck net order plan_path (Check files) = (files.net.now ≡ net) × (files.order.now ≡ order) ×
     (files.plan.now ≡ plan_path)
-AsksForCheck net order plan_path (Verify files) = ⊥
+AsksForCheck net order plan_path (Verify files limit) = ⊥
 AsksForCheck net order plan_path (Tool tool) = ⊥
 
 -- After the program's name come `verify` and these four paths.
@@ -219,12 +225,12 @@ IsVerifyLine words net order plan_path proof =
     (name : Text) × IsPath net × IsPath order × IsPath plan_path × IsPath proof ×
     (words ≡ name ∷ codes "verify" ∷ net ∷ order ∷ plan_path ∷ proof ∷ [])
 
--- `verify` of the files with these paths
+-- `verify` of the files with these paths, without a limit of time
 abbrev pub AsksForVerify : Text → Text → Text → Text → Request → Type 0
 AsksForVerify net order plan_path proof (Cpm network) = ⊥
 AsksForVerify net order plan_path proof (Plan files memory crew) = ⊥
 AsksForVerify net order plan_path proof (Prove files) = ⊥
 AsksForVerify net order plan_path proof (Check files) = ⊥
-AsksForVerify net order plan_path proof (Verify files) = (files.net.now ≡ net) × (files.order.now ≡ order) ×
-    (files.plan.now ≡ plan_path) × (files.proof.now ≡ proof)
+AsksForVerify net order plan_path proof (Verify files limit) = (files.net.now ≡ net) × (files.order.now ≡ order) ×
+    (files.plan.now ≡ plan_path) × (files.proof.now ≡ proof) × (limit ≡ None)
 AsksForVerify net order plan_path proof (Tool tool) = ⊥

@@ -97,7 +97,7 @@ fn request_named<'a>(name: &str, words: &ArgMatches<'a>) -> Request<'a>
     } else if name == "check" {
         Request::Check(plan_files(words))
     } else if name == "verify" {
-        Request::Verify(proof_files(words))
+        Request::Verify(proof_files(words), limit_of(text_of(words, "time-limit")))
     } else {
         match tool_named(name, words) {
             Some(tool) => Request::Tool(tool),

@@ -22,7 +22,7 @@ pub(crate) const MOST_MEBIBYTES: u64 = 1_048_576;
 /// The most columns that a line can be asked to have.
 pub(crate) const MOST_WIDTH: u64 = 1000;
 
-/// The most seconds after which planning can be asked to stop.
+/// The most seconds after which a command can be asked to stop.
 pub(crate) const MOST_SECONDS: u64 = 1_000_000_000;
 
 /// The version, and what the program was proved with: the logic is named by its sum, which several kits of the
@@ -49,7 +49,7 @@ Exit status:
   0  done                       5  a text is refused
   2  the words are refused      6  no memory
   3  there is no plan           7  a file, a stream or a thread failed
-  4  planning was stopped       8  a plan is not right, or is not proved
+  4  it was stopped             8  a plan is not right, or is not proved
 
 Proved with Rattle, logic dac8208d650f15bf.";
 
@@ -110,6 +110,14 @@ const MEMORY: Word = Word::Number(
     "How many mebibytes records take at most, about, 1 to 1,048,576; else 1,024",
 );
 
+/// After how long a command stops.
+const TIME_LIMIT: Word = Word::Number(
+    "time-limit",
+    "S",
+    MOST_SECONDS,
+    "After how many seconds it stops, 1 to 1,000,000,000",
+);
+
 /// Whether a picture is written.
 const SVG: Word = Word::Flag("svg", "Writes a picture for a browser, SVG");
 
@@ -145,12 +153,7 @@ const COMMANDS: &[Line] = &[
                 "Tells on standard error how many pieces and nodes were searched",
             ),
             MEMORY,
-            Word::Number(
-                "time-limit",
-                "S",
-                MOST_SECONDS,
-                "After how many seconds planning stops, 1 to 1,000,000,000",
-            ),
+            TIME_LIMIT,
             Word::Flag(
                 "progress",
                 "Tells on standard error, every two seconds, how far planning has come",
@@ -176,6 +179,7 @@ const COMMANDS: &[Line] = &[
             ORDER,
             PLAN,
             Word::File("PROOF", "The certificate"),
+            TIME_LIMIT,
             EXPLAIN,
         ],
     },

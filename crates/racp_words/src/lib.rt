@@ -14,7 +14,8 @@
 //! racp plan b.sm b3.toml --memory 64       the same on one thread, with 64 MiB
 //! racp prove b.sm b3.toml                  Prove with the paths b.sm and b3.toml
 //! racp check a.sm a4.toml p                Check with the paths a.sm, a4.toml and p
-//! racp verify a.sm a4.toml p q             Verify with the paths a.sm, a4.toml, p and q
+//! racp verify a.sm a4.toml p q             Verify with the paths a.sm, a4.toml, p and q, and None: no limit of time
+//! racp verify a.sm a4.toml p q --time-limit 5  the same, and a limit of 5 seconds
 //! racp show a.sm a4.toml p --svg           Tool, Show with these paths, no names, 80 columns and the form Svg
 //! racp curve b.sm b3.toml                  Tool, Curve with these paths, 1,024 MiB, one thread, and no picture
 //! racp curve b.sm b3.toml --workers 4      the same, and 4 Workers
@@ -28,7 +29,7 @@
 //! Each of the options `--workers N`, `--turns N`, `--stats`, `--time-limit S` and `--progress` asks for a crew: 1
 //! worker, 1,000,000,000,000 pieces, no limit of time and nothing told, unless the others say otherwise. `--memory MIB`
 //! says how much memory the records of a search take at most, with or without a crew. `curve` takes the first two and
-//! `--memory`.
+//! `--memory`, `verify` takes `--time-limit`.
 //!
 //! What is asked for is a `Task`: a request, and whether faults are explained, which the flag `--explain` of `cpm`,
 //! `plan`, `check` and `verify` says.
@@ -39,12 +40,12 @@
 //!
 //! Proved: without words, with `cpm`, and with `cpm` and a word that does not begin with a hyphen or is a hyphen alone,
 //! `cpm` is asked for, of standard input or of the file with that path; with `plan` or `prove` and two paths, `check`
-//! and three, and `verify` and four, that command of these files, and `plan` on one thread; with `--workers` and a
+//! and three, and `verify` and four, that command of these files, `plan` on one thread and `verify` without a limit; with `--workers` and a
 //! number from 1 to 64 after the two paths, `plan` by a crew of that many workers. In these cases only memory can fail.
 //! A path here is a word that is not empty and does not begin with a hyphen. For any other words `asked` answers what
 //! `clap` is proved to find, or refuses with the kind of error that it is proved to give: `plan` asks for a crew
 //! exactly if `clap` finds one of the five options, and a number that it finds and that is in range is that of the
-//! crew, or of the memory; `show`, `curve`, `order` and `explain` ask for what their words and flags say (`IsToolOf`),
+//! crew, of the memory or of the limit; `show`, `curve`, `order` and `explain` ask for what their words and flags say (`IsToolOf`),
 //! and faults are explained exactly if it finds the flag. No crew has more than 64 workers or 1,000,000,000,000 pieces,
 //! and no more than 1,048,576 MiB are asked for. Tested alone, over the built program: the texts of help, of the
 //! version and of errors.

@@ -23,8 +23,9 @@ pub enum Request<'a> {
     Prove(OrderFiles<'a>),
     /// Whether a plan is one of a network on the terms of an order.
     Check(PlanFiles<'a>),
-    /// Whether a certificate shows that no capacities before a plan's are enough.
-    Verify(ProofFiles<'a>),
+    /// Whether a certificate shows that no capacities before a plan's are enough; it stops after so many seconds, 1 to
+    /// 1,000,000,000, if an option says so.
+    Verify(ProofFiles<'a>, Option<u64>),
     /// What goes with plans.
     Tool(Tool<'a>),
 }
