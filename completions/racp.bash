@@ -12,7 +12,7 @@ _racp() {
         cpm) options="--explain" ;;
         plan) options="--workers --turns --stats --memory --time-limit --progress --explain" ;;
         check) options="--explain" ;;
-        verify) options="--explain" ;;
+        verify) options="--time-limit --explain" ;;
         show) options="--names --width --ascii --svg --json --csv" ;;
         curve) options="--workers --turns --memory --svg" ;;
         order) options="--factor --deadline --prices --owned --ceiling" ;;

@@ -16,6 +16,7 @@ complete -c racp -n "$none" -l version -d "print the version"
 complete -c racp -l help -d "print help"
 complete -c racp -n "__fish_seen_subcommand_from cpm" -l explain -d "say what is wrong"
 complete -c racp -n "__fish_seen_subcommand_from check" -l explain -d "say what is wrong"
+complete -c racp -n "__fish_seen_subcommand_from verify" -l time-limit -x -d seconds
 complete -c racp -n "__fish_seen_subcommand_from verify" -l explain -d "say what is wrong"
 complete -c racp -n "__fish_seen_subcommand_from plan" -l explain -d "say what is wrong"
 complete -c racp -n "__fish_seen_subcommand_from plan" -l workers -x -d "how many workers"
