@@ -3,7 +3,7 @@ use Rattle.std.specs.Prelude.{◌≡◌, ℕ, ◌+◌, ◌<◌, ◌&&◌, Bool, 
 use Rattle.std.specs.List.{filter, range_with_len}
 use Rattle.racp_model.specs.Window.{Bounds}
 use Rattle.racp_model.specs.declared.question.Question.{Question}
-use Rattle.racp_questions.specs.FirstYes.{no_question}
+use Rattle.racp_questions.specs.FirstYes.{no_question, question_at}
 
 -- a piece that is out: its number, the seat of the worker that took it, and its window
 pub record PieceOut : Type 0 where
@@ -63,6 +63,10 @@ no_row = record { question = no_question; ready = []; out = [] }
 -- the asked question at a place
 abbrev pub row_at : List QuestionRow → ℕ → QuestionRow
 row_at asked i = slice_index_or asked i no_row
+
+-- a question was asked, and it is the one at this place of the series
+abbrev pub IsAskedAt : Machine → ℕ → Question → Type 0
+IsAskedAt m index question = (index < length m.asked) × (question ≡ question_at (all_questions m) index)
 
 -- whether the place stands before the least yes
 abbrev pub is_before : Option KnownYes → ℕ → Bool

@@ -1,8 +1,8 @@
 //! The collector and its readers.
 
-ghost use Rattle.std.specs.Prelude.{◌≡◌, ◌↔◌, ◌<◌, length, Some, None, IsTrue, true};
+ghost use Rattle.std.specs.Prelude.{◌≡◌, ◌↔◌, ◌<◌, ◌≤◌, length, Some, None, IsTrue, IfSome, IfNone, true};
 ghost use Rattle.racp_model.specs.Formed.{AreFormed};
-ghost use Rattle.racp_core.specs.Machine.{fresh, all_questions, is_before, undecided_count, IsAsking, IsSettled};
+ghost use Rattle.racp_core.specs.Machine.{fresh, all_questions, is_before, undecided_count, IsAskedAt, IsAsking, IsSettled};
 ghost use Rattle.racp_core.specs.Truth.{IsSoundState};
 ghost use Rattle.racp_core.specs.Runs.{Step, Halt};
 
@@ -110,6 +110,15 @@ impl<N: OfNetwork, S: Series> Core<N, S> {
         ensures { result ≡ undecided_count self.now }
     {
         self.undecided.len()
+    }
+
+    /// The question that was asked at a place of the series, decided or not. `None` where none was asked yet. Takes no
+    /// memory.
+    pub fn question(&self, index: usize) -> Option<&Question>
+        ensures some { IfSome result (λ question. IsAskedAt self.now index question.now) }
+        ensures none { IfNone result (length self.now.asked ≤ index) }
+    {
+        Some(self.rows.get(index)?.question())
     }
 
     /// Whether a question can be asked: the collector runs, knows no yes, and its series has not ended. Takes no

@@ -78,6 +78,13 @@ impl Row {
         }
     }
 
+    /// The question.
+    pub(crate) fn question(&self) -> &Question
+        ensures { result.now ≡ self.now.question }
+    {
+        &self.question
+    }
+
     /// Whether a window is open.
     pub(crate) fn has_open(&self) -> bool
         ensures { IsTrue result ↔ (0 < length self.now.ready) }
