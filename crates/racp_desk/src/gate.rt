@@ -1,3 +1,5 @@
+//! What a worker passes before it searches a piece.
+
 /// Is told of each piece that a worker is about to search. The worker holds no lock then.
 pub trait Gate {
     /// The worker at this seat is about to search the piece of this number.

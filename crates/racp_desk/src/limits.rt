@@ -7,11 +7,13 @@ ghost use Rattle.std.specs.Prelude.{◌≤◌};
 pub struct RunLimits {
     /// How many workers there are, 1 to 64.
     pub workers: usize,
-    /// How many nodes of a piece are searched in a turn, up to 1,000,000.
+    /// How many nodes of a piece are searched in a turn, 1 to 1,000,000.
     pub quantum: u64,
     /// How many turns there are, up to 1,000,000,000,000. A turn is a piece that is taken.
     pub turns: u64,
+    pub ghost workers_some: { 1 ≤ workers },
     pub ghost workers_few: { workers ≤ 64 },
+    pub ghost quantum_some: { 1 ≤ quantum },
     pub ghost quantum_small: { quantum ≤ 1000000 },
     pub ghost turns_few: { turns ≤ 1000000000000 },
 }

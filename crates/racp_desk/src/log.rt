@@ -1,3 +1,5 @@
+//! What happens at a desk, in the order in which it happens.
+
 /// Why a desk was halted.
 #[derive(Clone, Copy, PartialEq)]
 pub enum Cause {

@@ -112,10 +112,8 @@ fn start<
             }
         }
     }
-    if workers > 0 {
-        let mine = share.split_off(1, 0);
-        join_share(&mut share, work(rt, shared, 0, mine));
-    }
+    let mine = share.split_off(1, 0);
+    join_share(&mut share, work(rt, shared, 0, mine));
     Ok(Started { handles, share })
 }
 
@@ -241,7 +239,7 @@ impl<N: OfNetwork + Send + Sync, G: Gate + Sync, P: Stop + Sync> Job<'_, N, G, P
 
 /// Lets so many workers, 1 to 64, answer a series of questions about a network: the first yes, or that there is none, or,
 /// where they were stopped or no turn is left, before which question each is a no. A turn is a piece that is taken, at most
-/// 1,000,000,000,000; a piece is searched over at most `quantum` nodes, up to 1,000,000.
+/// 1,000,000,000,000; a piece is searched over at most `quantum` nodes, 1 to 1,000,000.
 ///
 /// # Errors
 ///
@@ -266,7 +264,9 @@ pub fn run<
 ) -> Result<Closed, DeskFault>
     requires named { net.now ≡ N.network }
     requires formed { AreFormed net.now (S.questions series) }
+    requires some_workers { 1 ≤ workers }
     requires workers { workers ≤ 64 }
+    requires some_nodes { 1 ≤ quantum }
     requires quantum { quantum ≤ 1000000 }
     requires turns { turns ≤ 1000000000000 }
     ensures { IfOk result (IsRunClosed net.now (S.questions series) turns P.QUIET) }

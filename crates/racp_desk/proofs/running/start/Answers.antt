@@ -1,5 +1,5 @@
 use Rattle.std.proofs.Common.{◌≡◌, ◌∙◌, ◌∷◌, [], length, refl, ap, arith, length-append}
-use Rattle.racp_desk.proofs.running.start.Goals.{else-loop-seat-test, then-loop-seat-test+in-Err, then-workers-gt0, else-workers-gt0}
+use Rattle.racp_desk.proofs.running.start.Goals.{else-loop-seat-test, then-loop-seat-test+in-Err}
 use Rattle.racp_desk.proofs.running.start.Goals as goal
 
 pub loop-seat-preserved : goal.loop-seat-preserved
@@ -15,11 +15,7 @@ returns g c =
       | else-loop-seat-test w ↦ rw w.share-is refl
       | then-loop-seat-test+in-Err w ↦ rw w.share-is (omega (arith, w.split_off-mine.ensures.parts_left, w.refuse.ensures, w.join_share.ensures))
     ] in
-    let worked : c.if-workers-gt0.share.parts ≡ c.loop-seat-test.share.parts = elim c.if-workers-gt0.branch [
-      | then-workers-gt0 w ↦ rw w.share-is (omega (arith, w.split_off-mine-then-workers-gt0.ensures.parts_left, w.join_share-then-workers-gt0.ensures))
-      | else-workers-gt0 w ↦ rw w.share-is refl
-    ] in
-    omega (arith, started, worked, c.loop-seat.invariant.parts, c.loop-seat.invariant.handles)
+    omega (arith, started, c.split_off-mine-2.ensures.parts_left, c.join_share-2.ensures, c.loop-seat.invariant.parts, c.loop-seat.invariant.handles)
 
 pub split_off-mine-requires-clause-given_backed : goal.split_off-mine-requires-clause-given_backed
 split_off-mine-requires-clause-given_backed g c = λ _. refl
@@ -27,8 +23,8 @@ split_off-mine-requires-clause-given_backed g c = λ _. refl
 pub split_off-mine-requires-clause-has_amount : goal.split_off-mine-requires-clause-has_amount
 split_off-mine-requires-clause-has_amount g c = omega arith
 
-pub split_off-mine-requires-then-workers-gt0-clause-given_backed : goal.split_off-mine-requires-then-workers-gt0-clause-given_backed
-split_off-mine-requires-then-workers-gt0-clause-given_backed g c = λ _. refl
+pub split_off-mine-requires-2-clause-given_backed : goal.split_off-mine-requires-2-clause-given_backed
+split_off-mine-requires-2-clause-given_backed g c = λ _. refl
 
-pub split_off-mine-requires-then-workers-gt0-clause-has_amount : goal.split_off-mine-requires-then-workers-gt0-clause-has_amount
-split_off-mine-requires-then-workers-gt0-clause-has_amount g c = omega arith
+pub split_off-mine-requires-2-clause-has_amount : goal.split_off-mine-requires-2-clause-has_amount
+split_off-mine-requires-2-clause-has_amount g c = omega arith
