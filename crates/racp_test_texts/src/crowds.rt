@@ -23,6 +23,7 @@ fn is_written<R: Threads + Wait + Sync>(
     status: u8,
     text: &str,
 ) -> bool
+    requires some_workers { 1 ≤ workers }
     requires workers { workers ≤ 64 }
     requires turns { turns ≤ 1000000000000 }
 {

@@ -75,6 +75,7 @@ fn are_two_at_once<N: OfNetwork + Send + Sync, R: Threads + Wait + Sync>(
     workers: usize,
 ) -> bool
     requires named { net.now ≡ N.network }
+    requires some_workers { 1 ≤ workers }
     requires workers { workers ≤ 64 }
 {
     let gate = Pair::new();
@@ -95,7 +96,8 @@ fn are_two_at_once<N: OfNetwork + Send + Sync, R: Threads + Wait + Sync>(
 
 /// Whether two of this many workers search the six jobs at once, and find the first yes.
 fn are_two_of_six<R: Threads + Wait + Sync>(rt: &R, alloc: Global, workers: usize) -> bool
-    requires { workers ≤ 64 }
+    requires some_workers { 1 ≤ workers }
+    requires workers { workers ≤ 64 }
 {
     match crossed(alloc) {
         Ok(net) => are_two_at_once::<Brand, R>(rt, alloc, &net, workers),
@@ -113,7 +115,8 @@ fn is_printed<G: Gate + Sync, R: Threads + Wait + Sync>(
     workers: usize,
     gate: &G,
 ) -> bool
-    requires { workers ≤ 64 }
+    requires some_workers { 1 ≤ workers }
+    requires workers { workers ≤ 64 }
 {
     let printed = plan_crowd(
         rt,
@@ -133,7 +136,8 @@ fn is_printed<G: Gate + Sync, R: Threads + Wait + Sync>(
 
 /// Whether two of this many workers search at once, and print the plan of the six jobs.
 fn is_printed_by_two<R: Threads + Wait + Sync>(rt: &R, alloc: Global, workers: usize) -> bool
-    requires { workers ≤ 64 }
+    requires some_workers { 1 ≤ workers }
+    requires workers { workers ≤ 64 }
 {
     let gate = Pair::new();
     is_printed(rt, alloc, workers, &gate) && gate.both()
