@@ -29,7 +29,6 @@
 //! searched next. It looks at its alternatives one behind the other, in lexicographic order, and makes child windows of
 //! them, 64 at a time. Alternatives in which a job goes whose upper bound is before the first end of the active jobs
 //! are passed over: nothing lies in their child windows. So where most starts are fixed few alternatives are left of
-<<<<<<< HEAD
 //! tens of thousands. There can be alternatives that are long to find, and very many in whose windows nothing lies. So
 //! the steps of looking for them are bounded, and where that bound is reached the windows in which each active job
 //! alone is put off take the place of all that is left. Then no node takes a time that grows exponentially. The child
@@ -43,35 +42,19 @@
 //! further, and where the search is not at its end then, a `Course` has it open for the next call. A course is made
 //! with a number of first records, and none of these gives way while it is followed. It can search child windows in
 //! another order than by slack, so that several threads search one question, and each passes over what the others have
-//! refuted. A search ends in any case: the place of a frame's last alternative in lexicographic order rises, and each
-//! child window has a greater sum of lower bounds than its parent, at most 10,000,000 for each job where there is a
-//! conflict. Rows and lists are used again, so a node takes memory only where its path is the longest so far, or where
-//! it becomes a record.
-=======
-//! tens of thousands. The child window with the most slack is searched first, the one whose jobs that go have the most
-//! time left. None has a conflict before its parent's, so its own is looked for from that time on. What answers the
-//! question lies in the next window, in a child window of a frame, or in that of an alternative behind the frame's
-//! last. A frame with none of these left is refuted: then, and at no other time, its node becomes a record. A search
-//! that ends early leaves of its first frames their child windows; or, where at least as many as there are jobs are
-//! still to be made, for each active job the window in which it alone is put off. It leaves as many frames so as make a
-//! few windows, and beside these the window of the next frame, in which all else that is left lies. `pursue` leaves no
-//! windows: it searches some nodes further, and where the search is not at its end then, a `Course` has it open for the
-//! next call. A course is made with a number of first records, and none of these gives way while it is followed. It can
-//! search child windows in another order than by slack, so that several threads search one question, and each passes over
-//! what the others have refuted. `refute` writes down why a question is infeasible, as the lines of a tree
-//! (racp_refutation); it makes no records and tightens nothing, so it takes longer. A search ends in any case: the place of a frame's last alternative in lexicographic order
-//! rises, and each child window has a greater sum of lower bounds than its parent, at most 10,000,000 for each job where
-//! there is a conflict. Rows and lists are used again, so a node takes memory only where its path is the longest so far, or
-//! where it becomes a record.
->>>>>>> a0f079d3 (The search writes down why a question is infeasible)
+//! refuted. `refute` writes down why a question is infeasible, as the lines of a tree (racp_refutation); it makes no
+//! records and tightens nothing, so it takes longer. A search ends in any case: the place of a frame's last alternative
+//! in lexicographic order rises, and each child window has a greater sum of lower bounds than its parent, at most
+//! 10,000,000 for each job where there is a conflict. Rows and lists are used again, so a node takes memory only where
+//! its path is the longest so far, or where it becomes a record.
 //!
-//! Proved: `decide` answers starts in the window that fit, or `None` exactly where there are none; `refute` the lines of a
-//! tree that holds, or `None` exactly where some starts answer. A finding of
-//! `explore` is true: the found starts answer, or what answers lies in a window of the rest, each inside the piece's
-//! window. Once a node was searched, and memory was not refused, each of these has a greater sum of lower bounds.
-//! Without a quantum, a stop and lack of memory nothing is left. A finding of `pursue` is true and decides the piece, or
-//! leaves the whole of it: where it was not stopped and memory was not refused, only behind as many nodes as it may search.
-//! The type keeps that truth, whoever holds the finding.
+//! Proved: `decide` answers starts in the window that fit, or `None` exactly where there are none; `refute` the lines
+//! of a tree that holds, or `None` exactly where some starts answer. A finding of `explore` is true: the found starts
+//! answer, or what answers lies in a window of the rest, each inside the piece's window. Once a node was searched, and
+//! memory was not refused, each of these has a greater sum of lower bounds. Without a quantum, a stop and lack of
+//! memory nothing is left. A finding of `pursue` is true and decides the piece, or leaves the whole of it: where it was
+//! not stopped and memory was not refused, only behind as many nodes as it may search. The type keeps that truth,
+//! whoever holds the finding.
 //! Tested alone: that the stop is asked, that records are looked for and made, and that memory is not refused without
 //! need. In which order windows are searched, and how many, is not promised.
 #![tactic(auto)]
@@ -94,10 +77,7 @@ pub use course::Course;
 pub use entry_points::{decide, explore, pursue};
 pub use finding::{Finding, Rest};
 pub use piece::{Collector, Piece};
-<<<<<<< HEAD
 pub use racp_delay::{Never, Stop};
-=======
 pub use racp_refutation::Step;
 pub use refuting::refute;
->>>>>>> a0f079d3 (The search writes down why a question is infeasible)
 pub use room::make_room;
