@@ -1,20 +1,18 @@
 -- A certificate proves that no capacities before those of its plan are enough.
-use Rattle.std.proofs.Common.{◌≡◌, inl, inr, ◌∙◌, ℕ, ◌+◌, ◌<◌, ◌≤◌, List, [], ◌∷◌, ◌++◌, length, slice_index, Contains, arith, refl, sym, subst, ap}
-use Rattle.std.proofs.lemmas.List.Elements.{Contains-append_cases}
-use Rattle.racp_model.specs.Project.{Project, place, IsSound}
-use Rattle.racp_model.specs.Path.{IsEarly}
+use Rattle.std.proofs.Common.{inl, inr, ℕ, ◌+◌, ◌<◌, ◌≤◌, List, [], ◌∷◌, ◌++◌, length, slice_index, Contains, arith, refl, sym, subst}
+use Rattle.racp_model.specs.Project.{Project, IsSound}
 use Rattle.racp_model.specs.Schedule.{roof, Admits}
 use Rattle.racp_model.specs.Terms.{release_of, due_of, IsBefore}
-use Rattle.racp_model.specs.Window.{Bounds, IsNo, WindowsCover}
+use Rattle.racp_model.specs.Window.{Bounds, IsNo}
 use Rattle.racp_model.specs.Formed.{HasBounds}
 use Rattle.racp_model.specs.Laws.{AboveAdmits}
-use Rattle.racp_model.proofs.lemmas.Relations.{member_cases, member_first, member_later, no_member}
+use Rattle.racp_model.proofs.lemmas.Relations.{member_cases, member_first, no_member}
 use Rattle.racp_model.proofs.lemmas.Orders.{vectors_ordered}
 use Rattle.racp_model.proofs.lemmas.Costs.{before_trans}
 use Rattle.racp_model.proofs.lemmas.Cuts.{cut, cut-at, cut_places, cut_admitting, cut-no_later}
 use Rattle.racp_cpm.proofs.lemmas.Rooted.{fits-answers}
 use Rattle.racp_prices.proofs.lemmas.Ceilings.{cut-below}
-use Rattle.racp_cutset.specs.Covering.{SearchNode, IsNode}
+use Rattle.racp_cutset.specs.Covering.{SearchNode}
 use Rattle.racp_refutation.specs.Trees.{node_count, divided, AreRefutedNodes}
 use Rattle.racp_refutation.specs.Laws.{TreesRefute}
 use Rattle.racp_refutation.proofs.lemmas.Numbered.{refuted_both, refuted_none}

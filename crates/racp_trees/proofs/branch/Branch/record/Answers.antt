@@ -1,6 +1,5 @@
 use Rattle.std.proofs.Common.{◌≡◌, ◌∙◌, ◌≤◌, ℕ, List, All, length, slice_index, ap, arith, subst, sym}
 use Rattle.racp_model.specs.Limits.{most_bound, most_early}
-use Rattle.racp_model.specs.Path.{IsEarly}
 use Rattle.racp_trees.specs.Records.{IsRecordOf}
 use Rattle.racp_trees.specs.Rows.{early_of}
 use Rattle.racp_trees.proofs.Branching.{early_again}
