@@ -36,8 +36,9 @@
 //! told too: none that stand before them are enough for a deadline before these steps. Workers may be stopped at any
 //! time; otherwise they answer the curve too. The text of a curve is the one that is defined. In `laws`: what is enough
 //! for a deadline is enough for each later one, and what stands before the capacities of the plan for a longer deadline
-//! is not enough for a shorter one; an order has one curve at most, so workers make that of one thread; and a curve
-//! tells of each deadline. Not proved: that memory is not refused without need, and how long it takes.
+//! is not enough for a shorter one; an order has one curve at most, so workers make that of one thread; an order for a
+//! network has a curve, or a reason why there is no plan for its own deadline; and a curve tells of each deadline. Not
+//! proved: that memory is not refused without need, and how long it takes.
 #![tactic(auto)]
 
 mod crowd;
