@@ -10,13 +10,14 @@ use std::marker::PhantomData;
 use std::sync::atomic::{AtomicU64, Ordering};
 use std::sync::{Mutex, Wait};
 
-/// A piece that is out: all that a double of it takes.
+/// A piece that is out: all that a double of it takes, and whether it has taken long enough for doubles.
 #[derive(Drop)]
 struct Lead<N: OfNetwork> {
     number: u64,
     seat: usize,
     index: u64,
     question: Question,
+    is_long: bool,
     of: PhantomData<N>,
     ghost formed: { IsFormed N.network question },
 }
@@ -35,6 +36,7 @@ impl<N: OfNetwork> Lead<N> {
             seat: piece.seat(),
             index: piece.index(),
             question: piece.question().copy()?,
+            is_long: false,
             of: PhantomData,
         })
     }
@@ -77,6 +79,16 @@ impl<N: OfNetwork> Leads<N> {
         }
     }
 
+    /// The piece of this number has taken long enough for doubles.
+    pub(crate) fn mark_long<R: Wait>(&self, rt: &R, number: u64) {
+        let mut list = self.list.lock(rt);
+        for lead in list.iter_mut() {
+            if lead.number == number {
+                lead.is_long = true;
+            }
+        }
+    }
+
     /// The piece of this number is in.
     pub(crate) fn withdraw<R: Wait>(&self, rt: &R, number: u64) {
         self.list.lock(rt).retain(|lead| lead.number != number);
@@ -98,12 +110,13 @@ impl<N: OfNetwork> Leads<N> {
         self.list.lock(rt).iter().any(|lead| lead.index < end)
     }
 
-    /// A double of a piece of the least question before this place of which one is out.
+    /// A double of a piece that has taken long enough, of the least question before this place of which one has.
     pub(crate) fn double<R: Wait>(&self, rt: &R, end: u64) -> Option<Piece<N>>
         ensures { IfSome result (λ piece. IsFormed N.network piece.question) }
     {
         let list = self.list.lock(rt);
-        let lead = list.iter().min_by_key(|lead| lead.index)?;
+        let long = list.iter().filter(|lead| lead.is_long);
+        let lead = long.min_by_key(|lead| lead.index)?;
         if end <= lead.index {
             return None;
         }

@@ -43,12 +43,13 @@
 //! `Boards::run` is a run with the board of those before it, or with one without records, for as much memory, where that is
 //! full. A worker whose own part has less than half of its room left where a run begins forgets what it kept before.
 //!
-//! A worker helps with a double of a piece that is out, of the least question of which there is one: it searches the child
-//! windows of each node in a pseudo-random order of its own, and so begins elsewhere than the worker that has the
-//! piece. What either refutes becomes a record, and the other passes over it where it comes to it; so they part the
-//! windows between them, and none has to be left for another. Solvers that share what they learn and search in
-//! different orders go this way (Hamadi, Jabbour and Sais 2009, for satisfiability). Whoever decides the double
-//! first hands in the finding of the piece, which the other sees within 100 nodes; its own is then stale.
+//! A worker helps with a double of a piece that is out and that 100 nodes did not decide, of the least question of which
+//! there is one: most pieces take fewer nodes. It searches the child windows of each node in a pseudo-random order of its
+//! own, and so begins elsewhere than the worker that has the piece. What either refutes becomes a record, and the other
+//! passes over it where it comes to it; so they part the windows between them, and none has to be left for another.
+//! Solvers that share what they learn and search in different orders go this way (Hamadi, Jabbour and Sais 2009, for
+//! satisfiability). Whoever decides the double first hands in the finding of the piece, which the other sees within 100
+//! nodes; its own is then stale.
 //!
 //! A `State` is what lies under the lock: the collector, the `Book` of its log, and the total of a ledger. Each of its
 //! five calls is a step of the collector with at most one entry, and adds that entry to the share of who calls. All

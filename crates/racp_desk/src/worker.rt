@@ -240,14 +240,31 @@ fn search<'a, N: OfNetwork, M: Names, S: Series, G: Gate, P: Stop, R: Wait>(
         if workers > 1 {
             publish(rt, job.board, local);
         }
+        let is_first = nodes == 0;
         nodes = finding.nodes();
         if nodes >= quantum || is_over(rt, &shared.leads, &finding, &mut seen) {
             let by_user = watch.reasons.by_user();
             return Searched { finding, by_user };
         }
+        if is_first {
+            ask_for_help(rt, shared, finding.piece().number());
+        }
         piece = finding.into_piece();
     }
     unreachable!()
+}
+
+/// Lets other workers search doubles of a piece that is not decided by its first slice: most pieces take no more nodes, and
+/// would then be searched by all workers. The desk's lock keeps them from beginning to wait meanwhile.
+fn ask_for_help<'a, N: OfNetwork, M: Names, S: Series, G: Gate, P: Stop, R: Wait>(
+    rt: &R,
+    shared: &Shared<'a, N, M, S, G, P>,
+    number: u64,
+) {
+    let state = shared.desk.lock(rt);
+    shared.leads.mark_long(rt, number);
+    shared.idle.notify_all();
+    drop(state);
 }
 
 /// Whether a piece is searched no further behind a finding: it is decided, by this worker or another one, or the search was
