@@ -74,10 +74,11 @@ const COUNT: Topic = Topic {
 
 const MEMORY: Topic = Topic {
     short: "memory ran out",
-    meaning: "There was not enough memory to read the order. The program prints the line memory for it.",
+    meaning: "There was not enough memory to read the order, or its values could take more than 448 MiB. The program prints the
+line memory for it.",
     command: "",
     file: "",
-    cure: "End other programs, or raise a limit that was set, as by ulimit.",
+    cure: "End other programs, or raise a limit that was set, as by ulimit. An order has seven keys at most.",
 };
 
 const VERSION: Topic = Topic {

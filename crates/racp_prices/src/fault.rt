@@ -28,7 +28,7 @@ pub enum OrderFault {
     /// An array has another number of elements than there are resources, or jobs.
     #[error("an array has the wrong number of elements")]
     Count = 6,
-    /// Memory ran out.
+    /// Memory ran out, or the values of the text could take more than 448 MiB.
     #[error("out of memory")]
     Memory = 7,
     /// The version is not 2.

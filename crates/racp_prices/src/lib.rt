@@ -41,8 +41,8 @@
 //! line; for `3,,2` it answers `None`.
 //!
 //! Proved of reading: for every byte text, `read_order` answers the order that the definition `IsOrder` gives it, over
-//! the table that `toml` is proved to read; or exactly the first rule that it breaks; or that memory was refused, which
-//! it never answers for a text that is not UTF-8. What is read has an entry for each resource and each job, in range.
+//! the table that `toml` is proved to read; or exactly the first rule that it breaks; or `Memory`, which it never answers
+//! for a text that is not UTF-8. What is read has an entry for each resource and each job, in range.
 //! `Order::is_for` is true exactly if that holds of an order; `cost_of` answers exactly the cost, and `most_units`
 //! exactly the roofs, cut to the ceilings. In `laws`: each text is read as something, and as at most one thing; what an
 //! order without a version says of all that it does not name.
@@ -54,8 +54,10 @@
 //! `read_order` reads it as its definition says of that table: as the wanted terms if they are terms of the project,
 //! and else as the first rule that they break.
 //!
-//! Trusted: the statements of `toml`, which say what TOML is. Tested alone: how the text is laid out, and that memory
-//! is not refused without need.
+//! Trusted: the statements of `toml`, which say what TOML is. Tested alone: how the text is laid out, and that `Memory` is
+//! answered only if memory was refused, or the values of the text could take more than 448 MiB. That is told before the
+//! table is made, by the signs that make tables and arrays: a table with one key takes some hundred times the memory of
+//! its text.
 #![tactic(auto)]
 
 mod cost;
@@ -66,6 +68,7 @@ pub mod laws;
 mod numbers;
 mod order;
 mod read;
+mod room;
 mod units;
 mod version;
 mod wanted;

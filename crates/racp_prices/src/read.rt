@@ -11,6 +11,7 @@ ghost use Rattle.racp_prices.specs.Steps.{Gives, IsTableRead, joined, list_or, o
 use crate::fault::OrderFault;
 use crate::numbers::{number, numbers, optional_numbers};
 use crate::order::Order;
+use crate::room::is_too_large;
 use crate::version::Version;
 use racp_model::limits::{LATEST_TIME, MOST_PRICE, MOST_UNITS};
 use std::alloc::Global;
@@ -26,7 +27,8 @@ use toml::{Table, Value};
 ///
 /// The first rule that the text breaks: `NotToml`; for the version `NotWhole` or `Version`; `Missing`; `Unknown`; and
 /// then for the deadline, the prices, the owned units, the ceilings, the release and the due times, in this order,
-/// `NotWhole`, `Count` and `Range`. `Memory` if the text is UTF-8 and memory was refused.
+/// `NotWhole`, `Count` and `Range`. `Memory` if the text is UTF-8 and memory was refused, or its values could take more
+/// than 448 MiB.
 pub fn read_order(
     alloc: Global,
     text: &[u8],
@@ -47,6 +49,9 @@ fn read_table(alloc: Global, text: &[u8]) -> Result<Table, OrderFault>
     let Ok(text) = std::str::from_utf8(text) else {
         return Err(OrderFault::NotToml);
     };
+    if is_too_large(alloc, text) {
+        return Err(OrderFault::Memory);
+    }
     match toml::table_from_str(alloc, text) {
         Ok(table) => Ok(table),
         Err(error) if error.is_memory() => Err(OrderFault::Memory),
