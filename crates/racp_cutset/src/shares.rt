@@ -35,6 +35,7 @@ pub struct MemoryLimit {
     /// How many workers, 1 to 64.
     pub workers: usize,
     pub ghost mebibytes_few: { mebibytes ≤ 1048576 },
+    pub ghost workers_some: { 1 ≤ workers },
     pub ghost workers_few: { workers ≤ 64 },
 }
 
