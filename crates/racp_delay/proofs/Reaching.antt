@@ -1,5 +1,5 @@
 -- How much of a resource the jobs that stay can use, by common divisors of requests.
-use Rattle.std.proofs.Common.{◌≡◌, ℕ, zero, suc, ◌+◌, ◌-◌, ◌*◌, ◌/◌, ◌%◌, ◌<◌, ◌≤◌, ◌⊎◌, inl, inr, List, [], ◌∷◌, ◌++◌, length, slice_index, slice_index_or, slice_get, set, Some, None, arith, refl, ap, sym, ◌∙◌, subst}
+use Rattle.std.proofs.Common.{◌≡◌, ℕ, ◌+◌, ◌-◌, ◌*◌, ◌/◌, ◌%◌, ◌<◌, ◌≤◌, inl, inr, List, [], ◌∷◌, ◌++◌, length, slice_index, slice_index_or, slice_get, set, Some, arith, refl, ap, sym, ◌∙◌, subst}
 use Rattle.std.proofs.Math.Nat.{div-add-mod', mul-le-mul_left, dvd-add}
 use Rattle.std.proofs.Math.Seq.{get_or-append_seam}
 use Rattle.std.proofs.lemmas.Nat.{le-div}
@@ -10,8 +10,8 @@ use Rattle.std.proofs.lemmas.Bool.{cases_lt}
 use Rattle.std.specs.Int.{◌∣◌, IsGcd}
 use Rattle.racp_model.proofs.lemmas.Lists.{at_set}
 use Rattle.racp_model.specs.Project.{Project, place, request}
-use Rattle.racp_delay.specs.Alternatives.{Splits, load}
-use Rattle.racp_delay.specs.Found.{AreWithin, SomeHaveRoom, HasRoom, OneMoreRuns, Each, with_load, IsTight, IsChoice, IsAmong, IsExtension, HasNoExtension}
+use Rattle.racp_delay.specs.Alternatives.{load}
+use Rattle.racp_delay.specs.Found.{SomeHaveRoom, OneMoreRuns, Each, with_load, IsChoice, IsAmong, HasNoExtension}
 use Rattle.racp_delay.specs.Reach.{AreDivisors, AreRows, IsReach}
 use Rattle.racp_delay.specs.declared.choosing.Choice.{Choice}
 use Rattle.racp_delay.proofs.Each.{each-at, each-left, each-map}

@@ -1,6 +1,3 @@
-use Rattle.std.proofs.Common.{◌≡◌, ◌∙◌, ℕ, List, ap, sym, subst, slice_index}
-use Rattle.racp_model.specs.Terms.{IsLexBefore}
-use Rattle.racp_delay.specs.Found.{IsExtended}
 use Rattle.racp_delay.proofs.Reaching.{rows-none}
 use Rattle.racp_delay.proofs.following.look_behind.Goals as goal
 

@@ -1,4 +1,4 @@
-use Rattle.std.proofs.Common.{◌≡◌, ℕ, ◌∷◌, List, subst, sym}
+use Rattle.std.proofs.Common.{ℕ, ◌∷◌, List, subst, sym}
 use Rattle.racp_delay.specs.Reach.{AreDivisors, AreRows}
 use Rattle.racp_delay.proofs.Reaching.{divisors-more, rows-more}
 use Rattle.racp_delay.proofs.reach.+put_rows.Goals as goal

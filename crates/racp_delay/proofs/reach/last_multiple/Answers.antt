@@ -10,4 +10,4 @@ returns-then-divisor-eq0-clause-most c load divides left fits = elim c.then-divi
 ]
 
 pub returns-then-last-left-clause-most : goal.returns-then-last-left-clause-most
-returns-then-last-left-clause-most c load divides left fits = multiple-fits c.args.kept c.args.capacity c.args.divisor load (omega (arith, c.if-divisor-eq0.false)) (omega (arith, c.if-capacity-kept.false)) divides fits
+returns-then-last-left-clause-most c load divides left fits = omega (arith, multiple-fits c.args.kept c.args.capacity c.args.divisor load (omega (arith, c.if-divisor-eq0.false)) (omega (arith, c.if-capacity-kept.false)) divides fits)
