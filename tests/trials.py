@@ -14,7 +14,7 @@ from slow.plans import plan_units
 from slow.reader import network_of
 from slow.tables import wrong_csv, wrong_json
 
-# The options of a plan that may take long, and the seconds of processor time that it has on one thread.
+# The options of a plan or a certificate that may take long, and the seconds of processor time that it has on one thread.
 LONG = ["--time-limit", "1"]
 LONG_SECONDS = 4
 
@@ -89,10 +89,9 @@ class Trial:
             raise Apart(why)
 
     def options(self, wanted):
-        """The options of the command: a plan that the slow planner does not make is given little time."""
-        if self.case.command != "plan":
-            return []
-        return [*self.chance.choice(PLAN_OPTIONS), *(LONG if wanted is None else [])]
+        """The options of the command: what the slow programs do not decide is given little time."""
+        options = self.chance.choice(PLAN_OPTIONS) if self.case.command == "plan" else []
+        return [*options, *(LONG if wanted is None and self.case.command in ("plan", "verify") else [])]
 
     def explained(self, plain, texts, command, *options):
         """With `--explain` there is more on standard error, and nothing else is other."""
@@ -136,7 +135,7 @@ class Trial:
             try:
                 wanted, _ = bounded.decided("verify", changed)
             except bounded.Open:
-                self.run(changed, "verify")
+                self.run(changed, "verify", *LONG)
                 continue
             self.expect(wanted, self.run(changed, "verify"), changed, "verify")
 

@@ -36,7 +36,7 @@ FORMS = {
     "plan": {**PLANNED, 0: PLAN_TEXT, 4: STOPPED},
     "prove": {**READ, 0: CERTIFICATE, 3: IMPOSSIBLE, 8: "unproved\n"},
     "check": {**CHECKED, 0: "ok\n"},
-    "verify": {**CHECKED, 0: "verified\n", 8: f"unproved\n|{FAULT}"},
+    "verify": {**CHECKED, 0: "verified\n", 4: "stopped\n", 8: f"unproved\n|{FAULT}"},
     "show": {**CHECKED, 0: None},
     "curve": {**PLANNED, 0: rf"(?:{STEP})+end\n", 4: f"(?:{STEP})*{STOPPED}"},
     "order": {**READ, 0: None},
