@@ -37,10 +37,10 @@
 //! steps of a usage are exact at all times; each number and each name of a sheet is the plan's, the order's or the one
 //! that was given; the names of a text are its lines without their control characters, at most one for each job and
 //! resource that there may be; `csv_text` gives exactly the table of the plan, `svg_text` exactly the picture of a
-//! sheet, with an element for each job and each step of a usage, and `costs_svg` exactly that of its corners. In `laws`:
-//! a job is drawn in exactly the columns in whose times it runs, and in no column that is not there. All of them return.
-//! Tested alone: how charts in text are laid out, and the text of the JSON, which rests on what `serde` derives. Whether
-//! a plan is right is not looked at here: racp_check does.
+//! sheet, with a bar for each job and a stair for each resource, and `costs_svg` exactly that of its corners. In
+//! `laws`: a job is drawn in exactly the columns in whose times it runs, and in no column that is not there. All of
+//! them return. Tested alone: how charts in text are laid out, and the text of the JSON, which rests on what `serde`
+//! derives. Whether a plan is right is not looked at here: racp_check does.
 #![tactic(auto)]
 
 mod axis;
