@@ -14,3 +14,4 @@ mod ByLength
 mod SomeAnswer
 mod Asking
 mod Telling
+mod Turns

@@ -1,5 +1,5 @@
 -- What an asker with workers is handed, and what it answers.
-use Rattle.std.specs.Prelude.{◌≡◌, ◌⊎◌, ℕ, zero, suc, Bool, true, false, List, [], Option, Some, None, Result, Ok, Err, IfOk, Contains, ⊤}
+use Rattle.std.specs.Prelude.{◌≡◌, ◌⊎◌, ℕ, zero, suc, ◌+◌, Bool, true, false, List, [], ◌∷◌, Option, Some, None, Result, Ok, Err, IfOk, Contains, ⊤}
 use Rattle.racp_model.specs.Project.{Project}
 use Rattle.racp_model.specs.Formed.{AreFormed}
 use Rattle.racp_model.specs.declared.question.Question.{Question}
@@ -28,6 +28,21 @@ pub record RunsDesks (p : Project) (quiet : Bool) (pre : AnySeries → RunLimits
   pub may_run : (series : AnySeries) (limits : RunLimits) → AreFormed p (any_questions series) → pre series limits
   pub closes : (series : AnySeries) (limits : RunLimits) (result : Result Closed DeskFault) →
       post series limits result → IfOk result (IsRunClosed p (any_questions series) limits.turns quiet)
+
+-- these runs of desks about questions for a project, with such a stop, took so many pieces in all
+abbrev pub TookIn : Project → Bool → List Closed → ℕ → Type 0
+TookIn p quiet [] pieces = pieces ≡ 0
+TookIn p quiet (closed ∷ runs) pieces =
+    (questions : List Question) × (turns before : ℕ) × IsRunClosed p questions turns quiet closed ×
+    TookIn p quiet runs before × (pieces ≡ before + closed.pieces)
+
+-- some runs took so many
+abbrev pub HaveTaken : Project → Bool → ℕ → Type 0
+HaveTaken p quiet pieces = ∥ ((runs : List Closed) × TookIn p quiet runs pieces) ∥₁
+
+-- workers may stop that have so many turns: runs of desks took as many pieces, or their stop is not quiet
+abbrev pub MayStop : Project → Bool → ℕ → Type 0
+MayStop p quiet turns = HaveTaken p quiet turns ⊎ (quiet ≡ false)
 
 -- memory was refused, or a worker could not be started
 abbrev pub IsFault : AskStop → Type 0

@@ -1,10 +1,11 @@
 -- What is printed for the texts of a network and an order.
-use Rattle.std.specs.Prelude.{◌≡◌, ℕ, List, length, Result, Ok, Err, ⊤}
+use Rattle.std.specs.Prelude.{◌≡◌, ℕ, Bool, List, length, Result, Ok, Err, ⊤}
 use Rattle.racp_model.specs.Project.{Project}
 use Rattle.racp_model.specs.Terms.{Terms}
 use Rattle.racp_sm.specs.Reading.{IsReading, IsReadingOrMemory}
 use Rattle.racp_prices.specs.Orders.{IsOrder, IsOrderOrMemory}
 use Rattle.racp_lexfix.specs.Answers.{IsAnswer, IsNotAfterEnough, AreAboveFloors}
+use Rattle.racp_lexfix.specs.Crowds.{MayStop}
 use Rattle.racp_lexfix.specs.Texts.{answer_text, answer_status}
 use Rattle.racp_lexfix.specs.declared.answer.Answer.{Answer}
 use Rattle.racp_lexfix.specs.declared.answer.PlanStop.{PlanStop}
@@ -47,20 +48,20 @@ abbrev pub IsPrinting : List ℕ → List ℕ → Result Printed Refusal → Typ
 IsPrinting net order (Ok printed) = IsPrinted net order printed.text.items printed.status
 IsPrinting net order (Err refusal) = IsRefusal (λ stop. stop ≡ Memory) net order refusal
 
--- why workers ended early: they stopped, and tell capacities at or above the floors, before which none are enough; memory was
--- refused; or one could not be started
-abbrev pub IsCrowdStop : Project → Terms → PlanStop → Type 0
-IsCrowdStop network terms (Stopped not_before) =
-    IsNotAfterEnough network terms not_before × AreAboveFloors network terms not_before
-IsCrowdStop network terms Memory = ⊤
-IsCrowdStop network terms NoThread = ⊤
+-- why workers with so many turns ended early: they stopped, since all turns were taken, or since their stop is not quiet, and tell
+-- capacities at or above the floors, before which none are enough; memory was refused; or one could not be started
+abbrev pub IsCrowdStop : (turns : ℕ) → (quiet : Bool) → Project → Terms → PlanStop → Type 0
+IsCrowdStop turns quiet network terms (Stopped not_before) =
+    MayStop network quiet turns × IsNotAfterEnough network terms not_before × AreAboveFloors network terms not_before
+IsCrowdStop turns quiet network terms Memory = ⊤
+IsCrowdStop turns quiet network terms NoThread = ⊤
 
 -- the same, for the network and the order that two texts are read as
-abbrev pub IsCrowdEnd : List ℕ → List ℕ → PlanStop → Type 0
-IsCrowdEnd net order stop = (network : Project) × (terms : Terms) × AreTextsOf net order network terms ×
-    IsCrowdStop network terms stop
+abbrev pub IsCrowdEnd : (turns : ℕ) → (quiet : Bool) → List ℕ → List ℕ → PlanStop → Type 0
+IsCrowdEnd turns quiet net order stop = (network : Project) × (terms : Terms) × AreTextsOf net order network terms ×
+    IsCrowdStop turns quiet network terms stop
 
 -- what is printed for two texts by workers, with their effort, or why nothing is
-abbrev pub IsCrowdPrinting : List ℕ → List ℕ → Result (Printed × Effort) Refusal → Type 0
-IsCrowdPrinting net order (Ok printed) = IsPrinted net order printed.0.text.items printed.0.status
-IsCrowdPrinting net order (Err refusal) = IsRefusal (IsCrowdEnd net order) net order refusal
+abbrev pub IsCrowdPrinting : (turns : ℕ) → (quiet : Bool) → List ℕ → List ℕ → Result (Printed × Effort) Refusal → Type 0
+IsCrowdPrinting turns quiet net order (Ok printed) = IsPrinted net order printed.0.text.items printed.0.status
+IsCrowdPrinting turns quiet net order (Err refusal) = IsRefusal (IsCrowdEnd turns quiet net order) net order refusal

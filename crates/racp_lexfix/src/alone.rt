@@ -1,3 +1,5 @@
+//! An asker on the calling thread.
+
 ghost use Rattle.std.specs.Prelude.{◌≡◌, ◌≤◌, None, [], IfOk, IfErr, IsFalse};
 ghost use Rattle.racp_cutset.specs.Kept.{most_records};
 ghost use Rattle.racp_questions.specs.declared.asker.AskStop.TheVariants.{Memory};
@@ -39,7 +41,7 @@ impl<N: OfNetwork> Alone<N> {
         Alone::within(alloc, net, DEFAULT_MEMORY)
     }
 
-    /// The same, with records that take at most about so many mebibytes, up to 1,048,576.
+    /// An asker that has kept nothing, and whose records take at most about so many mebibytes, up to 1,048,576.
     ///
     /// # Errors
     ///

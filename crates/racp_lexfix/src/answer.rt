@@ -1,3 +1,5 @@
+//! What planning answers, and why a plan is not known.
+
 ghost use Rattle.std.specs.Prelude.{◌≡◌};
 ghost use Rattle.racp_lexfix.specs.Stages.{given_up, stopped_at};
 
@@ -68,7 +70,8 @@ impl PlanStop {
         }
     }
 
-    /// The same, with the capacities that were reached where there are such, and else these floors.
+    /// Why planning ends where an asker gives up, with the capacities that it reached where there are such, and else with
+    /// these floors.
     pub(crate) fn stopped_at(stop: AskStop, floors: Capacities) -> Self
         ensures { result ≡ stopped_at stop floors }
     {

@@ -9,7 +9,7 @@ ghost use Rattle.racp_candidates.specs.AnySeries.{any_questions};
 ghost use Rattle.racp_desk.specs.Closing.{IsRunClosed};
 ghost use Rattle.racp_desk.specs.declared.log.Cause.TheVariants.{Stop};
 ghost use Rattle.racp_desk.specs.declared.log.Entry.TheVariants.{Halted};
-ghost use Rattle.racp_lexfix.specs.Crowds.{IsAnsweredBy, IsFault, IsOver, RunsDesks, behind, probe_by};
+ghost use Rattle.racp_lexfix.specs.Crowds.{IsAnsweredBy, HaveTaken, IsFault, IsOver, RunsDesks, behind, probe_by};
 
 use crate::observer::Observer;
 use racp_candidates::{AnySeries, Listed, One};
@@ -20,13 +20,25 @@ use racp_questions::{AskStop, Asker, First, Probe};
 use racp_search::Stop;
 use std::alloc::AllocError;
 use std::collections::VecDeque;
-use std::marker::PhantomData;
+use std::marker::{Brand, PhantomData};
 
 /// How many nodes of a question one worker searches before the others are started: many questions take no more.
 const GLIMPSE: u64 = 16;
 
 /// How many nodes of a piece a worker searches in one turn at most.
 const QUANTUM: u64 = 1000000;
+
+/// Names how many turns there are. A call that makes a `Crowd` picks them.
+pub trait OfTurns {
+    ghost use Rattle.std.specs.Prelude.{ℕ};
+
+    ghost turns: { ℕ };
+}
+
+/// Stands only if a call picks no turns.
+impl OfTurns for Brand {
+    ghost turns = { 0 };
+}
 
 /// How much work was done.
 #[derive(Clone, Copy)]
@@ -38,13 +50,14 @@ pub struct Effort {
 }
 
 /// Answers series of questions about the network that `N` names, each by a run of a desk, and counts the turns over all
-/// of them: a turn is a piece that is taken. It is handed a call that runs a desk about a series within limits and with
-/// a stop `P`. It stops only where no turn is left, or where its stop is not quiet. What it is told of planning it tells an
+/// of them, of which there are as many as `M` names: a turn is a piece that is taken. It is handed a call that runs a desk
+/// about a series within limits and with a stop `P`. It stops only where no turn is left, or where its stop is not quiet. What it is told of planning it tells an
 /// observer. Several workers that search a question with a bound on its nodes also search those that come next: what they
 /// refute of these is a record, by which such a question takes one node when it is asked.
 #[derive(Drop)]
 pub struct Crowd<
     N: OfNetwork,
+    M: OfTurns,
     P: Stop,
     O: Observer + Drop,
     F: Fn(AnySeries, RunLimits) -> Result<Closed, DeskFault> + Drop,
@@ -52,31 +65,35 @@ pub struct Crowd<
     run: F,
     observer: O,
     workers: usize,
-    turns: u64,
     left: u64,
     pieces: u64,
     nodes: u64,
     answered: u64,
     told: Option<Capacities>,
     ahead: Option<VecDeque<Question>>,
-    of: PhantomData<(N, P)>,
+    of: PhantomData<(N, M, P)>,
+    ghost workers_some: { 1 ≤ workers },
     ghost workers_few: { workers ≤ 64 },
-    ghost turns_few: { turns ≤ 1000000000000 },
-    ghost counted: { left + pieces ≡ turns },
+    ghost turns_few: { M.turns ≤ 1000000000000 },
+    ghost counted: { left + pieces ≡ M.turns },
+    ghost taken: { HaveTaken N.network P.QUIET pieces },
     ghost nodes_few: { nodes ≤ 1000000 * pieces },
     ghost ahead_formed: { ForSome ahead (λ list. AreFormed N.network list.items) },
 }
 
 impl<
     N: OfNetwork,
+    M: OfTurns,
     P: Stop,
     O: Observer + Drop,
     F: Fn(AnySeries, RunLimits) -> Result<Closed, DeskFault> + Drop,
-> Crowd<N, P, O, F> {
+> Crowd<N, M, P, O, F> {
     /// An asker with so many turns, which runs a desk of so many workers by this call.
     pub fn new(workers: usize, turns: u64, observer: O, run: F) -> Self
+        requires some_workers { 1 ≤ workers }
         requires workers { workers ≤ 64 }
         requires turns { turns ≤ 1000000000000 }
+        requires named { turns ≡ M.turns }
         ensures run { result.run ≡ run }
         ensures left { result.left ≡ turns }
         ensures effort { (result.pieces ≡ 0) × (result.nodes ≡ 0) }
@@ -85,7 +102,6 @@ impl<
             run,
             observer,
             workers,
-            turns,
             left: turns,
             pieces: 0,
             nodes: 0,
@@ -139,6 +155,7 @@ impl<
     fn count(&mut self, pieces: u64, nodes: u64)
         requires pieces { pieces ≤ self.old.left }
         requires nodes { nodes ≤ 1000000 * pieces }
+        requires taken { HaveTaken N.network P.QUIET (self.old.pieces + pieces) }
         ensures run { self.new.run ≡ self.old.run }
         ensures answered { self.new.answered ≡ self.old.answered }
         ensures told { self.new.told ≡ self.old.told }
@@ -160,6 +177,7 @@ impl<
         workers: usize,
         most: Option<u64>,
     ) -> Result<Probe, AskStop>
+        requires some_workers { 1 ≤ workers }
         requires workers { workers ≤ 64 }
         requires formed { IsFormed N.network question }
         requires ahead { ForSome ahead (λ list. AreFormed N.network list.items) }
@@ -363,10 +381,11 @@ fn probe_of(outcome: Outcome, is_over: bool) -> Result<Probe, AskStop>
 
 impl<
     N: OfNetwork,
+    M: OfTurns,
     P: Stop,
     O: Observer + Drop,
     F: Fn(AnySeries, RunLimits) -> Result<Closed, DeskFault> + Drop,
-> Asker<AnySeries> for Crowd<N, P, O, F> {
+> Asker<AnySeries> for Crowd<N, M, P, O, F> {
     ghost use Rattle.std.specs.Prelude.{◌≡◌, ◌⊎◌, ⊤, false};
     ghost use Rattle.racp_lexfix.specs.Crowds.{RunsDesks};
 

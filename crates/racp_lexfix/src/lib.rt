@@ -47,7 +47,8 @@
 //! Proved: the answer of `plan` is right (`IsAnswer`): the plan, without any bound on the numbers of units, or the
 //! first reason for which there is none. `plan_alone` prints that answer for what the texts are read as, or tells the
 //! fault of the first text that is refused, or that memory was refused (`IsPrinting`). `plan_crowd` prints the same,
-//! whatever the workers, or tells capacities before which none are enough (`IsCrowdPrinting`). Where an asker stops, `plan`
+//! whatever the workers, or tells capacities before which none are enough (`IsCrowdPrinting`): only where runs of desks took
+//! as many pieces as there are turns, or where the stop may ask at all (`MayStop`). Where an asker stops, `plan`
 //! tells capacities before which none are enough: the floors so far, the vector that was reached, or the plan's own.
 //! While it plans, it tells the asker floors that all capacities which are enough are at or above, and what these cost at
 //! least; that it tells them in time is tested alone.
@@ -67,10 +68,11 @@ mod planning;
 mod printed;
 mod proving;
 mod starts;
+pub mod status;
 
 pub use alone::Alone;
 pub use answer::{Answer, PlanStop};
-pub use crowd::{Crowd, Effort};
+pub use crowd::{Crowd, Effort, OfTurns};
 pub use lines::answer_lines;
 pub use observer::{Observer, Unheard};
 pub use planning::plan;

@@ -193,8 +193,8 @@ impl VectorBox<'_> {
         }
     }
 
-    /// The same, by the first question of the box that is a yes. The capacities are the peaks of the starts that were
-    /// found, since these peaks are enough too, and no others that are stand before them.
+    /// The first capacities of all that are enough, by the first question of the box that is a yes. They are the peaks of
+    /// the starts that were found, since these peaks are enough too, and no others that are stand before them.
     fn first_in_order<A: Asker<AnySeries>>(self, asker: &mut A) -> Result<Capacities, PlanStop>
         requires named { A.about asker.old self.task.net.now }
         requires known { IsVectorBox self }

@@ -1,10 +1,12 @@
-ghost use Rattle.std.specs.Prelude.{◌≡◌, ◌≤◌, ◌⊎◌, ⊤, ℕ, ◌-◌, List, Ok, IfOk, IfErr, false};
+//! From the texts of a network and an order to the text of the answer.
+
+ghost use Rattle.std.specs.Prelude.{◌≡◌, ◌≤◌, ℕ, List, Ok, IfOk, IfErr};
 ghost use Rattle.racp_model.specs.Formed.{AreFormed};
 ghost use Rattle.racp_model.specs.Terms.{AreTermsOf};
 ghost use Rattle.racp_candidates.specs.AnySeries.{any_questions};
 ghost use Rattle.racp_sm.specs.Reading.{IsReading};
 ghost use Rattle.racp_desk.specs.Closing.{IsRunClosed};
-ghost use Rattle.racp_lexfix.specs.Answers.{IsAnswer, IsStoppedAt, IsPlanStop};
+ghost use Rattle.racp_lexfix.specs.Answers.{IsAnswer};
 ghost use Rattle.racp_lexfix.specs.Crowds.{RunsDesks};
 ghost use Rattle.racp_lexfix.specs.Printing.{IsAnswerPrinted, IsPrinting, IsCrowdPrinting, IsCrowdStop};
 ghost use Rattle.racp_lexfix.specs.Texts.{answer_text, answer_status};
@@ -12,10 +14,11 @@ ghost use Rattle.racp_lexfix.specs.declared.answer.PlanStop.TheVariants.{Memory}
 
 use crate::alone::Alone;
 use crate::answer::{Answer, PlanStop};
-use crate::crowd::{Crowd, Effort};
+use crate::crowd::{Crowd, Effort, OfTurns};
 use crate::lines::answer_lines;
 use crate::observer::{Observer, Pricing, Unheard};
 use crate::planning::{Task, plan};
+use crate::status::{DONE, IMPOSSIBLE};
 use racp_candidates::AnySeries;
 use racp_cutset::{DEFAULT_MEMORY, MemoryLimit};
 use racp_desk::{Boards, Closed, DeskFault, Gate, RunLimits};
@@ -28,12 +31,6 @@ use std::marker::Brand;
 use std::sync::Wait;
 use std::thread::Threads;
 use thiserror::Error;
-
-/// The status of a plan.
-const PLANNED: u8 = 0;
-
-/// The status where there is no plan.
-const IMPOSSIBLE: u8 = 3;
 
 /// The text of an answer, and the status that belongs to it.
 #[derive(Drop)]
@@ -115,8 +112,8 @@ pub fn plan_alone(alloc: Global, net_bytes: &[u8], order_text: &[u8]) -> Result<
     plan_alone_within(alloc, net_bytes, order_text, DEFAULT_MEMORY)
 }
 
-/// The same, with records of refuted nodes that take at most about so many mebibytes, up to 1,048,576; those of
-/// `plan_alone` take 1,024. Where there is no room for a further one, records give way, and the answer stays the same.
+/// The answer to the texts of a network and an order, as `plan_alone` gives it, with records of refuted nodes that take at
+/// most about so many mebibytes, up to 1,048,576; those of `plan_alone` take 1,024. Where there is no room for a further one, records give way, and the answer stays the same.
 ///
 /// # Errors
 ///
@@ -153,9 +150,10 @@ pub fn plan_crowd<G: Gate + Sync, P: Stop + Sync, R: Threads + Wait + Sync>(
     gate: &G,
     stop: &P,
 ) -> Result<(Printed, Effort), Refusal>
+    requires some_workers { 1 ≤ workers }
     requires workers { workers ≤ 64 }
     requires turns { turns ≤ 1000000000000 }
-    ensures { IsCrowdPrinting net_bytes.now order_text.now result }
+    ensures { IsCrowdPrinting turns P.QUIET net_bytes.now order_text.now result }
 {
     let memory = DEFAULT_MEMORY;
     let crew = Crew {
@@ -185,6 +183,10 @@ pub struct Crew<'a, G: Gate, P: Stop, O: Observer> {
     pub stop: &'a P,
     /// Who is told how far planning has come.
     pub observer: &'a O,
+    pub ghost workers_some: { 1 ≤ workers },
+    pub ghost workers_few: { workers ≤ 64 },
+    pub ghost turns_few: { turns ≤ 1000000000000 },
+    pub ghost memory_few: { memory ≤ 1048576 },
 }
 
 /// The answer to the texts of a network and an order, made by such workers: what `plan_crowd` answers, whose records take
@@ -200,10 +202,7 @@ pub fn plan_crowd_by<G: Gate + Sync, P: Stop + Sync, O: Observer, R: Threads + W
     order_text: &[u8],
     crew: Crew<'_, G, P, O>,
 ) -> Result<(Printed, Effort), Refusal>
-    requires workers { crew.workers ≤ 64 }
-    requires turns { crew.turns ≤ 1000000000000 }
-    requires memory { crew.memory ≤ 1048576 }
-    ensures { IsCrowdPrinting net_bytes.now order_text.now result }
+    ensures { IsCrowdPrinting crew.entry.turns P.QUIET net_bytes.now order_text.now result }
 {
     let net = read_sm(alloc, net_bytes)?;
     print_order_by(rt, alloc, &net, order_text, &crew)
@@ -285,10 +284,8 @@ fn print_order_by<G: Gate + Sync, P: Stop + Sync, O: Observer, R: Threads + Wait
     order_text: &[u8],
     crew: &Crew<'_, G, P, O>,
 ) -> Result<(Printed, Effort), Refusal>
-    requires workers { crew.now.workers ≤ 64 }
-    requires turns { crew.now.turns ≤ 1000000000000 }
-    requires memory { crew.now.memory ≤ 1048576 }
-    ensures { (text : List ℕ) → IsReading text (Ok net.now) → IsCrowdPrinting text order_text.now result }
+    ensures { (text : List ℕ) → IsReading text (Ok net.now) →
+        IsCrowdPrinting crew.now.turns P.QUIET text order_text.now result }
 {
     let order = read_order(alloc, order_text, net.resource_count(), net.job_count())?;
     let task = Task {
@@ -309,14 +306,11 @@ fn print_plan_by<G: Gate + Sync, P: Stop + Sync, O: Observer, R: Threads + Wait 
     crew: &Crew<'_, G, P, O>,
 ) -> Result<(Printed, Effort), PlanStop>
     requires terms { AreTermsOf task.now.net.now task.now.order.now }
-    requires workers { crew.now.workers ≤ 64 }
-    requires turns { crew.now.turns ≤ 1000000000000 }
-    requires memory { crew.now.memory ≤ 1048576 }
     ensures answer { IfOk result (λ done. IsAnswerPrinted task.now.net.now task.now.order.now done.0.text.items
         done.0.status) }
-    ensures stop { IfErr result (IsCrowdStop task.now.net.now task.now.order.now) }
+    ensures stop { IfErr result (IsCrowdStop crew.now.turns P.QUIET task.now.net.now task.now.order.now) }
 {
-    let (answer, effort) = plan_by::<Brand, G, P, O, R>(rt, task, crew)?;
+    let (answer, effort) = plan_by::<Brand, Brand, G, P, O, R>(rt, task, crew)?;
     let printed = print_answer(task.alloc, task.order, &answer);
     // Dropped here once, not at each way out.
     drop(answer);
@@ -324,21 +318,20 @@ fn print_plan_by<G: Gate + Sync, P: Stop + Sync, O: Observer, R: Threads + Wait 
 }
 
 /// The plan of an order, or why there is none, made by workers, and how much work they did: by runs of a desk over one
-/// board of records. The network is the one that `N` names.
+/// board of records. The network is the one that `N` names, and the turns are those that `M` names.
 fn plan_by<
     N: OfNetwork + Send + Sync,
+    M: OfTurns,
     G: Gate + Sync,
     P: Stop + Sync,
     O: Observer,
     R: Threads + Wait + Sync,
 >(rt: &R, task: &Task, crew: &Crew<'_, G, P, O>) -> Result<(Answer, Effort), PlanStop>
     requires named { task.now.net.now ≡ N.network }
+    requires turns { crew.now.turns ≡ M.turns }
     requires terms { AreTermsOf task.now.net.now task.now.order.now }
-    requires workers { crew.now.workers ≤ 64 }
-    requires turns { crew.now.turns ≤ 1000000000000 }
-    requires memory { crew.now.memory ≤ 1048576 }
     ensures answer { IfOk result (λ done. IsAnswer task.now.net.now task.now.order.now done.0) }
-    ensures stop { IfErr result (IsCrowdStop task.now.net.now task.now.order.now) }
+    ensures stop { IfErr result (IsCrowdStop M.turns P.QUIET task.now.net.now task.now.order.now) }
 {
     let (alloc, net, order) = (task.alloc, task.net, task.order);
     crew.observer.hear_deadline(order.deadline);
@@ -348,7 +341,7 @@ fn plan_by<
     };
     let boards: Boards<N> = Boards::within(alloc, net, limit)?;
     let pricing = Pricing::new(net, order, crew.observer);
-    let mut crowd: Crowd<N, P, Pricing<'_, O>, _> = Crowd::new(
+    let mut crowd: Crowd<N, M, P, Pricing<'_, O>, _> = Crowd::new(
         crew.workers,
         crew.turns,
         pricing,
@@ -360,24 +353,24 @@ fn plan_by<
     plan_with(task, &mut crowd)
 }
 
-/// The same, by an asker with workers that was told nothing yet.
+/// The plan of an order, or why there is none, by an asker with workers, and how much work these did.
 fn plan_with<
     N: OfNetwork,
+    M: OfTurns,
     P: Stop,
     O: Observer + Drop,
     F: Fn(AnySeries, RunLimits) -> Result<Closed, DeskFault> + Drop,
->(task: &Task, crowd: &mut Crowd<N, P, O, F>) -> Result<(Answer, Effort), PlanStop>
+>(task: &Task, crowd: &mut Crowd<N, M, P, O, F>) -> Result<(Answer, Effort), PlanStop>
     requires named { task.now.net.now ≡ N.network }
     requires terms { AreTermsOf task.now.net.now task.now.order.now }
     requires run { RunsDesks N.network P.QUIET (F.pre crowd.old.run) (F.post crowd.old.run) }
     ensures answer { IfOk result (λ done. IsAnswer task.now.net.now task.now.order.now done.0) }
-    ensures stop { IfErr result (IsPlanStop (IsStoppedAt task.now.net.now task.now.order.now
-        (crowd.new.answered - crowd.old.answered) crowd.new.told)
-        ((crowd.new.left ≡ 0) ⊎ (P.QUIET ≡ false)) ⊤) }
+    ensures stop { IfErr result (IsCrowdStop M.turns P.QUIET task.now.net.now task.now.order.now) }
 {
-    let answer = plan(task.alloc, task.net, task.order, crowd)?;
-    let effort = crowd.effort();
-    Ok((answer, effort))
+    match plan(task.alloc, task.net, task.order, crowd) {
+        Ok(answer) => Ok((answer, crowd.effort())),
+        Err(stop) => Err(stop),
+    }
 }
 
 /// The status that belongs to an answer.
@@ -385,7 +378,7 @@ fn status_of(answer: &Answer) -> u8
     ensures { result ≡ answer_status answer.now }
 {
     match answer {
-        Answer::Plan(_) => PLANNED,
+        Answer::Plan(_) => DONE,
         Answer::Impossible { .. } | Answer::Due { .. } | Answer::Ceiling => IMPOSSIBLE,
     }
 }

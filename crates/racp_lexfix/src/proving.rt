@@ -14,6 +14,7 @@ use crate::alone::Alone;
 use crate::answer::{Answer, PlanStop};
 use crate::planning::Task;
 use crate::printed::{Printed, Refusal, print_answer};
+use crate::status::{CHECK_FAILED, DONE};
 use racp_bounds::Sharp;
 use racp_check::{Opening, opening_of};
 use racp_model::{Capacities, Network, OfNetwork, Window};
@@ -23,12 +24,6 @@ use racp_sm::read_sm;
 use racp_trees::certificate;
 use std::alloc::{AllocError, Global};
 use std::marker::Brand;
-
-/// The status of a certificate.
-const PROVED: u8 = 0;
-
-/// The status where none was made.
-const UNPROVED: u8 = 8;
 
 /// A certificate for the plan of the texts of a network and an order, made on the calling thread: a text that shows that
 /// no capacities before those of the plan are enough. Where there is no plan, the line that says why. Where the
@@ -71,7 +66,7 @@ fn prove_plan(task: &Task) -> Result<Printed, PlanStop>
     prove_and_keep(task, &mut sharp)
 }
 
-/// The same, which also keeps the sharpened floors, once they are known.
+/// A certificate for the plan of an order, or why there is none. The sharpened floors are kept, once they are known.
 fn prove_and_keep(task: &Task, sharp: &mut Option<Sharp>) -> Result<Printed, PlanStop>
     requires terms { AreTermsOf task.now.net.now task.now.order.now }
     ensures proof { IfOk result (λ printed. IsAnswerProved task.now.net.now task.now.order.now printed.text.items
@@ -127,13 +122,10 @@ fn print_certificate(task: &Task, plan: &Plan, sharp: &Option<Sharp>) -> Result<
     let Some(text) = certificate_of(task, plan.capacities.as_slice(), sharp)? else {
         return Ok(Printed {
             text: b"unproved\n".to_vec(task.alloc)?,
-            status: UNPROVED,
+            status: CHECK_FAILED,
         });
     };
-    Ok(Printed {
-        text,
-        status: PROVED,
-    })
+    Ok(Printed { text, status: DONE })
 }
 
 /// A certificate that no capacities before these are enough, or `None` where none was made.
@@ -153,7 +145,7 @@ fn certificate_of(
     certificate_within(task, &window, capacities, sharp)
 }
 
-/// The same, where there is a root window.
+/// A certificate that no capacities before these are enough, by the root window of the task. `None` where none is made.
 fn certificate_within(
     task: &Task,
     root: &Window,

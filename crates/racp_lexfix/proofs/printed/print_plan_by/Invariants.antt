@@ -1,4 +1,7 @@
 use Rattle.racp_lexfix.proofs.printed.print_plan_by.Given as goal
 
-abbrev pub ghosts-plan_by : goal.ghosts-plan_by
-ghosts-plan_by g a = record { network = a.task.now.net.now }
+abbrev pub ghosts-plan_by-N-OfNetwork : goal.ghosts-plan_by-N-OfNetwork
+ghosts-plan_by-N-OfNetwork g a = record { network = a.task.now.net.now }
+
+abbrev pub ghosts-plan_by-M-OfTurns : goal.ghosts-plan_by-M-OfTurns
+ghosts-plan_by-M-OfTurns g a = record { turns = a.crew.now.turns }
