@@ -13,7 +13,7 @@ use crate::step::{CurveAnswer, CurveStop};
 use racp_candidates::AnySeries;
 use racp_cutset::MemoryLimit;
 use racp_desk::{Boards, Closed, DeskFault, Gate, RunLimits};
-use racp_lexfix::{Crew, Crowd, Unheard};
+use racp_lexfix::{Crew, Crowd, OfTurns, Unheard};
 use racp_model::{Network, OfNetwork};
 use racp_prices::Order;
 use racp_search::Stop;
@@ -36,26 +36,23 @@ pub fn curve_crowd<G: Gate + Sync, P: Stop + Sync, R: Threads + Wait + Sync>(
     order: &Order,
     crew: Crew<'_, G, P, Unheard>,
 ) -> Result<CurveAnswer, CurveStop>
-    requires workers { crew.workers ≤ 64 }
-    requires turns { crew.turns ≤ 1000000000000 }
-    requires memory { crew.memory ≤ 1048576 }
     requires terms { AreTermsOf net.now order.now }
     ensures curve { IfOk result (IsCurveAnswer net.now order.now) }
     ensures stop { IfErr result (λ end. IsCurveStop net.now order.now ⊤ ⊤ end.steps.items end.stop) }
 {
-    curve_by::<Brand, G, P, R>(rt, &Ground { alloc, net, order }, crew)
+    curve_by::<Brand, Brand, G, P, R>(rt, &Ground { alloc, net, order }, crew)
 }
 
-/// The curve of an order, made by these workers, for the network that `N` names.
-fn curve_by<N: OfNetwork + Send + Sync, G: Gate + Sync, P: Stop + Sync, R: Threads + Wait + Sync>(
-    rt: &R,
-    ground: &Ground,
-    crew: Crew<'_, G, P, Unheard>,
-) -> Result<CurveAnswer, CurveStop>
+/// The curve of an order, made by these workers, for the network that `N` names, with the turns that `M` names.
+fn curve_by<
+    N: OfNetwork + Send + Sync,
+    M: OfTurns,
+    G: Gate + Sync,
+    P: Stop + Sync,
+    R: Threads + Wait + Sync,
+>(rt: &R, ground: &Ground, crew: Crew<'_, G, P, Unheard>) -> Result<CurveAnswer, CurveStop>
     requires named { ground.now.net.now ≡ N.network }
-    requires workers { crew.workers ≤ 64 }
-    requires turns { crew.turns ≤ 1000000000000 }
-    requires memory { crew.memory ≤ 1048576 }
+    requires named_turns { crew.turns ≡ M.turns }
     ensures curve { IfOk result (IsCurveAnswer ground.now.net.now ground.now.order.now) }
     ensures stop { IfErr result (λ end. IsCurveStop ground.now.net.now ground.now.order.now ⊤ ⊤ end.steps.items end.stop) }
 {
@@ -76,7 +73,7 @@ fn curve_by<N: OfNetwork + Send + Sync, G: Gate + Sync, P: Stop + Sync, R: Threa
         Ok(boards) => boards,
         Err(_) => return Err(out_of_memory(alloc)),
     };
-    let mut crowd: Crowd<N, P, Unheard, _> = Crowd::new(
+    let mut crowd: Crowd<N, M, P, Unheard, _> = Crowd::new(
         workers,
         turns,
         Unheard,

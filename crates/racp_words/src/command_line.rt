@@ -305,12 +305,14 @@ fn is_set(words: &ArgMatches<'_>, id: &str) -> bool
 /// The number that the word of an option writes, at most `most`; `otherwise` without a word. The option's rule refuses
 /// words that are no numbers from 1 to `most`.
 fn number_of(word: Option<&str>, most: u64, otherwise: u64) -> u64
-    requires { otherwise ≤ most }
+    requires some { 1 ≤ otherwise }
+    requires few { otherwise ≤ most }
     ensures number { IsNumberOf most otherwise (option_map (λ word. word.now) word.entry) result }
+    ensures some { 1 ≤ result }
     ensures few { result ≤ most }
 {
     match word {
-        Some(word) => word.parse().unwrap_or(otherwise).min(most),
+        Some(word) => word.parse().unwrap_or(otherwise).clamp(1, most),
         None => otherwise,
     }
 }

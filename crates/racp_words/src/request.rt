@@ -100,6 +100,7 @@ pub struct CrewOptions {
     pub stats: bool,
     /// Whether it is told from time to time how far planning has come.
     pub progress: bool,
+    pub ghost workers_some: { 1 ≤ workers },
     pub ghost workers_few: { workers ≤ 64 },
     pub ghost turns_few: { turns ≤ 1000000000000 },
 }
@@ -111,6 +112,7 @@ pub struct Workers {
     pub count: usize,
     /// How many pieces they take at most, 1 to 1,000,000,000,000; the most if no option says so.
     pub turns: u64,
+    pub ghost count_some: { 1 ≤ count },
     pub ghost count_few: { count ≤ 64 },
     pub ghost turns_few: { turns ≤ 1000000000000 },
 }

@@ -1,6 +1,6 @@
 //! What workers tell of one question.
 
-ghost use Rattle.std.specs.Prelude.{◌≡◌, false, IfOk};
+ghost use Rattle.std.specs.Prelude.{◌≡◌, min, false, IfOk};
 ghost use Rattle.racp_model.specs.Formed.{AreFormed, IsFormed};
 ghost use Rattle.racp_candidates.specs.AnySeries.{any_questions};
 ghost use Rattle.racp_desk.specs.Closing.{IsRunClosed};
@@ -9,7 +9,7 @@ use crate::desk::stops::AtCall;
 use racp_candidates::AnySeries;
 use racp_cutset::Board;
 use racp_desk::{Closed, DeskFault, Open, RunLimits, run};
-use racp_lexfix::{Crowd, Unheard};
+use racp_lexfix::{Crowd, OfTurns, Unheard};
 use racp_model::{Network, OfNetwork, Question};
 use racp_questions::{AskStop, Asker, Probe};
 use racp_samples::{SampleFault, crossed, question, root_window};
@@ -91,7 +91,7 @@ const ROWS: &[Row] = &[
 ];
 
 /// Whether two workers tell of a question what the row says, and took a turn if that is a yes or infeasible.
-fn tell<N: OfNetwork + Send + Sync, R: Threads + Wait + Sync>(
+fn tell<N: OfNetwork + Send + Sync, M: OfTurns, R: Threads + Wait + Sync>(
     rt: &R,
     alloc: Global,
     net: &Network,
@@ -100,11 +100,12 @@ fn tell<N: OfNetwork + Send + Sync, R: Threads + Wait + Sync>(
     row: &Row,
 ) -> bool
     requires named { net.now ≡ N.network }
+    requires named_turns { min row.now.turns 1000 ≡ M.turns }
     requires formed { IsFormed net.now question }
 {
     let turns = row.turns.min(1_000);
     let stop = &AtCall::each(row.stops);
-    let mut crowd: Crowd<N, AtCall, Unheard, _> = Crowd::new(
+    let mut crowd: Crowd<N, M, AtCall, Unheard, _> = Crowd::new(
         2,
         turns,
         Unheard,
@@ -148,7 +149,7 @@ fn holds<N: OfNetwork + Send + Sync, R: Threads + Wait + Sync>(
         return false;
     };
     let holds = match asked(alloc, net, row.second) {
-        Ok(question) => tell::<N, R>(rt, alloc, net, &board, question, row),
+        Ok(question) => tell::<N, Brand, R>(rt, alloc, net, &board, question, row),
         Err(_) => false,
     };
     drop(board);
