@@ -1,5 +1,5 @@
 -- The status of a plan, and that of a certificate, is that of an answer.
-use Rattle.std.proofs.Common.{ℕ, Bool, List, [], ◌∷◌, Option, Ok, Err, IfOk, inl, inr}
+use Rattle.std.proofs.Common.{ℕ, Bool, true, List, [], ◌∷◌, Option, Ok, Err, IfOk, inl, inr}
 use Rattle.std.specs.Prelude.{Result}
 use Rattle.racp_cli.specs.Plans.{IsPlanAnswer}
 use Rattle.racp_cli.specs.Proofs.{IsProofAnswer, IsProofRun}
@@ -17,7 +17,7 @@ use Rattle.racp.specs.Statuses.{IsStatusOfAnswer, IsStatusOfTool}
 on_one_thread : (inputs : List (List ℕ)) (status : ℕ) (text : List ℕ) → ToTwo IsPlanAnswer inputs status text → IsStatusOfAnswer status
 on_one_thread [] status text answer = absurd answer
 on_one_thread (net ∷ []) status text answer = absurd answer
-on_one_thread (net ∷ (order ∷ [])) status text answer = inr (inl (net, order, text, inl answer))
+on_one_thread (net ∷ (order ∷ [])) status text answer = inr (inl (0, true, net, order, text, inl answer))
 on_one_thread (net ∷ (order ∷ (other ∷ inputs))) status text answer = absurd answer
 
 pub planned_alone : (net order : Reader) (old new : Option (List ℕ)) (result : Result ℕ StreamFault) → IsPlanRun net order old new result → IfOk result IsStatusOfAnswer

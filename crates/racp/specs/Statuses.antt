@@ -46,7 +46,8 @@ IsStatusOfTool status =
 abbrev pub IsStatusOfAnswer : ℕ → Type 0
 IsStatusOfAnswer status =
     ((input : List ℕ) × (text : List ℕ) × IsCpmAnswer input status text) ⊎
-    ((net order : List ℕ) × (text : List ℕ) × IsCrowdAnswer net order status text) ⊎
+    ((turns : ℕ) × (quiet : Bool) × (net order : List ℕ) × (text : List ℕ) ×
+    IsCrowdAnswer turns quiet net order status text) ⊎
     ((net order plan : List ℕ) × (text : List ℕ) × IsCheckAnswer net order plan status text) ⊎
     ((net order : List ℕ) × (text : List ℕ) × IsProofAnswer net order status text) ⊎
     ((net order plan proof : List ℕ) × (text : List ℕ) × IsVerifyAnswer net order plan proof status text) ⊎

@@ -1,5 +1,5 @@
 -- From what planning prints or refuses to an answer to the texts.
-use Rattle.std.proofs.Common.{◌≡◌, ◌⊎◌, ℕ, List, length, Ok, Err, refl, sym, subst, inl, inr}
+use Rattle.std.proofs.Common.{◌≡◌, ◌⊎◌, ℕ, Bool, List, length, Ok, Err, refl, sym, subst, inl, inr}
 use Rattle.racp_model.specs.Project.{Project}
 use Rattle.racp_sm.specs.Reading.{IsReading, IsReadingOrMemory}
 use Rattle.racp_sm.specs.Faults.{SmFault}
@@ -34,22 +34,23 @@ line_refused net order (Order fault) status text right refused = inr (inl (order
 line_refused net order (Stop stop) status text is refused = absurd (subst (λ (s : PlanStop). IsRefusedLine (Stop s) status text) is refused)
 
 -- the line where workers give no answer: which text is refused, that they were stopped, or that one could not be started
-pub crowd_refused : (net order : List ℕ) (refusal : Refusal) (status : ℕ) (text : List ℕ) → IsRefusal (IsCrowdEnd net order) net order refusal → IsRefusedLine refusal status text →
-    IsCrowdAnswer net order status text
-crowd_refused net order (Sm fault) status text reading refused = inl (inr (inl (network_line net fault status text reading refused)))
-crowd_refused net order (Order fault) status text right refused = inl (inr (inr (inl (order_line net order right.0 fault status text right.1 right.2 refused))))
-crowd_refused net order (Stop (Stopped not_before)) status text (network, terms, are_terms, told) refused = inr (inl (record {
+pub crowd_refused : (turns : ℕ) (quiet : Bool) (net order : List ℕ) (refusal : Refusal) (status : ℕ) (text : List ℕ) → IsRefusal (IsCrowdEnd turns quiet net order) net order refusal → IsRefusedLine refusal status text →
+    IsCrowdAnswer turns quiet net order status text
+crowd_refused turns quiet net order (Sm fault) status text reading refused = inl (inr (inl (network_line net fault status text reading refused)))
+crowd_refused turns quiet net order (Order fault) status text right refused = inl (inr (inr (inl (order_line net order right.0 fault status text right.1 right.2 refused))))
+crowd_refused turns quiet net order (Stop (Stopped not_before)) status text (network, terms, are_terms, told) refused = inr (inl (record {
   network = network;
   terms = terms;
   not_before = not_before;
   are_terms = are_terms;
-  none = told.0;
-  floors = told.1;
+  may_stop = told.0;
+  none = told.1;
+  floors = told.2;
   with_status = sym refused.0;
   with_text = sym refused.1;
 }))
-crowd_refused net order (Stop Memory) status text is refused = absurd refused
-crowd_refused net order (Stop NoThread) status text is refused = inr (inr (sym refused.0, sym refused.1))
+crowd_refused turns quiet net order (Stop Memory) status text is refused = absurd refused
+crowd_refused turns quiet net order (Stop NoThread) status text is refused = inr (inr (sym refused.0, sym refused.1))
 
 -- the answer where memory ran out
 pub plan_memory : (net order : List ℕ) → IsPlanAnswer net order 6 memory_line

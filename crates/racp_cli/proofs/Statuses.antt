@@ -1,5 +1,5 @@
 -- The text that `plan` writes tells its status, by its first letter.
-use Rattle.std.proofs.Common.{◌≡◌, ◌==◌, inl, inr, ℕ, List, get_or, if◌then◌else◌, refl, sym, ap, ◌∙◌}
+use Rattle.std.proofs.Common.{◌≡◌, ◌==◌, inl, inr, ℕ, Bool, List, get_or, if◌then◌else◌, refl, sym, ap, ◌∙◌}
 use Rattle.racp_plan.specs.Texts.{line, deadline_line, plan_text}
 use Rattle.racp_lexfix.specs.Texts.{impossible_line, due_line, ceiling_line, answer_text, answer_status}
 use Rattle.racp_lexfix.specs.declared.answer.Answer.{Answer}
@@ -56,8 +56,8 @@ told net order text status h = elim h [
   ]
 ]
 
-told_by_all : (net order text : List ℕ) (status : ℕ) → IsCrowdAnswer net order status text → status_by text ≡ status
-told_by_all net order text status h = elim h [
+told_by_all : (turns : ℕ) (quiet : Bool) (net order text : List ℕ) (status : ℕ) → IsCrowdAnswer turns quiet net order status text → status_by text ≡ status
+told_by_all turns quiet net order text status h = elim h [
   | inl p ↦ told net order text status p
   | inr later ↦ elim later [
     | inl p ↦ ap status_by p.with_text ∙ stopped_tells p.not_before ∙ sym p.with_status
@@ -66,5 +66,5 @@ told_by_all net order text status h = elim h [
 ]
 
 -- one text has one status
-pub same_status : (net order other_net other_order text : List ℕ) (a b : ℕ) → IsCrowdAnswer net order a text → IsCrowdAnswer other_net other_order b text → a ≡ b
-same_status net order other_net other_order text a b first second = sym (told_by_all net order text a first) ∙ told_by_all other_net other_order text b second
+pub same_status : (turns other_turns : ℕ) (quiet other_quiet : Bool) (net order other_net other_order text : List ℕ) (a b : ℕ) → IsCrowdAnswer turns quiet net order a text → IsCrowdAnswer other_turns other_quiet other_net other_order b text → a ≡ b
+same_status turns other_turns quiet other_quiet net order other_net other_order text a b first second = sym (told_by_all turns quiet net order text a first) ∙ told_by_all other_turns other_quiet other_net other_order text b second

@@ -1,5 +1,5 @@
 -- Laws of the texts. Each is the contract of a public function.
-use Rattle.std.specs.Prelude.{◌≡◌, ℕ, ◌^◌, ◌<◌, List, All}
+use Rattle.std.specs.Prelude.{◌≡◌, ℕ, ◌^◌, ◌<◌, Bool, List, All}
 use Rattle.racp_cli.specs.Answers.{CpmOutcome, Early, Refused, OutOfMemory, cpm_text}
 use Rattle.racp_cli.specs.Crowds.{IsCrowdAnswer}
 
@@ -16,5 +16,6 @@ OneTextOneAnswer = (a b : CpmOutcome) → IsWithin64Bits a → IsWithin64Bits b 
 -- no text that `plan` writes, on one thread or by workers, goes with two statuses
 abbrev pub OneTextOneStatus : Type 0
 OneTextOneStatus =
-    (net order other_net other_order text : List ℕ) (a b : ℕ) → IsCrowdAnswer net order a text →
-    IsCrowdAnswer other_net other_order b text → a ≡ b
+    (turns other_turns : ℕ) (quiet other_quiet : Bool) (net order other_net other_order text : List ℕ) (a b : ℕ) →
+    IsCrowdAnswer turns quiet net order a text → IsCrowdAnswer other_turns other_quiet other_net other_order b text →
+    a ≡ b

@@ -1,6 +1,6 @@
 //! `plan` by workers: the plan of a network on the terms of an order, made on threads of their own.
 
-ghost use Rattle.std.specs.Prelude.{ℕ, ◌≤◌, List, IfOk};
+ghost use Rattle.std.specs.Prelude.{ℕ, ◌≤◌, Bool, List, IfOk};
 ghost use Rattle.racp_lexfix.specs.Printing.{IsCrowdPrinting};
 ghost use Rattle.racp_cli.specs.Crowds.{IsCrowdAnswer, IsCrowdRun, IsEffortOf};
 ghost use Rattle.racp_cli.specs.Responses.{IsMade};
@@ -47,9 +47,10 @@ pub fn crowd_over<
     gate: &G,
     stop: &P,
 ) -> Result<(u8, Option<Effort>), StreamFault>
+    requires some_workers { 1 ≤ workers }
     requires workers { workers ≤ 64 }
     requires turns { turns ≤ 1000000000000 }
-    ensures run { IsCrowdRun (record { unread = N.remaining net.old; left = N.remaining net.new })
+    ensures run { IsCrowdRun turns P.QUIET (record { unread = N.remaining net.old; left = N.remaining net.new })
         (record { unread = O.remaining order.old; left = O.remaining order.new })
         (W.contents out.old) (W.contents out.new) result }
     ensures effort { IfOk result (λ done. IsEffortOf done.0 done.1) }
@@ -93,10 +94,7 @@ pub fn crowd_over_by<
     order: &mut O,
     out: &mut W,
 ) -> Result<(u8, Option<Effort>), StreamFault>
-    requires workers { crew.workers ≤ 64 }
-    requires turns { crew.turns ≤ 1000000000000 }
-    requires memory { crew.memory ≤ 1048576 }
-    ensures run { IsCrowdRun (record { unread = N.remaining net.old; left = N.remaining net.new })
+    ensures run { IsCrowdRun crew.entry.turns P.QUIET (record { unread = N.remaining net.old; left = N.remaining net.new })
         (record { unread = O.remaining order.old; left = O.remaining order.new })
         (W.contents out.old) (W.contents out.new) result }
     ensures effort { IfOk result (λ done. IsEffortOf done.0 done.1) }
@@ -114,9 +112,10 @@ fn answer(
     alloc: Global,
     planned: Result<(Printed, Effort), Refusal>,
 ) -> (Result<(u8, Vec<u8>), AllocError>, Option<Effort>)
-    ensures right { (net order : List ℕ) → IsCrowdPrinting net order planned →
-        IfOk result.0 (λ answer. IsCrowdAnswer net order answer.0 answer.1.items) }
-    ensures effort { (net order text : List ℕ) (status : ℕ) → IsCrowdPrinting net order planned →
+    ensures right { (turns : ℕ) (quiet : Bool) (net order : List ℕ) → IsCrowdPrinting turns quiet net order planned →
+        IfOk result.0 (λ answer. IsCrowdAnswer turns quiet net order answer.0 answer.1.items) }
+    ensures effort { (turns : ℕ) (quiet : Bool) (net order text : List ℕ) (status : ℕ) →
+        IsCrowdPrinting turns quiet net order planned →
         IsMade result.0 status text → IsEffortOf status result.1 }
 {
     match planned {

@@ -1,10 +1,6 @@
 //! The statuses with which the program ends.
 
-/// An answer was written.
-pub const DONE: u8 = 0;
-
-/// There is no plan.
-pub const IMPOSSIBLE: u8 = 3;
+pub use racp_lexfix::status::{CHECK_FAILED, DONE, IMPOSSIBLE};
 
 /// Planning was stopped.
 pub const STOPPED: u8 = 4;
@@ -17,6 +13,3 @@ pub const OUT_OF_MEMORY: u8 = 6;
 
 /// The input could not be read, the answer could not be written, or a thread could not be started.
 pub const STREAM_FAILED: u8 = 7;
-
-/// The plan that was checked has a fault.
-pub const CHECK_FAILED: u8 = 8;

@@ -14,12 +14,14 @@ returns-in_err-status-clause-run g c =
     let first : Reader = record { unread = g.N.Read.remaining c.args.net.now; left = g.N.Read.remaining c.read_whole.new.reader } in
     let second : Reader = record { unread = g.O.Read.remaining c.args.order.now; left = g.O.Read.remaining c.read_whole-2.new.reader } in
     let are : AreInputs (first ∷ (second ∷ [])) (net ∷ (order ∷ [])) = (c.in_ok-net.ensures, (c.in_ok-order.ensures, tt)) in
-    let planned : IsCrowdPrinting net order c.plan_crowd_by-planned.result = rw (← c.deref.ensures.value, ← c.deref-2.ensures.value) c.plan_crowd_by-planned.ensures in
+    let turns = c.args.crew.turns in
+    let quiet = g.P.Stop.QUIET in
+    let planned : IsCrowdPrinting turns quiet net order c.plan_crowd_by-planned.result = rw (← c.deref.ensures.value, ← c.deref-2.ensures.value) c.plan_crowd_by-planned.ensures in
     let p = err_from_is_err_and c.from_residual-in_err-status.result c.from_residual-in_err-status.ensures.1 in
     rw (p.1, p.2)
-    (run_answered (ToTwo IsCrowdAnswer) (first ∷ (second ∷ [])) (net ∷ (order ∷ [])) _ _ (Err c.in_err-status.field-0.0) are
-    (answered_as _ (IsCrowdAnswer net order) _ _ (Err c.in_err-status.field-0.0)
-    (made_right (IsCrowdAnswer net order) c.answer-answer.result.0 (c.answer-answer.ensures.right net order planned) (inl (plan_memory net order))) c.in_err-status.ensures))
+    (run_answered (ToTwo (IsCrowdAnswer turns quiet)) (first ∷ (second ∷ [])) (net ∷ (order ∷ [])) _ _ (Err c.in_err-status.field-0.0) are
+    (answered_as _ (IsCrowdAnswer turns quiet net order) _ _ (Err c.in_err-status.field-0.0)
+    (made_right (IsCrowdAnswer turns quiet net order) c.answer-answer.result.0 (c.answer-answer.ensures.right turns quiet net order planned) (inl (plan_memory net order))) c.in_err-status.ensures))
 
 pub returns-clause-run : goal.returns-clause-run
 returns-clause-run g c =
@@ -28,14 +30,18 @@ returns-clause-run g c =
     let first : Reader = record { unread = g.N.Read.remaining c.args.net.now; left = g.N.Read.remaining c.read_whole.new.reader } in
     let second : Reader = record { unread = g.O.Read.remaining c.args.order.now; left = g.O.Read.remaining c.read_whole-2.new.reader } in
     let are : AreInputs (first ∷ (second ∷ [])) (net ∷ (order ∷ [])) = (c.in_ok-net.ensures, (c.in_ok-order.ensures, tt)) in
-    let planned : IsCrowdPrinting net order c.plan_crowd_by-planned.result = rw (← c.deref.ensures.value, ← c.deref-2.ensures.value) c.plan_crowd_by-planned.ensures in
-    run_answered (ToTwo IsCrowdAnswer) (first ∷ (second ∷ [])) (net ∷ (order ∷ [])) _ _ (Ok c.in_ok-status.status) are
-    (answered_as _ (IsCrowdAnswer net order) _ _ (Ok c.in_ok-status.status)
-    (made_right (IsCrowdAnswer net order) c.answer-answer.result.0 (c.answer-answer.ensures.right net order planned) (inl (plan_memory net order))) c.in_ok-status.ensures)
+    let turns = c.args.crew.turns in
+    let quiet = g.P.Stop.QUIET in
+    let planned : IsCrowdPrinting turns quiet net order c.plan_crowd_by-planned.result = rw (← c.deref.ensures.value, ← c.deref-2.ensures.value) c.plan_crowd_by-planned.ensures in
+    run_answered (ToTwo (IsCrowdAnswer turns quiet)) (first ∷ (second ∷ [])) (net ∷ (order ∷ [])) _ _ (Ok c.in_ok-status.status) are
+    (answered_as _ (IsCrowdAnswer turns quiet net order) _ _ (Ok c.in_ok-status.status)
+    (made_right (IsCrowdAnswer turns quiet net order) c.answer-answer.result.0 (c.answer-answer.ensures.right turns quiet net order planned) (inl (plan_memory net order))) c.in_ok-status.ensures)
 
 pub returns-clause-effort : goal.returns-clause-effort
 returns-clause-effort g c =
     let net = c.in_ok-net.net.items in
     let order = c.in_ok-order.order.items in
-    let planned : IsCrowdPrinting net order c.plan_crowd_by-planned.result = rw (← c.deref.ensures.value, ← c.deref-2.ensures.value) c.plan_crowd_by-planned.ensures in
-    c.answer-answer.ensures.effort net order c.in_ok-status.ensures.0 c.in_ok-status.status planned c.in_ok-status.ensures.1
+    let turns = c.args.crew.turns in
+    let quiet = g.P.Stop.QUIET in
+    let planned : IsCrowdPrinting turns quiet net order c.plan_crowd_by-planned.result = rw (← c.deref.ensures.value, ← c.deref-2.ensures.value) c.plan_crowd_by-planned.ensures in
+    c.answer-answer.ensures.effort turns quiet net order c.in_ok-status.ensures.0 c.in_ok-status.status planned c.in_ok-status.ensures.1
