@@ -11,9 +11,9 @@ use Rattle.racp_cli.specs.CurveAnswers.{IsToldByCrowd}
 use Rattle.racp_cli.specs.Responses.{IsEndedText}
 
 -- what is written of steps so far, and why there are no more
-pub ended_told : (is_drawn : Bool) (network : Project) (terms : Terms) (steps : List Step) (stop : PlanStop) (status : ℕ) (text : List ℕ) → IsCurveStop network terms ⊤ ⊤ steps stop → IsEndedText is_drawn steps stop status text →
+pub ended_told : (is_drawn : Bool) (network : Project) (terms : Terms) (steps : List Step) (stop : PlanStop) (status : ℕ) (text : List ℕ) (may_stop : Type 0) → IsCurveStop network terms may_stop ⊤ steps stop → IsEndedText is_drawn steps stop status text →
     IsToldByCrowd is_drawn network terms status text
-ended_told is_drawn network terms steps (Stopped not_before) status text ended told = inr (inl (record {
+ended_told is_drawn network terms steps (Stopped not_before) status text may_stop ended told = inr (inl (record {
   steps = steps;
   not_before = not_before;
   are_steps = ended.are_steps;
@@ -21,5 +21,5 @@ ended_told is_drawn network terms steps (Stopped not_before) status text ended t
   with_text = sym told.1;
   with_status = sym told.0;
 }))
-ended_told is_drawn network terms steps Memory status text ended told = absurd told
-ended_told is_drawn network terms steps NoThread status text ended told = inr (inr (sym told.0, sym told.1))
+ended_told is_drawn network terms steps Memory status text may_stop ended told = absurd told
+ended_told is_drawn network terms steps NoThread status text may_stop ended told = inr (inr (sym told.0, sym told.1))

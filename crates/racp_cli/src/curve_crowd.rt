@@ -1,7 +1,8 @@
 //! `curve` by workers: what each deadline up to that of an order costs, by plans that are made on threads of their own.
 
-ghost use Rattle.std.specs.Prelude.{◌≡◌, ◌≤◌, IfErr, IfOk, ⊤};
+ghost use Rattle.std.specs.Prelude.{◌≡◌, ℕ, ◌≤◌, Bool, IfErr, IfOk, ⊤};
 ghost use Rattle.racp_model.specs.Project.{Project};
+ghost use Rattle.racp_lexfix.specs.Crowds.{MayStop};
 ghost use Rattle.racp_curve.specs.Curves.{IsCurveAnswer as IsAnswerOfCurve, IsCurveStop};
 ghost use Rattle.racp_cli.specs.CurveAnswers.{IsCurveCrowdAnswer, IsCurveCrowdRun, IsToldByCrowd, stopped_text};
 ghost use Rattle.racp_cli.specs.Responses.{IsEndedText};
@@ -93,8 +94,8 @@ fn told(
     curve: Result<CurveAnswer, CurveStop>,
     is_drawn: bool,
 ) -> Result<(u8, Vec<u8>), AllocError>
-    ensures { (network : Project) → IfOk curve (IsAnswerOfCurve network order.now) →
-        IfErr curve (λ end. IsCurveStop network order.now ⊤ ⊤ end.steps.items end.stop) →
+    ensures { (network : Project) (turns : ℕ) (quiet : Bool) → IfOk curve (IsAnswerOfCurve network order.now) →
+        IfErr curve (λ end. IsCurveStop network order.now (MayStop network quiet turns) ⊤ end.steps.items end.stop) →
         IfOk result (λ answer. IsToldByCrowd is_drawn network order.now answer.0 answer.1.items) }
 {
     match curve {

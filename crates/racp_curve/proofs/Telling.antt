@@ -1,5 +1,5 @@
 -- Why a curve is known in part alone, and what a curve tells.
-use Rattle.std.proofs.Common.{◌≡◌, ℕ, ◌+◌, ◌≤◌, List, [], ◌∷◌, Option, refl, sym, subst, arith, inl, inr, ◌⊎◌}
+use Rattle.std.proofs.Common.{◌≡◌, ℕ, ◌+◌, ◌≤◌, Bool, false, List, [], ◌∷◌, Option, refl, sym, subst, arith, inl, inr, ◌⊎◌}
 use Rattle.std.specs.Prelude.{⊤}
 use Rattle.std.specs.List.{Contains}
 use Rattle.std.proofs.lemmas.Bool.{cases_lt}
@@ -8,6 +8,7 @@ use Rattle.racp_model.specs.Plan.{NoneIsEnough}
 use Rattle.racp_model.specs.Terms.{Terms}
 use Rattle.racp_model.proofs.lemmas.Relations.{member_first, member_later}
 use Rattle.racp_lexfix.specs.Answers.{IsStoppedAt, IsPlanStop}
+use Rattle.racp_lexfix.specs.Crowds.{HaveTaken, MayStop}
 use Rattle.racp_lexfix.specs.declared.answer.PlanStop.{PlanStop}
 use Rattle.racp_lexfix.specs.declared.answer.PlanStop.TheVariants.{Stopped, Memory, NoThread}
 use Rattle.racp_curve.specs.declared.step.Step.{Step}
@@ -39,16 +40,22 @@ memory_alone IsTold (Stopped not_before) h = absurd h.0
 memory_alone IsTold Memory h = refl
 memory_alone IsTold NoThread h = absurd h
 
--- an asker that may stop, and want a thread
-any_reason : (IsTold : List ℕ → Type 0) (may_stop may_want_thread : Type 0) (stop : PlanStop) → IsPlanStop IsTold may_stop may_want_thread stop → IsPlanStop IsTold ⊤ ⊤ stop
-any_reason IsTold may_stop may_want_thread (Stopped not_before) h = (tt, h.1)
-any_reason IsTold may_stop may_want_thread Memory h = tt
-any_reason IsTold may_stop may_want_thread NoThread h = tt
+-- workers stop where no turn is left, so that runs of desks took all, or where their stop is not quiet
+all_taken : (p : Project) (quiet : Bool) (left pieces turns : ℕ) → HaveTaken p quiet pieces → left + pieces ≡ turns → (left ≡ 0) ⊎ (quiet ≡ false) → MayStop p quiet turns
+all_taken p quiet left pieces turns taken sum (inl none) = inl (let all : pieces ≡ turns = omega (arith, none, sum) in subst (HaveTaken p quiet) all taken)
+all_taken p quiet left pieces turns taken sum (inr asks) = inr asks
 
-pub for_any_reason : (p : Project) (terms : Terms) (may_stop may_want_thread : Type 0) (steps : List Step) (stop : PlanStop) → IsCurveStop p terms may_stop may_want_thread steps stop → IsCurveStop p terms ⊤ ⊤ steps stop
-for_any_reason p terms may_stop may_want_thread steps stop h = record {
+crowd_reason : (IsTold : List ℕ → Type 0) (p : Project) (quiet : Bool) (left pieces turns : ℕ) (stop : PlanStop) → HaveTaken p quiet pieces → left + pieces ≡ turns → IsPlanStop IsTold ((left ≡ 0) ⊎ (quiet ≡ false)) ⊤ stop →
+    IsPlanStop IsTold (MayStop p quiet turns) ⊤ stop
+crowd_reason IsTold p quiet left pieces turns (Stopped not_before) taken sum h = (all_taken p quiet left pieces turns taken sum h.0, h.1)
+crowd_reason IsTold p quiet left pieces turns Memory taken sum h = tt
+crowd_reason IsTold p quiet left pieces turns NoThread taken sum h = tt
+
+pub crowd_stop : (p : Project) (terms : Terms) (quiet : Bool) (left pieces turns : ℕ) (steps : List Step) (stop : PlanStop) → HaveTaken p quiet pieces → left + pieces ≡ turns → IsCurveStop p terms ((left ≡ 0) ⊎ (quiet ≡ false)) ⊤ steps stop →
+    IsCurveStop p terms (MayStop p quiet turns) ⊤ steps stop
+crowd_stop p terms quiet left pieces turns steps stop taken sum h = record {
   are_steps = h.are_steps;
-  reason = any_reason (AreNotAfterEnough p terms (first_deadline (terms.deadline + 1) steps)) may_stop may_want_thread stop h.reason;
+  reason = crowd_reason (AreNotAfterEnough p terms (first_deadline (terms.deadline + 1) steps)) p quiet left pieces turns stop taken sum h.reason;
 }
 
 -- of each deadline from the first step on, up to the order's, a step tells the plan's capacities

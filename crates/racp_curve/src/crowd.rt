@@ -5,6 +5,7 @@ ghost use Rattle.racp_model.specs.Formed.{AreFormed};
 ghost use Rattle.racp_model.specs.Terms.{AreTermsOf};
 ghost use Rattle.racp_candidates.specs.AnySeries.{any_questions};
 ghost use Rattle.racp_desk.specs.Closing.{IsRunClosed};
+ghost use Rattle.racp_lexfix.specs.Crowds.{MayStop};
 ghost use Rattle.racp_curve.specs.Curves.{IsCurveAnswer, IsCurveStop};
 
 use crate::following::{curve, out_of_memory};
@@ -38,7 +39,8 @@ pub fn curve_crowd<G: Gate + Sync, P: Stop + Sync, R: Threads + Wait + Sync>(
 ) -> Result<CurveAnswer, CurveStop>
     requires terms { AreTermsOf net.now order.now }
     ensures curve { IfOk result (IsCurveAnswer net.now order.now) }
-    ensures stop { IfErr result (λ end. IsCurveStop net.now order.now ⊤ ⊤ end.steps.items end.stop) }
+    ensures stop { IfErr result (λ end. IsCurveStop net.now order.now (MayStop net.now P.QUIET crew.entry.turns) ⊤
+        end.steps.items end.stop) }
 {
     curve_by::<Brand, Brand, G, P, R>(rt, &Ground { alloc, net, order }, crew)
 }
@@ -54,7 +56,8 @@ fn curve_by<
     requires named { ground.now.net.now ≡ N.network }
     requires named_turns { crew.turns ≡ M.turns }
     ensures curve { IfOk result (IsCurveAnswer ground.now.net.now ground.now.order.now) }
-    ensures stop { IfErr result (λ end. IsCurveStop ground.now.net.now ground.now.order.now ⊤ ⊤ end.steps.items end.stop) }
+    ensures stop { IfErr result (λ end. IsCurveStop ground.now.net.now ground.now.order.now
+        (MayStop ground.now.net.now P.QUIET M.turns) ⊤ end.steps.items end.stop) }
 {
     let Ground { alloc, net, order } = *ground;
     let Crew {

@@ -1,12 +1,18 @@
-use Rattle.std.proofs.Common.{◌≡◌, ◌⊎◌, false}
+use Rattle.std.proofs.Common.{◌≡◌, ◌⊎◌, false, sym, subst}
 use Rattle.std.specs.Prelude.{⊤}
 use Rattle.std.proofs.lemmas.Result.{IfErr-weaker}
+use Rattle.racp_model.specs.Project.{Project}
+use Rattle.racp_lexfix.specs.Crowds.{HaveTaken, MayStop}
 use Rattle.racp_curve.specs.Curves.{IsCurveStop}
-use Rattle.racp_curve.proofs.Telling.{for_any_reason}
+use Rattle.racp_curve.proofs.Telling.{crowd_stop}
 use Rattle.racp_curve.proofs.crowd.curve_by.Goals as goal
 
 pub returns-clause-stop : goal.returns-clause-stop
 returns-clause-stop g c =
-    let may_stop = (c.curve.new.asker.left ≡ 0) ⊎ (g.P.Stop.QUIET ≡ false) in
-    IfErr-weaker c.curve.result (λ end. IsCurveStop c.args.ground.now.net.now c.args.ground.now.order.now may_stop ⊤ end.steps.items end.stop) (λ end. IsCurveStop c.args.ground.now.net.now c.args.ground.now.order.now ⊤ ⊤ end.steps.items end.stop)
-    (λ end h. for_any_reason c.args.ground.now.net.now c.args.ground.now.order.now may_stop ⊤ end.steps.items end.stop h) c.curve.ensures.stop
+    let p = c.args.ground.now.net.now in
+    let terms = c.args.ground.now.order.now in
+    let quiet = g.P.Stop.QUIET in
+    let turns = g.M.OfTurns.turns in
+    let crowd = c.curve.new.asker in
+    IfErr-weaker c.curve.result (λ end. IsCurveStop p terms ((crowd.left ≡ 0) ⊎ (quiet ≡ false)) ⊤ end.steps.items end.stop) (λ end. IsCurveStop p terms (MayStop p quiet turns) ⊤ end.steps.items end.stop)
+    (λ end h. crowd_stop p terms quiet crowd.left crowd.pieces turns end.steps.items end.stop (subst (λ (q : Project). HaveTaken q quiet crowd.pieces) (sym c.requires.named) crowd.taken) crowd.counted h) c.curve.ensures.stop
