@@ -16,7 +16,7 @@
 //!
 //! `check_proof(alloc, &net, &order, &plan, bytes)` tells whether a text is a certificate that no capacities before the
 //! plan's are enough. racp_trees has what a certificate is and reads it; here its blocks get the root window of the
-//! order and the roofs, cut to the ceilings.
+//! order and the roofs, cut to the ceilings. `check_proof_until` can be stopped.
 //!
 //! `opening_of(alloc, &net, &order)` is where planning and each check of a plan's leastness begin: the critical length
 //! and the root window, or why no starts are in time.
@@ -39,5 +39,5 @@ mod proof;
 pub use check::check_plan;
 pub use opening::{Opening, opening_of};
 pub use plan_fault::PlanFault;
-pub use proof::check_proof;
+pub use proof::{check_proof, check_proof_until};
 pub use racp_plan::{Plan, TextFault, TextFaultKind, lines, read_plan, write_plan};
