@@ -1,10 +1,10 @@
 -- The status of a plan, and that of a certificate, is that of an answer.
-use Rattle.std.proofs.Common.{ℕ, Bool, true, List, [], ◌∷◌, Option, Ok, Err, IfOk, inl, inr}
+use Rattle.std.proofs.Common.{ℕ, Bool, true, false, List, [], ◌∷◌, Option, Ok, Err, IfOk, inl, inr}
 use Rattle.std.specs.Prelude.{Result}
 use Rattle.racp_cli.specs.Plans.{IsPlanAnswer}
 use Rattle.racp_cli.specs.Proofs.{IsProofAnswer, IsProofRun}
-use Rattle.racp_cli.specs.Verifies.{IsVerifyAnswer}
-use Rattle.racp_cli.specs.Streams.{Reader, ToOne, ToTwo, ToFour, IsPlanRun, IsVerifyRun}
+use Rattle.racp_cli.specs.Verifies.{IsVerifyAnswerUntil}
+use Rattle.racp_cli.specs.Streams.{Reader, ToOne, ToTwo, ToFour, IsPlanRun, IsVerifyRunUntil}
 use Rattle.racp_cli.specs.declared.fault.StreamFault.{StreamFault}
 use Rattle.racp_cli.specs.CurveAnswers.{IsCurveAnswer, IsCurveCrowdAnswer, IsCurveCrowdRun, IsCurveRun}
 use Rattle.racp_cli.specs.OrderAnswers.{IsOrderAnswer, IsOrderRun}
@@ -36,7 +36,7 @@ proved_alone net order old new (Ok status) run = with_certificate run.0 status r
 proved_alone net order old new (Err fault) run = tt
 
 -- what is answered to a certificate
-of_certificate : (inputs : List (List ℕ)) (status : ℕ) (text : List ℕ) → ToFour IsVerifyAnswer inputs status text → IsStatusOfAnswer status
+of_certificate : (inputs : List (List ℕ)) (status : ℕ) (text : List ℕ) → ToFour (IsVerifyAnswerUntil false) inputs status text → IsStatusOfAnswer status
 of_certificate [] status text answer = absurd answer
 of_certificate (net ∷ []) status text answer = absurd answer
 of_certificate (net ∷ (order ∷ [])) status text answer = absurd answer
@@ -44,7 +44,7 @@ of_certificate (net ∷ (order ∷ (plan ∷ []))) status text answer = absurd a
 of_certificate (net ∷ (order ∷ (plan ∷ (proof ∷ [])))) status text answer = inr (inr (inr (inr (inl (net, order, plan, proof, text, answer)))))
 of_certificate (net ∷ (order ∷ (plan ∷ (proof ∷ (other ∷ inputs))))) status text answer = absurd answer
 
-pub verified : (net order plan proof : Reader) (old new : Option (List ℕ)) (result : Result ℕ StreamFault) → IsVerifyRun net order plan proof old new result → IfOk result IsStatusOfAnswer
+pub verified : (net order plan proof : Reader) (old new : Option (List ℕ)) (result : Result ℕ StreamFault) → IsVerifyRunUntil false net order plan proof old new result → IfOk result IsStatusOfAnswer
 verified net order plan proof old new (Ok status) run = of_certificate run.0 status run.2.0 run.2.1
 verified net order plan proof old new (Err fault) run = tt
 

@@ -1,5 +1,5 @@
 -- The status that tells why no answer is written.
-use Rattle.std.specs.Prelude.{◌≡◌, ◌⊎◌, ℕ, Bool, List}
+use Rattle.std.specs.Prelude.{◌≡◌, ◌⊎◌, ℕ, Bool, false, List}
 use Rattle.clap.specs.Words.{kind_of}
 use Rattle.clap.specs.declared.error.kind.ErrorKind.{ErrorKind}
 use Rattle.clap.specs.declared.error.kind.ErrorKind.TheVariants.{DisplayHelp, DisplayVersion, OutOfMemory}
@@ -12,7 +12,7 @@ use Rattle.racp_cli.specs.ShowAnswers.{IsShowAnswer}
 use Rattle.racp_cli.specs.declared.order.Asked.{Asked}
 use Rattle.racp_cli.specs.declared.show.Look.{Look}
 use Rattle.racp_cli.specs.Proofs.{IsProofAnswer}
-use Rattle.racp_cli.specs.Verifies.{IsVerifyAnswer}
+use Rattle.racp_cli.specs.Verifies.{IsVerifyAnswerUntil}
 use Rattle.racp_cli.specs.Streams.{fault_status}
 use Rattle.racp_cli.specs.declared.fault.StreamFault.TheVariants as stream
 use Rattle.racp.specs.declared.failure.Failure.{Failure}
@@ -50,7 +50,7 @@ IsStatusOfAnswer status =
     IsCrowdAnswer turns quiet net order status text) ⊎
     ((net order plan : List ℕ) × (text : List ℕ) × IsCheckAnswer net order plan status text) ⊎
     ((net order : List ℕ) × (text : List ℕ) × IsProofAnswer net order status text) ⊎
-    ((net order plan proof : List ℕ) × (text : List ℕ) × IsVerifyAnswer net order plan proof status text) ⊎
+    ((net order plan proof : List ℕ) × (text : List ℕ) × IsVerifyAnswerUntil false net order plan proof status text) ⊎
     IsStatusOfTool status
 
 -- some answer, or some reason why there is none, has this status

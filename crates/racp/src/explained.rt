@@ -5,11 +5,11 @@ ghost use Rattle.racp.specs.Statuses.{IsStatusOfAnswer};
 
 use crate::failure::Failure;
 use crate::inputs::{opened, told, whole};
-use crate::run::{Making, check_of, cpm_of, plain, plan_of, verify_of};
+use crate::run::{Making, Verifying, check_of, cpm_of, plain, plan_of, verify_of};
 use crate::shown::Shown;
 use racp_cli::{CHECK_FAILED, IMPOSSIBLE, REFUSED, StreamFault};
 use racp_explain::{Input as Text, network_cause, order_cause, plan_cause, proof_cause};
-use racp_words::{OrderFiles, PlanFiles, ProofFiles, Request, Source};
+use racp_words::{OrderFiles, PlanFiles, Request, Source};
 use std::alloc::{AllocError, Global};
 use std::io::Read;
 use std::rt::Files;
@@ -30,7 +30,7 @@ pub(crate) fn explained<
             plan(rt, files, Making::of(memory, crew, on_terminal))
         }
         Request::Check(files) => check(rt, files),
-        Request::Verify(files) => verify(rt, files),
+        Request::Verify(files, limit) => verify(rt, Verifying { files, limit }),
         other => plain(rt, other, on_terminal),
     };
     match answered {
@@ -198,37 +198,37 @@ fn check_told<R: Print + Eprint + AllocGlobal>(
 }
 
 /// Whether the plan in these files is right, and the certificate proves it.
-fn verify<R: Files + Print + Eprint + AllocGlobal>(
+fn verify<R: Clock + Files + Print + Eprint + AllocGlobal>(
     rt: &R,
-    files: ProofFiles<'_>,
+    asked: Verifying<'_>,
 ) -> Result<u8, Failure>
     ensures { IfOk result IsStatusOfAnswer }
 {
-    let mut net = opened(rt, files.net)?;
-    let mut order = opened(rt, files.order)?;
-    verify_for(rt, files, &mut net, &mut order)
+    let mut net = opened(rt, asked.files.net)?;
+    let mut order = opened(rt, asked.files.order)?;
+    verify_for(rt, asked, &mut net, &mut order)
 }
 
 /// Writes whether a plan is right and its certificate proves it, for the open files of the network and of the order;
 /// the files of the plan and of the certificate are opened here.
-fn verify_for<R: Files + Print + Eprint + AllocGlobal, F: Read>(
+fn verify_for<R: Clock + Files + Print + Eprint + AllocGlobal, F: Read>(
     rt: &R,
-    files: ProofFiles<'_>,
+    asked: Verifying<'_>,
     net: &mut F,
     order: &mut F,
 ) -> Result<u8, Failure>
     ensures { IfOk result IsStatusOfAnswer }
 {
-    let mut plan = opened(rt, files.plan)?;
-    let mut proof = opened(rt, files.proof)?;
-    verify_read(rt, files, net, order, &mut plan, &mut proof)
+    let mut plan = opened(rt, asked.files.plan)?;
+    let mut proof = opened(rt, asked.files.proof)?;
+    verify_read(rt, asked, net, order, &mut plan, &mut proof)
 }
 
 /// Writes whether the plan in these open files is right and the certificate proves it; the network and the order are
 /// read whole first.
-fn verify_read<R: Print + Eprint + AllocGlobal, F: Read, C: Read>(
+fn verify_read<R: Clock + Print + Eprint + AllocGlobal, F: Read, C: Read>(
     rt: &R,
-    files: ProofFiles<'_>,
+    asked: Verifying<'_>,
     net: &mut F,
     order: &mut F,
     plan: &mut C,
@@ -236,17 +236,17 @@ fn verify_read<R: Print + Eprint + AllocGlobal, F: Read, C: Read>(
 ) -> Result<u8, Failure>
     ensures { IfOk result IsStatusOfAnswer }
 {
-    let net = whole(rt.alloc(), net, files.net)?;
-    let order = whole(rt.alloc(), order, files.order)?;
-    let (net, order) = (text(files.net, &net), text(files.order, &order));
-    verify_beside(rt, files, &net, &order, plan, proof)
+    let net = whole(rt.alloc(), net, asked.files.net)?;
+    let order = whole(rt.alloc(), order, asked.files.order)?;
+    let (net, order) = (text(asked.files.net, &net), text(asked.files.order, &order));
+    verify_beside(rt, asked, &net, &order, plan, proof)
 }
 
 /// Writes whether the plan and the certificate in two open files, which are read whole, are right for the texts of a
 /// network and an order.
-fn verify_beside<R: Print + Eprint + AllocGlobal, C: Read>(
+fn verify_beside<R: Clock + Print + Eprint + AllocGlobal, C: Read>(
     rt: &R,
-    files: ProofFiles<'_>,
+    asked: Verifying<'_>,
     net: &Text<'_>,
     order: &Text<'_>,
     plan: &mut C,
@@ -254,25 +254,36 @@ fn verify_beside<R: Print + Eprint + AllocGlobal, C: Read>(
 ) -> Result<u8, Failure>
     ensures { IfOk result IsStatusOfAnswer }
 {
-    let plan = whole(rt.alloc(), plan, files.plan)?;
-    let proof = whole(rt.alloc(), proof, files.proof)?;
-    let (plan, proof) = (text(files.plan, &plan), text(files.proof, &proof));
-    verify_told(rt, net, order, &plan, &proof)
+    let plan = whole(rt.alloc(), plan, asked.files.plan)?;
+    let proof = whole(rt.alloc(), proof, asked.files.proof)?;
+    let (plan, proof) = (
+        text(asked.files.plan, &plan),
+        text(asked.files.proof, &proof),
+    );
+    verify_told(rt, net, order, &plan, &proof, asked.limit)
 }
 
-/// Whether the plan in these texts is right, and the certificate proves it.
-fn verify_told<R: Print + Eprint + AllocGlobal>(
+/// Whether the plan in these texts is right, and the certificate proves it; it stops after so many seconds.
+fn verify_told<R: Clock + Print + Eprint + AllocGlobal>(
     rt: &R,
     net: &Text<'_>,
     order: &Text<'_>,
     plan: &Text<'_>,
     proof: &Text<'_>,
+    limit: Option<u64>,
 ) -> Result<u8, Failure>
     ensures { IfOk result IsStatusOfAnswer }
 {
     let (mut network, mut terms) = (net.bytes, order.bytes);
     let (mut planned, mut certificate) = (plan.bytes, proof.bytes);
-    let status = verify_of(rt, &mut network, &mut terms, &mut planned, &mut certificate)?;
+    let status = verify_of(
+        rt,
+        &mut network,
+        &mut terms,
+        &mut planned,
+        &mut certificate,
+        limit,
+    )?;
     if is_told(status) {
         tell(rt, proof_cause(rt.alloc(), net, order, plan, proof.name));
     }

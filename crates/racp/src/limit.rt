@@ -1,10 +1,10 @@
-//! When planning is stopped by the clock, and told of until then.
+//! When a command is stopped by the clock, and planning told of until then.
 
 use crate::progress::Progress;
 use racp_search::Stop;
 use std::time::{Clock, Duration, Instant};
 
-/// Stops planning when so much time has passed since it was made; without a limit it never does. If there is a limit
+/// Stops a command when so much time has passed since it was made; without a limit it never does. If there is a limit
 /// and the clock cannot be read, it stops at once. Each time that it is asked counts as a node of the search, of which
 /// it tells on standard error if that is wanted.
 #[derive(Drop)]

@@ -11,7 +11,8 @@ use crate::limit::Limit;
 use crate::progress::{Listener, Progress};
 use crate::tools::tool;
 use racp_cli::{
-    StreamFault, check_over, cpm_over, crowd_over_by, prove_over, run_over_within, verify_over,
+    StreamFault, check_over, cpm_over, crowd_over_by, prove_over, run_over_within,
+    verify_over_until,
 };
 use racp_desk::Open;
 use racp_lexfix::Effort;
@@ -59,6 +60,15 @@ impl Making {
             on_terminal,
         }
     }
+}
+
+/// Which certificate is looked at, and after how many seconds that stops, if it does.
+#[derive(Drop)]
+pub(crate) struct Verifying<'a> {
+    /// The paths of its files.
+    pub(crate) files: ProofFiles<'a>,
+    /// The seconds.
+    pub(crate) limit: Option<u64>,
 }
 
 /// Runs the program, and answers its status.
@@ -117,7 +127,7 @@ pub(crate) fn plain<
         }
         Request::Prove(files) => prove(rt, files),
         Request::Check(files) => check(rt, files),
-        Request::Verify(files) => verify(rt, files),
+        Request::Verify(files, limit) => verify(rt, Verifying { files, limit }),
         Request::Tool(asked) => return tool(rt, asked),
     };
     Ok(status?)
@@ -292,41 +302,63 @@ pub(crate) fn check_of<R: Print + AllocGlobal, N: Read, O: Read, P: Read>(
 
 /// Writes whether the plan in these files is right, and the certificate shows that no capacities before its own are
 /// enough.
-fn verify<R: Files + Print + AllocGlobal>(rt: &R, files: ProofFiles<'_>) -> Result<u8, StreamFault>
+fn verify<R: Clock + Files + Print + Eprint + AllocGlobal>(
+    rt: &R,
+    asked: Verifying<'_>,
+) -> Result<u8, StreamFault>
     ensures { IfOk result IsStatusOfAnswer }
 {
-    let mut net = open(rt, files.net)?;
-    let mut order = open(rt, files.order)?;
-    verify_for(rt, &mut net, &mut order, files)
+    let mut net = open(rt, asked.files.net)?;
+    let mut order = open(rt, asked.files.order)?;
+    verify_for(rt, &mut net, &mut order, asked)
 }
 
 /// Writes whether a plan is right and its certificate shows that no capacities before its own are enough, for the open
 /// files of the network and of the order; the files of the plan and of the certificate are opened here.
-fn verify_for<R: Files + Print + AllocGlobal, N: Read, O: Read>(
+fn verify_for<R: Clock + Files + Print + Eprint + AllocGlobal, N: Read, O: Read>(
     rt: &R,
     net: &mut N,
     order: &mut O,
-    files: ProofFiles<'_>,
+    asked: Verifying<'_>,
 ) -> Result<u8, StreamFault>
     ensures { IfOk result IsStatusOfAnswer }
 {
-    let mut plan = open(rt, files.plan)?;
-    let mut proof = open(rt, files.proof)?;
-    verify_of(rt, net, order, &mut plan, &mut proof)
+    let mut plan = open(rt, asked.files.plan)?;
+    let mut proof = open(rt, asked.files.proof)?;
+    verify_of(rt, net, order, &mut plan, &mut proof, asked.limit)
 }
 
 /// Writes whether the plan that is read there is right, and the certificate shows that no capacities before its own are
-/// enough.
-pub(crate) fn verify_of<R: Print + AllocGlobal, N: Read, O: Read, P: Read, C: Read>(
+/// enough; or that it was stopped after so many seconds.
+pub(crate) fn verify_of<
+    R: Clock + Print + Eprint + AllocGlobal,
+    N: Read,
+    O: Read,
+    P: Read,
+    C: Read,
+>(
     rt: &R,
     net: &mut N,
     order: &mut O,
     plan: &mut P,
     proof: &mut C,
+    limit: Option<u64>,
 ) -> Result<u8, StreamFault>
     ensures { IfOk result IsStatusOfAnswer }
 {
-    verify_over(rt.alloc(), net, order, plan, proof, &mut io::writer(rt))
+    let limit = Limit::of(rt, limit, None);
+    let status = verify_over_until(
+        rt.alloc(),
+        net,
+        order,
+        plan,
+        proof,
+        &mut io::writer(rt),
+        &limit,
+    );
+    // Dropped here once, not at each way out.
+    drop(limit);
+    status
 }
 
 /// The file with this path, for reading.

@@ -8,3 +8,4 @@ mod Planning
 mod Statuses
 mod Telling
 mod Ending
+mod Verifying

@@ -1,11 +1,11 @@
 -- What is read of a reader and what is written to a writer, in what they say of their bytes before and after. One that says
 -- nothing (`None`) is not spoken of.
-use Rattle.std.specs.Prelude.{◌≡◌, ◌⊎◌, ℕ, ◌+◌, ◌<◌, ◌≤◌, List, [], ◌∷◌, ◌++◌, length, All, Option, Result, Ok, Err, codes}
+use Rattle.std.specs.Prelude.{◌≡◌, ◌⊎◌, ℕ, Bool, ◌+◌, ◌<◌, ◌≤◌, List, [], ◌∷◌, ◌++◌, length, All, Option, Result, Ok, Err, codes}
 use Rattle.std.specs.Io.KnownBytes.{Consumes, Appends, Keeps, IsAtEnd}
 use Rattle.racp_cli.specs.Answers.{IsCpmAnswer}
 use Rattle.racp_cli.specs.Checks.{IsCheckAnswer}
 use Rattle.racp_cli.specs.Plans.{IsPlanAnswer}
-use Rattle.racp_cli.specs.Verifies.{IsVerifyAnswer}
+use Rattle.racp_cli.specs.Verifies.{IsVerifyAnswer, IsVerifyAnswerUntil}
 use Rattle.racp_cli.specs.declared.fault.StreamFault.{StreamFault}
 use Rattle.racp_cli.specs.declared.fault.StreamFault.TheVariants.{Read, Write, TooLong, Memory}
 
@@ -120,6 +120,11 @@ IsCheckRun net order plan = IsRun (ToThree IsCheckAnswer) (net ∷ (order ∷ (p
 -- a run of `verify`
 abbrev pub IsVerifyRun : Reader → Reader → Reader → Reader → Option (List ℕ) → Option (List ℕ) → Result ℕ StreamFault → Type 0
 IsVerifyRun net order plan proof = IsRun (ToFour IsVerifyAnswer) (net ∷ (order ∷ (plan ∷ (proof ∷ []))))
+
+-- a run of `verify` that may be stopped
+abbrev pub IsVerifyRunUntil : Bool → Reader → Reader → Reader → Reader → Option (List ℕ) → Option (List ℕ) → Result ℕ StreamFault → Type 0
+IsVerifyRunUntil quiet net order plan proof =
+    IsRun (ToFour (IsVerifyAnswerUntil quiet)) (net ∷ (order ∷ (plan ∷ (proof ∷ []))))
 
 -- what is printed of a fault
 abbrev pub fault_line : StreamFault → List ℕ

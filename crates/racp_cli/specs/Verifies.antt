@@ -1,12 +1,12 @@
 -- What `verify` answers to the texts of a network, an order, a plan and a certificate.
-use Rattle.std.specs.Prelude.{◌≡◌, ◌↔◌, ℕ, Bool, true, false, IsTrue, List, length, Result, Ok, Err}
+use Rattle.std.specs.Prelude.{◌≡◌, ◌↔◌, ◌⊎◌, ℕ, Bool, true, false, IsTrue, List, [], length, Option, Some, None, Result, Ok, Err}
 use Rattle.racp_model.specs.Project.{Project}
 use Rattle.racp_model.specs.Terms.{Terms, AreTermsOf}
 use Rattle.racp_plan.specs.declared.plan.Plan.{Plan}
 use Rattle.racp_trees.specs.Certificates.{IsCertificate}
 use Rattle.racp_check.specs.PlanFaults.{IsChecked}
 use Rattle.racp_check.specs.Leastness.{HasNoneEnoughBefore, IsLongEnough}
-use Rattle.racp_cli.specs.Texts.{verified_line, unproved_line}
+use Rattle.racp_cli.specs.Texts.{stopped_line, verified_line, unproved_line}
 use Rattle.racp_cli.specs.Checks.{AreRead, HasRightHead, IsCheck, check_text, check_status}
 use Rattle.racp_cli.specs.declared.check.Checked.{Checked}
 use Rattle.racp_cli.specs.declared.check_fault.CheckFault.{CheckFault}
@@ -52,3 +52,27 @@ pub record IsVerifyAnswer (net order text proof : List ℕ) (status : ℕ) (writ
   pub right : IsVerify net order text proof answer
   pub with_status : verify_status answer ≡ status
   pub with_text : verify_text answer ≡ written
+
+-- the same, or that it was stopped, which a quiet stop does not do
+abbrev pub IsVerifyUntil : Bool → List ℕ → List ℕ → List ℕ → List ℕ → Result (Option Bool) CheckFault → Type 0
+IsVerifyUntil quiet net order text proof (Ok (Some proved)) = IsVerify net order text proof (Ok proved)
+IsVerifyUntil quiet net order text proof (Ok None) = IsTrue quiet → ⊥
+IsVerifyUntil quiet net order text proof (Err fault) = IsVerify net order text proof (Err fault)
+
+-- the text that is written then
+abbrev pub until_text : Result (Option Bool) CheckFault → List ℕ
+until_text (Ok (Some proved)) = verify_text (Ok proved)
+until_text (Ok None) = stopped_line []
+until_text (Err fault) = verify_text (Err fault)
+
+-- and the status
+abbrev pub until_status : Result (Option Bool) CheckFault → ℕ
+until_status (Ok (Some proved)) = verify_status (Ok proved)
+until_status (Ok None) = 4
+until_status (Err fault) = verify_status (Err fault)
+
+-- status and text stand for what is right for the inputs; or it was stopped, which a quiet stop does not do
+abbrev pub IsVerifyAnswerUntil : Bool → List ℕ → List ℕ → List ℕ → List ℕ → ℕ → List ℕ → Type 0
+IsVerifyAnswerUntil quiet net order text proof status written =
+    IsVerifyAnswer net order text proof status written ⊎
+    ((IsTrue quiet → ⊥) × (status ≡ 4) × (written ≡ stopped_line []))

@@ -15,7 +15,7 @@
 //! - `curve_over` reads a network and an order, and writes what each deadline costs; `curve_crowd_over` is for workers.
 //! - `order_over` reads a network, and writes an order.
 //!
-//! Each returns the status with which the program ends. `run_over_within` and `crowd_over_by` also take how much memory
+//! Each returns the status with which the program ends. `verify_over_until` can be stopped. `run_over_within` and `crowd_over_by` also take how much memory
 //! the records of refuted nodes may have. docs/FORMATS.md has every line and every status.
 //!
 //! Two jobs, 1 before 2, run for 2 time units and 1, and use 1 unit and 3; the order has the deadline 4 and the price
@@ -40,7 +40,7 @@
 //! once. A call that takes no byte, or fails, is `Write`; a call that is interrupted counts as failed.
 //!
 //! In `specs/`, an answer is a value, with the text and the status that stand for it. `IsCpmAnswer`, `IsPlanAnswer`,
-//! `IsCrowdAnswer`, `IsProofAnswer`, `IsCheckAnswer`, `IsVerifyAnswer`, `IsShowAnswer`, `IsCurveAnswer`,
+//! `IsCrowdAnswer`, `IsProofAnswer`, `IsCheckAnswer`, `IsVerifyAnswer`, `IsVerifyAnswerUntil`, `IsShowAnswer`, `IsCurveAnswer`,
 //! `IsCurveCrowdAnswer` and `IsOrderAnswer` say when text and status are right for the bytes of one to four inputs, and
 //! `IsRun` ties answers to what the readers had and what the writer holds, for all commands.
 //!
@@ -84,4 +84,4 @@ pub use plan::{run_over, run_over_within};
 pub use prove::prove_over;
 pub use show::{Look, show_over};
 pub use status::{CHECK_FAILED, DONE, IMPOSSIBLE, OUT_OF_MEMORY, REFUSED, STOPPED, STREAM_FAILED};
-pub use verify::verify_over;
+pub use verify::{verify_over, verify_over_until};

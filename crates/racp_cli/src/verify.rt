@@ -1,16 +1,18 @@
 //! `verify`: whether a text is a certificate that no capacities before those of a plan are enough.
 
 ghost use Rattle.std.specs.Prelude.{◌≡◌, IfOk};
-ghost use Rattle.racp_cli.specs.Verifies.{IsVerify, IsVerifyAnswer, verify_status, verify_text};
-ghost use Rattle.racp_cli.specs.Streams.{IsVerifyRun};
+ghost use Rattle.racp_cli.specs.Streams.{IsVerifyRun, IsVerifyRunUntil};
+ghost use Rattle.racp_cli.specs.Verifies.{IsVerifyAnswerUntil, IsVerifyUntil, until_status, until_text};
 
 use crate::check::read_checked;
 use crate::check_fault::CheckFault;
 use crate::fault::StreamFault;
+use crate::lines::stopped_line;
 use crate::respond::respond;
-use crate::status::{CHECK_FAILED, DONE};
+use crate::status::{CHECK_FAILED, DONE, STOPPED};
 use crate::streams::read_whole;
-use racp_check::check_proof;
+use racp_check::check_proof_until;
+use racp_delay::{Never, Stop, Unfound};
 use std::alloc::{AllocError, Global};
 use std::io::{Read, Write};
 
@@ -38,63 +40,97 @@ pub fn verify_over<N: Read, O: Read, P: Read, C: Read, W: Write>(
         (record { unread = C.remaining proof.old; left = C.remaining proof.new }) (W.contents out.old)
         (W.contents out.new) result }
 {
+    verify_over_until(alloc, net, order, plan, proof, out, &Never)
+}
+
+/// Does what `verify_over` does, unless it is stopped while it looks at the certificate: then it writes the line
+/// `stopped`, with status 4. A quiet stop never stops it.
+///
+/// # Errors
+///
+/// After these nothing was written: `Read`, a read failed; `TooLong`, a reader has more than 16,777,216 bytes;
+/// `Memory`, memory for an input was refused. After `Write`, a write failed or took no byte, and what is out is a
+/// beginning of the line.
+pub fn verify_over_until<N: Read, O: Read, P: Read, C: Read, W: Write, S: Stop>(
+    alloc: Global,
+    net: &mut N,
+    order: &mut O,
+    plan: &mut P,
+    proof: &mut C,
+    out: &mut W,
+    stop: &S,
+) -> Result<u8, StreamFault>
+    ensures { IsVerifyRunUntil S.QUIET (record { unread = N.remaining net.old; left = N.remaining net.new })
+        (record { unread = O.remaining order.old; left = O.remaining order.new })
+        (record { unread = P.remaining plan.old; left = P.remaining plan.new })
+        (record { unread = C.remaining proof.old; left = C.remaining proof.new }) (W.contents out.old)
+        (W.contents out.new) result }
+{
     let net = read_whole(alloc, net)?;
     let order = read_whole(alloc, order)?;
     let plan = read_whole(alloc, plan)?;
     let proof = read_whole(alloc, proof)?;
-    respond(answer(alloc, &net, &order, &plan, &proof), out)
+    respond(answer(alloc, &net, &order, &plan, &proof, stop), out)
 }
 
 /// The status and the line of the answer to the texts of a network, an order, a plan and a certificate.
-fn answer(
+fn answer<S: Stop>(
     alloc: Global,
     net: &[u8],
     order: &[u8],
     plan: &[u8],
     proof: &[u8],
+    stop: &S,
 ) -> Result<(u8, Vec<u8>), AllocError>
-    ensures { IfOk result (λ answer. IsVerifyAnswer net.now order.now plan.now proof.now answer.0 answer.1.items) }
+    ensures { IfOk result (λ answer. IsVerifyAnswerUntil S.QUIET net.now order.now plan.now proof.now answer.0 answer.1.items) }
 {
-    let outcome = verify(alloc, net, order, plan, proof);
+    let outcome = verify(alloc, net, order, plan, proof, stop);
     Ok((status_of(&outcome), line_of(alloc, &outcome)?))
 }
 
 /// Reads the texts of a network, an order and a plan, checks the plan, and tells whether the last text is a certificate
-/// for it.
-fn verify(
+/// for it; `None` if it was stopped before that was known.
+fn verify<S: Stop>(
     alloc: Global,
     net: &[u8],
     order: &[u8],
     plan: &[u8],
     proof: &[u8],
-) -> Result<bool, CheckFault>
-    ensures { IsVerify net.now order.now plan.now proof.now result }
+    stop: &S,
+) -> Result<Option<bool>, CheckFault>
+    ensures { IsVerifyUntil S.QUIET net.now order.now plan.now proof.now result }
 {
     let found = read_checked(alloc, net, order, plan)?;
-    let proved = check_proof(alloc, &found.net, &found.order, &found.plan, proof);
+    let proved = check_proof_until(alloc, &found.net, &found.order, &found.plan, proof, stop);
     // Dropped here once, not at each way out.
     drop(found);
-    Ok(proved?)
+    match proved {
+        Ok(proved) => Ok(Some(proved)),
+        Err(Unfound::Memory) => Err(CheckFault::OutOfMemory),
+        Err(Unfound::Stopped) => Ok(None),
+    }
 }
 
 /// The status that tells of an outcome.
-fn status_of(outcome: &Result<bool, CheckFault>) -> u8
-    ensures { result ≡ verify_status outcome.now }
+fn status_of(outcome: &Result<Option<bool>, CheckFault>) -> u8
+    ensures { result ≡ until_status outcome.now }
 {
     match outcome {
-        Ok(true) => DONE,
-        Ok(false) => CHECK_FAILED,
+        Ok(Some(true)) => DONE,
+        Ok(Some(false)) => CHECK_FAILED,
+        Ok(None) => STOPPED,
         Err(fault) => fault.status(),
     }
 }
 
 /// The line that tells of an outcome.
-fn line_of(alloc: Global, outcome: &Result<bool, CheckFault>) -> Result<Vec<u8>, AllocError>
-    ensures { IfOk result (λ text. text.items ≡ verify_text outcome.now) }
+fn line_of(alloc: Global, outcome: &Result<Option<bool>, CheckFault>) -> Result<Vec<u8>, AllocError>
+    ensures { IfOk result (λ text. text.items ≡ until_text outcome.now) }
 {
     match outcome {
-        Ok(true) => b"verified\n".to_vec(alloc),
-        Ok(false) => b"unproved\n".to_vec(alloc),
+        Ok(Some(true)) => b"verified\n".to_vec(alloc),
+        Ok(Some(false)) => b"unproved\n".to_vec(alloc),
+        Ok(None) => stopped_line(alloc, &[]),
         Err(fault) => fault.line(alloc),
     }
 }

@@ -3,10 +3,10 @@ use Rattle.racp_plan.specs.Texts.{line}
 use Rattle.racp_cli.specs.Texts.{verified_line, unproved_line}
 use Rattle.racp_cli.proofs.verify.line_of.Goals as goal
 
-pub returns-in-Ok-true : goal.returns-in-Ok-true
+pub returns-in-Ok-Some-true : goal.returns-in-Ok-Some-true
 unfolding verified_line line
-returns-in-Ok-true c = search rules
+returns-in-Ok-Some-true c = search rules
 
-pub returns-in-Ok-false : goal.returns-in-Ok-false
+pub returns-in-Ok-Some-false : goal.returns-in-Ok-Some-false
 unfolding unproved_line line
-returns-in-Ok-false c = search rules
+returns-in-Ok-Some-false c = search rules
