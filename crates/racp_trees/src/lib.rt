@@ -34,8 +34,9 @@
 //! changes that in one of three ways. Of an open node the reader knows the alternative whose child was read last, and
 //! looks for the next one once that child is closed. So no line makes it list alternatives for which the text has no
 //! lines. It keeps the lower bounds of the node's window: a whole row, which open nodes inside it share, and the bounds
-//! that differ from it, 16 at most; if more differ, a whole row of its own. So a node takes about as much memory as the
-//! jobs that were put off for it. The early starts are computed again for each child.
+//! that differ from it. Once what differs in those nodes takes as much memory as the row, the next one has a whole row
+//! of its own. So of n jobs, a node for which r were put off takes about 8 bytes for each of sqrt(n * r) bounds. The
+//! early starts are computed again for each child.
 //!
 //! Of a closed node the reader keeps a record, two bytes for each job, but only if some line of the text names the
 //! node; a pass over the text before tells which numbers lines name. The two bytes tell how long after the node's time

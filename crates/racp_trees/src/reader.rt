@@ -175,10 +175,11 @@ impl Reader {
         requires { length lower.items ≤ 512 }
         ensures { IfOk result (λ row. row ≡ lower.items) }
     {
-        match self.branches.last() {
-            Some(branch) => SharedRow::new(alloc, branch.lower.whole(), lower),
-            None => SharedRow::new(alloc, &self.usual, lower),
-        }
+        let Some(branch) = self.branches.last() else {
+            return SharedRow::new(alloc, &self.usual, lower.len() / 2, lower);
+        };
+        let near = &branch.lower;
+        SharedRow::new(alloc, near.whole(), near.room(), lower)
     }
 
     /// The lower bounds of the next window, or `None` if no node is open any more. Open nodes without children to

@@ -8,9 +8,6 @@ use std::alloc::{AllocError, Global};
 use std::marker::Model;
 use std::rc::Rc;
 
-/// How many bounds of a row may differ from the whole row that it shares.
-const MOST_CHANGES: usize = 16;
-
 /// The place of a bound that differs, and the bound.
 #[derive(Clone, Copy, Drop)]
 pub(crate) struct Change {
@@ -18,11 +15,14 @@ pub(crate) struct Change {
     pub(crate) bound: u32,
 }
 
-/// A row of bounds: a whole row that others share, and the few bounds that differ from it. Contracts see the bounds.
+/// A row of bounds: a whole row that others share, and the bounds that differ from it. Contracts see the bounds. Rows
+/// that come one after another share a whole row as long as there is room: until the changes of all of them together
+/// take as much memory as it.
 #[derive(Drop)]
 pub(crate) struct SharedRow {
     whole: Rc<Vec<u32>>,
     changes: Vec<Change>,
+    room: usize,
 }
 
 impl Model for SharedRow {
@@ -35,27 +35,43 @@ impl Model for SharedRow {
 }
 
 impl SharedRow {
-    /// These bounds. They share a whole row if few of them differ from it, and are a whole row of their own else.
+    /// These bounds. They share a whole row if there is room for what differs, and are a whole row of their own else.
     pub(crate) fn new(
         alloc: Global,
         near: &Rc<Vec<u32>>,
+        room: usize,
         bounds: Vec<u32>,
     ) -> Result<Self, AllocError>
         requires { length bounds.items ≤ 512 }
         ensures { IfOk result (λ row. row ≡ bounds.items) }
     {
-        if let Some(changes) = changes_of(alloc, near, &bounds)? {
+        if let Some(changes) = changes_of(alloc, near, &bounds, room)? {
             let whole = near.clone()?;
-            return Ok(SharedRow { whole, changes });
+            let room = room.saturating_sub(changes.len());
+            return Ok(SharedRow {
+                whole,
+                changes,
+                room,
+            });
         }
+        let room = bounds.len() / 2;
         let whole = Rc::new(alloc, bounds)?;
         let changes = Vec::new(alloc);
-        Ok(SharedRow { whole, changes })
+        Ok(SharedRow {
+            whole,
+            changes,
+            room,
+        })
     }
 
     /// The whole row that others may share.
     pub(crate) fn whole(&self) -> &Rc<Vec<u32>> {
         &self.whole
+    }
+
+    /// How many changes rows that come after it may have together.
+    pub(crate) fn room(&self) -> usize {
+        self.room
     }
 
     /// The bounds.
@@ -68,8 +84,13 @@ impl SharedRow {
     }
 }
 
-/// The changes that lead from some bounds to others, or `None` if there are too many.
-fn changes_of(alloc: Global, from: &[u32], to: &[u32]) -> Result<Option<Vec<Change>>, AllocError>
+/// The changes that lead from some bounds to others, or `None` if there is no room for them.
+fn changes_of(
+    alloc: Global,
+    from: &[u32],
+    to: &[u32],
+    room: usize,
+) -> Result<Option<Vec<Change>>, AllocError>
     requires { length to.now ≤ 512 }
     ensures { IfOk result (λ found. IfSome found (λ changes. changed from.now changes.items ≡ to.now)) }
 {
@@ -81,7 +102,7 @@ fn changes_of(alloc: Global, from: &[u32], to: &[u32]) -> Result<Option<Vec<Chan
         if from[i] == to[i] {
             continue;
         }
-        if changes.len() == MOST_CHANGES {
+        if room <= changes.len() {
             return Ok(None);
         }
         let place = i as u32;
