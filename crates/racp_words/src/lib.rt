@@ -40,15 +40,15 @@
 //!
 //! Proved: without words, with `cpm`, and with `cpm` and a word that does not begin with a hyphen or is a hyphen alone,
 //! `cpm` is asked for, of standard input or of the file with that path; with `plan` or `prove` and two paths, `check`
-//! and three, and `verify` and four, that command of these files, `plan` on one thread and `verify` without a limit; with `--workers` and a
-//! number from 1 to 64 after the two paths, `plan` by a crew of that many workers. In these cases only memory can fail.
-//! A path here is a word that is not empty and does not begin with a hyphen. For any other words `asked` answers what
-//! `clap` is proved to find, or refuses with the kind of error that it is proved to give: `plan` asks for a crew
-//! exactly if `clap` finds one of the five options, and a number that it finds and that is in range is that of the
-//! crew, of the memory or of the limit; `show`, `curve`, `order` and `explain` ask for what their words and flags say (`IsToolOf`),
-//! and faults are explained exactly if it finds the flag. No crew has more than 64 workers or 1,000,000,000,000 pieces,
-//! and no more than 1,048,576 MiB are asked for. Tested alone, over the built program: the texts of help, of the
-//! version and of errors.
+//! and three, and `verify` and four, that command of these files, `plan` on one thread and `verify` without a limit;
+//! with `--workers` and a number from 1 to 64 after the two paths, `plan` by a crew of that many workers. In these
+//! cases only memory can fail. A path here is a word that is not empty and does not begin with a hyphen. For any other
+//! words `asked` answers what `clap` is proved to find, or refuses with the kind of error that it is proved to give:
+//! `plan` asks for a crew exactly if `clap` finds one of the five options, and a number that it finds and that is in
+//! range is that of the crew, of the memory or of the limit; `show`, `curve`, `order` and `explain` ask for what their
+//! words and flags say (`IsToolOf`), and faults are explained exactly if it finds the flag. No crew has more than 64
+//! workers or 1,000,000,000,000 pieces, and no more than 1,048,576 MiB are asked for. Tested alone, over the built
+//! program: the texts of help, of the version and of errors.
 #![tactic(auto)]
 
 mod command_line;
