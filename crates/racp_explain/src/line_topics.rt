@@ -136,7 +136,8 @@ be too long to be written.",
 const STOPPED: Topic = Topic {
     short: "planning was stopped before the plan was known",
     meaning: "Planning was stopped, by --turns or --time-limit, before the plan was known. No capacities that are enough
-stand before these, so the plan costs at least as much.",
+stand before these, so the plan costs at least as much. Of verify the line stands alone: whether the text is a
+certificate was not known when the time was up.",
     command: "racp plan examples/b.sm examples/b3.toml --turns 4",
     file: "",
     cure: "Allow more turns or more time, use more workers, or plan for a later deadline.",

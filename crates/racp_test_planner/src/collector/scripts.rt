@@ -7,6 +7,8 @@ use crate::collector::trial::Change::{self, Nothing};
 use crate::collector::trial::Known::{First, NoYes, Pending};
 use crate::collector::trial::{Call, Heard, Held, Known, Trial, ends, make, start, verdict};
 use crate::series::Boxed;
+use racp_candidates::Vectors;
+use racp_core::Core;
 use racp_model::{Network, OfNetwork, Question};
 use racp_samples::crossed;
 use std::alloc::Global;
@@ -213,7 +215,7 @@ fn follows<N: OfNetwork>(
             }
         }
     }
-    are_whole(&trial.pieces, script.pieces)
+    are_whole(&trial.pieces, script.pieces) && tells_questions(&trial.core)
 }
 
 /// Whether a call is answered so, and this is known after it.
@@ -240,6 +242,14 @@ fn are_whole(pieces: &[Held], units: &[&[u32]]) -> bool {
 const LOWER: &[u32] = &[0, 0, 0, 1, 1, 2];
 
 const UPPER: &[u32] = &[1, 1, 1, 2, 2, 3];
+
+/// Whether the collector tells the first question, in the root window, and none behind all that were asked.
+fn tells_questions<N: OfNetwork>(core: &Core<N, Vectors>) -> bool {
+    let Some(first) = core.question(0) else {
+        return false;
+    };
+    first.window.lower() == LOWER && first.window.upper() == UPPER && core.question(100).is_none()
+}
 
 fn is_whole(question: &Question, units: &[u32]) -> bool {
     question.window.lower() == LOWER
