@@ -121,6 +121,11 @@ fn is_row_refuted(alloc: Global, row: &Row) -> bool {
 #[test]
 fn writes_down_why_units_are_not_enough(rt: HostRuntime) {
     for row in ROWS {
-        assert!(rt; is_row_refuted(rt.alloc(), row), "deadline {}, {} units", row.deadline, row.units);
+        assert!(rt;
+            is_row_refuted(rt.alloc(), row),
+            "deadline {}, {} units",
+            row.deadline,
+            row.units
+        );
     }
 }
