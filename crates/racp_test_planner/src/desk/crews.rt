@@ -82,6 +82,20 @@ impl Gate for Seeded {
     }
 }
 
+/// This many workers, or the nearest number that a run may have.
+fn in_range(workers: usize) -> usize
+    ensures some { 1 ≤ result }
+    ensures few { result ≤ 64 }
+{
+    if workers == 0 {
+        return 1;
+    }
+    if 64 < workers {
+        return 64;
+    }
+    workers
+}
+
 /// Whether this many workers, of which some are held up, find the first yes of each row in pieces of this many nodes.
 fn finds_each<N: OfNetwork + Send + Sync, R: Threads + Wait + Sync>(
     rt: &R,
@@ -92,12 +106,13 @@ fn finds_each<N: OfNetwork + Send + Sync, R: Threads + Wait + Sync>(
     gate: &Seeded,
 ) -> bool
     requires named { net.now ≡ N.network }
+    requires some_nodes { 1 ≤ quantum }
     requires quantum { quantum ≤ 1000000 }
 {
     for &(second, yes) in ROWS {
         let numbers = Numbers {
             second,
-            workers: workers.min(64),
+            workers: in_range(workers),
             quantum,
             turns: ALL_TURNS,
         };

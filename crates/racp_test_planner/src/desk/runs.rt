@@ -59,7 +59,9 @@ pub(crate) fn run_with<
     R: Threads + Wait + Sync,
 >(rt: &R, alloc: Global, net: &Network, numbers: Numbers, gate: &G, stop: &P) -> Option<Ended>
     requires named { net.now ≡ N.network }
+    requires some_workers { 1 ≤ numbers.workers }
     requires workers { numbers.workers ≤ 64 }
+    requires some_nodes { 1 ≤ numbers.quantum }
     requires quantum { numbers.quantum ≤ 1000000 }
     requires turns { numbers.turns ≤ 1000000000000 }
 {
