@@ -1,0 +1,6 @@
+mod Turns
+mod Lesser
+mod Leading
+mod Leaving
+mod Stepping
+mod Ending
