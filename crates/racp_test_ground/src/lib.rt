@@ -1,4 +1,5 @@
-//! Tests of networks, early and late starts, tightened windows, conflicts and bounds, over their public functions.
+//! Tests of networks, early and late starts, tightened windows, conflicts, bounds and drafts, over their public
+//! functions.
 #![tactic(auto)]
 
 #[cfg(test)]
@@ -13,5 +14,7 @@ mod paths;
 mod profiles;
 #[cfg(test)]
 mod samples;
+#[cfg(test)]
+mod schedules;
 #[cfg(test)]
 mod timetables;

@@ -1,0 +1,157 @@
+//! A schedule in the making: a list schedule, of which jobs are taken out and placed anew.
+
+use crate::choices::Choices;
+use crate::problem::Problem;
+use crate::random::Random;
+use crate::rows::{number_at, set_number};
+use crate::ruin::Ruin;
+use crate::usages::Usages;
+use crate::windows::Windows;
+use racp_delay::Stop;
+use racp_model::Starts;
+use std::alloc::{AllocError, Global};
+use std::mem::swap;
+
+/// By how many parts of 1,024 the weight of a job may differ from what it is.
+const NOISE: u32 = 1024;
+
+/// A schedule in the making.
+#[derive(Drop)]
+pub(crate) struct Making {
+    starts: Vec<u32>,
+    /// The starts before the round.
+    kept: Vec<u32>,
+    cost: u64,
+    /// Which jobs are out: those that go, and each that uses nothing.
+    out: Vec<bool>,
+    going: Vec<u32>,
+    staying: Vec<u32>,
+    ruin: Ruin,
+    windows: Windows,
+    usages: Usages,
+    choices: Choices,
+    random: Random,
+}
+
+impl Making {
+    /// The list schedule of a problem: the jobs with much work and little slack are placed first.
+    pub(crate) fn new(alloc: Global, problem: &Problem, seed: u64) -> Result<Making, AllocError> {
+        let ruin = Ruin::new(alloc, problem)?;
+        let mut making = Making {
+            starts: problem.lower.to_vec(alloc)?,
+            kept: problem.lower.to_vec(alloc)?,
+            cost: u64::MAX,
+            out: Vec::from_elem(alloc, true, problem.jobs())?,
+            going: ruin.busy().to_vec(alloc)?,
+            staying: Vec::new(alloc),
+            ruin,
+            windows: Windows::new(alloc, problem)?,
+            usages: Usages::new(alloc, problem)?,
+            choices: Choices::new(alloc),
+            random: Random::new(seed),
+        };
+        making.place(problem, 0)?;
+        making.cost = making.usages.cost(problem);
+        Ok(making)
+    }
+
+    /// Makes the schedule better in rounds, until it costs as little as is known to be needed.
+    pub(crate) fn improve<S: Stop>(
+        &mut self,
+        problem: &Problem,
+        rounds: u32,
+        stop: &S,
+    ) -> Result<(), AllocError> {
+        let least = problem.least_cost();
+        for _round in 0..rounds {
+            if self.cost <= least || stop.asked() {
+                break;
+            }
+            self.round(problem)?;
+        }
+        Ok(())
+    }
+
+    /// Takes some jobs out, places them anew, and keeps what costs no more.
+    fn round(&mut self, problem: &Problem) -> Result<(), AllocError> {
+        for (kept, start) in self.kept.iter_mut().zip(self.starts.iter()) {
+            *kept = *start;
+        }
+        self.ruin.divide(
+            problem,
+            &self.usages,
+            &self.starts,
+            &mut self.random,
+            (&mut self.going, &mut self.staying),
+        )?;
+        for job in self.staying.iter() {
+            if let Some(out) = self.out.get_mut(*job as usize) {
+                *out = false;
+            }
+        }
+        for job in self.going.iter() {
+            if let Some(out) = self.out.get_mut(*job as usize) {
+                *out = true;
+            }
+        }
+        self.place(problem, NOISE)?;
+        let cost = self.usages.cost(problem);
+        if cost <= self.cost {
+            self.cost = cost;
+            return Ok(());
+        }
+        swap(&mut self.starts, &mut self.kept);
+        self.usages.fill(problem, self.ruin.busy(), &self.starts)
+    }
+
+    /// Places the jobs that go, and then those that use nothing as early as they can be.
+    fn place(&mut self, problem: &Problem, noise: u32) -> Result<(), AllocError> {
+        self.windows.open(problem, &self.starts, &self.out)?;
+        self.usages.fill(problem, &self.staying, &self.starts)?;
+        for _job in 0..self.going.len() {
+            let Some(i) = self.take_next(problem, noise) else {
+                break;
+            };
+            let (lower, upper) = (self.windows.lower(i), self.windows.upper(i));
+            let start = self.choices.best(problem, &self.usages, i, lower, upper)?;
+            set_number(&mut self.starts, i, start);
+            self.usages.add(problem, i, start)?;
+            self.windows.place(problem, i, start);
+        }
+        for i in 0..problem.jobs() {
+            if problem.worth(i) == 0 {
+                set_number(&mut self.starts, i, self.windows.lower(i));
+            }
+        }
+        Ok(())
+    }
+
+    /// Takes the job that is placed next out of the list: the one with most work for each start that it has.
+    fn take_next(&mut self, problem: &Problem, noise: u32) -> Option<usize> {
+        let mut next = 0;
+        let mut most = 0;
+        for place in 0..self.going.len() {
+            let i = number_at(&self.going, place) as usize;
+            let chance = self.random.below(noise).saturating_add(1024) as u64;
+            let weight = problem
+                .work(i)
+                .saturating_mul(chance.saturating_sub(noise as u64 / 2));
+            let width = self.windows.width(i) as u64;
+            let urgency = weight.checked_div(width).unwrap_or(0);
+            if most < urgency {
+                next = place;
+                most = urgency;
+            }
+        }
+        if next < self.going.len() {
+            Some(self.going.remove(next) as usize)
+        } else {
+            None
+        }
+    }
+
+    /// The starts.
+    pub(crate) fn into_starts(self) -> Starts {
+        Starts::new(self.starts)
+    }
+}
