@@ -1,8 +1,9 @@
-//! Where a job is placed: the start in its window that costs least more.
+//! Where a job is placed: a start in its window that costs least more.
 
 use crate::levels::Levels;
 use crate::maxima::Maxima;
 use crate::problem::Problem;
+use crate::random::Random;
 use crate::resource::Resource;
 use crate::rows::number_at;
 use crate::usages::{Usage, Usages};
@@ -38,30 +39,82 @@ impl Choices {
         }
     }
 
-    /// The start of a job, from `lower` to `upper`, at which the peaks cost least more; of those the one with the least
-    /// usage under its run, and of those the first.
-    pub(crate) fn best(
+    /// Weighs the starts of a job, from `lower` to `upper`, by what the peaks would cost more.
+    pub(crate) fn weigh(
         &mut self,
         problem: &Problem,
         usages: &Usages,
         i: usize,
         lower: u32,
         upper: u32,
-    ) -> Result<u32, AllocError> {
-        let duration = problem.duration(i);
-        self.find(usages, lower, upper, duration)?;
+    ) -> Result<(), AllocError> {
+        self.find(usages, lower, upper, problem.duration(i))?;
         for (row, resource) in usages.rows.iter().zip(problem.resources.iter()) {
             let request = number_at(&resource.requests, i);
             if 0 < request {
                 self.charge(row, resource, request)?;
             }
         }
-        let (from, until) = match (self.list.first(), self.list.last()) {
-            (Some(first), Some(last)) => (first.from, last.until),
-            _ => return Ok(lower),
+        Ok(())
+    }
+
+    /// Of the starts that cost least more the one with the least usage under the job's run, and of those the first.
+    pub(crate) fn levelled(
+        &mut self,
+        problem: &Problem,
+        usages: &Usages,
+        i: usize,
+    ) -> Result<u32, AllocError> {
+        let (Some(first), Some(last)) = (self.list.first(), self.list.last()) else {
+            return Ok(0);
         };
-        self.levels.fill(problem, usages, i, from, until)?;
-        Ok(self.cheapest(usages, lower, duration))
+        let mut best = first.start;
+        self.levels
+            .fill(problem, usages, i, first.from, last.until)?;
+        let least = self.least_cost();
+        let mut lowest = u64::MAX;
+        for choice in self.list.iter() {
+            if choice.cost == least {
+                let under = self
+                    .levels
+                    .under(&usages.times, choice, problem.duration(i));
+                if under < lowest {
+                    best = choice.start;
+                    lowest = under;
+                }
+            }
+        }
+        Ok(best)
+    }
+
+    /// Of the starts that cost least more one by chance.
+    pub(crate) fn by_chance(&self, random: &mut Random) -> u32 {
+        let least = self.least_cost();
+        let mut count = 0u32;
+        for choice in self.list.iter() {
+            if choice.cost == least {
+                count = count.saturating_add(1);
+            }
+        }
+        let mut left = random.below(count);
+        for choice in self.list.iter() {
+            if choice.cost == least {
+                if left == 0 {
+                    return choice.start;
+                }
+                left = left.saturating_sub(1);
+            }
+        }
+        0
+    }
+
+    /// What the peaks cost more at the least.
+    fn least_cost(&self) -> u64 {
+        let mut least = u64::MAX;
+        for choice in self.list.iter() {
+            least = least.min(choice.cost);
+        }
+        least
     }
 
     /// Finds the starts: the first and the last one, and those at which the run starts or ends with a change. Between
@@ -113,26 +166,6 @@ impl Choices {
             }
         }
         Ok(())
-    }
-
-    /// The start that costs least more, with the least usage under the run.
-    fn cheapest(&self, usages: &Usages, lower: u32, duration: u32) -> u32 {
-        let mut least = u64::MAX;
-        for choice in self.list.iter() {
-            least = least.min(choice.cost);
-        }
-        let mut best = lower;
-        let mut lowest = u64::MAX;
-        for choice in self.list.iter() {
-            if choice.cost == least {
-                let under = self.levels.under(&usages.times, choice, duration);
-                if under < lowest {
-                    best = choice.start;
-                    lowest = under;
-                }
-            }
-        }
-        best
     }
 }
 

@@ -9,8 +9,8 @@ use racp_model::{Capacities, Network, Starts, fits, peaks};
 use racp_prices::{Order, cost_of};
 use std::alloc::{AllocError, Global};
 
-/// A draft of a plan: a schedule on the terms of an order, and the capacities that it needs. They are enough, but nobody
-/// says that no others cost less. Contracts see the starts and the capacities as lists.
+/// A draft of a plan: a schedule on the terms of an order, and the capacities that it needs. They are enough, but
+/// others may cost less. Contracts see the starts and the capacities as lists.
 #[derive(Drop)]
 pub struct Draft {
     /// When each job starts, by place from 0, in time units.
@@ -21,7 +21,7 @@ pub struct Draft {
     pub cost: u64,
 }
 
-/// The draft of these starts, or `None` if they do not fit their peaks on the terms of the order and within its ceilings.
+/// The draft of these starts, or `None` if they do not fit their peaks on the terms of the order, within its ceilings.
 pub(crate) fn tested(
     alloc: Global,
     net: &Network,

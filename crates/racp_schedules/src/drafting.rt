@@ -13,9 +13,8 @@ use racp_model::{Network, Window};
 use racp_prices::Order;
 use std::alloc::{AllocError, Global};
 
-/// A draft of an order, within its root window: a list schedule, which is made better in rounds (ruin and recreate). The
-/// stop is asked before each round. `None` if the schedule that was made does not fit, as if it breaks a ceiling; another
-/// one may.
+/// A draft of an order, within its root window: a list schedule that was made better in rounds. The stop is asked
+/// before each round. `None` if the schedule that was made does not fit, as it does not where it breaks a ceiling.
 ///
 /// # Errors
 ///

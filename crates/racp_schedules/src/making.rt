@@ -12,8 +12,14 @@ use racp_model::Starts;
 use std::alloc::{AllocError, Global};
 use std::mem::swap;
 
-/// By how many parts of 1,024 the weight of a job may differ from what it is.
-const NOISE: u32 = 1024;
+/// In which way jobs are placed.
+#[derive(Clone, Copy)]
+enum Way {
+    /// The most urgent job first, at the start that is levelled best.
+    List,
+    /// As chance has it: an urgent job first, at any start that costs least more.
+    Chance,
+}
 
 /// A schedule in the making.
 #[derive(Drop)]
@@ -50,7 +56,7 @@ impl Making {
             choices: Choices::new(alloc),
             random: Random::new(seed),
         };
-        making.place(problem, 0)?;
+        making.place(problem, Way::List)?;
         making.cost = making.usages.cost(problem);
         Ok(making)
     }
@@ -94,7 +100,7 @@ impl Making {
                 *out = true;
             }
         }
-        self.place(problem, NOISE)?;
+        self.place(problem, Way::Chance)?;
         let cost = self.usages.cost(problem);
         if cost <= self.cost {
             self.cost = cost;
@@ -105,15 +111,19 @@ impl Making {
     }
 
     /// Places the jobs that go, and then those that use nothing as early as they can be.
-    fn place(&mut self, problem: &Problem, noise: u32) -> Result<(), AllocError> {
+    fn place(&mut self, problem: &Problem, way: Way) -> Result<(), AllocError> {
         self.windows.open(problem, &self.starts, &self.out)?;
         self.usages.fill(problem, &self.staying, &self.starts)?;
         for _job in 0..self.going.len() {
-            let Some(i) = self.take_next(problem, noise) else {
+            let Some(i) = self.take_next(problem, way) else {
                 break;
             };
             let (lower, upper) = (self.windows.lower(i), self.windows.upper(i));
-            let start = self.choices.best(problem, &self.usages, i, lower, upper)?;
+            self.choices.weigh(problem, &self.usages, i, lower, upper)?;
+            let start = match way {
+                Way::List => self.choices.levelled(problem, &self.usages, i)?,
+                Way::Chance => self.choices.by_chance(&mut self.random),
+            };
             set_number(&mut self.starts, i, start);
             self.usages.add(problem, i, start)?;
             self.windows.place(problem, i, start);
@@ -127,17 +137,18 @@ impl Making {
     }
 
     /// Takes the job that is placed next out of the list: the one with most work for each start that it has.
-    fn take_next(&mut self, problem: &Problem, noise: u32) -> Option<usize> {
+    fn take_next(&mut self, problem: &Problem, way: Way) -> Option<usize> {
         let mut next = 0;
         let mut most = 0;
         for place in 0..self.going.len() {
             let i = number_at(&self.going, place) as usize;
-            let chance = self.random.below(noise).saturating_add(1024) as u64;
-            let weight = problem
-                .work(i)
-                .saturating_mul(chance.saturating_sub(noise as u64 / 2));
+            let parts = match way {
+                Way::List => 1024,
+                Way::Chance => self.random.below(1024).saturating_add(512) as u64,
+            };
+            let work = problem.work(i).saturating_mul(parts);
             let width = self.windows.width(i) as u64;
-            let urgency = weight.checked_div(width).unwrap_or(0);
+            let urgency = work.checked_div(width).unwrap_or(0);
             if most < urgency {
                 next = place;
                 most = urgency;

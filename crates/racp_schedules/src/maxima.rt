@@ -10,8 +10,8 @@ struct Load {
     units: u32,
 }
 
-/// The greatest usage over a stretch of places of which both ends only move on. It holds the usages that no later one in
-/// the stretch reaches, so they fall; each is put in once and taken out once.
+/// The greatest usage over a stretch of places of which both ends only move on. It holds the usages that no later one
+/// in the stretch reaches, so they fall. Each is put in once and taken out once.
 #[derive(Drop)]
 pub(crate) struct Maxima {
     loads: Vec<Load>,

@@ -6,8 +6,8 @@ use crate::rows::{number_at, stored};
 use crate::usages::Usages;
 use std::alloc::{AllocError, Global};
 
-/// At the most this many jobs are taken out, and two more.
-const MOST_MORE: u32 = 10;
+/// Two jobs are taken out, and at most so many more.
+const MOST_MORE: u32 = 16;
 
 /// Chooses jobs that are taken out.
 #[derive(Drop)]
@@ -65,7 +65,7 @@ impl Ruin {
         }
         self.distances.sort_unstable();
         let more = stored(self.busy.len()).saturating_sub(2).min(MOST_MORE);
-        let count = random.below(more).saturating_add(2) as usize;
+        let count = random.below(more.saturating_add(1)).saturating_add(2) as usize;
         going.clear();
         staying.clear();
         for &(_, job) in self.distances.iter() {

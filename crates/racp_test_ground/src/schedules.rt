@@ -150,7 +150,10 @@ const WISHES: &[Wish] = &[
     },
     Wish {
         name: "a far deadline",
-        sample: Sample::Free(1, &[(10_000, &[7]), (10_000, &[5]), (9_999, &[7]), (0, &[9])]),
+        sample: Sample::Free(
+            1,
+            &[(10_000, &[7]), (10_000, &[5]), (9_999, &[7]), (0, &[9])],
+        ),
         deadline: 10_000_000,
         prices: &[1_000_000],
         owned: &[],
@@ -162,12 +165,7 @@ const WISHES: &[Wish] = &[
 ];
 
 /// A list of this many numbers: those given, and then the same one.
-fn filled(
-    alloc: Global,
-    first: &[u32],
-    rest: u32,
-    count: usize,
-) -> Result<Vec<u32>, AllocError> {
+fn filled(alloc: Global, first: &[u32], rest: u32, count: usize) -> Result<Vec<u32>, AllocError> {
     let mut list = Vec::new(alloc);
     for i in 0..count {
         list.push(first.get(i).copied().unwrap_or(rest))?;
@@ -256,8 +254,8 @@ fn drafts_small_orders(rt: HostRuntime) {
     }
 }
 
-/// Whether a random order has a draft where it has a root window and no ceilings, and a stop before the first round gives
-/// none that costs less.
+/// Whether a random order has a draft where it has a root window and no ceilings, and a stop before the first round
+/// gives none that costs less.
 fn is_drafted(alloc: Global, random: &mut Random) -> bool {
     let effort = Effort {
         rounds: 20,
