@@ -5,7 +5,7 @@ use crate::maxima::Maxima;
 use crate::problem::Problem;
 use crate::random::Random;
 use crate::resource::Resource;
-use crate::rows::number_at;
+use crate::rows::{number_at, stored};
 use crate::usages::{Usage, Usages};
 use std::alloc::{AllocError, Global};
 
@@ -25,6 +25,8 @@ pub(crate) struct Choice {
 #[derive(Drop)]
 pub(crate) struct Choices {
     list: Vec<Choice>,
+    /// Those that cost least more.
+    cheapest: Vec<Choice>,
     maxima: Maxima,
     levels: Levels,
 }
@@ -34,12 +36,13 @@ impl Choices {
     pub(crate) fn new(alloc: Global) -> Choices {
         Choices {
             list: Vec::new(alloc),
+            cheapest: Vec::new(alloc),
             maxima: Maxima::new(alloc),
             levels: Levels::new(alloc),
         }
     }
 
-    /// Weighs the starts of a job, from `lower` to `upper`, by what the peaks would cost more.
+    /// Weighs the starts of a job, from `lower` to `upper`, and keeps those at which the peaks cost least more.
     pub(crate) fn weigh(
         &mut self,
         problem: &Problem,
@@ -55,66 +58,67 @@ impl Choices {
                 self.charge(row, resource, request)?;
             }
         }
-        Ok(())
+        if let (Some(first), Some(last)) = (self.list.first(), self.list.last()) {
+            self.levels
+                .fill(problem, usages, i, first.from, last.until)?;
+        }
+        self.keep_cheapest()
     }
 
-    /// Of the starts that cost least more the one with the least usage under the job's run, and of those the first.
-    pub(crate) fn levelled(
-        &mut self,
-        problem: &Problem,
-        usages: &Usages,
-        i: usize,
-    ) -> Result<u32, AllocError> {
-        let (Some(first), Some(last)) = (self.list.first(), self.list.last()) else {
-            return Ok(0);
-        };
-        let mut best = first.start;
-        self.levels
-            .fill(problem, usages, i, first.from, last.until)?;
-        let least = self.least_cost();
-        let mut lowest = u64::MAX;
-        for choice in self.list.iter() {
-            if choice.cost == least {
-                let under = self
-                    .levels
-                    .under(&usages.times, choice, problem.duration(i));
-                if under < lowest {
-                    best = choice.start;
-                    lowest = under;
-                }
-            }
-        }
-        Ok(best)
-    }
-
-    /// Of the starts that cost least more one by chance.
-    pub(crate) fn by_chance(&self, random: &mut Random) -> u32 {
-        let least = self.least_cost();
-        let mut count = 0u32;
-        for choice in self.list.iter() {
-            if choice.cost == least {
-                count = count.saturating_add(1);
-            }
-        }
-        let mut left = random.below(count);
-        for choice in self.list.iter() {
-            if choice.cost == least {
-                if left == 0 {
-                    return choice.start;
-                }
-                left = left.saturating_sub(1);
-            }
-        }
-        0
-    }
-
-    /// What the peaks cost more at the least.
-    fn least_cost(&self) -> u64 {
+    /// Keeps the starts that cost least more.
+    fn keep_cheapest(&mut self) -> Result<(), AllocError> {
         let mut least = u64::MAX;
         for choice in self.list.iter() {
             least = least.min(choice.cost);
         }
-        least
+        self.cheapest.clear();
+        for choice in self.list.iter() {
+            if choice.cost == least {
+                self.cheapest.push(*choice)?;
+            }
+        }
+        Ok(())
+    }
+
+    /// Of the starts that cost least more the one with the least usage under the run, and of those the first.
+    pub(crate) fn levelled(&self, usages: &Usages, duration: u32) -> u32 {
+        let mut best = self.cheapest_at(0);
+        for choice in self.cheapest.iter() {
+            best = self.lower(usages, duration, best, *choice);
+        }
+        best.start
+    }
+
+    /// Of two starts that cost least more, drawn by chance, the one with the least usage under the run.
+    pub(crate) fn drawn(&self, usages: &Usages, duration: u32, random: &mut Random) -> u32 {
+        let count = stored(self.cheapest.len());
+        let one = self.cheapest_at(random.below(count) as usize);
+        let other = self.cheapest_at(random.below(count) as usize);
+        self.lower(usages, duration, one, other).start
+    }
+
+    /// The start at a place among those that cost least more.
+    fn cheapest_at(&self, place: usize) -> Choice {
+        if place < self.cheapest.len() {
+            self.cheapest[place]
+        } else {
+            Choice {
+                start: 0,
+                from: 0,
+                until: 0,
+                cost: 0,
+            }
+        }
+    }
+
+    /// Of two starts the one with the least usage under the run.
+    fn lower(&self, usages: &Usages, duration: u32, one: Choice, other: Choice) -> Choice {
+        let under = self.levels.under(&usages.times, &one, duration);
+        if self.levels.under(&usages.times, &other, duration) < under {
+            other
+        } else {
+            one
+        }
     }
 
     /// Finds the starts: the first and the last one, and those at which the run starts or ends with a change. Between

@@ -17,7 +17,7 @@ use std::mem::swap;
 enum Way {
     /// The most urgent job first, at the start that is levelled best.
     List,
-    /// As chance has it: an urgent job first, at any start that costs least more.
+    /// As chance has it: an urgent job first, at one of the starts that cost least more.
     Chance,
 }
 
@@ -119,10 +119,11 @@ impl Making {
                 break;
             };
             let (lower, upper) = (self.windows.lower(i), self.windows.upper(i));
+            let duration = problem.duration(i);
             self.choices.weigh(problem, &self.usages, i, lower, upper)?;
             let start = match way {
-                Way::List => self.choices.levelled(problem, &self.usages, i)?,
-                Way::Chance => self.choices.by_chance(&mut self.random),
+                Way::List => self.choices.levelled(&self.usages, duration),
+                Way::Chance => self.choices.drawn(&self.usages, duration, &mut self.random),
             };
             set_number(&mut self.starts, i, start);
             self.usages.add(problem, i, start)?;
