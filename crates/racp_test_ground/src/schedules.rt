@@ -1,7 +1,5 @@
 //! Drafts of small orders, and of random ones.
 
-ghost use Rattle.std.specs.Prelude.{◌≡◌, ℕ, ◌+◌, ◌<◌, ◌≤◌, ◌↔◌, All, IsTrue, length};
-
 use crate::samples::{Sample, sampled};
 use racp_cpm::root;
 use racp_delay::{Never, Steps, Stop};
@@ -200,6 +198,12 @@ enum Outcome {
     Made(Draft),
 }
 
+/// The effort of these tests.
+const EFFORT: Effort = Effort {
+    rounds: 30,
+    seed: 7,
+};
+
 /// What comes of an order with this effort.
 fn tried<S: Stop>(
     alloc: Global,
@@ -226,12 +230,8 @@ fn tried<S: Stop>(
 
 /// What the draft of a wish costs, if there is one.
 fn wished(alloc: Global, net: &Network, wish: &Wish) -> Result<Option<u64>, AllocError> {
-    let effort = Effort {
-        rounds: 50,
-        seed: 1,
-    };
     let order = ordered(alloc, net, wish)?;
-    match tried(alloc, net, &order, effort, &Never)? {
+    match tried(alloc, net, &order, EFFORT, &Never)? {
         Outcome::Made(draft) => Ok(Some(draft.cost)),
         _ => Ok(None),
     }
@@ -246,6 +246,34 @@ fn holds(alloc: Global, wish: &Wish) -> bool {
         },
         Err(_) => false,
     }
+}
+
+/// The starts and the capacity of the first wish's draft, as on the page of racp_schedules.
+const SHOWN_STARTS: &[u32] = &[0, 0, 2, 0, 4];
+
+const SHOWN_CAPACITIES: &[u32] = &[3];
+
+/// Whether the draft of a wish is the one that is shown.
+fn is_shown(alloc: Global, wish: &Wish) -> bool {
+    let Ok(net) = sampled(alloc, wish.sample) else {
+        return false;
+    };
+    let Ok(order) = ordered(alloc, &net, wish) else {
+        return false;
+    };
+    match tried(alloc, &net, &order, EFFORT, &Never) {
+        Ok(Outcome::Made(draft)) => {
+            draft.starts.as_slice() == SHOWN_STARTS
+                && draft.capacities.as_slice() == SHOWN_CAPACITIES
+        }
+        _ => false,
+    }
+}
+
+#[test]
+fn drafts_the_shown_order(rt: HostRuntime) {
+    let first = WISHES.first();
+    assert!(rt; first.is_some_and(|wish| is_shown(rt.alloc(), wish)));
 }
 
 #[test]
@@ -265,24 +293,30 @@ fn loose_order(alloc: Global, random: &mut Random, net: &Network) -> Result<Orde
     Ok(order)
 }
 
+/// Whether the same seed makes the same draft again.
+fn is_made_again(alloc: Global, net: &Network, order: &Order, draft: &Draft) -> bool {
+    match tried(alloc, net, order, EFFORT, &Never) {
+        Ok(Outcome::Made(again)) => again.starts.as_slice() == draft.starts.as_slice(),
+        _ => false,
+    }
+}
+
 /// Whether a random order has a draft where it has a root window and no ceilings, and a stop before the first round
 /// gives none that costs less.
 fn is_drafted(alloc: Global, random: &mut Random) -> bool {
-    let effort = Effort {
-        rounds: 20,
-        seed: 7,
-    };
     let Ok(net) = random_network(alloc, random, 2, 7) else {
         return false;
     };
     let Ok(order) = loose_order(alloc, random, &net) else {
         return false;
     };
-    let made = tried(alloc, &net, &order, effort, &Never);
-    let listed = tried(alloc, &net, &order, effort, &Steps::new(0));
+    let made = tried(alloc, &net, &order, EFFORT, &Never);
+    let listed = tried(alloc, &net, &order, EFFORT, &Steps::new(0));
     match (made, listed) {
         (Ok(Outcome::Late), Ok(Outcome::Late)) => true,
-        (Ok(Outcome::Made(made)), Ok(Outcome::Made(listed))) => made.cost <= listed.cost,
+        (Ok(Outcome::Made(made)), Ok(Outcome::Made(listed))) => {
+            made.cost <= listed.cost && is_made_again(alloc, &net, &order, &made)
+        }
         (Ok(_), Ok(Outcome::Nothing)) => order.ceilings.is_some(),
         _ => false,
     }
