@@ -6,7 +6,8 @@ use Rattle.racp_model.specs.Plan.{IsPlan}
 use Rattle.racp_facts.specs.Solutions.{Problem, values, cost_place}
 use Rattle.racp_facts.specs.Roots.{IsOpen}
 use Rattle.racp_facts.proofs.lemmas.Places.{value-count}
-use Rattle.racp_established.specs.Least.{AreLeast, AreFitting, NoneIsLessBy, NoneStandBefore}
+use Rattle.racp_schedules.specs.Drafts.{AreFitting}
+use Rattle.racp_established.specs.Least.{AreLeast, NoneIsLessBy, NoneStandBefore}
 use Rattle.racp_established.proofs.Leading.{first-holds, least-plan}
 
 -- a row of the values of starts and units has a place for each variable

@@ -11,7 +11,8 @@ use Rattle.racp_facts.specs.Roots.{IsOpen}
 use Rattle.racp_facts.specs.Clauses.{Holds}
 use Rattle.racp_facts.specs.declared.literal.Literal.{Literal}
 use Rattle.racp_facts.proofs.lemmas.Solutions.{fitting-solution}
-use Rattle.racp_established.specs.Least.{AreLeast, AreFitting, NoneStandBefore, LeastUnitsAreFirst, LeastIsPlan}
+use Rattle.racp_schedules.specs.Drafts.{AreFitting}
+use Rattle.racp_established.specs.Least.{AreLeast, NoneStandBefore, LeastUnitsAreFirst, LeastIsPlan}
 use Rattle.racp_established.proofs.Turns.{turn-start, turn-units, turn-cost}
 use Rattle.racp_established.proofs.Lesser.{less-by_cost, less-by_units, less-by_start}
 

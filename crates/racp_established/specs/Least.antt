@@ -3,6 +3,7 @@ use Rattle.std.specs.Prelude.{◌≡◌, ℕ, ◌+◌, ◌-◌, ◌<◌, ◌≤�
 use Rattle.racp_model.specs.Project.{Project}
 use Rattle.racp_model.specs.Terms.{Terms, IsBefore, IsWithinCeilings}
 use Rattle.racp_model.specs.Plan.{IsEnough, IsPlan, FitsTerms}
+use Rattle.racp_schedules.specs.Drafts.{AreFitting}
 use Rattle.racp_facts.specs.Solutions.{Problem, IsSolution, values, cost_place}
 use Rattle.racp_facts.specs.Roots.{IsOpen}
 
@@ -32,12 +33,6 @@ AreLeast q turns vs = (x : ℕ) → x ≤ cost_place q.network → turn q.networ
 -- no capacities that are enough stand before these
 abbrev pub NoneStandBefore : Project → Terms → List ℕ → Type 0
 NoneStandBefore p terms capacities = (enough : List ℕ) → IsEnough p terms enough → IsBefore terms enough capacities → ⊥
-
--- starts that fit capacities on the terms of an order, within its ceilings
-pub record AreFitting (p : Project) (terms : Terms) (capacities starts : List ℕ) : Type 0 where
-  pub places : length capacities ≡ p.resources
-  pub ceilings : IsWithinCeilings terms capacities
-  pub fits : FitsTerms p terms capacities starts
 
 -- where no solution is less by the cost or by the units of a resource, no capacities that are enough stand before these
 abbrev pub LeastUnitsAreFirst : Type 0

@@ -5,14 +5,15 @@ ghost use Rattle.racp_model.specs.Terms.{AreTermsOf, cost};
 ghost use Rattle.racp_model.specs.Plan.{IsPlan, NoneIsEnough};
 ghost use Rattle.racp_facts.specs.Solutions.{values, cost_place};
 ghost use Rattle.racp_facts.specs.Roots.{IsOpen};
-ghost use Rattle.racp_established.specs.Least.{AreFitting, AreLeast, NoneStandBefore};
+ghost use Rattle.racp_schedules.specs.Drafts.{AreFitting};
+ghost use Rattle.racp_established.specs.Least.{AreLeast, NoneStandBefore};
 ghost use Rattle.racp_established.specs.Tests.{AreAllOut};
 
-use crate::fitting::are_fitting;
 use crate::least::are_least;
 use racp_facts::{Clause, Domain, OfProblem};
 use racp_model::{Capacities, Network, Starts};
 use racp_prices::{Order, cost_of};
+use racp_schedules::are_fitting;
 use std::alloc::{AllocError, Global};
 
 /// Whether clauses show that capacities and starts are the plan of an order.

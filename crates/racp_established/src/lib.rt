@@ -39,10 +39,8 @@
 #![tactic(auto)]
 
 mod established;
-mod fitting;
 pub mod laws;
 mod least;
 mod leaving_out;
 
 pub use established::{are_the_least, establishes, leaves_none, none_stand_before};
-pub use fitting::are_fitting;

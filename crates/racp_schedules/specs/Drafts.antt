@@ -1,15 +1,20 @@
 -- Drafts: schedules on the terms of an order, with the capacities that they need and the cost of these.
-use Rattle.std.specs.Prelude.{◌≡◌}
+use Rattle.std.specs.Prelude.{◌≡◌, List, ℕ, length}
 use Rattle.racp_model.specs.Project.{Project}
 use Rattle.racp_model.specs.Schedule.{ArePeaks}
 use Rattle.racp_model.specs.Terms.{Terms, IsWithinCeilings, cost}
 use Rattle.racp_model.specs.Plan.{FitsTerms}
 use Rattle.racp_schedules.specs.declared.draft.Draft.{Draft}
 
+-- starts that fit capacities on the terms of an order, within its ceilings
+pub record AreFitting (p : Project) (terms : Terms) (capacities starts : List ℕ) : Type 0 where
+  pub places : length capacities ≡ p.resources
+  pub ceilings : IsWithinCeilings terms capacities
+  pub fits : FitsTerms p terms capacities starts
+
 -- the starts fit the capacities on the order's terms and within its ceilings; the capacities are the peaks of the starts,
 -- and the draft says what they cost
 pub record IsDraft (p : Project) (terms : Terms) (draft : Draft) : Type 0 where
-  pub fits : FitsTerms p terms draft.capacities draft.starts
-  pub ceilings : IsWithinCeilings terms draft.capacities
+  pub fits : AreFitting p terms draft.capacities draft.starts
   pub peaks : ArePeaks p draft.starts draft.capacities
   pub priced : draft.cost ≡ cost terms draft.capacities

@@ -4,7 +4,7 @@ ghost use Rattle.std.specs.Prelude.{◌≡◌, ◌↔◌, ◌+◌, ◌<◌, ◌�
 ghost use Rattle.racp_model.specs.Project.{duration};
 ghost use Rattle.racp_model.specs.Schedule.{EndsBy};
 ghost use Rattle.racp_model.specs.Terms.{AreTermsOf, IsWithinCeilings, release_of, due_of};
-ghost use Rattle.racp_established.specs.Least.{AreFitting};
+ghost use Rattle.racp_schedules.specs.Drafts.{AreFitting};
 
 use racp_model::{Capacities, Network, Starts, fits};
 use racp_prices::Order;
