@@ -1,0 +1,165 @@
+//! How often bounds took part in conflicts of late (Moskewicz, Madigan, Zhao, Zhang and Malik 2001).
+
+use crate::bound::Bound;
+use crate::problem::Problem;
+use crate::rows::value_at;
+use crate::scale::Scale;
+use std::alloc::{AllocError, Global};
+
+/// So many scores there may be for all variables.
+const MOST_SCORES: usize = 131_072;
+
+/// A score above which all are made less.
+const MOST_SCORE: f64 = 1e100;
+
+/// Thresholds of a variable are the values that it may reach or not. Each has a score; where a variable has very many,
+/// groups of them have one.
+#[derive(Drop)]
+pub(crate) struct Activity {
+    scores: Vec<f64>,
+    latest: Vec<i64>,
+    scales: Vec<Scale>,
+    step: f64,
+}
+
+/// A threshold of a variable, and its score.
+#[derive(Clone, Copy)]
+pub(crate) struct Candidate {
+    pub(crate) variable: usize,
+    pub(crate) threshold: i64,
+    pub(crate) score: f64,
+}
+
+impl Candidate {
+    /// None yet: each other one is better.
+    pub(crate) fn none() -> Candidate {
+        Candidate {
+            variable: usize::MAX,
+            threshold: 0,
+            score: -1.0,
+        }
+    }
+
+    /// Whether there is one.
+    pub(crate) fn is_some(&self) -> bool {
+        self.variable != usize::MAX
+    }
+}
+
+impl Activity {
+    /// No scores yet, but small ones for starts by the seed, if it is not 0.
+    pub(crate) fn new(alloc: Global, problem: &Problem, seed: u64) -> Result<Activity, AllocError> {
+        let most = MOST_SCORES.checked_div(problem.variables()).unwrap_or(0);
+        let mut scales = Vec::with_capacity(alloc, problem.cost())?;
+        let mut scores = Vec::new(alloc);
+        let mut latest = Vec::new(alloc);
+        let mut random = seed.wrapping_mul(0x9E37_79B9_7F4A_7C15);
+        for x in 0..problem.cost() {
+            let from = problem.root_lower(x);
+            let scale = Scale::new(from, problem.root_upper(x), most, scores.len());
+            for at in scale.first()..scale.end() {
+                random = next(random);
+                let is_random = seed != 0 && x < problem.jobs;
+                scores.push(if is_random { small(random) } else { 0.0 })?;
+                latest.push(scale.value(at))?;
+            }
+            scales.push(scale)?;
+        }
+        Ok(Activity {
+            scores,
+            latest,
+            scales,
+            step: 1.0,
+        })
+    }
+
+    /// A bound has taken part.
+    #[inline]
+    pub(crate) fn bump(&mut self, bound: Bound) {
+        let threshold = bound.threshold();
+        let Some(scale) = self.scales.get(bound.variable()) else {
+            return;
+        };
+        let at = scale.at(threshold);
+        if at < self.scores.len() && at < self.latest.len() {
+            let score = self.scores[at] + self.step;
+            self.scores[at] = score;
+            self.latest[at] = threshold;
+            if MOST_SCORE < score {
+                self.rescale();
+            }
+        }
+    }
+
+    fn rescale(&mut self) {
+        for score in self.scores.iter_mut() {
+            *score *= 1.0 / MOST_SCORE;
+        }
+        self.step *= 1.0 / MOST_SCORE;
+    }
+
+    /// What took part before counts less.
+    pub(crate) fn decay(&mut self) {
+        self.step *= 1.0 / 0.95;
+    }
+
+    /// The threshold of a variable with the greatest score, between two values; the first one, without a score, if none of
+    /// those that have a score and took part last lies there.
+    #[inline]
+    pub(crate) fn best(&self, x: usize, from: i64, until: i64) -> Candidate {
+        let mut best = Candidate {
+            variable: x,
+            threshold: from,
+            score: 0.0,
+        };
+        let Some(scale) = self.scales.get(x) else {
+            return best;
+        };
+        let mut first = scale.at(from);
+        let mut last = scale.at(until);
+        if value_at(&self.latest, first) < from {
+            first = first.wrapping_add(1);
+        }
+        if until < value_at(&self.latest, last) {
+            last = last.wrapping_sub(1);
+        }
+        let Some(scores) = self.scores.get(first..last.wrapping_add(1)) else {
+            return best;
+        };
+        let greatest = greatest(scores);
+        for i in 0..scores.len() {
+            if scores[i] == greatest {
+                best.threshold = value_at(&self.latest, first.wrapping_add(i));
+                best.score = greatest;
+                return best;
+            }
+        }
+        best
+    }
+}
+
+/// The greatest of some scores, or -1 if there are none.
+#[inline]
+fn greatest(scores: &[f64]) -> f64 {
+    let mut greatest = -1.0;
+    for &score in scores {
+        if greatest < score {
+            greatest = score;
+        }
+    }
+    greatest
+}
+
+/// The next of some numbers that look random (Marsaglia 2003).
+fn next(random: u64) -> u64 {
+    let mut next = random;
+    next ^= next << 13;
+    next ^= next >> 7;
+    next ^= next << 17;
+    next
+}
+
+/// A number below a thousandth.
+fn small(random: u64) -> f64 {
+    f64::from((random % 1000) as u32) * 1e-6
+}

@@ -1,0 +1,193 @@
+//! The clauses that were learned.
+
+use crate::bound::Bound;
+use crate::rows::stored;
+use crate::watches::{Watch, Watches};
+use std::alloc::{AllocError, Global};
+
+/// What a clause takes beside its literals, and what a literal takes, with what is kept of both elsewhere: about.
+const CLAUSE_BYTES: u64 = 160;
+
+const LITERAL_BYTES: u64 = 40;
+
+/// A weight above which all are made less.
+const MOST_WEIGHT: f64 = 1e100;
+
+/// A clause: where its literals lie, over how many levels they lay when it was learned, and how it has served.
+#[derive(Clone, Copy)]
+pub(crate) struct Header {
+    pub(crate) at: u32,
+    pub(crate) count: u32,
+    pub(crate) levels: u32,
+    pub(crate) weight: f64,
+}
+
+/// The clauses, by number. The first two literals of each are watched.
+#[derive(Drop)]
+pub(crate) struct Clauses {
+    pub(crate) headers: Vec<Header>,
+    pub(crate) literals: Vec<Bound>,
+    pub(crate) watches: Watches,
+    /// Numbers without a clause.
+    pub(crate) free: Vec<u32>,
+    pub(crate) alive: usize,
+    /// So many there may be before some are forgotten.
+    pub(crate) most: usize,
+    pub(crate) bytes: u64,
+    pub(crate) most_bytes: u64,
+    step: f64,
+}
+
+impl Clauses {
+    /// No clauses yet, over sides with these values at the root. They are to take at most so many bytes, about.
+    pub(crate) fn new(alloc: Global, root: &[i64], most_bytes: u64) -> Result<Clauses, AllocError> {
+        Ok(Clauses {
+            headers: Vec::new(alloc),
+            literals: Vec::new(alloc),
+            watches: Watches::new(alloc, root)?,
+            free: Vec::new(alloc),
+            alive: 0,
+            most: 3000,
+            bytes: 0,
+            most_bytes,
+            step: 1.0,
+        })
+    }
+
+    /// The literals of a clause.
+    #[inline]
+    pub(crate) fn of(&self, clause: u32) -> &[Bound] {
+        match self.headers.get(clause as usize) {
+            Some(header) => {
+                let at = header.at as usize;
+                let end = at.wrapping_add(header.count as usize);
+                self.literals.get(at..end).unwrap_or(&[])
+            }
+            None => &[],
+        }
+    }
+
+    /// Whether a number has no clause.
+    pub(crate) fn is_free(&self, clause: usize) -> bool {
+        match self.headers.get(clause) {
+            Some(header) => header.count == 0,
+            None => true,
+        }
+    }
+
+    /// Whether memory was refused.
+    pub(crate) fn are_short(&self) -> bool {
+        self.watches.are_short()
+    }
+
+    /// Whether there are so many that some should be forgotten.
+    pub(crate) fn are_many(&self) -> bool {
+        self.most < self.alive || self.are_large()
+    }
+
+    /// Whether they take more memory than they may.
+    pub(crate) fn are_large(&self) -> bool {
+        self.most_bytes < self.bytes
+    }
+
+    /// Adds a clause, over literals of so many levels, and gives its number.
+    pub(crate) fn add(&mut self, literals: &[Bound], levels: u32) -> Result<u32, AllocError> {
+        let at = stored(self.literals.len());
+        self.literals.extend_from_slice(literals)?;
+        let count = stored(literals.len());
+        let header = Header {
+            at,
+            count,
+            levels,
+            weight: self.step,
+        };
+        let clause = self.number(header)?;
+        self.alive = self.alive.wrapping_add(1);
+        self.bytes = self.bytes.wrapping_add(bytes_of(count));
+        self.watch(clause);
+        Ok(clause)
+    }
+
+    /// Gives a clause a number.
+    fn number(&mut self, header: Header) -> Result<u32, AllocError> {
+        if let Some(clause) = self.free.pop() {
+            if (clause as usize) < self.headers.len() {
+                self.headers[clause as usize] = header;
+            }
+            return Ok(clause);
+        }
+        let clause = stored(self.headers.len());
+        self.headers.push(header)?;
+        Ok(clause)
+    }
+
+    /// Puts a clause in the lists of its first two literals.
+    pub(crate) fn watch(&mut self, clause: u32) {
+        let at = self
+            .headers
+            .get(clause as usize)
+            .map_or(0, |header| header.at);
+        let literals = self.of(clause);
+        if literals.len() < 2 {
+            return;
+        }
+        let (one, two) = (literals[0], literals[1]);
+        let watch = Watch {
+            clause,
+            at,
+            second: false,
+            other: two,
+        };
+        self.watches.wait(watch, one.negated());
+        let watch = Watch {
+            clause,
+            at,
+            second: true,
+            other: one,
+        };
+        self.watches.wait(watch, two.negated());
+    }
+
+    /// A clause has served.
+    #[inline]
+    pub(crate) fn bump(&mut self, clause: u32) {
+        let step = self.step;
+        if let Some(header) = self.headers.get_mut(clause as usize) {
+            header.weight += step;
+        }
+    }
+
+    /// What served before counts less.
+    pub(crate) fn decay(&mut self) {
+        self.step *= 1.0 / 0.999;
+        if MOST_WEIGHT < self.step {
+            self.step *= 1.0 / MOST_WEIGHT;
+            for header in self.headers.iter_mut() {
+                header.weight *= 1.0 / MOST_WEIGHT;
+            }
+        }
+    }
+}
+
+/// What a clause of so many literals takes, about.
+pub(crate) fn bytes_of(count: u32) -> u64 {
+    CLAUSE_BYTES.wrapping_add(LITERAL_BYTES.wrapping_mul(u64::from(count)))
+}
+
+/// The literal at a place.
+#[inline]
+pub(crate) fn literal_at(row: &[Bound], i: usize) -> Bound {
+    if i < row.len() {
+        row[i]
+    } else {
+        Bound { side: 0, value: 0 }
+    }
+}
+
+/// Writes a literal at a place.
+#[inline]
+pub(crate) fn set_literal(row: &mut [Bound], i: usize, literal: Bound) {
+    if i < row.len() {
+        row[i] = literal;
+    }
+}

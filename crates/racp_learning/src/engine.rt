@@ -1,0 +1,207 @@
+//! The search itself, which nobody trusts: it is safe, and it ends.
+
+use crate::activity::Activity;
+use crate::analysis::{Analysis, Scene};
+use crate::bound::{Bound, Why};
+use crate::clauses::Clauses;
+use crate::deciding::{Choice, Deciding, View};
+use crate::following::follow;
+use crate::problem::Problem;
+use crate::restarts::Restarts;
+use crate::trail::{Entry, Trail};
+use crate::usage::CoreUsage;
+use std::alloc::{AllocError, Global};
+
+/// So many bounds are followed, and so many decisions made, before the search pauses.
+const MOST_STEPS: u32 = 20_000;
+
+/// Where a search halts.
+#[derive(Clone, Copy)]
+pub(crate) enum Halt {
+    /// The early starts fit and cost little enough.
+    Found,
+    /// No schedule lies within the bounds.
+    Conflict,
+    /// It begins anew, and nothing is tried at the moment.
+    Restart,
+    /// It has gone on for some time.
+    Pause,
+    /// Memory was refused, or there is nothing to try.
+    Stuck,
+}
+
+/// The bounds, the clauses and all that is used again from one conflict to the next.
+#[derive(Drop)]
+pub(crate) struct Engine {
+    pub(crate) problem: Problem,
+    pub(crate) trail: Trail,
+    pub(crate) clauses: Clauses,
+    pub(crate) analysis: Analysis,
+    activity: Activity,
+    usage: CoreUsage,
+    deciding: Deciding,
+    restarts: Restarts,
+    assumed: Vec<Bound>,
+    /// Whether a bound was put since the core usage was looked at.
+    dirty: bool,
+}
+
+impl Engine {
+    /// Over the rows of an order; the clauses are to take at most so many bytes, about.
+    pub(crate) fn new(
+        alloc: Global,
+        problem: Problem,
+        seed: u64,
+        most_bytes: u64,
+    ) -> Result<Engine, AllocError> {
+        let bounds = Vec::from_slice(alloc, &problem.root)?;
+        Ok(Engine {
+            trail: Trail::new(alloc, bounds)?,
+            clauses: Clauses::new(alloc, &problem.root, most_bytes)?,
+            analysis: Analysis::new(alloc, problem.root.len())?,
+            activity: Activity::new(alloc, &problem, seed)?,
+            usage: CoreUsage::new(alloc, &problem)?,
+            deciding: Deciding::new(alloc, &problem)?,
+            restarts: Restarts::new(),
+            assumed: Vec::new(alloc),
+            dirty: true,
+            problem,
+        })
+    }
+
+    /// Begins a question, in which some bounds are assumed.
+    pub(crate) fn assume(&mut self, assumed: Vec<Bound>) {
+        self.back(0);
+        self.assumed = assumed;
+    }
+
+    /// Takes back all above a level.
+    pub(crate) fn back(&mut self, level: usize) {
+        self.trail.back(level);
+        self.dirty = true;
+    }
+
+    /// Goes on until it halts.
+    pub(crate) fn advance(&mut self) -> Halt {
+        for _i in 0..MOST_STEPS {
+            if let Some(halt) = self.propagate() {
+                return halt;
+            }
+            if self.is_short() {
+                return Halt::Stuck;
+            }
+            if self.restarts.is_due() || self.clauses.are_large() {
+                self.restarts.begin();
+                self.back(0);
+                return Halt::Restart;
+            }
+            if let Some(halt) = self.decide() {
+                return halt;
+            }
+        }
+        Halt::Pause
+    }
+
+    /// Whether memory was refused.
+    fn is_short(&self) -> bool {
+        self.trail.is_full()
+            || self.clauses.are_short()
+            || self.analysis.is_short()
+            || self.usage.is_short()
+            || self.deciding.is_short()
+    }
+
+    /// Decides what to try; at first what is assumed.
+    fn decide(&mut self) -> Option<Halt> {
+        if self.trail.level() == 0 {
+            self.trail.open_level();
+            for &bound in &self.assumed {
+                if !self.trail.put(bound, Why::Decision) {
+                    return Some(Halt::Conflict);
+                }
+            }
+            return None;
+        }
+        let choice = self.deciding.choose(View {
+            problem: &self.problem,
+            trail: &self.trail,
+            activity: &self.activity,
+        });
+        match choice {
+            Choice::Found => return Some(Halt::Found),
+            Choice::Nothing => return Some(Halt::Stuck),
+            Choice::Try(bound) => {
+                self.trail.open_level();
+                if !self.trail.put(bound, Why::Decision) {
+                    return Some(Halt::Stuck);
+                }
+            }
+        }
+        None
+    }
+
+    /// Follows all bounds, and says why it halts, if it does.
+    fn propagate(&mut self) -> Option<Halt> {
+        for _i in 0..MOST_STEPS {
+            match self.trail.next() {
+                Some(entry) => {
+                    self.dirty = true;
+                    if !self.follow(&entry) {
+                        return Some(Halt::Conflict);
+                    }
+                }
+                None => {
+                    if !self.dirty {
+                        return None;
+                    }
+                    self.dirty = false;
+                    if !self.usage.follow(&self.problem, &mut self.trail) {
+                        return Some(Halt::Conflict);
+                    }
+                }
+            }
+        }
+        Some(Halt::Pause)
+    }
+
+    fn follow(&mut self, entry: &Entry) -> bool {
+        follow(&self.problem, &mut self.trail, entry) && self.clauses.follow(&mut self.trail, entry)
+    }
+
+    /// Analyses the conflict, which then can be learned.
+    pub(crate) fn analyse(&mut self) -> Result<(), AllocError> {
+        self.restarts.count();
+        let scene = Scene {
+            problem: &self.problem,
+            trail: &self.trail,
+            clauses: &self.clauses,
+        };
+        self.analysis.run(scene, &mut self.activity)?;
+        self.activity.decay();
+        self.clauses.decay();
+        self.analysis.bump(&mut self.clauses);
+        Ok(())
+    }
+
+    /// Learns the clause of the last analysis, goes back to where its first literal follows, and gives its number.
+    pub(crate) fn learn(&mut self) -> Result<u32, AllocError> {
+        let clause = self.analysis.add_to(&mut self.clauses)?;
+        let learned = self.analysis.learned();
+        let first = learned.first();
+        let level = learned.level();
+        let is_unit = learned.literals().len() == 1;
+        let is_last = self.trail.level() <= 1;
+        self.back(level);
+        if let Some(literal) = first {
+            if is_unit || !is_last {
+                self.trail.put(literal, Why::Clause(clause));
+            }
+        }
+        Ok(clause)
+    }
+
+    /// The start of a job that was found.
+    pub(crate) fn start(&self, job: usize) -> u32 {
+        u32::try_from(self.trail.lower(job)).unwrap_or(0)
+    }
+}

@@ -1,0 +1,142 @@
+//! What a search learns from its conflicts: clauses, each of which is derived.
+
+ghost use Rattle.std.specs.Prelude.{◌≡◌};
+ghost use Rattle.racp_model.specs.Terms.{AreTermsOf};
+
+use crate::search::Search;
+use crate::steps::{apply, apply_entry, literal_of};
+use crate::told::{Reason, Told};
+use racp_facts::{Clause, Domain, OfProblem};
+use racp_model::Network;
+use racp_prices::Order;
+use std::alloc::AllocError;
+
+impl<N: OfProblem> Search<N> {
+    /// Learns from a conflict, and tells the end of the question, if that is it.
+    pub(crate) fn learn(
+        &mut self,
+        net: &Network,
+        order: &Order,
+        bounds: &Domain,
+    ) -> Result<Option<Told<N>>, AllocError>
+        requires named { net.now ≡ N.problem.network }
+        requires terms { order.now ≡ N.problem.terms }
+        requires fit { AreTermsOf net.now order.now }
+    {
+        self.tally.conflicts = self.tally.conflicts.saturating_add(1);
+        let is_last = self.engine.trail.level() <= 1;
+        self.engine.analyse()?;
+        self.derive(net, order)?;
+        let clause = self.work.finish(*self.clauses.allocator())?;
+        let Some(clause) = clause else {
+            return Ok(self.lose(is_last));
+        };
+        if !is_last && !self.engine.analysis.asserts() {
+            return Ok(self.lose(false));
+        }
+        if clause.literals().is_empty() {
+            self.ground.clause(&clause);
+        } else {
+            let number = self.engine.learn()?;
+            self.keep(number as usize, clause)?;
+        }
+        if is_last {
+            return Ok(Some(self.refuted(bounds)?));
+        }
+        Ok(None)
+    }
+
+    /// Counts a clause that was not confirmed, or is of no use, and begins anew; or tells that the question stays open.
+    fn lose(&mut self, is_last: bool) -> Option<Told<N>> {
+        self.tally.lost = self.tally.lost.saturating_add(1);
+        self.engine.back(0);
+        if is_last {
+            return Some(Told::Open(Reason::Unconfirmed));
+        }
+        None
+    }
+
+    /// Tells the clause that was derived, if it is false within the bounds.
+    pub(crate) fn refuted(&self, bounds: &Domain) -> Result<Told<N>, AllocError> {
+        let clause = self.work.finish(*self.clauses.allocator())?;
+        match clause {
+            Some(clause) if clause.refutes(bounds) => Ok(Told::Refuted(clause)),
+            _ => Ok(Told::Open(Reason::Unconfirmed)),
+        }
+    }
+
+    /// Keeps a clause by its number.
+    fn keep(&mut self, number: usize, clause: Clause<N>) -> Result<(), AllocError> {
+        for _i in self.clauses.len()..number.saturating_add(1) {
+            self.clauses.push(None)?;
+        }
+        if let Some(place) = self.clauses.get_mut(number) {
+            *place = Some(clause);
+        }
+        Ok(())
+    }
+
+    /// Derives the clause of the last analysis.
+    fn derive(&mut self, net: &Network, order: &Order) -> Result<(), AllocError>
+        requires named { net.now ≡ N.problem.network }
+        requires terms { order.now ≡ N.problem.terms }
+        requires fit { AreTermsOf net.now order.now }
+    {
+        self.settle_ground(net, order);
+        self.work.begin(&self.ground);
+        for &bound in self.engine.analysis.learned().literals() {
+            if let Some(literal) = literal_of(bound) {
+                self.work.suppose(literal)?;
+                self.tally.literals = self.tally.literals.saturating_add(1);
+            }
+        }
+        let hints = self.engine.analysis.hints();
+        for i in 0..hints.len() {
+            if self.work.is_empty() {
+                break;
+            }
+            let hint = hints[hints.len() - 1 - i];
+            apply(net, order, &self.clauses, &mut self.work, hint);
+            self.tally.hints = self.tally.hints.saturating_add(1);
+        }
+        Ok(())
+    }
+
+    /// Takes what follows without a decision into the ground.
+    pub(crate) fn settle_ground(&mut self, net: &Network, order: &Order)
+        requires named { net.now ≡ N.problem.network }
+        requires terms { order.now ≡ N.problem.terms }
+        requires fit { AreTermsOf net.now order.now }
+    {
+        let until = self.engine.trail.grounded();
+        for at in self.grounded..until {
+            if let Some(entry) = self.engine.trail.entries().get(at).copied() {
+                apply_entry(net, order, &self.clauses, &mut self.ground, &entry);
+            }
+        }
+        self.grounded = self.grounded.max(until);
+    }
+
+    /// Begins anew, and forgets clauses where there are many.
+    pub(crate) fn begin_anew(&mut self, net: &Network, order: &Order) -> Result<(), AllocError>
+        requires named { net.now ≡ N.problem.network }
+        requires terms { order.now ≡ N.problem.terms }
+        requires fit { AreTermsOf net.now order.now }
+    {
+        self.tally.restarts = self.tally.restarts.saturating_add(1);
+        if !self.engine.clauses.are_many() {
+            return Ok(());
+        }
+        self.settle_ground(net, order);
+        let alloc = *self.clauses.allocator();
+        self.engine.clauses.reduce(alloc, &self.engine.trail)?;
+        for i in 0..self.clauses.len() {
+            if self.engine.clauses.is_free(i) {
+                if let Some(place) = self.clauses.get_mut(i) {
+                    *place = None;
+                }
+            }
+        }
+        Ok(())
+    }
+}

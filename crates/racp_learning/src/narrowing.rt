@@ -1,0 +1,112 @@
+//! Bounds that move away from times that leave no room (time-table reasoning, Le Pape 1994).
+
+use crate::bound::{Bound, Why};
+use crate::lanes::Lanes;
+use crate::problem::Problem;
+use crate::rows::short;
+use crate::tight::{Segment, Tight};
+use crate::trail::Trail;
+
+/// A job, and its core times when the usage was taken.
+#[derive(Clone, Copy)]
+struct Mover {
+    job: usize,
+    duration: i64,
+    from: i64,
+    until: i64,
+}
+
+impl Mover {
+    /// Whether the job is part of the usage in a segment.
+    #[inline]
+    fn owns(&self, segment: Segment) -> bool {
+        self.from <= segment.from && segment.until <= self.until
+    }
+}
+
+/// What narrowing reads: the segments, and the most units there may be.
+#[derive(Clone, Copy)]
+pub(crate) struct Room<'a> {
+    pub(crate) problem: &'a Problem,
+    pub(crate) tight: &'a Tight,
+    pub(crate) most: &'a [Lanes],
+}
+
+impl Room<'_> {
+    /// Moves the bounds of all jobs, and says whether there is no conflict.
+    pub(crate) fn narrow(&self, trail: &mut Trail) -> bool {
+        for job in 0..self.problem.jobs {
+            let is_open = self.problem.is_busy(job) && trail.lower(job) < trail.upper(job);
+            if is_open && !self.narrow_job(trail, job) {
+                return false;
+            }
+        }
+        true
+    }
+
+    fn narrow_job(&self, trail: &mut Trail, job: usize) -> bool {
+        let duration = self.problem.duration(job);
+        let mover = Mover {
+            job,
+            duration,
+            from: trail.upper(job),
+            until: trail.lower(job).wrapping_add(duration),
+        };
+        self.raise(trail, &mover) && self.reduce(trail, &mover)
+    }
+
+    /// Whether a segment leaves no room for a job that is not part of its usage.
+    #[inline]
+    fn is_closed(&self, mover: &Mover, at: usize, segment: Segment) -> bool {
+        !mover.owns(segment) && !self.tight.has_room(self.problem, at, mover.job, self.most)
+    }
+
+    /// Raises the lower bound: behind the last segment without room in which the job would run from it on.
+    fn raise(&self, trail: &mut Trail, mover: &Mover) -> bool {
+        let mut start = trail.lower(mover.job);
+        let mut at = self.tight.count_from(mover.until);
+        for _i in 0..usize::MAX {
+            at = at.wrapping_sub(1);
+            let Some(segment) = self.tight.segment(at) else {
+                return true;
+            };
+            if segment.until <= start {
+                return true;
+            }
+            if self.is_closed(mover, at, segment) {
+                start = segment.until;
+                let bound = Bound::at_least(mover.job, start);
+                if !trail.put(bound, Why::Usage(short(segment.from))) {
+                    return false;
+                }
+                at = self.tight.count_from(start.wrapping_add(mover.duration));
+            }
+        }
+        true
+    }
+
+    /// Reduces the upper bound: before the first segment without room in which the job would run from it on.
+    fn reduce(&self, trail: &mut Trail, mover: &Mover) -> bool {
+        let mut start = mover.from;
+        let mut at = self.tight.count_until(start);
+        for _i in 0..usize::MAX {
+            let Some(segment) = self.tight.segment(at) else {
+                return true;
+            };
+            if start.wrapping_add(mover.duration) <= segment.from {
+                return true;
+            }
+            if self.is_closed(mover, at, segment) {
+                start = segment.from.wrapping_sub(mover.duration);
+                let bound = Bound::at_most(mover.job, start);
+                if !trail.put(bound, Why::Usage(short(segment.until))) {
+                    return false;
+                }
+                at = self.tight.count_until(start);
+            } else {
+                at = at.wrapping_add(1);
+            }
+        }
+        true
+    }
+}

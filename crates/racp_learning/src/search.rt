@@ -1,0 +1,195 @@
+//! A search that learns, question by question.
+
+ghost use Rattle.std.specs.Prelude.{◌≡◌, length};
+ghost use Rattle.racp_model.specs.Terms.{AreTermsOf};
+ghost use Rattle.racp_facts.specs.Solutions.{HasPlaces};
+
+use crate::bound::Bound;
+use crate::engine::{Engine, Halt};
+use crate::found::answers;
+use crate::problem::Problem;
+use crate::settling::settle;
+use crate::told::{Reason, Tally, Told};
+use racp_delay::Stop;
+use racp_facts::{Clause, Derivation, Domain, OfProblem};
+use racp_model::{Capacities, Network, Starts, peaks};
+use racp_prices::Order;
+use std::alloc::{AllocError, Global};
+
+/// The stop is asked once in so many conflicts.
+const ASKED: u64 = 16;
+
+/// A search over the problem that `N` names. It learns clauses from question to question.
+#[derive(Drop)]
+pub struct Search<N: OfProblem> {
+    pub(crate) engine: Engine,
+    /// What holds without a clause, and the derivation of the clause that is learned.
+    pub(crate) ground: Derivation<N>,
+    pub(crate) work: Derivation<N>,
+    /// The clauses by number.
+    pub(crate) clauses: Vec<Option<Clause<N>>>,
+    /// So many entries of the trail are in the ground.
+    pub(crate) grounded: usize,
+    pub(crate) tally: Tally,
+}
+
+impl<N: OfProblem> Search<N> {
+    /// A search over an order with these root bounds. By the seed it goes other ways, and with the same one always the same.
+    /// The clauses take at most so many bytes, about: where they take more, some are forgotten.
+    ///
+    /// # Errors
+    ///
+    /// Memory was refused.
+    pub fn new(
+        alloc: Global,
+        net: &Network,
+        order: &Order,
+        root: &Domain,
+        seed: u64,
+        most_bytes: u64,
+    ) -> Result<Self, AllocError>
+        requires named { net.now ≡ N.problem.network }
+        requires terms { order.now ≡ N.problem.terms }
+        requires fit { AreTermsOf net.now order.now }
+        requires root { root.now ≡ N.problem.root }
+        requires places { HasPlaces N.problem.network root.now }
+    {
+        let mut ground = Derivation::new(alloc, root)?;
+        let work = Derivation::new(alloc, root)?;
+        settle(alloc, net, order, root, &mut ground)?;
+        let row = sides_of(alloc, net, ground.bounds())?;
+        let problem = Problem::new(alloc, net, order, row)?;
+        Ok(Search {
+            engine: Engine::new(alloc, problem, seed, most_bytes)?,
+            ground,
+            work,
+            clauses: Vec::new(alloc),
+            grounded: 0,
+            tally: Tally::new(),
+        })
+    }
+
+    /// What was done so far.
+    pub fn tally(&self) -> Tally {
+        self.tally
+    }
+
+    /// Asks whether some schedule lies within bounds, and gives up after so many conflicts. The stop is asked from time to
+    /// time.
+    ///
+    /// # Errors
+    ///
+    /// Memory was refused.
+    pub fn ask<S: Stop>(
+        &mut self,
+        net: &Network,
+        order: &Order,
+        bounds: &Domain,
+        conflicts: u64,
+        stop: &S,
+    ) -> Result<Told<N>, AllocError>
+        requires named { net.now ≡ N.problem.network }
+        requires terms { order.now ≡ N.problem.terms }
+        requires fit { AreTermsOf net.now order.now }
+    {
+        if self.ground.is_empty() {
+            self.work.begin(&self.ground);
+            return self.refuted(bounds);
+        }
+        let assumed = self.assumed(net, bounds)?;
+        self.engine.assume(assumed);
+        let end = self.tally.conflicts.saturating_add(conflicts);
+        for _i in 0..u64::MAX {
+            match self.engine.advance() {
+                Halt::Found => return self.found(net, order, bounds),
+                Halt::Stuck => return Err(AllocError),
+                Halt::Restart => self.begin_anew(net, order)?,
+                Halt::Pause if stop.asked() => return Ok(Told::Open(Reason::Stopped)),
+                Halt::Pause => {}
+                Halt::Conflict => {
+                    if let Some(told) = self.learn(net, order, bounds)? {
+                        return Ok(told);
+                    }
+                    if end <= self.tally.conflicts {
+                        break;
+                    }
+                    let is_asked = self.tally.conflicts % ASKED == 0;
+                    if is_asked && stop.asked() {
+                        return Ok(Told::Open(Reason::Stopped));
+                    }
+                }
+            }
+        }
+        Ok(Told::Open(Reason::Budget))
+    }
+
+    /// What a question says beyond the ground.
+    fn assumed(&self, net: &Network, bounds: &Domain) -> Result<Vec<Bound>, AllocError> {
+        let mut assumed = Vec::new(*self.clauses.allocator());
+        for x in 0..net.job_count() + net.resource_count() + 1 {
+            let lower = i64::try_from(bounds.lower_at(x)).unwrap_or(0);
+            let upper = i64::try_from(bounds.upper_at(x)).unwrap_or(i64::MAX);
+            if self.engine.problem.root_lower(x) < lower {
+                assumed.push(Bound::at_least(x, lower))?;
+            }
+            if upper < self.engine.problem.root_upper(x) {
+                assumed.push(Bound::at_most(x, upper))?;
+            }
+        }
+        Ok(assumed)
+    }
+
+    /// Tells the schedule that was found.
+    fn found(
+        &mut self,
+        net: &Network,
+        order: &Order,
+        bounds: &Domain,
+    ) -> Result<Told<N>, AllocError>
+        requires fit { AreTermsOf net.now order.now }
+    {
+        let alloc = *self.clauses.allocator();
+        let mut row = Vec::with_capacity(alloc, net.job_count())?;
+        for i in 0..net.job_count() {
+            row.push(self.engine.start(i))?;
+        }
+        if row.len() != net.job_count() {
+            return Ok(Told::Open(Reason::Unconfirmed));
+        }
+        let starts = Starts::new(row);
+        let capacities = units_of(alloc, net, bounds, &starts)?;
+        if answers(net, order, bounds, &starts, &capacities) {
+            return Ok(Told::Found(starts, capacities));
+        }
+        Ok(Told::Open(Reason::Unconfirmed))
+    }
+}
+
+/// The peaks of starts, or the least units where these are more.
+fn units_of(
+    alloc: Global,
+    net: &Network,
+    bounds: &Domain,
+    starts: &Starts,
+) -> Result<Capacities, AllocError>
+    requires { length starts.now ≡ length net.now.jobs }
+{
+    let peaks = peaks(alloc, net, starts)?.into_vec();
+    let mut units = Vec::with_capacity(alloc, peaks.len())?;
+    for k in 0..peaks.len() {
+        let least = bounds.lower_at(net.job_count().wrapping_add(k));
+        units.push(peaks[k].max(u32::try_from(least).unwrap_or(0)))?;
+    }
+    Ok(Capacities::new(units))
+}
+
+/// The bounds by sides.
+fn sides_of(alloc: Global, net: &Network, bounds: &Domain) -> Result<Vec<i64>, AllocError> {
+    let mut row = Vec::new(alloc);
+    for x in 0..net.job_count() + net.resource_count() + 1 {
+        let upper = i64::try_from(bounds.upper_at(x)).unwrap_or(0);
+        row.push(i64::try_from(bounds.lower_at(x)).unwrap_or(0))?;
+        row.push(upper.wrapping_neg())?;
+    }
+    Ok(row)
+}

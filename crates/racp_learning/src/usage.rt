@@ -1,0 +1,148 @@
+//! The core usage, and the bounds that follow.
+
+use crate::bound::{Bound, Why};
+use crate::events::Events;
+use crate::lanes::{Lanes, lanes_at, set_lanes, set_units};
+use crate::narrowing::Room;
+use crate::problem::Problem;
+use crate::rows::short;
+use crate::tight::{Segment, Tight};
+use crate::trail::Trail;
+use std::alloc::{AllocError, Global};
+
+/// The core usage of the bounds that were looked at last. It changes only where core times begin or end, so no row grows
+/// with the deadline.
+#[derive(Drop)]
+pub(crate) struct CoreUsage {
+    events: Events,
+    /// What is used of the resources of each group, and the least and most units there may be.
+    loads: Vec<Lanes>,
+    least: Vec<Lanes>,
+    most: Vec<Lanes>,
+    tight: Tight,
+}
+
+impl CoreUsage {
+    pub(crate) fn new(alloc: Global, problem: &Problem) -> Result<CoreUsage, AllocError> {
+        Ok(CoreUsage {
+            events: Events::new(alloc, problem)?,
+            loads: Vec::from_elem(alloc, Lanes::none(), problem.groups)?,
+            least: Vec::from_elem(alloc, Lanes::none(), problem.groups)?,
+            most: Vec::from_elem(alloc, Lanes::none(), problem.groups)?,
+            tight: Tight::new(alloc),
+        })
+    }
+
+    /// Whether memory was refused.
+    pub(crate) fn is_short(&self) -> bool {
+        self.tight.is_short()
+    }
+
+    /// Puts all that follows from the core usage, and says whether there is no conflict.
+    pub(crate) fn follow(&mut self, problem: &Problem, trail: &mut Trail) -> bool {
+        self.events.take_cores(problem, trail);
+        for k in 0..problem.resources {
+            set_units(&mut self.least, k, trail.lower(problem.units(k)));
+            set_units(&mut self.most, k, trail.upper(problem.units(k)));
+        }
+        self.tight.clear();
+        if !self.sweep(problem, trail) {
+            return false;
+        }
+        if self.tight.is_empty() {
+            return true;
+        }
+        let room = Room {
+            problem,
+            tight: &self.tight,
+            most: &self.most,
+        };
+        room.narrow(trail)
+    }
+
+    /// Goes over the core usage in order of time.
+    fn sweep(&mut self, problem: &Problem, trail: &mut Trail) -> bool {
+        self.loads.fill(Lanes::none());
+        let mut running = 0usize;
+        let mut from = 0i64;
+        for i in 0..self.events.len() {
+            let event = self.events.at(i);
+            let job = event.job as usize;
+            let end = trail.lower(job).wrapping_add(problem.duration(job));
+            if end <= trail.upper(job) {
+                continue;
+            }
+            if from < event.time {
+                let segment = Segment {
+                    from,
+                    until: event.time,
+                };
+                if 0 < running && !self.look(problem, trail, segment) {
+                    return false;
+                }
+                from = event.time;
+            }
+            if event.ends {
+                running = running.wrapping_sub(1);
+                self.subtract(problem, job);
+            } else {
+                running = running.wrapping_add(1);
+                self.add(problem, job);
+            }
+        }
+        true
+    }
+
+    #[inline]
+    fn add(&mut self, problem: &Problem, job: usize) {
+        for group in 0..problem.groups {
+            let loads = lanes_at(&self.loads, group).with(problem.lanes(job, group));
+            set_lanes(&mut self.loads, group, loads);
+        }
+    }
+
+    #[inline]
+    fn subtract(&mut self, problem: &Problem, job: usize) {
+        for group in 0..problem.groups {
+            let loads = lanes_at(&self.loads, group).without(problem.lanes(job, group));
+            set_lanes(&mut self.loads, group, loads);
+        }
+    }
+
+    /// Looks at a segment: there are at least as many units as are used; and it may leave no room for some job.
+    #[inline]
+    fn look(&mut self, problem: &Problem, trail: &mut Trail, segment: Segment) -> bool {
+        let mut is_tight = false;
+        for group in 0..problem.groups {
+            let loads = lanes_at(&self.loads, group);
+            if !loads.are_within(lanes_at(&self.least, group))
+                && !self.raise(problem, trail, segment.from, group)
+            {
+                return false;
+            }
+            let with = loads.with(lanes_at(&problem.largest, group));
+            is_tight |= !with.are_within(lanes_at(&self.most, group));
+        }
+        if is_tight {
+            self.tight.push(segment, &self.loads);
+        }
+        true
+    }
+
+    /// Raises the lower bounds of the units of a group to what is used at a time.
+    fn raise(&mut self, problem: &Problem, trail: &mut Trail, time: i64, group: usize) -> bool {
+        let loads = lanes_at(&self.loads, group);
+        for q in 0..4usize {
+            let k = group.wrapping_mul(4).wrapping_add(q);
+            let load = i64::from(loads.of(q));
+            if k < problem.resources && trail.lower(problem.units(k)) < load {
+                let bound = Bound::at_least(problem.units(k), load);
+                if !trail.put(bound, Why::Peak(short(time))) {
+                    return false;
+                }
+                set_units(&mut self.least, k, load);
+            }
+        }
+        true
+    }
+}

@@ -1,0 +1,120 @@
+//! Lists of the clauses that wait for a bound.
+
+use crate::bound::Bound;
+use crate::rows::value_at;
+use crate::scale::Scale;
+use std::alloc::{AllocError, Global};
+use std::mem;
+
+/// So many lists there may be for all sides.
+const MOST_LISTS: usize = 131_072;
+
+/// A watched literal of a clause: the clause, where its literals lie, whether it is the second watched one, and a literal
+/// that may be true.
+#[derive(Clone, Copy)]
+pub(crate) struct Watch {
+    pub(crate) clause: u32,
+    pub(crate) at: u32,
+    pub(crate) second: bool,
+    pub(crate) other: Bound,
+}
+
+/// For each side lists of the watches that wait for it to reach a value, by groups of values.
+#[derive(Drop)]
+pub(crate) struct Watches {
+    lists: Vec<Vec<Watch>>,
+    scales: Vec<Scale>,
+    short: bool,
+    alloc: Global,
+}
+
+impl Watches {
+    /// Empty lists, over sides with these values at the root.
+    pub(crate) fn new(alloc: Global, root: &[i64]) -> Result<Watches, AllocError> {
+        let most = MOST_LISTS.checked_div(root.len()).unwrap_or(0);
+        let mut scales = Vec::with_capacity(alloc, root.len())?;
+        let mut count = 0usize;
+        for side in 0..root.len() {
+            let from = value_at(root, side);
+            let until = 1i64.wrapping_sub(value_at(root, side ^ 1));
+            let scale = Scale::new(from, until, most, count);
+            scales.push(scale)?;
+            count = scale.end();
+        }
+        let mut lists = Vec::with_capacity(alloc, count)?;
+        for _i in 0..count {
+            lists.push(Vec::new(alloc))?;
+        }
+        Ok(Watches {
+            lists,
+            scales,
+            short: false,
+            alloc,
+        })
+    }
+
+    /// Whether memory was refused.
+    pub(crate) fn are_short(&self) -> bool {
+        self.short
+    }
+
+    /// The list of those that wait for a bound.
+    #[inline]
+    pub(crate) fn list(&self, bound: Bound) -> usize {
+        match self.scales.get(bound.side as usize) {
+            Some(scale) => scale.at(bound.value),
+            None => 0,
+        }
+    }
+
+    /// Adds a watch that waits for a bound.
+    #[inline]
+    pub(crate) fn wait(&mut self, watch: Watch, bound: Bound) {
+        let list = self.list(bound);
+        self.add(watch, list);
+    }
+
+    /// Adds a watch to a list.
+    #[inline]
+    pub(crate) fn add(&mut self, watch: Watch, list: usize) {
+        if let Some(row) = self.lists.get_mut(list) {
+            if row.push(watch).is_err() {
+                self.short = true;
+            }
+        }
+    }
+
+    /// Whether a list has any watch.
+    #[inline]
+    pub(crate) fn has_any(&self, list: usize) -> bool {
+        match self.lists.get(list) {
+            Some(row) => !row.is_empty(),
+            None => false,
+        }
+    }
+
+    /// Takes a list out.
+    #[inline]
+    pub(crate) fn take(&mut self, list: usize) -> Vec<Watch> {
+        let empty = Vec::new(self.alloc);
+        match self.lists.get_mut(list) {
+            Some(row) => mem::replace(row, empty),
+            None => empty,
+        }
+    }
+
+    /// Puts a list back.
+    #[inline]
+    pub(crate) fn put_back(&mut self, list: usize, row: Vec<Watch>) {
+        if let Some(place) = self.lists.get_mut(list) {
+            *place = row;
+        }
+    }
+
+    /// Empties all lists.
+    pub(crate) fn clear(&mut self) {
+        for row in self.lists.iter_mut() {
+            row.clear();
+        }
+    }
+}
