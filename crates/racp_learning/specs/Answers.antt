@@ -3,7 +3,12 @@ use Rattle.std.specs.Prelude.{ℕ, ◌<◌, ◌≤◌, List, slice_index}
 use Rattle.racp_model.specs.Project.{Project}
 use Rattle.racp_model.specs.Terms.{Terms, cost}
 use Rattle.racp_model.specs.Window.{Bounds}
-use Rattle.racp_facts.specs.Solutions.{IsSchedule, IsWithin, values, units_place, cost_place}
+use Rattle.racp_facts.specs.Solutions.{Problem, IsSchedule, IsWithin, values, units_place, cost_place}
+use Rattle.racp_facts.specs.Clauses.{AreFalseWithin, IsRefuted}
+use Rattle.racp_facts.specs.declared.literal.Literal.{Literal}
+use Rattle.racp_learning.specs.declared.told.Told.{Told}
+use Rattle.racp_learning.specs.declared.told.Told.TheVariants.{Found, Refuted, Open}
+use Rattle.racp_learning.specs.declared.told.Reason.TheVariants.{Budget, Stopped, Unconfirmed}
 
 -- the units of each resource lie within bounds
 abbrev pub UnitsLie : Project → Bounds → List ℕ → Type 0
@@ -21,3 +26,18 @@ CostLies p terms bounds units =
 pub record IsAnswer (p : Project) (terms : Terms) (bounds : Bounds) (starts units : List ℕ) : Type 0 where
   pub schedule : IsSchedule p starts units
   pub within : IsWithin bounds (values terms starts units)
+
+-- what a search tells of a question is true: starts and units answer it; a clause, which holds, is false within its bounds,
+-- so that no solution lies within them
+abbrev pub IsTrueOf : Problem → Bounds → Told (List Literal) → Type 0
+IsTrueOf q bounds (Found starts units) = IsAnswer q.network q.terms bounds starts units
+IsTrueOf q bounds (Refuted clause) = AreFalseWithin bounds clause × IsRefuted q bounds
+IsTrueOf q bounds (Open reason) = Unit {0}
+
+-- a search was not stopped
+abbrev pub IsUnstopped : Told (List Literal) → Type 0
+IsUnstopped (Found starts units) = Unit {0}
+IsUnstopped (Refuted clause) = Unit {0}
+IsUnstopped (Open Budget) = Unit {0}
+IsUnstopped (Open Stopped) = ⊥
+IsUnstopped (Open Unconfirmed) = Unit {0}

@@ -2,6 +2,7 @@
 
 use crate::lanes::{Lanes, lanes_at, set_lanes};
 use crate::problem::Problem;
+use crate::rows::stored;
 use std::alloc::{AllocError, Global};
 
 /// So many jobs beside one are tried in all ways; of more only some ways are tried.
@@ -42,7 +43,7 @@ impl Alternatives {
         if MOST_TRIED < active.len() {
             return true;
         }
-        let ways = 1u32 << (active.len() as u32).min(31);
+        let ways = 1u32.wrapping_shl(stored(active.len()));
         for way in 0..ways {
             if self.keeps(problem, job, active, way) {
                 return true;
@@ -77,7 +78,7 @@ impl Alternatives {
     fn keeps(&mut self, problem: &Problem, job: u32, active: &[u32], way: u32) -> bool {
         self.loads.fill(Lanes::none());
         for i in 0..active.len() {
-            let stays = way.wrapping_shr(i as u32) & 1 == 1;
+            let stays = way.wrapping_shr(stored(i)) & 1 == 1;
             if stays && active[i] != job {
                 if !self.fits_with(problem, active[i]) {
                     return false;

@@ -11,7 +11,6 @@ use racp_model::{Capacities, Network, Starts, fits};
 use racp_prices::{Order, cost_of};
 
 /// Whether starts and units lie within bounds, with what the units cost, and the starts fit the units.
-#[tactic(auto, using(crate::proofs::Answering::answer_of))]
 pub(crate) fn answers(
     net: &Network,
     order: &Order,
@@ -28,10 +27,13 @@ pub(crate) fn answers(
     {
         return false;
     }
-    starts_lie(net, bounds, starts.as_slice())
-        && units_lie(net, bounds, units.as_slice())
-        && cost_lies(net, order, bounds, units.as_slice())
-        && fits(net, units, starts, u64::MAX)
+    if !starts_lie(net, bounds, starts.as_slice())
+        || !units_lie(net, bounds, units.as_slice())
+        || !cost_lies(net, order, bounds, units.as_slice())
+    {
+        return false;
+    }
+    fits(net, units, starts, u64::MAX)
 }
 
 /// Whether each start lies within its bounds.

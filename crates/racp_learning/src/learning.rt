@@ -1,7 +1,8 @@
 //! What a search learns from its conflicts: clauses, each of which is derived.
 
-ghost use Rattle.std.specs.Prelude.{◌≡◌};
+ghost use Rattle.std.specs.Prelude.{◌≡◌, IfOk, IfSome};
 ghost use Rattle.racp_model.specs.Terms.{AreTermsOf};
+ghost use Rattle.racp_learning.specs.Answers.{IsTrueOf, IsUnstopped};
 
 use crate::search::Search;
 use crate::steps::{apply, apply_entry, literal_of};
@@ -18,10 +19,12 @@ impl<N: OfProblem> Search<N> {
         net: &Network,
         order: &Order,
         bounds: &Domain,
-    ) -> Result<Option<Told<N>>, AllocError>
+    ) -> Result<Option<Told<Clause<N>>>, AllocError>
         requires named { net.now ≡ N.problem.network }
         requires terms { order.now ≡ N.problem.terms }
         requires fit { AreTermsOf net.now order.now }
+        ensures is_true { IfOk result (λ end. IfSome end (IsTrueOf N.problem bounds.now)) }
+        ensures unstopped { IfOk result (λ end. IfSome end IsUnstopped) }
     {
         self.tally.conflicts = self.tally.conflicts.saturating_add(1);
         let is_last = self.engine.trail.level() <= 1;
@@ -47,7 +50,9 @@ impl<N: OfProblem> Search<N> {
     }
 
     /// Counts a clause that was not confirmed, or is of no use, and begins anew; or tells that the question stays open.
-    fn lose(&mut self, is_last: bool) -> Option<Told<N>> {
+    fn lose(&mut self, is_last: bool) -> Option<Told<Clause<N>>>
+        ensures { IfSome result (λ told. told ≡ Told.Open Reason.Unconfirmed) }
+    {
         self.tally.lost = self.tally.lost.saturating_add(1);
         self.engine.back(0);
         if is_last {
@@ -57,7 +62,10 @@ impl<N: OfProblem> Search<N> {
     }
 
     /// Tells the clause that was derived, if it is false within the bounds.
-    pub(crate) fn refuted(&self, bounds: &Domain) -> Result<Told<N>, AllocError> {
+    pub(crate) fn refuted(&self, bounds: &Domain) -> Result<Told<Clause<N>>, AllocError>
+        ensures is_true { IfOk result (IsTrueOf N.problem bounds.now) }
+        ensures unstopped { IfOk result IsUnstopped }
+    {
         let clause = self.work.finish(*self.clauses.allocator())?;
         match clause {
             Some(clause) if clause.refutes(bounds) => Ok(Told::Refuted(clause)),

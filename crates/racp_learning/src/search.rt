@@ -1,8 +1,9 @@
 //! A search that learns, question by question.
 
-ghost use Rattle.std.specs.Prelude.{◌≡◌, length};
+ghost use Rattle.std.specs.Prelude.{◌≡◌, IfOk, IsTrue, length};
 ghost use Rattle.racp_model.specs.Terms.{AreTermsOf};
 ghost use Rattle.racp_facts.specs.Solutions.{HasPlaces};
+ghost use Rattle.racp_learning.specs.Answers.{IsTrueOf, IsUnstopped};
 
 use crate::bound::Bound;
 use crate::engine::{Engine, Halt};
@@ -87,10 +88,13 @@ impl<N: OfProblem> Search<N> {
         bounds: &Domain,
         conflicts: u64,
         stop: &S,
-    ) -> Result<Told<N>, AllocError>
+    ) -> Result<Told<Clause<N>>, AllocError>
         requires named { net.now ≡ N.problem.network }
         requires terms { order.now ≡ N.problem.terms }
         requires fit { AreTermsOf net.now order.now }
+        requires places { HasPlaces net.now bounds.now }
+        ensures is_true { IfOk result (IsTrueOf N.problem bounds.now) }
+        ensures quiet { IsTrue S.QUIET → IfOk result IsUnstopped }
     {
         if self.ground.is_empty() {
             self.work.begin(&self.ground);
@@ -145,8 +149,13 @@ impl<N: OfProblem> Search<N> {
         net: &Network,
         order: &Order,
         bounds: &Domain,
-    ) -> Result<Told<N>, AllocError>
+    ) -> Result<Told<Clause<N>>, AllocError>
+        requires named { net.now ≡ N.problem.network }
+        requires terms { order.now ≡ N.problem.terms }
         requires fit { AreTermsOf net.now order.now }
+        requires places { HasPlaces net.now bounds.now }
+        ensures is_true { IfOk result (IsTrueOf N.problem bounds.now) }
+        ensures unstopped { IfOk result IsUnstopped }
     {
         let alloc = *self.clauses.allocator();
         let mut row = Vec::with_capacity(alloc, net.job_count())?;

@@ -1,6 +1,5 @@
 //! What a search tells.
 
-use racp_facts::{Clause, OfProblem};
 use racp_model::{Capacities, Starts};
 
 /// Why a question is left open.
@@ -14,13 +13,13 @@ pub enum Reason {
     Unconfirmed,
 }
 
-/// What a search tells of a question.
+/// What a search tells of a question, where `C` are the clauses.
 #[derive(Drop)]
-pub enum Told<N: OfProblem> {
+pub enum Told<C> {
     /// Starts within the bounds of the question, and units within them that they fit.
     Found(Starts, Capacities),
     /// A clause that holds and is false within the bounds of the question.
-    Refuted(Clause<N>),
+    Refuted(C),
     /// Nothing.
     Open(Reason),
 }
