@@ -132,19 +132,10 @@ impl Clauses {
             return;
         }
         let (one, two) = (literals[0], literals[1]);
-        let watch = Watch {
-            clause,
-            at,
-            second: false,
-            other: two,
-        };
+        let next = at.wrapping_add(1);
+        let watch = Watch::new(clause, at, next, two);
         self.watches.wait(watch, one.negated());
-        let watch = Watch {
-            clause,
-            at,
-            second: true,
-            other: one,
-        };
+        let watch = Watch::new(clause, next, at, one);
         self.watches.wait(watch, two.negated());
     }
 

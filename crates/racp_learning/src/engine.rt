@@ -44,6 +44,7 @@ pub(crate) struct Engine {
     assumed: Vec<Bound>,
     /// Whether a bound was put since the core usage was looked at.
     dirty: bool,
+    decisions: u64,
 }
 
 impl Engine {
@@ -65,6 +66,7 @@ impl Engine {
             restarts: Restarts::new(),
             assumed: Vec::new(alloc),
             dirty: true,
+            decisions: 0,
             problem,
         })
     }
@@ -131,6 +133,7 @@ impl Engine {
             Choice::Found => return Some(Halt::Found),
             Choice::Nothing => return Some(Halt::Stuck),
             Choice::Try(bound) => {
+                self.decisions = self.decisions.saturating_add(1);
                 self.trail.open_level();
                 if !self.trail.put(bound, Why::Decision) {
                     return Some(Halt::Stuck);
@@ -198,6 +201,11 @@ impl Engine {
             }
         }
         Ok(clause)
+    }
+
+    /// How many decisions were made.
+    pub(crate) fn decisions(&self) -> u64 {
+        self.decisions
     }
 
     /// The start of a job that was found.

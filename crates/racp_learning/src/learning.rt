@@ -137,7 +137,10 @@ impl<N: OfProblem> Search<N> {
         }
         self.settle_ground(net, order);
         let alloc = *self.clauses.allocator();
+        let before = self.engine.clauses.alive;
         self.engine.clauses.reduce(alloc, &self.engine.trail)?;
+        let gone = before.saturating_sub(self.engine.clauses.alive) as u64;
+        self.tally.forgotten = self.tally.forgotten.saturating_add(gone);
         for i in 0..self.clauses.len() {
             if self.engine.clauses.is_free(i) {
                 if let Some(place) = self.clauses.get_mut(i) {

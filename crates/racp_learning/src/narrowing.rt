@@ -3,7 +3,7 @@
 use crate::bound::{Bound, Why};
 use crate::lanes::Lanes;
 use crate::problem::Problem;
-use crate::rows::short;
+use crate::rows::{number_at, short};
 use crate::tight::{Segment, Tight};
 use crate::trail::Trail;
 
@@ -30,6 +30,9 @@ pub(crate) struct Room<'a> {
     pub(crate) problem: &'a Problem,
     pub(crate) tight: &'a Tight,
     pub(crate) most: &'a [Lanes],
+    /// For each job how many segments end by its latest start, and by its earliest end.
+    pub(crate) starts: &'a [u32],
+    pub(crate) ends: &'a [u32],
 }
 
 impl Room<'_> {
@@ -64,7 +67,8 @@ impl Room<'_> {
     /// Raises the lower bound: behind the last segment without room in which the job would run from it on.
     fn raise(&self, trail: &mut Trail, mover: &Mover) -> bool {
         let mut start = trail.lower(mover.job);
-        let mut at = self.tight.count_from(mover.until);
+        let last = number_at(self.ends, mover.job) as usize;
+        let mut at = self.tight.place_behind(last, mover.until);
         for _i in 0..usize::MAX {
             at = at.wrapping_sub(1);
             let Some(segment) = self.tight.segment(at) else {
@@ -79,7 +83,8 @@ impl Room<'_> {
                 if !trail.put(bound, Why::Usage(short(segment.from))) {
                     return false;
                 }
-                at = self.tight.count_from(start.wrapping_add(mover.duration));
+                let end = start.wrapping_add(mover.duration);
+                at = self.tight.place_behind(at, end);
             }
         }
         true
@@ -88,7 +93,7 @@ impl Room<'_> {
     /// Reduces the upper bound: before the first segment without room in which the job would run from it on.
     fn reduce(&self, trail: &mut Trail, mover: &Mover) -> bool {
         let mut start = mover.from;
-        let mut at = self.tight.count_until(start);
+        let mut at = number_at(self.starts, mover.job) as usize;
         for _i in 0..usize::MAX {
             let Some(segment) = self.tight.segment(at) else {
                 return true;
@@ -96,17 +101,30 @@ impl Room<'_> {
             if start.wrapping_add(mover.duration) <= segment.from {
                 return true;
             }
-            if self.is_closed(mover, at, segment) {
+            let is_reached = start < segment.until;
+            if is_reached && self.is_closed(mover, at, segment) {
                 start = segment.from.wrapping_sub(mover.duration);
                 let bound = Bound::at_most(mover.job, start);
                 if !trail.put(bound, Why::Usage(short(segment.until))) {
                     return false;
                 }
-                at = self.tight.count_until(start);
+                at = self.first_behind(at, start);
             } else {
                 at = at.wrapping_add(1);
             }
         }
         true
+    }
+
+    /// The first place up to one at which a segment ends behind a time.
+    fn first_behind(&self, at: usize, time: i64) -> usize {
+        for back in 0..at {
+            let before = at.wrapping_sub(1).wrapping_sub(back);
+            match self.tight.segment(before) {
+                Some(segment) if time < segment.until => {}
+                _ => return before.wrapping_add(1),
+            }
+        }
+        0
     }
 }

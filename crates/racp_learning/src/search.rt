@@ -1,6 +1,6 @@
 //! A search that learns, question by question.
 
-ghost use Rattle.std.specs.Prelude.{◌≡◌, IfOk, IsTrue, length};
+ghost use Rattle.std.specs.Prelude.{◌≡◌, IfOk, IfSome, IsTrue, length};
 ghost use Rattle.racp_model.specs.Terms.{AreTermsOf};
 ghost use Rattle.racp_facts.specs.Solutions.{HasPlaces};
 ghost use Rattle.racp_learning.specs.Answers.{IsTrueOf, IsUnstopped};
@@ -72,7 +72,9 @@ impl<N: OfProblem> Search<N> {
 
     /// What was done so far.
     pub fn tally(&self) -> Tally {
-        self.tally
+        let mut tally = self.tally;
+        tally.decisions = self.engine.decisions();
+        tally
     }
 
     /// Asks whether some schedule lies within bounds, and gives up after so many conflicts. The stop is asked from time to
@@ -104,27 +106,47 @@ impl<N: OfProblem> Search<N> {
         self.engine.assume(assumed);
         let end = self.tally.conflicts.saturating_add(conflicts);
         for _i in 0..u64::MAX {
-            match self.engine.advance() {
-                Halt::Found => return self.found(net, order, bounds),
-                Halt::Stuck => return Err(AllocError),
-                Halt::Restart => self.begin_anew(net, order)?,
-                Halt::Pause if stop.asked() => return Ok(Told::Open(Reason::Stopped)),
-                Halt::Pause => {}
-                Halt::Conflict => {
-                    if let Some(told) = self.learn(net, order, bounds)? {
-                        return Ok(told);
-                    }
-                    if end <= self.tally.conflicts {
-                        break;
-                    }
-                    let is_asked = self.tally.conflicts % ASKED == 0;
-                    if is_asked && stop.asked() {
-                        return Ok(Told::Open(Reason::Stopped));
-                    }
-                }
+            if end <= self.tally.conflicts {
+                break;
+            }
+            if let Some(told) = self.go_on(net, order, bounds, stop)? {
+                return Ok(told);
             }
         }
         Ok(Told::Open(Reason::Budget))
+    }
+
+    /// Goes on until the search halts, and tells the end of the question, if that is it.
+    fn go_on<S: Stop>(
+        &mut self,
+        net: &Network,
+        order: &Order,
+        bounds: &Domain,
+        stop: &S,
+    ) -> Result<Option<Told<Clause<N>>>, AllocError>
+        requires named { net.now ≡ N.problem.network }
+        requires terms { order.now ≡ N.problem.terms }
+        requires fit { AreTermsOf net.now order.now }
+        requires places { HasPlaces net.now bounds.now }
+        ensures is_true { IfOk result (λ end. IfSome end (IsTrueOf N.problem bounds.now)) }
+        ensures quiet { IsTrue S.QUIET → IfOk result (λ end. IfSome end IsUnstopped) }
+    {
+        match self.engine.advance() {
+            Halt::Found => return Ok(Some(self.found(net, order, bounds)?)),
+            Halt::Stuck => return Err(AllocError),
+            Halt::Restart => self.begin_anew(net, order)?,
+            Halt::Pause => {}
+            Halt::Conflict => {
+                let told = self.learn(net, order, bounds)?;
+                if told.is_some() || self.tally.conflicts % ASKED != 0 {
+                    return Ok(told);
+                }
+            }
+        }
+        if stop.asked() {
+            return Ok(Some(Told::Open(Reason::Stopped)));
+        }
+        Ok(None)
     }
 
     /// What a question says beyond the ground.

@@ -56,40 +56,21 @@ impl Tight {
         self.segments.get(at).copied()
     }
 
-    /// How many segments begin before a time.
+    /// How many segments there are.
     #[inline]
-    pub(crate) fn count_from(&self, time: i64) -> usize {
-        let mut low = 0usize;
-        let mut high = self.segments.len();
-        for _i in 0..64u32 {
-            if high <= low {
-                break;
-            }
-            let middle = low.wrapping_add(high) / 2;
-            match self.segments.get(middle) {
-                Some(segment) if segment.from < time => low = middle.wrapping_add(1),
-                _ => high = middle,
-            }
-        }
-        low
+    pub(crate) fn len(&self) -> usize {
+        self.segments.len()
     }
 
-    /// How many segments end by a time.
+    /// The first place from one on at which no segment begins before a time.
     #[inline]
-    pub(crate) fn count_until(&self, time: i64) -> usize {
-        let mut low = 0usize;
-        let mut high = self.segments.len();
-        for _i in 0..64u32 {
-            if high <= low {
-                break;
-            }
-            let middle = low.wrapping_add(high) / 2;
-            match self.segments.get(middle) {
-                Some(segment) if segment.until <= time => low = middle.wrapping_add(1),
-                _ => high = middle,
+    pub(crate) fn place_behind(&self, at: usize, time: i64) -> usize {
+        for i in at..self.segments.len() {
+            if time <= self.segments[i].from {
+                return i;
             }
         }
-        low
+        self.segments.len()
     }
 
     /// Whether the usage in a segment leaves room for a job, where there are at most so many units.

@@ -29,6 +29,8 @@ pub enum Told<C> {
 pub struct Tally {
     /// How many conflicts it met.
     pub conflicts: u64,
+    /// How many decisions it made.
+    pub decisions: u64,
     /// Of how many the clause was not confirmed, or could not be used.
     pub lost: u64,
     /// How many steps were taken to derive clauses.
@@ -46,6 +48,7 @@ impl Tally {
     pub(crate) fn new() -> Tally {
         Tally {
             conflicts: 0,
+            decisions: 0,
             lost: 0,
             hints: 0,
             literals: 0,

@@ -1,11 +1,11 @@
 //! The core usage, and the bounds that follow.
 
 use crate::bound::{Bound, Why};
-use crate::events::Events;
+use crate::events::{Event, Events};
 use crate::lanes::{Lanes, lanes_at, set_lanes, set_units};
 use crate::narrowing::Room;
 use crate::problem::Problem;
-use crate::rows::short;
+use crate::rows::{set_number, short, stored};
 use crate::tight::{Segment, Tight};
 use crate::trail::Trail;
 use std::alloc::{AllocError, Global};
@@ -20,6 +20,9 @@ pub(crate) struct CoreUsage {
     least: Vec<Lanes>,
     most: Vec<Lanes>,
     tight: Tight,
+    /// For each job how many segments without room end by its latest start, and by its earliest end.
+    starts: Vec<u32>,
+    ends: Vec<u32>,
 }
 
 impl CoreUsage {
@@ -30,6 +33,8 @@ impl CoreUsage {
             least: Vec::from_elem(alloc, Lanes::none(), problem.groups)?,
             most: Vec::from_elem(alloc, Lanes::none(), problem.groups)?,
             tight: Tight::new(alloc),
+            starts: Vec::from_elem(alloc, 0, problem.jobs)?,
+            ends: Vec::from_elem(alloc, 0, problem.jobs)?,
         })
     }
 
@@ -56,6 +61,8 @@ impl CoreUsage {
             problem,
             tight: &self.tight,
             most: &self.most,
+            starts: &self.starts,
+            ends: &self.ends,
         };
         room.narrow(trail)
     }
@@ -69,10 +76,8 @@ impl CoreUsage {
             let event = self.events.at(i);
             let job = event.job as usize;
             let end = trail.lower(job).wrapping_add(problem.duration(job));
-            if end <= trail.upper(job) {
-                continue;
-            }
-            if from < event.time {
+            let is_core = trail.upper(job) < end;
+            if is_core && from < event.time {
                 let segment = Segment {
                     from,
                     until: event.time,
@@ -82,15 +87,28 @@ impl CoreUsage {
                 }
                 from = event.time;
             }
-            if event.ends {
+            self.note(event);
+            if is_core && event.ends {
                 running = running.wrapping_sub(1);
                 self.subtract(problem, job);
-            } else {
+            } else if is_core {
                 running = running.wrapping_add(1);
                 self.add(problem, job);
             }
         }
         true
+    }
+
+    /// Notes how many segments without room there are by an event.
+    #[inline]
+    fn note(&mut self, event: Event) {
+        let count = stored(self.tight.len());
+        let row = if event.ends {
+            &mut self.ends
+        } else {
+            &mut self.starts
+        };
+        set_number(row, event.job as usize, count);
     }
 
     #[inline]

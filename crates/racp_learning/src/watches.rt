@@ -9,14 +9,44 @@ use std::mem;
 /// So many lists there may be for all sides.
 const MOST_LISTS: usize = 131_072;
 
-/// A watched literal of a clause: the clause, where its literals lie, whether it is the second watched one, and a literal
-/// that may be true.
+/// A watched literal of a clause: the clause, where this literal lies and where the other watched one does, and a literal
+/// that may be true, by its side and value.
 #[derive(Clone, Copy)]
 pub(crate) struct Watch {
     pub(crate) clause: u32,
-    pub(crate) at: u32,
-    pub(crate) second: bool,
-    pub(crate) other: Bound,
+    pub(crate) own: u32,
+    pub(crate) partner: u32,
+    side: u32,
+    value: i64,
+}
+
+impl Watch {
+    /// The watch of a literal at a place, with the other watched one at another.
+    pub(crate) fn new(clause: u32, own: u32, partner: u32, other: Bound) -> Watch {
+        Watch {
+            clause,
+            own,
+            partner,
+            side: other.side,
+            value: other.value,
+        }
+    }
+
+    /// The literal that may be true.
+    #[inline]
+    pub(crate) fn other(&self) -> Bound {
+        Bound {
+            side: self.side,
+            value: self.value,
+        }
+    }
+
+    /// Takes another literal that may be true.
+    #[inline]
+    pub(crate) fn set_other(&mut self, other: Bound) {
+        self.side = other.side;
+        self.value = other.value;
+    }
 }
 
 /// For each side lists of the watches that wait for it to reach a value, by groups of values.

@@ -56,9 +56,10 @@ impl Clauses {
         let mut holds = true;
         for i in 0..row.len() {
             let mut watch = row[i];
-            if holds && !trail.holds(watch.other) {
-                watch.other = self.partner(watch);
-                if !trail.holds(watch.other) {
+            if holds && !trail.holds(watch.other()) {
+                let partner = literal_at(&self.literals, watch.partner as usize);
+                watch.set_other(partner);
+                if !trail.holds(partner) {
                     match self.look(trail, list, watch) {
                         Look::Stays => {}
                         Look::Fails => holds = false,
@@ -77,13 +78,6 @@ impl Clauses {
         Walk { kept, holds }
     }
 
-    /// The other watched literal.
-    #[inline]
-    fn partner(&self, watch: Watch) -> Bound {
-        let place = if watch.second { 0 } else { 1 };
-        literal_at(&self.literals, (watch.at as usize).wrapping_add(place))
-    }
-
     /// Looks at a watched literal: finds another that is not false, or puts the other watched one.
     #[inline]
     fn look(&mut self, trail: &mut Trail, list: usize, watch: Watch) -> Look {
@@ -91,7 +85,7 @@ impl Clauses {
             return Look::Stays;
         };
         let at = header.at as usize;
-        let own = at.wrapping_add(if watch.second { 1 } else { 0 });
+        let own = watch.own as usize;
         let seen = literal_at(&self.literals, own);
         if !trail.fails(seen) {
             return Look::Stays;
@@ -109,7 +103,7 @@ impl Clauses {
                 };
             }
         }
-        if trail.put(watch.other, Why::Clause(watch.clause)) {
+        if trail.put(watch.other(), Why::Clause(watch.clause)) {
             Look::Stays
         } else {
             Look::Fails
