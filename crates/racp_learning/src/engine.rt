@@ -12,8 +12,11 @@ use crate::trail::{Entry, Trail};
 use crate::usage::CoreUsage;
 use std::alloc::{AllocError, Global};
 
-/// So many bounds are followed, and so many decisions made, before the search pauses.
-const MOST_STEPS: u32 = 20_000;
+/// So many bounds are followed before the search pauses.
+const MOST_STEPS: u32 = 2_000;
+
+/// So many decisions are made before it does.
+const MOST_DECISIONS: u32 = 200;
 
 /// Where a search halts.
 #[derive(Clone, Copy)]
@@ -42,8 +45,6 @@ pub(crate) struct Engine {
     deciding: Deciding,
     restarts: Restarts,
     assumed: Vec<Bound>,
-    /// Whether a bound was put since the core usage was looked at.
-    dirty: bool,
     decisions: u64,
 }
 
@@ -65,7 +66,6 @@ impl Engine {
             deciding: Deciding::new(alloc, &problem)?,
             restarts: Restarts::new(),
             assumed: Vec::new(alloc),
-            dirty: true,
             decisions: 0,
             problem,
         })
@@ -80,12 +80,12 @@ impl Engine {
     /// Takes back all above a level.
     pub(crate) fn back(&mut self, level: usize) {
         self.trail.back(level);
-        self.dirty = true;
+        self.usage.reset();
     }
 
     /// Goes on until it halts.
     pub(crate) fn advance(&mut self) -> Halt {
-        for _i in 0..MOST_STEPS {
+        for _i in 0..MOST_DECISIONS {
             if let Some(halt) = self.propagate() {
                 return halt;
             }
@@ -148,16 +148,16 @@ impl Engine {
         for _i in 0..MOST_STEPS {
             match self.trail.next() {
                 Some(entry) => {
-                    self.dirty = true;
+                    self.usage
+                        .note_moved(&self.problem, &self.trail, entry.bound);
                     if !self.follow(&entry) {
                         return Some(Halt::Conflict);
                     }
                 }
                 None => {
-                    if !self.dirty {
+                    if !self.usage.has_moved() {
                         return None;
                     }
-                    self.dirty = false;
                     if !self.usage.follow(&self.problem, &mut self.trail) {
                         return Some(Halt::Conflict);
                     }

@@ -39,12 +39,28 @@ impl Room<'_> {
     /// Moves the bounds of all jobs, and says whether there is no conflict.
     pub(crate) fn narrow(&self, trail: &mut Trail) -> bool {
         for job in 0..self.problem.jobs {
-            let is_open = self.problem.is_busy(job) && trail.lower(job) < trail.upper(job);
-            if is_open && !self.narrow_job(trail, job) {
+            if !self.narrow_open(trail, job) {
                 return false;
             }
         }
         true
+    }
+
+    /// Moves the bounds of some jobs, and says whether there is no conflict.
+    pub(crate) fn narrow_some(&self, trail: &mut Trail, jobs: &[u32]) -> bool {
+        for &job in jobs {
+            if !self.narrow_open(trail, job as usize) {
+                return false;
+            }
+        }
+        true
+    }
+
+    /// Moves the bounds of a job, if they are not the same yet.
+    #[inline]
+    fn narrow_open(&self, trail: &mut Trail, job: usize) -> bool {
+        let is_open = self.problem.is_busy(job) && trail.lower(job) < trail.upper(job);
+        !is_open || self.narrow_job(trail, job)
     }
 
     fn narrow_job(&self, trail: &mut Trail, job: usize) -> bool {

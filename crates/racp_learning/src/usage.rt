@@ -23,6 +23,12 @@ pub(crate) struct CoreUsage {
     /// For each job how many segments without room end by its latest start, and by its earliest end.
     starts: Vec<u32>,
     ends: Vec<u32>,
+    /// Whether a bound has moved, and whether the usage is still the same: then these jobs have moved, and have no core
+    /// times.
+    has_moved: bool,
+    is_same: bool,
+    moved: Vec<u32>,
+    short: bool,
 }
 
 impl CoreUsage {
@@ -35,28 +41,66 @@ impl CoreUsage {
             tight: Tight::new(alloc),
             starts: Vec::from_elem(alloc, 0, problem.jobs)?,
             ends: Vec::from_elem(alloc, 0, problem.jobs)?,
+            has_moved: true,
+            is_same: false,
+            moved: Vec::with_capacity(alloc, problem.jobs)?,
+            short: false,
         })
     }
 
     /// Whether memory was refused.
     pub(crate) fn is_short(&self) -> bool {
-        self.tight.is_short()
+        self.short || self.tight.is_short()
+    }
+
+    /// Bounds were taken back.
+    pub(crate) fn reset(&mut self) {
+        self.has_moved = true;
+        self.is_same = false;
+    }
+
+    /// Notes that a bound has moved.
+    pub(crate) fn note_moved(&mut self, problem: &Problem, trail: &Trail, bound: Bound) {
+        let x = bound.variable();
+        if x < problem.jobs {
+            if problem.is_busy(x) {
+                self.note_job(
+                    x,
+                    trail.upper(x) < trail.lower(x).wrapping_add(problem.duration(x)),
+                );
+            }
+        } else if x < problem.cost() && !bound.is_lower() {
+            self.reset();
+        }
+    }
+
+    /// Notes that a job has moved, and whether it has core times.
+    fn note_job(&mut self, job: usize, is_core: bool) {
+        self.has_moved = true;
+        if is_core {
+            self.is_same = false;
+            return;
+        }
+        set_number(&mut self.starts, job, 0);
+        set_number(&mut self.ends, job, 0);
+        if self.moved.push(stored(job)).is_err() {
+            self.short = true;
+        }
+    }
+
+    /// Whether a bound has moved since the last look.
+    pub(crate) fn has_moved(&self) -> bool {
+        self.has_moved
     }
 
     /// Puts all that follows from the core usage, and says whether there is no conflict.
     pub(crate) fn follow(&mut self, problem: &Problem, trail: &mut Trail) -> bool {
-        self.events.take_cores(problem, trail);
-        for k in 0..problem.resources {
-            set_units(&mut self.least, k, trail.lower(problem.units(k)));
-            set_units(&mut self.most, k, trail.upper(problem.units(k)));
-        }
-        self.tight.clear();
-        if !self.sweep(problem, trail) {
+        self.has_moved = false;
+        let was_same = self.is_same;
+        if !was_same && !self.take(problem, trail) {
             return false;
         }
-        if self.tight.is_empty() {
-            return true;
-        }
+        self.is_same = true;
         let room = Room {
             problem,
             tight: &self.tight,
@@ -64,7 +108,26 @@ impl CoreUsage {
             starts: &self.starts,
             ends: &self.ends,
         };
-        room.narrow(trail)
+        let is_open = if self.tight.is_empty() {
+            true
+        } else if was_same {
+            room.narrow_some(trail, &self.moved)
+        } else {
+            room.narrow(trail)
+        };
+        self.moved.clear();
+        is_open
+    }
+
+    /// Takes the core usage, and says whether there is no conflict.
+    fn take(&mut self, problem: &Problem, trail: &mut Trail) -> bool {
+        self.events.take_cores(problem, trail);
+        for k in 0..problem.resources {
+            set_units(&mut self.least, k, trail.lower(problem.units(k)));
+            set_units(&mut self.most, k, trail.upper(problem.units(k)));
+        }
+        self.tight.clear();
+        self.sweep(problem, trail)
     }
 
     /// Goes over the core usage in order of time.
