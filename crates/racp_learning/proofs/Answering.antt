@@ -1,10 +1,10 @@
 -- Starts and units answer a question where each part of that is so.
-use Rattle.std.proofs.Common.{◌≡◌, ℕ, ◌+◌, ◌<◌, ◌≤◌, List, length, slice_index, arith}
+use Rattle.std.proofs.Common.{◌≡◌, ℕ, ◌<◌, ◌≤◌, List, length, slice_index, arith}
 use Rattle.racp_model.specs.Project.{Project}
 use Rattle.racp_model.specs.Schedule.{FitsInTime}
-use Rattle.racp_model.specs.Terms.{Terms, cost}
+use Rattle.racp_model.specs.Terms.{Terms}
 use Rattle.racp_model.specs.Window.{Bounds, LiesIn}
-use Rattle.racp_facts.specs.Solutions.{HasPlaces, IsSchedule, values, units_place, cost_place}
+use Rattle.racp_facts.specs.Solutions.{HasPlaces, values, units_place, cost_place}
 use Rattle.racp_facts.proofs.lemmas.Places.{each_place, value-start, value-units, value-cost}
 use Rattle.racp_learning.specs.Answers.{UnitsLie, CostLies, IsAnswer}
 
