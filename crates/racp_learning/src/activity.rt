@@ -1,6 +1,7 @@
 //! How often bounds took part in conflicts of late (Moskewicz, Madigan, Zhao, Zhang and Malik 2001).
 
 use crate::bound::Bound;
+use crate::candidate::Candidate;
 use crate::problem::Problem;
 use crate::rows::value_at;
 use crate::scale::Scale;
@@ -20,30 +21,6 @@ pub(crate) struct Activity {
     latest: Vec<i64>,
     scales: Vec<Scale>,
     step: f64,
-}
-
-/// A threshold of a variable, and its score.
-#[derive(Clone, Copy)]
-pub(crate) struct Candidate {
-    pub(crate) variable: usize,
-    pub(crate) threshold: i64,
-    pub(crate) score: f64,
-}
-
-impl Candidate {
-    /// None yet: each other one is better.
-    pub(crate) fn none() -> Candidate {
-        Candidate {
-            variable: usize::MAX,
-            threshold: 0,
-            score: -1.0,
-        }
-    }
-
-    /// Whether there is one.
-    pub(crate) fn is_some(&self) -> bool {
-        self.variable != usize::MAX
-    }
 }
 
 impl Activity {
@@ -107,13 +84,9 @@ impl Activity {
     /// those that have a score and took part last lies there.
     #[inline]
     pub(crate) fn best(&self, x: usize, from: i64, until: i64) -> Candidate {
-        let mut best = Candidate {
-            variable: x,
-            threshold: from,
-            score: 0.0,
-        };
+        let none = Candidate::of(x, from, 0.0);
         let Some(scale) = self.scales.get(x) else {
-            return best;
+            return none;
         };
         let mut first = scale.at(from);
         let mut last = scale.at(until);
@@ -124,17 +97,16 @@ impl Activity {
             last = last.wrapping_sub(1);
         }
         let Some(scores) = self.scores.get(first..last.wrapping_add(1)) else {
-            return best;
+            return none;
         };
         let greatest = greatest(scores);
         for i in 0..scores.len() {
             if scores[i] == greatest {
-                best.threshold = value_at(&self.latest, first.wrapping_add(i));
-                best.score = greatest;
-                return best;
+                let threshold = value_at(&self.latest, first.wrapping_add(i));
+                return Candidate::of(x, threshold, greatest);
             }
         }
-        best
+        none
     }
 }
 

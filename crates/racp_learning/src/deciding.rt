@@ -1,8 +1,9 @@
 //! What to try next: a job of a minimal delaying alternative is put off, or there are fewer units.
 
-use crate::activity::{Activity, Candidate};
+use crate::activity::Activity;
 use crate::alternatives::Alternatives;
 use crate::bound::Bound;
+use crate::candidate::Candidate;
 use crate::events::Events;
 use crate::lanes::{Lanes, lanes_at, set_lanes, set_units};
 use crate::problem::Problem;
@@ -171,15 +172,16 @@ impl Deciding {
         if let Some(seen) = self.seen.get_mut(x) {
             *seen = true;
         }
-        let after = time.wrapping_add(1);
-        let mut best = view.activity.best(x, after, view.trail.upper(x));
-        if best.score <= self.best.score
-            || !self.alternatives.have(view.problem, job, &self.active)
-        {
+        let (lower, upper) = (view.trail.lower(x), view.trail.upper(x));
+        let mut best = view.activity.best(x, time.wrapping_add(1), upper);
+        best.time = time;
+        best.start = lower;
+        best.slack = upper.wrapping_sub(lower);
+        if !best.is_better(&self.best) || !self.alternatives.have(view.problem, job, &self.active) {
             return;
         }
         if best.score <= 0.0 {
-            best.threshold = self.first_end(view).min(view.trail.upper(x));
+            best.threshold = self.first_end(view).min(upper);
         }
         self.best = best;
     }
@@ -238,7 +240,7 @@ impl Deciding {
             return;
         }
         let best = view.activity.best(x, from, until);
-        if self.best.score < best.score {
+        if best.is_better(&self.best) {
             self.best = best;
         }
     }

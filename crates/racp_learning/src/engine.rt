@@ -29,8 +29,10 @@ pub(crate) enum Halt {
     Restart,
     /// It has gone on for some time.
     Pause,
-    /// Memory was refused, or there is nothing to try.
+    /// There is nothing to try.
     Stuck,
+    /// Memory was refused.
+    Short,
 }
 
 /// The bounds, the clauses and all that is used again from one conflict to the next.
@@ -90,7 +92,7 @@ impl Engine {
                 return halt;
             }
             if self.is_short() {
-                return Halt::Stuck;
+                return Halt::Short;
             }
             if self.restarts.is_due() || self.clauses.are_large() {
                 self.restarts.begin();

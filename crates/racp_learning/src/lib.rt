@@ -11,7 +11,8 @@
 //! looks at the usage of the early starts. If they fit and cost little enough, that is an answer. If not, it tries: a job
 //! that runs at a time of excess and is a member of a minimal delaying alternative then is put off to start after that
 //! time, or there are fewer units of a resource. Which job, until when and which units is decided by what took part in
-//! conflicts of late. Demeulemeester and Herroelen (1992) branch over all alternatives of the first such time.
+//! conflicts of late; where nothing did, the job that starts last gives way, until the first of those that run has ended.
+//! Demeulemeester and Herroelen (1992) branch over all alternatives of the first such time, and put off to that end.
 //!
 //! A conflict, here, is a bound that cannot be: a lower one above an upper one. It follows from some bounds that were
 //! there before, and these from others; going back to the first place that all goes through gives bounds that cannot be
@@ -23,6 +24,8 @@
 //! core usage from 1 to 3          2 units: a conflict
 //! the clause                      at least 2 units
 //! ```
+//!
+//! This one a search knows before any question: at the root it takes in requests and energies too.
 //!
 //! `Search::new(alloc, &net, &order, &root, seed, most_bytes)` makes a search over the problem that `N` names (racp_facts).
 //! `ask(&net, &order, &bounds, conflicts, &stop)` asks a question, and tells starts with their units, a clause that is
@@ -47,6 +50,7 @@ mod activity;
 mod alternatives;
 mod analysis;
 mod bound;
+mod candidate;
 mod clauses;
 mod deciding;
 mod engine;

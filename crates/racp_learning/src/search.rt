@@ -133,7 +133,8 @@ impl<N: OfProblem> Search<N> {
     {
         match self.engine.advance() {
             Halt::Found => return Ok(Some(self.found(net, order, bounds)?)),
-            Halt::Stuck => return Err(AllocError),
+            Halt::Stuck => return Ok(Some(Told::Open(Reason::Unconfirmed))),
+            Halt::Short => return Err(AllocError),
             Halt::Restart => self.begin_anew(net, order)?,
             Halt::Pause => {}
             Halt::Conflict => {

@@ -9,7 +9,7 @@ pub enum Reason {
     Budget,
     /// It was stopped.
     Stopped,
-    /// A step that it took was not confirmed.
+    /// What would end it was not confirmed, or there was nothing to try.
     Unconfirmed,
 }
 
