@@ -199,10 +199,10 @@ fn next_network(alloc: Global, random: &mut Random) -> Option<usize> {
 fn clauses_are_true_of_all_solutions(rt: HostRuntime) {
     let mut random = Random::new(3);
     let mut sum = 0usize;
-    for round in 0..60 {
+    for round in 0..400 {
         let count = next_network(rt.alloc(), &mut random);
         assert!(rt; count.is_some(), "round {round}");
         sum = sum.saturating_add(count.unwrap_or(0));
     }
-    assert!(rt; 1_000 <= sum, "{sum} clauses");
+    assert!(rt; 200 <= sum, "{sum} clauses");
 }

@@ -251,7 +251,7 @@ fn rules_move_as_far_as_slow_ones(rt: HostRuntime) {
         closed: 0,
         other: 0,
     };
-    for round in 0..150 {
+    for round in 0..1_000 {
         let Ok(net) = small_network(rt.alloc(), &mut random) else {
             continue;
         };
@@ -259,6 +259,6 @@ fn rules_move_as_far_as_slow_ones(rt: HostRuntime) {
         assert!(rt; counted.is_ok(), "round {round}");
     }
     assert!(rt; counts.other == 0, "{} steps do otherwise", counts.other);
-    assert!(rt; 1_000 <= counts.moved, "{} steps move", counts.moved);
-    assert!(rt; 100 <= counts.closed, "{} steps close", counts.closed);
+    assert!(rt; 300 <= counts.moved, "{} steps move", counts.moved);
+    assert!(rt; 20 <= counts.closed, "{} steps close", counts.closed);
 }
