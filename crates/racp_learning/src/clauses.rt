@@ -92,6 +92,7 @@ impl Clauses {
 
     /// Adds a clause, over literals of so many levels, and gives its number.
     pub(crate) fn add(&mut self, literals: &[Bound], levels: u32) -> Result<u32, AllocError> {
+        make_even(&mut self.literals)?;
         let at = stored(self.literals.len());
         self.literals.extend_from_slice(literals)?;
         let count = stored(literals.len());
@@ -133,9 +134,10 @@ impl Clauses {
         }
         let (one, two) = (literals[0], literals[1]);
         let next = at.wrapping_add(1);
-        let watch = Watch::new(clause, at, next, two);
+        let end = at.wrapping_add(stored(literals.len()));
+        let watch = Watch::new(clause, at, end, two);
         self.watches.wait(watch, one.negated());
-        let watch = Watch::new(clause, next, at, one);
+        let watch = Watch::new(clause, next, end, one);
         self.watches.wait(watch, two.negated());
     }
 
@@ -163,6 +165,14 @@ impl Clauses {
 /// What a clause of so many literals takes, about.
 pub(crate) fn bytes_of(count: u32) -> u64 {
     CLAUSE_BYTES.wrapping_add(LITERAL_BYTES.wrapping_mul(u64::from(count)))
+}
+
+/// Makes the length of a row even.
+pub(crate) fn make_even(row: &mut Vec<Bound>) -> Result<(), AllocError> {
+    if row.len() % 2 == 1 {
+        row.push(Bound { side: 0, value: 0 })?;
+    }
+    Ok(())
 }
 
 /// The literal at a place.

@@ -173,7 +173,8 @@ impl Deciding {
             *seen = true;
         }
         let (lower, upper) = (view.trail.lower(x), view.trail.upper(x));
-        let mut best = view.activity.best(x, time.wrapping_add(1), upper);
+        let least = self.best.score;
+        let mut best = view.activity.best(x, time.wrapping_add(1), upper, least);
         best.time = time;
         best.start = lower;
         best.slack = upper.wrapping_sub(lower);
@@ -239,7 +240,7 @@ impl Deciding {
         if until < from || is_free && !self.is_over {
             return;
         }
-        let best = view.activity.best(x, from, until);
+        let best = view.activity.best(x, from, until, self.best.score);
         if best.is_better(&self.best) {
             self.best = best;
         }

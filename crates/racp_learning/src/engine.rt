@@ -15,8 +15,9 @@ use std::alloc::{AllocError, Global};
 /// So many bounds are followed before the search pauses.
 const MOST_STEPS: u32 = 2_000;
 
-/// So many decisions are made before it does.
-const MOST_DECISIONS: u32 = 200;
+/// So many decisions are made before it does, and no more than look at so many jobs.
+const MOST_DECISIONS: usize = 200;
+const MOST_LOOKS: usize = 6_000;
 
 /// Where a search halts.
 #[derive(Clone, Copy)]
@@ -87,7 +88,7 @@ impl Engine {
 
     /// Goes on until it halts.
     pub(crate) fn advance(&mut self) -> Halt {
-        for _i in 0..MOST_DECISIONS {
+        for _i in 0..self.decisions_at_once() {
             if let Some(halt) = self.propagate() {
                 return halt;
             }
@@ -104,6 +105,11 @@ impl Engine {
             }
         }
         Halt::Pause
+    }
+
+    /// How many decisions are made before the search pauses: fewer where there are many jobs, so that a stop is heard.
+    fn decisions_at_once(&self) -> usize {
+        (MOST_LOOKS / self.problem.jobs.max(1)).clamp(1, MOST_DECISIONS)
     }
 
     /// Whether memory was refused.

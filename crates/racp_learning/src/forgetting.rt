@@ -1,6 +1,6 @@
 //! Clauses that are forgotten.
 
-use crate::clauses::{Clauses, bytes_of, literal_at, set_literal};
+use crate::clauses::{Clauses, bytes_of, literal_at, make_even, set_literal};
 use crate::rows::stored;
 use crate::trail::Trail;
 use std::alloc::{AllocError, Global};
@@ -86,6 +86,7 @@ impl Clauses {
                 self.free.push(stored(clause))?;
                 continue;
             }
+            make_even(&mut literals)?;
             let at = stored(literals.len());
             literals.extend_from_slice(self.of(stored(clause)))?;
             if let Some(header) = self.headers.get_mut(clause) {

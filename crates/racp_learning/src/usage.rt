@@ -138,9 +138,7 @@ impl CoreUsage {
         for i in 0..self.events.len() {
             let event = self.events.at(i);
             let job = event.job as usize;
-            let end = trail.lower(job).wrapping_add(problem.duration(job));
-            let is_core = trail.upper(job) < end;
-            if is_core && from < event.time {
+            if event.is_core && from < event.time {
                 let segment = Segment {
                     from,
                     until: event.time,
@@ -151,10 +149,10 @@ impl CoreUsage {
                 from = event.time;
             }
             self.note(event);
-            if is_core && event.ends {
+            if event.is_core && event.ends {
                 running = running.wrapping_sub(1);
                 self.subtract(problem, job);
-            } else if is_core {
+            } else if event.is_core {
                 running = running.wrapping_add(1);
                 self.add(problem, job);
             }

@@ -9,27 +9,39 @@ use std::mem;
 /// So many lists there may be for all sides.
 const MOST_LISTS: usize = 131_072;
 
-/// A watched literal of a clause: the clause, where this literal lies and where the other watched one does, and a literal
-/// that may be true, by its side and value.
+/// A watched literal of a clause: the clause, where this literal lies and where the last one ends, and a literal that may
+/// be true, by its side and value.
 #[derive(Clone, Copy)]
 pub(crate) struct Watch {
     pub(crate) clause: u32,
     pub(crate) own: u32,
-    pub(crate) partner: u32,
+    pub(crate) end: u32,
     side: u32,
     value: i64,
 }
 
 impl Watch {
-    /// The watch of a literal at a place, with the other watched one at another.
-    pub(crate) fn new(clause: u32, own: u32, partner: u32, other: Bound) -> Watch {
+    /// The watch of a literal at a place.
+    pub(crate) fn new(clause: u32, own: u32, end: u32, other: Bound) -> Watch {
         Watch {
             clause,
             own,
-            partner,
+            end,
             side: other.side,
             value: other.value,
         }
+    }
+
+    /// Where the other watched literal lies: the first two of a clause are, and the first one lies at an even place.
+    #[inline]
+    pub(crate) fn partner(&self) -> usize {
+        (self.own ^ 1) as usize
+    }
+
+    /// The place behind both.
+    #[inline]
+    pub(crate) fn behind(&self) -> usize {
+        (self.own as usize | 1).wrapping_add(1)
     }
 
     /// The literal that may be true.
@@ -53,6 +65,8 @@ impl Watch {
 #[derive(Drop)]
 pub(crate) struct Watches {
     lists: Vec<Vec<Watch>>,
+    /// Which of them have any watch.
+    used: Vec<bool>,
     scales: Vec<Scale>,
     short: bool,
     alloc: Global,
@@ -77,6 +91,7 @@ impl Watches {
         }
         Ok(Watches {
             lists,
+            used: Vec::from_elem(alloc, false, count)?,
             scales,
             short: false,
             alloc,
@@ -112,14 +127,24 @@ impl Watches {
                 self.short = true;
             }
         }
+        self.set_used(list, true);
+    }
+
+    /// Notes whether a list has any watch.
+    #[inline]
+    fn set_used(&mut self, list: usize, is_used: bool) {
+        if list < self.used.len() {
+            self.used[list] = is_used;
+        }
     }
 
     /// Whether a list has any watch.
     #[inline]
     pub(crate) fn has_any(&self, list: usize) -> bool {
-        match self.lists.get(list) {
-            Some(row) => !row.is_empty(),
-            None => false,
+        if list < self.used.len() {
+            self.used[list]
+        } else {
+            false
         }
     }
 
@@ -136,6 +161,7 @@ impl Watches {
     /// Puts a list back.
     #[inline]
     pub(crate) fn put_back(&mut self, list: usize, row: Vec<Watch>) {
+        self.set_used(list, !row.is_empty());
         if let Some(place) = self.lists.get_mut(list) {
             *place = row;
         }
@@ -146,5 +172,6 @@ impl Watches {
         for row in self.lists.iter_mut() {
             row.clear();
         }
+        self.used.fill(false);
     }
 }

@@ -57,7 +57,7 @@ impl Clauses {
         for i in 0..row.len() {
             let mut watch = row[i];
             if holds && !trail.holds(watch.other()) {
-                let partner = literal_at(&self.literals, watch.partner as usize);
+                let partner = literal_at(&self.literals, watch.partner());
                 watch.set_other(partner);
                 if !trail.holds(partner) {
                     match self.look(trail, list, watch) {
@@ -81,16 +81,12 @@ impl Clauses {
     /// Looks at a watched literal: finds another that is not false, or puts the other watched one.
     #[inline]
     fn look(&mut self, trail: &mut Trail, list: usize, watch: Watch) -> Look {
-        let Some(header) = self.headers.get(watch.clause as usize).copied() else {
-            return Look::Stays;
-        };
-        let at = header.at as usize;
         let own = watch.own as usize;
         let seen = literal_at(&self.literals, own);
         if !trail.fails(seen) {
             return Look::Stays;
         }
-        for q in at.wrapping_add(2)..at.wrapping_add(header.count as usize) {
+        for q in watch.behind()..watch.end as usize {
             let literal = literal_at(&self.literals, q);
             if !trail.fails(literal) {
                 set_literal(&mut self.literals, q, seen);

@@ -3,7 +3,7 @@
 use crate::choices::Choices;
 use crate::problem::Problem;
 use crate::random::Random;
-use crate::rows::{number_at, set_number};
+use crate::rows::{number_at, set_number, stored};
 use crate::ruin::Ruin;
 use crate::usages::Usages;
 use crate::windows::Windows;
@@ -11,6 +11,9 @@ use racp_delay::Stop;
 use racp_model::Starts;
 use std::alloc::{AllocError, Global};
 use std::mem::swap;
+
+/// So many rounds in turn may bring nothing where there are many jobs.
+const MOST_PATIENCE: u32 = 200;
 
 /// In which way jobs are placed.
 #[derive(Clone, Copy)]
@@ -61,7 +64,8 @@ impl Making {
         Ok(making)
     }
 
-    /// Makes the schedule better in rounds, until it costs as little as is known to be needed.
+    /// Makes the schedule better in rounds, until it costs as little as is known to be needed, or many rounds in turn have
+    /// brought nothing: the more jobs, the more rounds, up to a number.
     pub(crate) fn improve<S: Stop>(
         &mut self,
         problem: &Problem,
@@ -69,11 +73,19 @@ impl Making {
         stop: &S,
     ) -> Result<(), AllocError> {
         let least = problem.least_cost();
+        let patience = patience_for(problem.jobs());
+        let mut idle = 0u32;
         for _round in 0..rounds {
-            if self.cost <= least || stop.asked() {
+            if self.cost <= least || patience <= idle || stop.asked() {
                 break;
             }
+            let before = self.cost;
             self.round(problem)?;
+            idle = if self.cost < before {
+                0
+            } else {
+                idle.saturating_add(1)
+            };
         }
         Ok(())
     }
@@ -166,4 +178,10 @@ impl Making {
     pub(crate) fn into_starts(self) -> Starts {
         Starts::new(self.starts)
     }
+}
+
+/// How many rounds in turn may bring nothing.
+fn patience_for(jobs: usize) -> u32 {
+    let jobs = stored(jobs);
+    (jobs.saturating_mul(jobs) / 20).min(MOST_PATIENCE)
 }

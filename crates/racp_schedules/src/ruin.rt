@@ -6,7 +6,7 @@ use crate::rows::{number_at, stored};
 use crate::usages::Usages;
 use std::alloc::{AllocError, Global};
 
-/// Two jobs are taken out, and at most so many more.
+/// Two jobs are taken out, and at most so many more, or a fifth of all.
 const MOST_MORE: u32 = 16;
 
 /// Chooses jobs that are taken out.
@@ -64,7 +64,8 @@ impl Ruin {
             self.distances.push((blurred, *job))?;
         }
         self.distances.sort_unstable();
-        let more = stored(self.busy.len()).saturating_sub(2).min(MOST_MORE);
+        let busy = stored(self.busy.len());
+        let more = busy.saturating_sub(2).min(MOST_MORE.max(busy / 5));
         let count = random.below(more.saturating_add(1)).saturating_add(2) as usize;
         going.clear();
         staying.clear();
