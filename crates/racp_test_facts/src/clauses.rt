@@ -23,7 +23,7 @@ fn at(row: &[u64], x: usize) -> u64 {
 }
 
 /// What the units in a row of values cost.
-fn cost_of(net: &Network, order: &Order, row: &[u64]) -> u64 {
+pub fn cost_of(net: &Network, order: &Order, row: &[u64]) -> u64 {
     let mut cost = 0u64;
     for k in 0..net.resource_count() {
         let owned = order.owned.get(k).copied().unwrap_or(0) as u64;
@@ -35,7 +35,7 @@ fn cost_of(net: &Network, order: &Order, row: &[u64]) -> u64 {
 }
 
 /// Whether the starts of a row keep precedence.
-fn keeps_precedence(net: &Network, row: &[u64]) -> bool {
+pub fn keeps_precedence(net: &Network, row: &[u64]) -> bool {
     net.arcs().iter().all(|(first, second)| {
         let (i, j) = (
             first.saturating_sub(1) as usize,
@@ -45,17 +45,21 @@ fn keeps_precedence(net: &Network, row: &[u64]) -> bool {
     })
 }
 
+/// What the jobs of a row of values use of a resource together at a time.
+pub fn usage(net: &Network, row: &[u64], k: usize, time: u64) -> u64 {
+    let mut used = 0u64;
+    for i in 0..net.job_count() {
+        if at(row, i) <= time && time < at(row, i).saturating_add(duration(net, i)) {
+            used = used.saturating_add(request(net, i, k));
+        }
+    }
+    used
+}
+
 /// Whether at a time the jobs use at most the units of a row.
 fn is_within(net: &Network, row: &[u64], time: u64) -> bool {
-    (0..net.resource_count()).all(|k| {
-        let mut used = 0u64;
-        for i in 0..net.job_count() {
-            if at(row, i) <= time && time < at(row, i).saturating_add(duration(net, i)) {
-                used = used.saturating_add(request(net, i, k));
-            }
-        }
-        used <= at(row, net.job_count().saturating_add(k))
-    })
+    (0..net.resource_count()).all(|k| usage(net, row, k, time)
+        <= at(row, net.job_count().saturating_add(k)))
 }
 
 /// Whether a row has the values of a schedule, its cost last.
@@ -81,7 +85,7 @@ fn least_values(alloc: Global, net: &Network, root: &Domain) -> Result<Vec<u64>,
 }
 
 /// Counts on to the next values within the root bounds; says whether there are any.
-fn count_on(row: &mut [u64], root: &Domain) -> bool {
+pub fn count_on(row: &mut [u64], root: &Domain) -> bool {
     for x in 0..row.len() {
         if row[x] < root.upper_at(x) {
             row[x] = row[x].saturating_add(1);

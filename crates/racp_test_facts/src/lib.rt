@@ -1,8 +1,17 @@
-//! Tests of facts: rules beside slow ones, clauses beside all solutions, and plans that follow from clauses.
+//! Tests of facts: rules beside slow ones, clauses beside all solutions, plans that follow from clauses, searches beside
+//! all schedules, and optima beside plans by definition.
 #![tactic(auto)]
 
 #[cfg(test)]
+mod asking;
+#[cfg(test)]
 mod clauses;
+#[cfg(test)]
+mod descents;
+#[cfg(test)]
+mod listener;
+#[cfg(test)]
+mod optima;
 #[cfg(test)]
 mod plans;
 #[cfg(test)]
@@ -11,5 +20,9 @@ mod problems;
 mod proving;
 #[cfg(test)]
 mod rules;
+#[cfg(test)]
+mod schedules;
+#[cfg(test)]
+mod searches;
 #[cfg(test)]
 mod slow;
