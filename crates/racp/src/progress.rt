@@ -29,14 +29,17 @@ pub(crate) struct Progress {
     told: Told,
 }
 
-/// How far planning has come: the deadline, the floor of each resource, by place from 0, what the plan costs at least,
-/// and how many mebibytes of memory were used when that was last told.
+/// How far planning has come: the deadline, the floor of each resource, by place from 0, what the plan costs at least, how
+/// many conflicts a search that learns has met and how many clauses it keeps, and how many mebibytes of memory were used
+/// when that was last told.
 #[derive(Drop)]
 struct Told {
     deadline: AtomicU64,
     resources: AtomicU64,
     floors: Vec<AtomicU64>,
     cost: AtomicU64,
+    conflicts: AtomicU64,
+    clauses: AtomicU64,
     memory: AtomicU64,
 }
 
@@ -52,6 +55,8 @@ impl Told {
             resources: AtomicU64::new(0),
             floors,
             cost: AtomicU64::new(0),
+            conflicts: AtomicU64::new(0),
+            clauses: AtomicU64::new(0),
             memory: AtomicU64::new(0),
         })
     }
@@ -109,9 +114,11 @@ impl Progress {
         };
         let nodes = self.nodes.load(Ordering::SeqCst);
         let told = &self.told;
+        let conflicts = told.conflicts.load(Ordering::SeqCst);
+        let clauses = told.clauses.load(Ordering::SeqCst);
         let memory = told.memory.load(Ordering::SeqCst);
         let _ = errors.eprintln(format_args!(
-            "{place}progress seconds {seconds} {told} nodes {nodes} memory {memory}"
+            "{place}progress seconds {seconds} {told} nodes {nodes} conflicts {conflicts} clauses {clauses} memory {memory}"
         ));
     }
 
@@ -137,6 +144,12 @@ impl Progress {
     /// Notes what the plan costs at least.
     fn note_cost(&self, cost: u64) {
         let _ = self.told.cost.fetch_max(cost, Ordering::SeqCst);
+    }
+
+    /// Notes how far a search that learns has come.
+    fn note_search(&self, conflicts: u64, clauses: u64) {
+        self.told.conflicts.store(conflicts, Ordering::SeqCst);
+        self.told.clauses.store(clauses, Ordering::SeqCst);
     }
 
     /// Notes how many mebibytes of memory are used.
@@ -177,6 +190,13 @@ impl<'a, F: Files + Drop> Observer for Listener<'a, F> {
     fn hear_cost(&self, cost: u64) {
         if let Some(progress) = self.progress {
             progress.note_cost(cost);
+            progress.note_memory(mebibytes_used(&self.host));
+        }
+    }
+
+    fn hear_search(&self, conflicts: u64, clauses: u64) {
+        if let Some(progress) = self.progress {
+            progress.note_search(conflicts, clauses);
             progress.note_memory(mebibytes_used(&self.host));
         }
     }

@@ -3,6 +3,7 @@ use Rattle.std.specs.Prelude.{◌≡◌, ◌≢◌, ℕ, ◌+◌, ◌<◌, ◌�
 use Rattle.racp_model.specs.Project.{Project}
 use Rattle.racp_model.specs.Terms.{Terms, cost, IsBefore}
 use Rattle.racp_model.specs.Plan.{IsLeast, IsEnough, NoneIsEnough}
+use Rattle.racp_schedules.specs.Drafts.{AreFitting}
 use Rattle.racp_lexfix.specs.Answers.{IsAnswer, IsPlanStop}
 use Rattle.racp_lexfix.specs.Laws.{IsNoPlan}
 use Rattle.racp_lexfix.specs.Stages.{AreFloorsOfEnough, IsLeastOfEnough}
@@ -83,3 +84,8 @@ MayHearFloors p terms may_hear = (deadline : ℕ) → deadline ≤ terms.deadlin
 abbrev pub MayHearCost : Project → Terms → (ℕ → Type 0) → Type 0
 MayHearCost p terms may_hear = (deadline : ℕ) → deadline ≤ terms.deadline → (least : ℕ) →
     IsLeastOfEnough p (order_by deadline terms) least → may_hear least
+
+-- so may plans for it, which may not be the cheapest
+abbrev pub MayHearPlans : Project → Terms → (List ℕ → List ℕ → Type 0) → Type 0
+MayHearPlans p terms may_hear = (deadline : ℕ) → deadline ≤ terms.deadline → (capacities starts : List ℕ) →
+    AreFitting p (order_by deadline terms) capacities starts → may_hear capacities starts

@@ -8,13 +8,15 @@ use Rattle.racp_plan.specs.declared.plan.Plan.{Plan}
 use Rattle.racp_plan.specs.Plans.{IsPlanOf}
 use Rattle.racp_lexfix.specs.declared.answer.Answer.{Answer}
 use Rattle.racp_lexfix.specs.declared.answer.Answer.TheVariants.{Plan as ThePlan, Impossible, Due, Ceiling}
-use Rattle.racp_curve.specs.Curves.{order_by, first_deadline, AreOthersThanFirst, AreSteps, IsCurve, MayHearCost, MayHearFloors}
+use Rattle.racp_curve.specs.Curves.{order_by, first_deadline, AreOthersThanFirst, AreSteps, IsCurve, MayHearCost, MayHearFloors, MayHearPlans}
 use Rattle.racp_curve.specs.declared.step.Step.{Step}
 
--- an asker may be told floors, and a least cost, of what is enough for each deadline up to the order's
-pub record MayHear (p : Project) (terms : Terms) (may_hear_floors : List ℕ → Type 0) (may_hear_cost : ℕ → Type 0) : Type 0 where
+-- an asker may be told floors, and a least cost, of what is enough for each deadline up to the order's, and plans for it
+pub record MayHear (p : Project) (terms : Terms) (may_hear_floors : List ℕ → Type 0) (may_hear_cost : ℕ → Type 0)
+    (may_hear_plan : List ℕ → List ℕ → Type 0) : Type 0 where
   pub floors : MayHearFloors p terms may_hear_floors
   pub least : MayHearCost p terms may_hear_cost
+  pub plans : MayHearPlans p terms may_hear_plan
 
 -- the plan that an answer has, or none
 abbrev pub plan_in : Answer → Option Plan

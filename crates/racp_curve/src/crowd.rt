@@ -60,6 +60,7 @@ fn curve_by<
         (MayStop ground.now.net.now P.QUIET M.turns) ⊤ end.steps.items end.stop) }
 {
     let Ground { alloc, net, order } = *ground;
+    let leeway = crew.leeway();
     let Crew {
         workers,
         turns,
@@ -76,7 +77,7 @@ fn curve_by<
         Ok(boards) => boards,
         Err(_) => return Err(out_of_memory(alloc)),
     };
-    let mut crowd: Crowd<N, M, P, Unheard, _> = Crowd::new(
+    let crowd: Crowd<'_, N, M, P, Unheard, _> = Crowd::new(
         workers,
         turns,
         Unheard,
@@ -85,5 +86,6 @@ fn curve_by<
             ensures { IfOk result (IsRunClosed net.entry.now (any_questions series) limits.turns P.QUIET) }
         { boards.run(rt, alloc, net, series, limits, gate, stop) },
     );
+    let mut crowd = crowd.with_search(leeway, stop);
     curve(alloc, net, order, &mut crowd)
 }

@@ -53,7 +53,7 @@ pub(crate) fn plan_by<A: Asker<AnySeries>>(
 ) -> Result<Option<Plan>, PlanStop>
     requires named { A.about asker.old ground.now.net.now }
     requires deadline { deadline ≤ ground.now.order.now.deadline }
-    requires hears { MayHear ground.now.net.now ground.now.order.now A.may_hear_floors A.may_hear_cost }
+    requires hears { MayHear ground.now.net.now ground.now.order.now A.may_hear_floors A.may_hear_cost A.may_hear_plan }
     ensures network { A.about asker.new ground.now.net.now }
     ensures plan { IfOk result (IsPlanOrNone ground.now.net.now (order_by deadline ground.now.order.now)) }
     ensures stop { IfErr result (IsPlanStop (AreNotAfterEnough ground.now.net.now ground.now.order.now (deadline + 1))

@@ -6,7 +6,7 @@ ghost use Rattle.racp_plan.specs.Plans.{IsPlanOf};
 ghost use Rattle.racp_lexfix.specs.Laws.{IsNoPlan};
 ghost use Rattle.racp_lexfix.specs.declared.answer.Answer.TheVariants.{Plan as ThePlan};
 ghost use Rattle.racp_lexfix.specs.declared.answer.PlanStop.TheVariants.{Memory};
-ghost use Rattle.racp_curve.specs.Curves.{AreSteps, IsCurve, IsCurveAnswer, IsCurveStop, MayHearCost, MayHearFloors};
+ghost use Rattle.racp_curve.specs.Curves.{AreSteps, IsCurve, IsCurveAnswer, IsCurveStop, MayHearCost, MayHearFloors, MayHearPlans};
 ghost use Rattle.racp_curve.specs.Following.{step_of, IsBegun, IsFollowed, IsNext, MayHear};
 
 use crate::deadline::plan_by;
@@ -24,8 +24,8 @@ use std::marker::Brand;
 
 /// The curve of an order: the plan's capacities, and what they cost, for each deadline up to the order's; or why there
 /// is no plan for that. Questions go to the asker, which is about this network. The order has an entry for each
-/// resource and each job of the network. The asker is told floors, and what capacities that are enough cost at least,
-/// for one deadline after another.
+/// resource and each job of the network. The asker is told floors, what capacities that are enough cost at least, and
+/// plans that may not be the cheapest, for one deadline after another.
 ///
 /// # Errors
 ///
@@ -40,6 +40,7 @@ pub fn curve<A: Asker<AnySeries>>(
     requires terms { AreTermsOf net.now order.now }
     requires floors { MayHearFloors net.now order.now A.may_hear_floors }
     requires least { MayHearCost net.now order.now A.may_hear_cost }
+    requires plans { MayHearPlans net.now order.now A.may_hear_plan }
     ensures network { A.about asker.new net.now }
     ensures curve { IfOk result (IsCurveAnswer net.now order.now) }
     ensures stop { IfErr result (λ end. IsCurveStop net.now order.now (A.may_stop asker.new)
@@ -78,7 +79,7 @@ fn curve_from<A: Asker<AnySeries>>(
     asker: &mut A,
 ) -> Result<CurveAnswer, CurveStop>
     requires named { A.about asker.old ground.now.net.now }
-    requires hears { MayHear ground.now.net.now ground.now.order.now A.may_hear_floors A.may_hear_cost }
+    requires hears { MayHear ground.now.net.now ground.now.order.now A.may_hear_floors A.may_hear_cost A.may_hear_plan }
     requires plan { IsPlanOf ground.now.net.now ground.now.order.now plan }
     ensures network { A.about asker.new ground.now.net.now }
     ensures curve { IfOk result (IsCurveAnswer ground.now.net.now ground.now.order.now) }
@@ -101,7 +102,7 @@ fn follow<A: Asker<AnySeries>>(
     asker: &mut A,
 ) -> Result<(), PlanStop>
     requires named { A.about asker.old ground.now.net.now }
-    requires hears { MayHear ground.now.net.now ground.now.order.now A.may_hear_floors A.may_hear_cost }
+    requires hears { MayHear ground.now.net.now ground.now.order.now A.may_hear_floors A.may_hear_cost A.may_hear_plan }
     requires next { IsNext ground.now.net.now ground.now.order.now plan steps.old.items }
     ensures network { A.about asker.new ground.now.net.now }
     ensures curve { OnOk result (IsCurve ground.now.net.now ground.now.order.now steps.new.items) }
@@ -126,7 +127,7 @@ fn step_back<A: Asker<AnySeries>>(
     asker: &mut A,
 ) -> Result<Option<Plan>, PlanStop>
     requires named { A.about asker.old ground.now.net.now }
-    requires hears { MayHear ground.now.net.now ground.now.order.now A.may_hear_floors A.may_hear_cost }
+    requires hears { MayHear ground.now.net.now ground.now.order.now A.may_hear_floors A.may_hear_cost A.may_hear_plan }
     requires next { IsNext ground.now.net.now ground.now.order.now plan steps.old.items }
     ensures network { A.about asker.new ground.now.net.now }
     ensures followed { IfOk result (IsFollowed ground.now.net.now ground.now.order.now plan.deadline steps.new.items) }

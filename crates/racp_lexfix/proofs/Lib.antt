@@ -15,3 +15,4 @@ mod SomeAnswer
 mod Asking
 mod Telling
 mod Turns
+mod FirstFloors

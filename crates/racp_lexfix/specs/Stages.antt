@@ -5,6 +5,7 @@ use Rattle.racp_model.specs.Terms.{Terms, cost}
 use Rattle.racp_model.specs.Plan.{IsPlan, IsEnough, NoneIsEnough}
 use Rattle.racp_model.specs.Window.{Bounds, IsYes, IsNo}
 use Rattle.racp_prices.specs.Units.{AreMostUnits}
+use Rattle.racp_schedules.specs.Drafts.{AreFitting}
 use Rattle.racp_questions.specs.declared.asker.AskStop.{AskStop}
 use Rattle.racp_questions.specs.declared.asker.AskStop.TheVariants.{Stopped as AskStopped, Memory as AskMemory, NoThread as AskNoThread}
 use Rattle.racp_candidates.specs.Box.{AreBounds}
@@ -53,12 +54,13 @@ pub record AreFloorsOfEnough (p : Project) (terms : Terms) (floors : List ℕ) :
 abbrev pub IsLeastOfEnough : Project → Terms → ℕ → Type 0
 IsLeastOfEnough p terms least = (enough : List ℕ) → IsEnough p terms enough → least ≤ cost terms enough
 
--- an asker may be told what planning finds of an order on its way: floors of all capacities that are enough, and what these cost at
--- least
+-- an asker may be told what planning finds of an order on its way: floors of all capacities that are enough, what these cost at
+-- least, and plans that may not be the cheapest
 pub record MayBeTold (p : Project) (terms : Terms) (may_hear_floors : List ℕ → Type 0) (may_hear_cost : ℕ → Type 0)
-    : Type 0 where
+    (may_hear_plan : List ℕ → List ℕ → Type 0) : Type 0 where
   pub floors : (floors : List ℕ) → AreFloorsOfEnough p terms floors → may_hear_floors floors
   pub least : (least : ℕ) → IsLeastOfEnough p terms least → may_hear_cost least
+  pub plans : (capacities starts : List ℕ) → AreFitting p terms capacities starts → may_hear_plan capacities starts
 
 -- the capacities and the starts of the plan, or none where no capacities are enough
 abbrev pub IsChosen : Project → Terms → Option (List ℕ × List ℕ) → Type 0

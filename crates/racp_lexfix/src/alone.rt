@@ -11,7 +11,7 @@ ghost use Rattle.racp_lexfix.specs.Working.{IsIdle, IsAtWork, IsNextPiece, IsHan
 use racp_core::{Asked, Core, Merged, Outcome, Reply};
 use racp_cutset::{Board, DEFAULT_MEMORY, Local, most_records};
 use racp_model::{Network, OfNetwork, Question};
-use racp_questions::{AskStop, Asker, First, Probe, Series};
+use racp_questions::{AskStop, Asker, First, Leeway, Probe, Series};
 use racp_search::{Finding, Never, Piece, Rest, explore, make_room};
 use std::alloc::{AllocError, Global};
 
@@ -26,6 +26,7 @@ pub struct Alone<N: OfNetwork> {
     board: Board<N>,
     local: Local<N>,
     answered: u64,
+    leeway: Leeway,
 }
 
 impl<N: OfNetwork> Alone<N> {
@@ -56,7 +57,20 @@ impl<N: OfNetwork> Alone<N> {
             board: Board::new(alloc, net)?,
             local: Local::of_most(alloc, most_records(net, mebibytes)),
             answered: 0,
+            leeway: Leeway {
+                conflicts: u64::MAX,
+                bytes: (mebibytes as u64).saturating_mul(1 << 20),
+            },
         })
+    }
+
+    /// The same asker, which leaves planning so many conflicts of a search of its own. Without this there is no bound on
+    /// them.
+    pub fn with_conflicts(mut self, conflicts: u64) -> Self
+        ensures { result.local ≡ self.local }
+    {
+        self.leeway.conflicts = conflicts;
+        self
     }
 }
 
@@ -90,6 +104,10 @@ impl<N: OfNetwork, S: Series> Asker<S> for Alone<N> {
                 }
             }
         }
+    }
+
+    fn leeway(&self) -> Leeway {
+        self.leeway
     }
 
     fn probe(

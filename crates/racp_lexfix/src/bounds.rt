@@ -61,7 +61,7 @@ pub(crate) fn floors_and_roofs<A: Asker<AnySeries>>(
 }
 
 /// The floor of each resource.
-fn lowest_units(task: &Task, root: &Window) -> Result<Capacities, AllocError>
+pub(crate) fn lowest_units(task: &Task, root: &Window) -> Result<Capacities, AllocError>
     requires { IsRootWindow task.now.net.now (release_of task.now.order.now) (due_of task.now.order.now) root.now }
     ensures { IfOk result (AreFloors task.now.net.now root.now task.now.order.now.deadline) }
 {
@@ -77,7 +77,7 @@ fn has_ceilings(order: &Order) -> bool
 }
 
 /// Whether no floor is above its roof.
-fn is_below(floors: &Capacities, roofs: &Capacities) -> bool
+pub(crate) fn is_below(floors: &Capacities, roofs: &Capacities) -> bool
     requires { length floors.now ≡ length roofs.now }
     ensures { IsTrue result ↔ AreBounds floors.now roofs.now }
 {

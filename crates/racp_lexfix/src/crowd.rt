@@ -15,8 +15,8 @@ use crate::observer::Observer;
 use racp_candidates::{AnySeries, Listed, One};
 use racp_core::Outcome;
 use racp_desk::{Cause, Closed, DeskFault, Entry, RunLimits};
-use racp_model::{Capacities, Network, OfNetwork, Question};
-use racp_questions::{AskStop, Asker, First, Probe};
+use racp_model::{Capacities, Network, OfNetwork, Question, Starts};
+use racp_questions::{AskStop, Asker, First, Leeway, Probe};
 use racp_search::Stop;
 use std::alloc::AllocError;
 use std::collections::VecDeque;
@@ -56,6 +56,7 @@ pub struct Effort {
 /// refute of these is a record, by which such a question takes one node when it is asked.
 #[derive(Drop)]
 pub struct Crowd<
+    'a,
     N: OfNetwork,
     M: OfTurns,
     P: Stop,
@@ -71,7 +72,9 @@ pub struct Crowd<
     answered: u64,
     told: Option<Capacities>,
     ahead: Option<VecDeque<Question>>,
-    of: PhantomData<(N, M, P)>,
+    leeway: Leeway,
+    stop: Option<&'a P>,
+    of: PhantomData<(N, M)>,
     ghost workers_some: { 1 ≤ workers },
     ghost workers_few: { workers ≤ 64 },
     ghost turns_few: { M.turns ≤ 1000000000000 },
@@ -82,12 +85,13 @@ pub struct Crowd<
 }
 
 impl<
+    'a,
     N: OfNetwork,
     M: OfTurns,
     P: Stop,
     O: Observer + Drop,
     F: Fn(AnySeries, RunLimits) -> Result<Closed, DeskFault> + Drop,
-> Crowd<N, M, P, O, F> {
+> Crowd<'a, N, M, P, O, F> {
     /// An asker with so many turns, which runs a desk of so many workers by this call.
     pub fn new(workers: usize, turns: u64, observer: O, run: F) -> Self
         requires some_workers { 1 ≤ workers }
@@ -108,8 +112,21 @@ impl<
             answered: 0,
             told: None,
             ahead: None,
+            leeway: Leeway::none(),
+            stop: None,
             of: PhantomData,
         }
+    }
+
+    /// The same asker, which leaves planning a search of its own, until this stop is asked for.
+    pub fn with_search(mut self, leeway: Leeway, stop: &'a P) -> Self
+        ensures run { result.run ≡ self.entry.run }
+        ensures left { result.left ≡ self.entry.left }
+        ensures effort { (result.pieces ≡ self.entry.pieces) × (result.nodes ≡ self.entry.nodes) }
+    {
+        self.leeway = leeway;
+        self.stop = Some(stop);
+        self
     }
 
     /// How many turns are left.
@@ -380,12 +397,13 @@ fn probe_of(outcome: Outcome, is_over: bool) -> Result<Probe, AskStop>
 }
 
 impl<
+    'a,
     N: OfNetwork,
     M: OfTurns,
     P: Stop,
     O: Observer + Drop,
     F: Fn(AnySeries, RunLimits) -> Result<Closed, DeskFault> + Drop,
-> Asker<AnySeries> for Crowd<N, M, P, O, F> {
+> Asker<AnySeries> for Crowd<'a, N, M, P, O, F> {
     ghost use Rattle.std.specs.Prelude.{◌≡◌, ◌⊎◌, ⊤, false};
     ghost use Rattle.racp_lexfix.specs.Crowds.{RunsDesks};
 
@@ -443,6 +461,26 @@ impl<
 
     fn foresee(&mut self, _net: &Network, ahead: VecDeque<Question>) {
         self.ahead = Some(ahead);
+    }
+
+    fn leeway(&self) -> Leeway {
+        self.leeway
+    }
+
+    fn wants_questions(&self) -> bool {
+        match self.stop {
+            Some(stop) => stop.asked(),
+            None => false,
+        }
+    }
+
+    fn hear_search(&self, conflicts: u64, clauses: u64) {
+        self.observer.hear_search(conflicts, clauses);
+    }
+
+    fn hear_plan(&self, capacities: &Capacities, starts: &Starts, cost: u64) {
+        self.observer
+            .hear_plan(capacities.as_slice(), starts.as_slice(), cost);
     }
 
     fn hear_floors(&self, floors: &Capacities) {

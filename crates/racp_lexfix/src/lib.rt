@@ -25,6 +25,10 @@
 //! cut, it lies in the box, and it does not stand later than before. Why the starts are least: whatever answers in the
 //! root window lies in the window so far, or is greater at some job that is fixed and equal before it.
 //!
+//! Where there are more than 64 vectors from the floors to the roofs of stage 2, and the asker leaves room for it
+//! (`leeway`), a search that learns looks for the plan before anything is asked (racp_optimum). If its clauses show the
+//! plan, or that no capacities are enough, that is the answer; if it is left open, the stages go on as without it.
+//!
 //! Where stage 4 has more than 64 vectors, they are not asked in order: the box is searched by halves (racp_boxes), and
 //! the vector that this leads to is asked for once more, so that its records serve the starts.
 //!
@@ -42,7 +46,8 @@
 //! with the status 0; for a.sm and a2.toml it answers `impossible critical 3 deadline 2` with the status 3. `plan_crowd`
 //! has workers make the plan: it hands `Crowd` a call that runs them over one board of records, for all series.
 //! `plan_alone_within` and `plan_crowd_by` do the same, and are told how many mebibytes the records of refuted nodes take
-//! at most (racp_cutset); the others take 1,024.
+//! at most (racp_cutset), and before that the clauses; the others take 1,024. Where turns are limited, workers leave no
+//! room for a search of planning's own, so that all work is done in turns.
 //!
 //! Proved: the answer of `plan` is right (`IsAnswer`): the plan, without any bound on the numbers of units, or the
 //! first reason for which there is none. `plan_alone` prints that answer for what the texts are read as, or tells the
@@ -50,8 +55,8 @@
 //! whatever the workers, or tells capacities before which none are enough (`IsCrowdPrinting`): only where runs of desks took
 //! as many pieces as there are turns, or where the stop may ask at all (`MayStop`). Where an asker stops, `plan`
 //! tells capacities before which none are enough: the floors so far, the vector that was reached, or the plan's own.
-//! While it plans, it tells the asker floors that all capacities which are enough are at or above, and what these cost at
-//! least; that it tells them in time is tested alone.
+//! While it plans, it tells the asker floors that all capacities which are enough are at or above, what these cost at
+//! least, and plans that fit the order; that it tells them in time is tested alone.
 //! `Crowd` stops only where no turn is left, or where its stop may ask at all. In `laws`: an order for a network has an
 //! answer, and only one. Tested alone: that memory is not refused without need. How long planning takes is measured
 //! (docs/PERFORMANCE.md), not promised.
@@ -61,6 +66,7 @@ mod alone;
 mod answer;
 mod bounds;
 mod crowd;
+mod facts;
 pub mod laws;
 mod lines;
 mod observer;

@@ -17,6 +17,12 @@ pub trait Observer {
 
     /// The plan costs at least so much.
     fn hear_cost(&self, cost: u64);
+
+    /// A plan is known, which may not be the cheapest: its capacities and its starts, by place from 0, and its cost.
+    fn hear_plan(&self, _capacities: &[u32], _starts: &[u32], _cost: u64) {}
+
+    /// A search that learns has met so many conflicts, and keeps so many clauses.
+    fn hear_search(&self, _conflicts: u64, _clauses: u64) {}
 }
 
 /// Does nothing with what it is told.
@@ -79,5 +85,13 @@ impl<'a, O: Observer> Observer for Pricing<'a, O> {
 
     fn hear_cost(&self, cost: u64) {
         self.observer.hear_cost(cost);
+    }
+
+    fn hear_plan(&self, capacities: &[u32], starts: &[u32], cost: u64) {
+        self.observer.hear_plan(capacities, starts, cost);
+    }
+
+    fn hear_search(&self, conflicts: u64, clauses: u64) {
+        self.observer.hear_search(conflicts, clauses);
     }
 }

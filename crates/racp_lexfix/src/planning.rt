@@ -5,6 +5,7 @@ ghost use Rattle.racp_model.specs.Path.{IsCriticalLength};
 ghost use Rattle.racp_model.specs.Terms.{AreTermsOf, release_of, due_of};
 ghost use Rattle.racp_model.specs.Window.{IsRootWindow};
 ghost use Rattle.racp_candidates.specs.Box.{AreBoxQuestions};
+ghost use Rattle.racp_schedules.specs.Drafts.{AreFitting};
 ghost use Rattle.racp_lexfix.specs.Answers.{IsAnswer, IsStoppedAt, IsPlanStop};
 ghost use Rattle.racp_lexfix.specs.Boxed.{IsCheapest, IsVectorBox};
 ghost use Rattle.racp_lexfix.specs.Stages.{AreFloorsOfEnough, IsChosen, IsLeastOfEnough, MayBeTold};
@@ -27,9 +28,10 @@ const FEW_VECTORS: u64 = 64;
 
 /// The plan of an order, or why there is none. Questions go to the asker, which is about this network: first whether
 /// the ceilings admit, where there are such, then to sharpen the floors, then for each capacity vector of the box in
-/// the order of vectors, up to the first yes, then for the starts of each job. The order has an entry for each resource
-/// and each job of the network. The asker is told the floors as far as they are sharpened, and what capacities that are
-/// enough cost at least, as soon as more is known.
+/// the order of vectors, up to the first yes, then for the starts of each job. Where the asker leaves room for it and the box
+/// is large, a search that learns looks for the plan before, and nothing is asked if it finds it. The order has an entry for
+/// each resource and each job of the network. The asker is told the floors as far as they are sharpened, what capacities
+/// that are enough cost at least, and plans that may not be the cheapest, as soon as more is known.
 ///
 /// # Errors
 ///
@@ -44,6 +46,8 @@ pub fn plan<A: Asker<AnySeries>>(
     requires terms { AreTermsOf net.now order.now }
     requires floors { (floors : List ℕ) → AreFloorsOfEnough net.now order.now floors → A.may_hear_floors floors }
     requires least { (least : ℕ) → IsLeastOfEnough net.now order.now least → A.may_hear_cost least }
+    requires plans { (capacities starts : List ℕ) → AreFitting net.now order.now capacities starts →
+        A.may_hear_plan capacities starts }
     ensures network { A.about asker.new net.now }
     ensures answer { IfOk result (IsAnswer net.now order.now) }
     ensures stop { IfErr result (IsPlanStop (IsStoppedAt net.now order.now
@@ -76,7 +80,7 @@ impl Task<'_> {
     ) -> Result<Answer, PlanStop>
         requires named { A.about asker.old self.now.net.now }
         requires terms { AreTermsOf self.now.net.now self.now.order.now }
-        requires heard { MayBeTold self.now.net.now self.now.order.now A.may_hear_floors A.may_hear_cost }
+        requires heard { MayBeTold self.now.net.now self.now.order.now A.may_hear_floors A.may_hear_cost A.may_hear_plan }
         ensures network { A.about asker.new self.now.net.now }
         ensures answer { IfOk result (IsAnswer self.now.net.now self.now.order.now) }
         ensures stop { IfErr result (IsPlanStop (IsStoppedAt self.now.net.now self.now.order.now
@@ -85,7 +89,7 @@ impl Task<'_> {
     {
         match opening_of(self.alloc, self.net, self.order)? {
             Opening::Root { critical, window } => {
-                let Some((capacities, starts)) = self.chosen(&window, asker, kept)? else {
+                let Some((capacities, starts)) = self.decided(&window, asker, kept)? else {
                     return Ok(Answer::Ceiling);
                 };
                 let order = self.order;
@@ -103,8 +107,31 @@ impl Task<'_> {
         }
     }
 
-    /// The capacities and the starts of the plan within the root window, or none where no capacities are enough. The
-    /// sharpened floors and the refuted pairs are kept, once they are known.
+    /// The capacities and the starts of the plan within the root window, or none where no capacities are enough: by facts,
+    /// and if these do not tell, by series. The sharpened floors and the refuted pairs are kept, once they are known.
+    fn decided<A: Asker<AnySeries>>(
+        &self,
+        root: &Window,
+        asker: &mut A,
+        kept: &mut Option<Sharp>,
+    ) -> Result<Option<(Capacities, Starts)>, PlanStop>
+        requires named { A.about asker.old self.now.net.now }
+        requires terms { AreTermsOf self.now.net.now self.now.order.now }
+        requires root { IsRootWindow self.now.net.now (release_of self.now.order.now) (due_of self.now.order.now) root.now }
+        requires heard { MayBeTold self.now.net.now self.now.order.now A.may_hear_floors A.may_hear_cost A.may_hear_plan }
+        ensures network { A.about asker.new self.now.net.now }
+        ensures chosen { IfOk result (IsChosen self.now.net.now self.now.order.now) }
+        ensures stop { IfErr result (IsPlanStop (IsStoppedAt self.now.net.now self.now.order.now
+            (A.answered asker.new - A.answered asker.old) (A.told asker.new))
+            (A.may_stop asker.new) (A.may_want_thread asker.new)) }
+    {
+        match self.by_facts(root, asker)? {
+            Some(chosen) => Ok(chosen),
+            None => self.chosen(root, asker, kept),
+        }
+    }
+
+    /// The same, by series.
     fn chosen<A: Asker<AnySeries>>(
         &self,
         root: &Window,
@@ -114,7 +141,7 @@ impl Task<'_> {
         requires named { A.about asker.old self.now.net.now }
         requires terms { AreTermsOf self.now.net.now self.now.order.now }
         requires root { IsRootWindow self.now.net.now (release_of self.now.order.now) (due_of self.now.order.now) root.now }
-        requires heard { MayBeTold self.now.net.now self.now.order.now A.may_hear_floors A.may_hear_cost }
+        requires heard { MayBeTold self.now.net.now self.now.order.now A.may_hear_floors A.may_hear_cost A.may_hear_plan }
         ensures network { A.about asker.new self.now.net.now }
         ensures chosen { IfOk result (IsChosen self.now.net.now self.now.order.now) }
         ensures stop { IfErr result (IsPlanStop (IsStoppedAt self.now.net.now self.now.order.now
@@ -230,7 +257,7 @@ impl VectorBox<'_> {
 }
 
 /// Whether there are so few vectors from the floors to the roofs that they are asked one by one, in their order.
-fn is_small(floors: &Capacities, roofs: &Capacities) -> bool {
+pub(crate) fn is_small(floors: &Capacities, roofs: &Capacities) -> bool {
     let (floors, roofs) = (floors.as_slice(), roofs.as_slice());
     let mut count: u64 = 1;
     for (floor, roof) in floors.iter().zip(roofs) {

@@ -24,6 +24,7 @@ use racp_cutset::{DEFAULT_MEMORY, MemoryLimit};
 use racp_desk::{Boards, Closed, DeskFault, Gate, RunLimits};
 use racp_model::{Network, OfNetwork};
 use racp_prices::{Order, OrderFault, read_order};
+use racp_questions::Leeway;
 use racp_search::Stop;
 use racp_sm::{SmFault, read_sm};
 use std::alloc::{AllocError, Global};
@@ -31,6 +32,9 @@ use std::marker::Brand;
 use std::sync::Wait;
 use std::thread::Threads;
 use thiserror::Error;
+
+/// So many turns are no bound.
+const MOST_TURNS: u64 = 1000000000000;
 
 /// The text of an answer, and the status that belongs to it.
 #[derive(Drop)]
@@ -189,6 +193,20 @@ pub struct Crew<'a, G: Gate, P: Stop, O: Observer> {
     pub ghost memory_few: { memory ≤ 1048576 },
 }
 
+impl<'a, G: Gate, P: Stop, O: Observer> Crew<'a, G, P, O> {
+    /// How much planning may search by itself: as much as it likes, if there are so many turns that they are no bound, and
+    /// else nothing, so that all work is counted by turns.
+    pub fn leeway(&self) -> Leeway {
+        if self.turns < MOST_TURNS {
+            return Leeway::none();
+        }
+        Leeway {
+            conflicts: u64::MAX,
+            bytes: (self.memory as u64).saturating_mul(1 << 20),
+        }
+    }
+}
+
 /// The answer to the texts of a network and an order, made by such workers: what `plan_crowd` answers, whose records take
 /// at most 1,024 mebibytes.
 ///
@@ -341,7 +359,7 @@ fn plan_by<
     };
     let boards: Boards<N> = Boards::within(alloc, net, limit)?;
     let pricing = Pricing::new(net, order, crew.observer);
-    let mut crowd: Crowd<N, M, P, Pricing<'_, O>, _> = Crowd::new(
+    let crowd: Crowd<'_, N, M, P, Pricing<'_, O>, _> = Crowd::new(
         crew.workers,
         crew.turns,
         pricing,
@@ -350,6 +368,7 @@ fn plan_by<
             ensures { IfOk result (IsRunClosed net.entry.now (any_questions series) limits.turns P.QUIET) }
         { boards.run(rt, alloc, net, series, limits, crew.gate, crew.stop) },
     );
+    let mut crowd = crowd.with_search(crew.leeway(), crew.stop);
     plan_with(task, &mut crowd)
 }
 
@@ -360,7 +379,7 @@ fn plan_with<
     P: Stop,
     O: Observer + Drop,
     F: Fn(AnySeries, RunLimits) -> Result<Closed, DeskFault> + Drop,
->(task: &Task, crowd: &mut Crowd<N, M, P, O, F>) -> Result<(Answer, Effort), PlanStop>
+>(task: &Task, crowd: &mut Crowd<'_, N, M, P, O, F>) -> Result<(Answer, Effort), PlanStop>
     requires named { task.now.net.now ≡ N.network }
     requires terms { AreTermsOf task.now.net.now task.now.order.now }
     requires run { RunsDesks N.network P.QUIET (F.pre crowd.old.run) (F.post crowd.old.run) }

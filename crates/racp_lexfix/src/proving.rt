@@ -88,7 +88,8 @@ fn plan_with_floors<N: OfNetwork>(
     ensures answer { IfOk result (IsAnswer task.now.net.now task.now.order.now) }
     ensures stop { IfErr result (λ stop. stop ≡ Memory) }
 {
-    let mut alone: Alone<N> = Alone::new(task.alloc, task.net)?;
+    // A search of its own would not sharpen the floors.
+    let mut alone: Alone<N> = Alone::new(task.alloc, task.net)?.with_conflicts(0);
     let planned = task.plan_and_keep(&mut alone, sharp);
     // Dropped here once, not at each way out.
     drop(alone);

@@ -26,6 +26,25 @@ pub enum Probe {
     Open,
 }
 
+/// How much planning may find out by a search of its own, on the thread that plans, before it asks.
+#[derive(Clone, Copy)]
+pub struct Leeway {
+    /// After how many conflicts that search gives up. With 0 there is none.
+    pub conflicts: u64,
+    /// How many bytes the clauses that it keeps take at most, about.
+    pub bytes: u64,
+}
+
+impl Leeway {
+    /// There is no such search.
+    pub fn none() -> Self {
+        Leeway {
+            conflicts: 0,
+            bytes: 0,
+        }
+    }
+}
+
 /// Why the first yes of a series is not known.
 #[derive(Debug, Drop, Error)]
 pub enum AskStop {
@@ -77,6 +96,9 @@ pub trait Asker<S: Series> {
 
     ghost may_hear_cost: { ℕ → Type 0 } = { λ _. ⊤ };
 
+    // So may a plan with these capacities and starts.
+    ghost may_hear_plan: { List ℕ → List ℕ → Type 0 } = { λ _ _. ⊤ };
+
     /// The first yes of the series, with starts in that question's window that keep precedence and its capacities. The
     /// network is the one that the asker is about, and the questions have its form: a capacity for each resource, and
     /// bounds for each job.
@@ -121,6 +143,25 @@ pub trait Asker<S: Series> {
         requires formed { AreFormed _net.now _ahead.items }
         ensures network { about self.new _net.now }
         ensures answered { answered self.new ≡ answered self.old }
+    {}
+
+    /// How much planning may find out by itself before it asks. What it makes of that changes no answer, but the time and
+    /// the memory that planning takes.
+    fn leeway(&self) -> Leeway {
+        Leeway::none()
+    }
+
+    /// Whether a search that planning makes by itself is to stop now, so that it asks. That changes no answer either.
+    fn wants_questions(&self) -> bool {
+        false
+    }
+
+    /// Is told of a search that planning makes by itself how many conflicts it has met, and how many clauses it keeps.
+    fn hear_search(&self, _conflicts: u64, _clauses: u64) {}
+
+    /// Is told a plan that is known, which may not be the cheapest.
+    fn hear_plan(&self, _capacities: &Capacities, _starts: &Starts, _cost: u64)
+        requires { may_hear_plan _capacities.now _starts.now }
     {}
 
     /// Is told floors that planning has come to.

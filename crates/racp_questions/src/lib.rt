@@ -28,7 +28,8 @@
 //! what it told when it last stopped, and for which reasons it may give up; memory may always run out. Of a single
 //! question `probe` tells starts that answer it, or that it is infeasible; or nothing, if the search was given a bound
 //! and reached it. By `foresee` it is told which questions come next as long as each is infeasible, so that it can have
-//! them searched at the same time. No answer changes by that.
+//! them searched at the same time. No answer changes by that. Nor does one by `leeway`, which says how much planning may
+//! search by itself before it asks.
 //!
 //! Proved: in `laws`, a list of questions has at most one first yes. The only code is that of the traits and the
 //! conversion of a refusal of memory into `AskStop::Memory`; what implementors promise is proved in their crates.
@@ -38,5 +39,5 @@ mod asker;
 pub mod laws;
 mod series;
 
-pub use asker::{AskStop, Asker, First, Probe};
+pub use asker::{AskStop, Asker, First, Leeway, Probe};
 pub use series::Series;

@@ -21,27 +21,34 @@ pub struct Draft {
     pub cost: u64,
 }
 
-/// The draft of these starts, or `None` if they do not fit their peaks on the terms of the order, within its ceilings.
-pub(crate) fn tested(
-    alloc: Global,
-    net: &Network,
-    order: &Order,
-    starts: Starts,
-) -> Result<Option<Draft>, AllocError>
-    requires { AreTermsOf net.now order.now }
-    ensures { IfOk result (λ found. IfSome found (IsDraft net.now order.now)) }
-{
-    if starts.as_slice().len() != net.job_count() {
-        return Ok(None);
+impl Draft {
+    /// The draft of these starts, or `None` if they do not fit their peaks on the terms of the order, within its
+    /// ceilings.
+    ///
+    /// # Errors
+    ///
+    /// Memory was refused.
+    pub fn of_starts(
+        alloc: Global,
+        net: &Network,
+        order: &Order,
+        starts: Starts,
+    ) -> Result<Option<Draft>, AllocError>
+        requires { AreTermsOf net.now order.now }
+        ensures { IfOk result (λ found. IfSome found (IsDraft net.now order.now)) }
+    {
+        if starts.as_slice().len() != net.job_count() {
+            return Ok(None);
+        }
+        let capacities = peaks(alloc, net, &starts)?;
+        if !are_fitting(net, order, &capacities, &starts) {
+            return Ok(None);
+        }
+        let cost = cost_of(net, order, capacities.as_slice());
+        Ok(Some(Draft {
+            starts,
+            capacities,
+            cost,
+        }))
     }
-    let capacities = peaks(alloc, net, &starts)?;
-    if !are_fitting(net, order, &capacities, &starts) {
-        return Ok(None);
-    }
-    let cost = cost_of(net, order, capacities.as_slice());
-    Ok(Some(Draft {
-        starts,
-        capacities,
-        cost,
-    }))
 }

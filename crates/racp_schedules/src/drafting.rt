@@ -4,7 +4,7 @@ ghost use Rattle.std.specs.Prelude.{IfOk, IfSome};
 ghost use Rattle.racp_model.specs.Terms.{AreTermsOf};
 ghost use Rattle.racp_schedules.specs.Drafts.{IsDraft};
 
-use crate::draft::{Draft, tested};
+use crate::draft::Draft;
 use crate::effort::Effort;
 use crate::making::Making;
 use crate::problem::Problem;
@@ -33,5 +33,5 @@ pub fn draft_of<S: Stop>(
     let problem = Problem::new(alloc, net, order, root)?;
     let mut making = Making::new(alloc, &problem, effort.seed)?;
     making.improve(&problem, effort.rounds, stop)?;
-    tested(alloc, net, order, making.into_starts())
+    Draft::of_starts(alloc, net, order, making.into_starts())
 }

@@ -105,7 +105,7 @@ fn tell<N: OfNetwork + Send + Sync, M: OfTurns, R: Threads + Wait + Sync>(
 {
     let turns = row.turns.min(1_000);
     let stop = &AtCall::each(row.stops);
-    let mut crowd: Crowd<N, M, AtCall, Unheard, _> = Crowd::new(
+    let mut crowd: Crowd<'_, N, M, AtCall, Unheard, _> = Crowd::new(
         2,
         turns,
         Unheard,

@@ -1,6 +1,7 @@
 use Rattle.std.proofs.Common.{◌+◌, ◌-◌, Option, sym, subst}
 use Rattle.std.proofs.lemmas.Result.{err_from_is_err_and}
 use Rattle.racp_model.specs.Terms.{Terms, AreTermsOf}
+use Rattle.racp_schedules.specs.Drafts.{AreFitting}
 use Rattle.racp_lexfix.specs.Answers.{IsAnswer, IsStoppedAt}
 use Rattle.racp_plan.specs.declared.plan.Plan.{Plan}
 use Rattle.racp_lexfix.specs.Stages.{AreFloorsOfEnough, IsLeastOfEnough}
@@ -21,6 +22,10 @@ plan-requires-clause-floors g c = λ floors are.
 pub plan-requires-clause-least : goal.plan-requires-clause-least
 plan-requires-clause-least g c = λ least is.
     c.requires.hears.least c.args.deadline c.requires.deadline least (subst (λ (t : Terms). IsLeastOfEnough c.args.ground.now.net.now t least) c.in_ok-other.ensures is)
+
+pub plan-requires-clause-plans : goal.plan-requires-clause-plans
+plan-requires-clause-plans g c = λ capacities starts are.
+    c.requires.hears.plans c.args.deadline c.requires.deadline capacities starts (subst (λ (t : Terms). AreFitting c.args.ground.now.net.now t capacities starts) c.in_ok-other.ensures are)
 
 pub returns-in_err-answer-clause-stop : goal.returns-in_err-answer-clause-stop
 returns-in_err-answer-clause-stop g c =

@@ -22,17 +22,17 @@ returns-in_err-critical-clause-stop g c =
     let p = err_from_is_err_and c.from_residual.result c.from_residual.ensures.1 in
     rw (p.1, p.2) tt
 
-pub chosen-requires-clause-named : goal.chosen-requires-clause-named
-chosen-requires-clause-named g c = c.requires.named
+pub decided-requires-clause-named : goal.decided-requires-clause-named
+decided-requires-clause-named g c = c.requires.named
 
-pub chosen-requires-clause-terms : goal.chosen-requires-clause-terms
-chosen-requires-clause-terms g c = c.requires.terms
+pub decided-requires-clause-terms : goal.decided-requires-clause-terms
+decided-requires-clause-terms g c = c.requires.terms
 
-pub chosen-requires-clause-heard : goal.chosen-requires-clause-heard
-chosen-requires-clause-heard g c = c.requires.heard
+pub decided-requires-clause-heard : goal.decided-requires-clause-heard
+decided-requires-clause-heard g c = c.requires.heard
 
-pub chosen-requires-clause-root : goal.chosen-requires-clause-root
-chosen-requires-clause-root g c =
+pub decided-requires-clause-root : goal.decided-requires-clause-root
+decided-requires-clause-root g c =
     let opening : IsOpening c.args.self.now.net.now c.args.self.now.order.now (Root c.in-Root.critical c.in-Root.window) = subst (IsOpening c.args.self.now.net.now c.args.self.now.order.now) c.in-Root.is c.in_ok-critical.ensures in
     opening.window_is
 
@@ -55,7 +55,7 @@ pub returns-in-TooLate-clause-stop : goal.returns-in-TooLate-clause-stop
 returns-in-TooLate-clause-stop g c = tt
 
 pub returns-in_err-capacities-in-Root-clause-network : goal.returns-in_err-capacities-in-Root-clause-network
-returns-in_err-capacities-in-Root-clause-network g c = c.chosen.ensures.network
+returns-in_err-capacities-in-Root-clause-network g c = c.decided.ensures.network
 
 pub returns-in_err-capacities-in-Root-clause-answer : goal.returns-in_err-capacities-in-Root-clause-answer
 returns-in_err-capacities-in-Root-clause-answer g c = rw ((err_from_is_err_and c.from_residual-in_err-capacities-in-Root.result c.from_residual-in_err-capacities-in-Root.ensures.1).1) tt
@@ -66,7 +66,7 @@ returns-in_err-capacities-in-Root-clause-stop g c =
     rw (p.1, p.2) c.in_err-capacities-in-Root.ensures.stop
 
 pub returns-in_default-clause-network : goal.returns-in_default-clause-network
-returns-in_default-clause-network g c = c.chosen.ensures.network
+returns-in_default-clause-network g c = c.decided.ensures.network
 
 pub returns-in_default-clause-answer : goal.returns-in_default-clause-answer
 returns-in_default-clause-answer g c =
@@ -86,7 +86,7 @@ cost_of-cost-requires-clause-capacities g c =
     ap length c.as_slice.ensures ∙ plan.vector.is.places
 
 pub returns-in-Some-clause-network : goal.returns-in-Some-clause-network
-returns-in-Some-clause-network g c = c.chosen.ensures.network
+returns-in-Some-clause-network g c = c.decided.ensures.network
 
 pub returns-in-Some-clause-answer : goal.returns-in-Some-clause-answer
 returns-in-Some-clause-answer g c =

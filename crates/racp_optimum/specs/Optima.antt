@@ -1,0 +1,31 @@
+-- What a search for the plan of an order finds, and what it may tell on its way.
+use Rattle.std.specs.Prelude.{◌≡◌, ℕ, ⊤}
+use Rattle.racp_model.specs.Project.{Project}
+use Rattle.racp_model.specs.Terms.{Terms}
+use Rattle.racp_model.specs.Plan.{IsPlan, NoneIsEnough}
+use Rattle.racp_facts.specs.Solutions.{Problem}
+use Rattle.racp_facts.specs.Roots.{IsOpen}
+use Rattle.racp_facts.specs.Uses.{IsLeastCost}
+use Rattle.racp_schedules.specs.Drafts.{IsDraft}
+use Rattle.racp_schedules.specs.declared.draft.Draft.{Draft}
+use Rattle.racp_optimum.specs.declared.optimum.Optimum.{Optimum}
+use Rattle.racp_optimum.specs.declared.optimum.Optimum.TheVariants.{Plan, NoneEnough, Open}
+use Rattle.racp_optimum.specs.declared.task.Task.{Task}
+
+-- the network, the terms and the root bounds of a problem, and these leave nothing out
+pub record IsTaskOf (q : Problem) (task : Task) : Type 0 where
+  pub network : task.net.now ≡ q.network
+  pub terms : task.order.now ≡ q.terms
+  pub root : task.root.now ≡ q.root
+  pub is_open : IsOpen q
+
+-- the plan; that no capacities are enough; or neither, which tells nothing
+abbrev pub IsOptimum : Project → Terms → Optimum → Type 0
+IsOptimum p terms (Plan capacities starts) = IsPlan p terms capacities starts
+IsOptimum p terms NoneEnough = NoneIsEnough p terms
+IsOptimum p terms Open = ⊤
+
+-- a hearer may be told what all capacities that are enough cost at least, and drafts
+pub record MayBeTold (q : Problem) (may_hear_cost : ℕ → Type 0) (may_hear_draft : Draft → Type 0) : Type 0 where
+  pub least : (least : ℕ) → IsLeastCost q least → may_hear_cost least
+  pub drafts : (draft : Draft) → IsDraft q.network q.terms draft → may_hear_draft draft

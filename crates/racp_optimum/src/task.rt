@@ -1,0 +1,21 @@
+//! What an optimum is looked for of.
+
+use racp_facts::Domain;
+use racp_model::{Network, Window};
+use racp_prices::Order;
+use std::alloc::Global;
+
+/// An order of a network, with its root window and root bounds.
+#[derive(Clone, Copy)]
+pub struct Task<'a> {
+    /// Where memory comes from.
+    pub alloc: Global,
+    /// The network.
+    pub net: &'a Network,
+    /// The order, which has an entry for each resource and each job of the network.
+    pub order: &'a Order,
+    /// The root window.
+    pub window: &'a Window,
+    /// The root bounds.
+    pub root: &'a Domain,
+}
