@@ -8,7 +8,7 @@ use Rattle.racp_facts.specs.Clauses.{AreFalseWithin, IsRefuted}
 use Rattle.racp_facts.specs.declared.literal.Literal.{Literal}
 use Rattle.racp_learning.specs.declared.told.Told.{Told}
 use Rattle.racp_learning.specs.declared.told.Told.TheVariants.{Found, Refuted, Open}
-use Rattle.racp_learning.specs.declared.told.Reason.TheVariants.{Budget, Stopped, Unconfirmed}
+use Rattle.racp_learning.specs.declared.told.Reason.TheVariants.{Budget, Stopped, Memory, Unconfirmed}
 
 -- the units of each resource lie within bounds
 abbrev pub UnitsLie : Project → Bounds → List ℕ → Type 0
@@ -40,4 +40,5 @@ IsUnstopped (Found starts units) = Unit {0}
 IsUnstopped (Refuted clause) = Unit {0}
 IsUnstopped (Open Budget) = Unit {0}
 IsUnstopped (Open Stopped) = ⊥
+IsUnstopped (Open Memory) = Unit {0}
 IsUnstopped (Open Unconfirmed) = Unit {0}

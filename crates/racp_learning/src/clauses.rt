@@ -10,6 +10,15 @@ const CLAUSE_BYTES: u64 = 160;
 
 const LITERAL_BYTES: u64 = 40;
 
+/// Clauses may take so many bytes at least.
+const LEAST_BYTES: u64 = 4_096;
+
+/// So few clauses are too few to learn between two times at which some are forgotten for want of memory.
+const FEW_CLAUSES: u32 = 64;
+
+/// So often they may be forgotten for want of memory.
+const MOST_TURNS: u32 = 10_000;
+
 /// A weight above which all are made less.
 const MOST_WEIGHT: f64 = 1e100;
 
@@ -35,7 +44,15 @@ pub(crate) struct Clauses {
     pub(crate) most: usize,
     pub(crate) bytes: u64,
     pub(crate) most_bytes: u64,
+    room: Room,
     step: f64,
+}
+
+/// How often clauses were forgotten since they took too much memory, and how many were learned since then.
+#[derive(Clone, Copy)]
+struct Room {
+    turns: u32,
+    learned: u32,
 }
 
 impl Clauses {
@@ -50,6 +67,10 @@ impl Clauses {
             most: 3000,
             bytes: 0,
             most_bytes,
+            room: Room {
+                turns: 0,
+                learned: 0,
+            },
             step: 1.0,
         })
     }
@@ -85,6 +106,24 @@ impl Clauses {
         self.most < self.alive || self.are_large()
     }
 
+    /// Notes that clauses are forgotten, if they take too much memory. Where few were learned since the last time, they may
+    /// take twice as much from now on: else the same conflicts would come again and again.
+    pub(crate) fn note_forgotten(&mut self) {
+        if !self.are_large() {
+            return;
+        }
+        if self.room.learned < FEW_CLAUSES {
+            self.most_bytes = self.most_bytes.max(LEAST_BYTES).saturating_mul(2);
+        }
+        self.room.turns = self.room.turns.saturating_add(1);
+        self.room.learned = 0;
+    }
+
+    /// Whether there is too little memory to go on: clauses were forgotten for want of it too often.
+    pub(crate) fn are_cramped(&self) -> bool {
+        MOST_TURNS < self.room.turns
+    }
+
     /// Whether they take more memory than they may.
     pub(crate) fn are_large(&self) -> bool {
         self.most_bytes < self.bytes
@@ -93,6 +132,7 @@ impl Clauses {
     /// Adds a clause, over literals of so many levels, and gives its number.
     pub(crate) fn add(&mut self, literals: &[Bound], levels: u32) -> Result<u32, AllocError> {
         make_even(&mut self.literals)?;
+        self.room.learned = self.room.learned.saturating_add(1);
         let at = stored(self.literals.len());
         self.literals.extend_from_slice(literals)?;
         let count = stored(literals.len());

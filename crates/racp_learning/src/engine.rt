@@ -17,6 +17,7 @@ const MOST_STEPS: u32 = 2_000;
 
 /// So many decisions are made before it does, and no more than look at so many jobs.
 const MOST_DECISIONS: usize = 200;
+
 const MOST_LOOKS: usize = 6_000;
 
 /// Where a search halts.

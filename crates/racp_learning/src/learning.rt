@@ -136,6 +136,7 @@ impl<N: OfProblem> Search<N> {
             return Ok(());
         }
         self.settle_ground(net, order);
+        self.engine.clauses.note_forgotten();
         let alloc = *self.clauses.allocator();
         let before = self.engine.clauses.alive;
         self.engine.clauses.reduce(alloc, &self.engine.trail)?;

@@ -36,7 +36,8 @@ pub struct Search<N: OfProblem> {
 
 impl<N: OfProblem> Search<N> {
     /// A search over an order with these root bounds. By the seed it goes other ways, and with the same one always the same.
-    /// The clauses take at most so many bytes, about: where they take more, some are forgotten.
+    /// The clauses take at most so many bytes, about: where they take more, some are forgotten. If few can be learned before
+    /// that, they may take more.
     ///
     /// # Errors
     ///
@@ -78,7 +79,8 @@ impl<N: OfProblem> Search<N> {
     }
 
     /// Asks whether some schedule lies within bounds, and gives up after so many conflicts. The stop is asked from time to
-    /// time.
+    /// time. Where the cost has a lower bound above that of the root, it may find nothing to try, and leave the question
+    /// open.
     ///
     /// # Errors
     ///
@@ -135,7 +137,12 @@ impl<N: OfProblem> Search<N> {
             Halt::Found => return Ok(Some(self.found(net, order, bounds)?)),
             Halt::Stuck => return Ok(Some(Told::Open(Reason::Unconfirmed))),
             Halt::Short => return Err(AllocError),
-            Halt::Restart => self.begin_anew(net, order)?,
+            Halt::Restart => {
+                self.begin_anew(net, order)?;
+                if self.engine.clauses.are_cramped() {
+                    return Ok(Some(Told::Open(Reason::Memory)));
+                }
+            }
             Halt::Pause => {}
             Halt::Conflict => {
                 let told = self.learn(net, order, bounds)?;

@@ -9,6 +9,8 @@ pub enum Reason {
     Budget,
     /// It was stopped.
     Stopped,
+    /// Its clauses were to take so little memory that it could not go on.
+    Memory,
     /// What would end it was not confirmed, or there was nothing to try.
     Unconfirmed,
 }

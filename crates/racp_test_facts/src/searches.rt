@@ -104,7 +104,7 @@ fn outcome_of<N: OfProblem>(
 {
     for (conflicts, bytes, seed) in [
         (ENOUGH, 1_000_000, 1),
-        (ENOUGH, 2_000, 2),
+        (ENOUGH, 0, 2),
         (0, 1_000_000, 3),
         (1, 1_000_000, 4),
         (2, 1_000_000, 5),
