@@ -2,46 +2,31 @@
 
 ghost use Rattle.std.specs.Prelude.{IfOk};
 ghost use Rattle.racp_facts.specs.Roots.{IsOpen};
-ghost use Rattle.racp_facts.specs.Solutions.{HasPlaces};
 ghost use Rattle.racp_optimum.specs.Optima.{IsOptimum, IsTaskOf, MayBeTold};
 
-use crate::hearer::{Asking, Hearer};
+use crate::asking::Heard;
+use crate::hearer::Hearer;
 use crate::limits::Limits;
 use crate::optimum::Optimum;
 use crate::places::{value_of, variable_count};
-use crate::questions::bounds_of;
+use crate::serial::serial_starts;
 use crate::task::Task;
 use racp_established::{establishes, leaves_none};
-use racp_facts::{Clause, Domain, OfProblem};
-use racp_learning::{Reason, Search, Told};
-use racp_model::Starts;
+use racp_facts::{Clause, OfProblem};
+use racp_learning::Search;
 use racp_schedules::Draft;
 use std::alloc::AllocError;
-
-/// The hearer is told what was done once in so many conflicts.
-const SLICE: u64 = 1_000;
-
-/// What comes of a question, where `C` are the clauses.
-#[derive(Drop)]
-enum Heard<C> {
-    /// The best draft is a better one.
-    Less,
-    /// This clause shows that there is nothing less.
-    None(C),
-    /// Nothing is known.
-    Open,
-}
 
 /// The search, the best draft that is known, and the clauses that show that nothing is less.
 #[derive(Drop)]
 pub(crate) struct Descent<N: OfProblem> {
-    search: Search<N>,
-    best: Option<Draft>,
+    pub(crate) search: Search<N>,
+    pub(crate) best: Option<Draft>,
     /// What each variable is at most in whatever is still of interest.
-    most: Vec<u64>,
+    pub(crate) most: Vec<u64>,
     clauses: Vec<Clause<N>>,
     /// How many conflicts are left.
-    left: u64,
+    pub(crate) left: u64,
 }
 
 impl<N: OfProblem> Descent<N> {
@@ -91,10 +76,31 @@ impl<N: OfProblem> Descent<N> {
                 return Ok(());
             }
         }
+        self.take_serial(task)?;
         for i in 0..jobs {
             if !self.settle(task, hearer, i)? {
                 return Ok(());
             }
+        }
+        Ok(())
+    }
+
+    /// Takes the starts of a serial schedule within the capacities of the best draft, if they are less.
+    fn take_serial(&mut self, task: Task<'_>) -> Result<(), AllocError>
+        requires { IsTaskOf N.problem task }
+    {
+        let Some(best) = &self.best else {
+            return Ok(());
+        };
+        let Some(starts) = serial_starts(task, best.capacities.as_slice())? else {
+            return Ok(());
+        };
+        let Some(draft) = Draft::of_starts(task.alloc, task.net, task.order, starts)? else {
+            return Ok(());
+        };
+        let is_same = draft.capacities.as_slice() == best.capacities.as_slice();
+        if is_same && draft.starts.as_slice() < best.starts.as_slice() {
+            self.best = Some(draft);
         }
         Ok(())
     }
@@ -160,82 +166,10 @@ impl<N: OfProblem> Descent<N> {
     }
 
     /// From now on the variable at a place is at most so much.
-    fn bound(&mut self, x: usize, most: u64) {
+    pub(crate) fn bound(&mut self, x: usize, most: u64) {
         if let Some(place) = self.most.get_mut(x) {
             *place = most;
         }
-    }
-
-    /// Asks whether the variable at a place can be at most so much.
-    fn ask<H: Hearer>(
-        &mut self,
-        task: Task<'_>,
-        hearer: &H,
-        x: usize,
-        most: u64,
-    ) -> Result<Heard<Clause<N>>, AllocError>
-        requires is_of { IsTaskOf N.problem task }
-        requires may { MayBeTold N.problem H.may_hear_cost H.may_hear_draft }
-    {
-        self.bound(x, most);
-        let bounds = bounds_of(task.alloc, task.root, variable_count(task.net), &self.most)?;
-        for _i in 0..u64::MAX {
-            match self.ask_on(task, hearer, &bounds)? {
-                Told::Found(starts, _) => return self.better(task, hearer, starts, x, most),
-                Told::Refuted(clause) => return Ok(Heard::None(clause)),
-                Told::Open(Reason::Budget) if self.left > 0 => {
-                    hearer.hear_tally(self.search.tally());
-                }
-                Told::Open(_) => break,
-            }
-        }
-        Ok(Heard::Open)
-    }
-
-    /// Asks whether something lies within bounds, for some of the conflicts that are left.
-    fn ask_on<H: Hearer>(
-        &mut self,
-        task: Task<'_>,
-        hearer: &H,
-        bounds: &Domain,
-    ) -> Result<Told<Clause<N>>, AllocError>
-        requires is_of { IsTaskOf N.problem task }
-        requires places { HasPlaces N.problem.network bounds.now }
-    {
-        let before = self.search.tally().conflicts;
-        let conflicts = self.left.min(SLICE);
-        let stop = Asking { hearer };
-        let told = self
-            .search
-            .ask(task.net, task.order, bounds, conflicts, &stop)?;
-        let met = self.search.tally().conflicts.saturating_sub(before);
-        self.left = self.left.saturating_sub(met);
-        Ok(told)
-    }
-
-    /// Takes starts as the best draft, if the variable at a place is at most so much in it.
-    fn better<H: Hearer>(
-        &mut self,
-        task: Task<'_>,
-        hearer: &H,
-        starts: Starts,
-        x: usize,
-        most: u64,
-    ) -> Result<Heard<Clause<N>>, AllocError>
-        requires is_of { IsTaskOf N.problem task }
-        requires may { MayBeTold N.problem H.may_hear_cost H.may_hear_draft }
-    {
-        let Some(draft) = Draft::of_starts(task.alloc, task.net, task.order, starts)? else {
-            return Ok(Heard::Open);
-        };
-        if most < value_of(task.net, &draft, x) {
-            return Ok(Heard::Open);
-        }
-        if task.net.job_count() <= x {
-            hearer.hear_draft(&draft);
-        }
-        self.best = Some(draft);
-        Ok(Heard::Less)
     }
 
     /// The plan, if the clauses show it; or that no capacities are enough, if they show that.

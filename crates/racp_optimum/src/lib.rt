@@ -19,7 +19,8 @@
 //! ```
 //!
 //! The cost goes down by what is found. Starts can be many thousands of time units away from the least, so the second
-//! question about a job, and each one after it, halves what is left; so does the third one about a resource.
+//! question about a job, and each one after it, halves what is left; so does the third one about a resource. Before the
+//! first job is asked for, a serial schedule within the capacities is tried, whose starts are often the least.
 //!
 //! `optimum_of(&task, limits, &hearer)` answers the plan, or that no capacities are enough, or neither, where the search
 //! was given a bound on its conflicts and reached it, was stopped, or left a question open. A `Hearer` is told drafts and
@@ -30,12 +31,14 @@
 //! ends. Not proved: that it is found.
 #![tactic(auto)]
 
+mod asking;
 mod descent;
 mod hearer;
 mod limits;
 mod optimum;
 mod places;
 mod questions;
+mod serial;
 mod task;
 
 pub use hearer::Hearer;
