@@ -19,6 +19,7 @@ pub enum Answer {
     No,
     Budget,
     Stopped,
+    Memory,
     Unconfirmed,
 }
 
@@ -95,6 +96,7 @@ fn note<N: OfProblem>(record: &mut Record, told: &Told<Clause<N>>) -> Result<(),
         }
         Told::Open(Reason::Budget) => Answer::Budget,
         Told::Open(Reason::Stopped) => Answer::Stopped,
+        Told::Open(Reason::Memory) => Answer::Memory,
         Told::Open(Reason::Unconfirmed) => Answer::Unconfirmed,
     };
     record.answers.push(answer)?;
