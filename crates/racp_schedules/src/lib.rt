@@ -30,7 +30,7 @@
 //! takes out up to 18 jobs, or a fifth of all, that run near a time, most often one at which some resource is at its
 //! peak. They are placed anew in an order that chance blurs. Two of the starts that cost least more are drawn by chance,
 //! and a job gets the one with less usage under its run. What costs no more is kept. Rounds end where many in turn have
-//! brought nothing: 20 for 20 jobs, 45 for 30, and so on by the square of the jobs, up to 200. The numbers by chance
+//! brought nothing: 20 for up to 20 jobs, 45 for 30, and so on by the square of the jobs, up to 200. The numbers by chance
 //! come from a seed, so that an order has the same draft on every machine.
 //!
 //! Usages are kept from one change to the next: there are at most two changes for each job, and nothing grows with the

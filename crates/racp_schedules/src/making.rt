@@ -12,7 +12,9 @@ use racp_model::Starts;
 use std::alloc::{AllocError, Global};
 use std::mem::swap;
 
-/// So many rounds in turn may bring nothing where there are many jobs.
+/// So many rounds in turn may bring nothing where there are few jobs, and so many where there are many.
+const LEAST_PATIENCE: u32 = 20;
+
 const MOST_PATIENCE: u32 = 200;
 
 /// In which way jobs are placed.
@@ -183,5 +185,5 @@ impl Making {
 /// How many rounds in turn may bring nothing.
 fn patience_for(jobs: usize) -> u32 {
     let jobs = stored(jobs);
-    (jobs.saturating_mul(jobs) / 20).min(MOST_PATIENCE)
+    (jobs.saturating_mul(jobs) / 20).clamp(LEAST_PATIENCE, MOST_PATIENCE)
 }
