@@ -116,8 +116,9 @@ pub fn plan_alone(alloc: Global, net_bytes: &[u8], order_text: &[u8]) -> Result<
     plan_alone_within(alloc, net_bytes, order_text, DEFAULT_MEMORY)
 }
 
-/// The answer to the texts of a network and an order, as `plan_alone` gives it, with records of refuted nodes that take at
-/// most about so many mebibytes, up to 1,048,576; those of `plan_alone` take 1,024. Where there is no room for a further one, records give way, and the answer stays the same.
+/// The answer to the texts of a network and an order, as `plan_alone` gives it. The clauses of the search that learns, and
+/// after it the records of refuted nodes, take at most about so many mebibytes, up to 1,048,576; those of `plan_alone` take
+/// 1,024. Where there is no room for a further one, some give way, and the answer stays the same.
 ///
 /// # Errors
 ///
@@ -178,12 +179,12 @@ pub struct Crew<'a, G: Gate, P: Stop, O: Observer> {
     pub workers: usize,
     /// How many pieces they take at most, up to 1,000,000,000,000.
     pub turns: u64,
-    /// How many mebibytes all records of refuted nodes take at most, about, up to 1,048,576. Where there is no room for a
-    /// further one, records give way, and the answer stays the same.
+    /// How many mebibytes the clauses of the search that learns, and after it all records of refuted nodes, take at most,
+    /// about, up to 1,048,576. Where there is no room for a further one, some give way, and the answer stays the same.
     pub memory: usize,
     /// The gate that a worker enters before it searches a piece.
     pub gate: &'a G,
-    /// Whether planning is to stop: asked before each node.
+    /// Whether planning is to stop: asked before each node, and every few conflicts of the search that learns.
     pub stop: &'a P,
     /// Who is told how far planning has come.
     pub observer: &'a O,

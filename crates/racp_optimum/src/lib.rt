@@ -22,13 +22,13 @@
 //! question about a job, and each one after it, halves what is left; so does the third one about a resource. Before the
 //! first job is asked for, a serial schedule within the capacities is tried, whose starts are often the least.
 //!
-//! `optimum_of(&task, limits, &hearer)` answers the plan, or that no capacities are enough, or neither, where the search
+//! `optimum_of(task, limits, &hearer)` answers the plan, or that no capacities are enough, or neither, where the search
 //! was given a bound on its conflicts and reached it, was stopped, or left a question open. A `Hearer` is told drafts and
 //! lower bounds on the cost as they are found, and may stop the search.
 //!
 //! Proved: a plan that is answered is the plan (`IsPlan` of racp_model); where it is answered that no capacities are
-//! enough, none are; and what the hearer is told is true. How a plan is found needs no proof but that it
-//! ends. Not proved: that it is found.
+//! enough, none are; and what the hearer is told is true. How a plan is found needs no proof but that it ends. Not proved:
+//! that it is found.
 #![tactic(auto)]
 
 mod asking;
