@@ -1,14 +1,15 @@
 -- What answers a question: bounds on all variables of a problem.
-use Rattle.std.specs.Prelude.{ℕ, ◌<◌, ◌≤◌, List, slice_index}
+use Rattle.std.specs.Prelude.{◌≡◌, ◌⊎◌, ℕ, ◌+◌, ◌<◌, ◌≤◌, List, slice_index}
 use Rattle.racp_model.specs.Project.{Project}
 use Rattle.racp_model.specs.Terms.{Terms, cost}
 use Rattle.racp_model.specs.Window.{Bounds}
 use Rattle.racp_facts.specs.Solutions.{Problem, IsSchedule, IsWithin, values, units_place, cost_place}
 use Rattle.racp_facts.specs.Clauses.{AreFalseWithin, IsRefuted}
 use Rattle.racp_facts.specs.declared.literal.Literal.{Literal}
+use Rattle.racp_learning.specs.declared.told.Tally.{Tally}
 use Rattle.racp_learning.specs.declared.told.Told.{Told}
 use Rattle.racp_learning.specs.declared.told.Told.TheVariants.{Found, Refuted, Open}
-use Rattle.racp_learning.specs.declared.told.Reason.TheVariants.{Budget, Stopped, Memory, Unconfirmed}
+use Rattle.racp_learning.specs.declared.told.Reason.TheVariants.{Budget, Stopped, Memory}
 
 -- the units of each resource lie within bounds
 abbrev pub UnitsLie : Project → Bounds → List ℕ → Type 0
@@ -41,4 +42,29 @@ IsUnstopped (Refuted clause) = Unit {0}
 IsUnstopped (Open Budget) = Unit {0}
 IsUnstopped (Open Stopped) = ⊥
 IsUnstopped (Open Memory) = Unit {0}
-IsUnstopped (Open Unconfirmed) = Unit {0}
+
+-- a count has grown by so much, or is the greatest that there is
+abbrev pub HasGrown : ℕ → ℕ → ℕ → Type 0
+HasGrown before by after = (before + by ≤ after) ⊎ (after ≡ 18446744073709551615)
+
+-- since an earlier tally a search has met so many conflicts, or lost 16 clauses; or it counts no further
+abbrev pub IsSpent : Tally → ℕ → Tally → Type 0
+IsSpent before conflicts after =
+    HasGrown before.conflicts conflicts after.conflicts ⊎
+    (HasGrown before.lost 16 after.lost ⊎ (after.halts ≡ 18446744073709551615))
+
+-- a search left a question open for its budget alone where that was spent
+abbrev pub IsOpenIfSpent : Tally → ℕ → Tally → Told (List Literal) → Type 0
+IsOpenIfSpent before conflicts after (Found starts units) = Unit {0}
+IsOpenIfSpent before conflicts after (Refuted clause) = Unit {0}
+IsOpenIfSpent before conflicts after (Open Budget) = IsSpent before conflicts after
+IsOpenIfSpent before conflicts after (Open Stopped) = Unit {0}
+IsOpenIfSpent before conflicts after (Open Memory) = Unit {0}
+
+-- it was not left open for its budget
+abbrev pub IsUnspent : Told (List Literal) → Type 0
+IsUnspent (Found starts units) = Unit {0}
+IsUnspent (Refuted clause) = Unit {0}
+IsUnspent (Open Budget) = ⊥
+IsUnspent (Open Stopped) = Unit {0}
+IsUnspent (Open Memory) = Unit {0}

@@ -46,6 +46,17 @@ pub(crate) struct Clauses {
     pub(crate) most_bytes: u64,
     room: Room,
     step: f64,
+    /// Rows that are used again each time clauses are forgotten.
+    pub(crate) spare: Vec<Bound>,
+    pub(crate) ranks: Vec<Rank>,
+}
+
+/// A clause, and how it has served, to sort by. Those that are kept longer come behind.
+#[derive(Clone, Copy)]
+pub(crate) struct Rank {
+    pub(crate) stays: bool,
+    pub(crate) weight: f64,
+    pub(crate) clause: u32,
 }
 
 /// How often clauses were forgotten since they took too much memory, and how many were learned since then.
@@ -72,6 +83,8 @@ impl Clauses {
                 learned: 0,
             },
             step: 1.0,
+            spare: Vec::new(alloc),
+            ranks: Vec::new(alloc),
         })
     }
 
@@ -104,6 +117,11 @@ impl Clauses {
     /// Whether there are so many that some should be forgotten.
     pub(crate) fn are_many(&self) -> bool {
         self.most < self.alive || self.are_large()
+    }
+
+    /// Whether there are so many that this cannot wait for the next time at which the search begins anew.
+    pub(crate) fn are_crowded(&self) -> bool {
+        self.most.saturating_add(self.most / 4) < self.alive
     }
 
     /// Notes that clauses are forgotten, if they take too much memory. Where few were learned since the last time, they may

@@ -96,8 +96,7 @@ impl Engine {
             if self.is_short() {
                 return Halt::Short;
             }
-            if self.restarts.is_due() || self.clauses.are_large() {
-                self.restarts.begin();
+            if self.begins_anew() {
                 self.back(0);
                 return Halt::Restart;
             }
@@ -106,6 +105,15 @@ impl Engine {
             }
         }
         Halt::Pause
+    }
+
+    /// Whether it is time to begin anew, or to forget clauses.
+    fn begins_anew(&mut self) -> bool {
+        if self.restarts.is_due() {
+            self.restarts.begin();
+            return true;
+        }
+        self.clauses.are_large() || self.clauses.are_crowded()
     }
 
     /// How many decisions are made before the search pauses: fewer where there are many jobs, so that a stop is heard.

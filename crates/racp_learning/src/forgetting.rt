@@ -1,21 +1,14 @@
 //! Clauses that are forgotten.
 
-use crate::clauses::{Clauses, bytes_of, literal_at, make_even, set_literal};
+use crate::clauses::{Clauses, Rank, bytes_of, literal_at, make_even, set_literal};
 use crate::rows::stored;
 use crate::trail::Trail;
 use std::alloc::{AllocError, Global};
 use std::cmp::OrderedFloat;
+use std::mem;
 
 /// So many more there may be each time.
-const MORE: usize = 500;
-
-/// A clause, and how it has served, to sort by. Those that are kept longer come behind.
-#[derive(Clone, Copy)]
-struct Rank {
-    stays: bool,
-    weight: f64,
-    clause: u32,
-}
+const MORE: usize = 100;
 
 impl Clauses {
     /// Forgets the clauses that are true, and half of those that lie over many levels; and more, if they take too much
@@ -31,7 +24,8 @@ impl Clauses {
 
     /// Forgets those that have served least.
     fn forget_least(&mut self, alloc: Global) -> Result<(), AllocError> {
-        let mut ranks = Vec::with_capacity(alloc, self.headers.len())?;
+        let mut ranks = mem::replace(&mut self.ranks, Vec::new(alloc));
+        ranks.clear();
         let mut leave = 0usize;
         for clause in 0..self.headers.len() {
             let header = self.headers[clause];
@@ -54,6 +48,7 @@ impl Clauses {
             }
             self.forget(ranks[i].clause as usize);
         }
+        self.ranks = ranks;
         Ok(())
     }
 
@@ -79,7 +74,8 @@ impl Clauses {
 
     /// Moves the literals together.
     fn compact(&mut self, alloc: Global) -> Result<(), AllocError> {
-        let mut literals = Vec::with_capacity(alloc, self.literals.len())?;
+        let mut literals = mem::replace(&mut self.spare, Vec::new(alloc));
+        literals.clear();
         self.free.clear();
         for clause in 0..self.headers.len() {
             if self.is_free(clause) {
@@ -93,7 +89,7 @@ impl Clauses {
                 header.at = at;
             }
         }
-        self.literals = literals;
+        self.spare = mem::replace(&mut self.literals, literals);
         Ok(())
     }
 

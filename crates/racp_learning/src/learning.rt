@@ -2,11 +2,11 @@
 
 ghost use Rattle.std.specs.Prelude.{◌≡◌, IfOk, IfSome};
 ghost use Rattle.racp_model.specs.Terms.{AreTermsOf};
-ghost use Rattle.racp_learning.specs.Answers.{IsTrueOf, IsUnstopped};
+ghost use Rattle.racp_learning.specs.Answers.{IsTrueOf, IsUnspent, IsUnstopped};
 
 use crate::search::Search;
 use crate::steps::{apply, apply_entry, literal_of};
-use crate::told::{Reason, Told};
+use crate::told::Told;
 use racp_facts::{Clause, Domain, OfProblem};
 use racp_model::Network;
 use racp_prices::Order;
@@ -25,6 +25,7 @@ impl<N: OfProblem> Search<N> {
         requires fit { AreTermsOf net.now order.now }
         ensures is_true { IfOk result (λ end. IfSome end (IsTrueOf N.problem bounds.now)) }
         ensures unstopped { IfOk result (λ end. IfSome end IsUnstopped) }
+        ensures unspent { IfOk result (λ end. IfSome end IsUnspent) }
     {
         self.tally.conflicts = self.tally.conflicts.saturating_add(1);
         let is_last = self.engine.trail.level() <= 1;
@@ -32,10 +33,12 @@ impl<N: OfProblem> Search<N> {
         self.derive(net, order)?;
         let clause = self.work.finish(*self.clauses.allocator())?;
         let Some(clause) = clause else {
-            return Ok(self.lose(is_last));
+            self.lose();
+            return Ok(None);
         };
         if !is_last && !self.engine.analysis.asserts() {
-            return Ok(self.lose(false));
+            self.lose();
+            return Ok(None);
         }
         if clause.literals().is_empty() {
             self.ground.clause(&clause);
@@ -43,33 +46,32 @@ impl<N: OfProblem> Search<N> {
             let number = self.engine.learn()?;
             self.keep(number as usize, clause)?;
         }
-        if is_last {
-            return Ok(Some(self.refuted(bounds)?));
+        if !is_last {
+            return Ok(None);
         }
-        Ok(None)
+        let told = self.refuted(bounds)?;
+        if told.is_none() {
+            self.lose();
+        }
+        Ok(told)
     }
 
-    /// Counts a clause that was not confirmed, or is of no use, and begins anew; or tells that the question stays open.
-    fn lose(&mut self, is_last: bool) -> Option<Told<Clause<N>>>
-        ensures { IfSome result (λ told. told ≡ Told.Open Reason.Unconfirmed) }
-    {
+    /// Counts a clause that was not confirmed or is of no use, and begins anew.
+    pub(crate) fn lose(&mut self) {
         self.tally.lost = self.tally.lost.saturating_add(1);
         self.engine.back(0);
-        if is_last {
-            return Some(Told::Open(Reason::Unconfirmed));
-        }
-        None
     }
 
     /// Tells the clause that was derived, if it is false within the bounds.
-    pub(crate) fn refuted(&self, bounds: &Domain) -> Result<Told<Clause<N>>, AllocError>
-        ensures is_true { IfOk result (IsTrueOf N.problem bounds.now) }
-        ensures unstopped { IfOk result IsUnstopped }
+    pub(crate) fn refuted(&self, bounds: &Domain) -> Result<Option<Told<Clause<N>>>, AllocError>
+        ensures is_true { IfOk result (λ end. IfSome end (IsTrueOf N.problem bounds.now)) }
+        ensures unstopped { IfOk result (λ end. IfSome end IsUnstopped) }
+        ensures unspent { IfOk result (λ end. IfSome end IsUnspent) }
     {
         let clause = self.work.finish(*self.clauses.allocator())?;
         match clause {
-            Some(clause) if clause.refutes(bounds) => Ok(Told::Refuted(clause)),
-            _ => Ok(Told::Open(Reason::Unconfirmed)),
+            Some(clause) if clause.refutes(bounds) => Ok(Some(Told::Refuted(clause))),
+            _ => Ok(None),
         }
     }
 

@@ -42,8 +42,9 @@
 //! A bound by core usage names times from one to before another, so one step is enough for times however long.
 //!
 //! Proved: starts that are told lie within the bounds of the question and fit their units; a clause that is told holds,
-//! and is false within the bounds; with a quiet stop no question is left open since it was stopped; and each call returns.
-//! Not proved: that a question is decided, that clauses are confirmed, and that memory is not refused without need.
+//! and is false within the bounds; with a quiet stop no question is left open since it was stopped; one is left open for
+//! its budget alone where that was spent; and each call returns. Not proved: that a question is decided, that clauses are
+//! confirmed, and that memory is not refused without need.
 #![tactic(auto)]
 
 mod activity;

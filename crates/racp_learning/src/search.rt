@@ -3,7 +3,7 @@
 ghost use Rattle.std.specs.Prelude.{◌≡◌, IfOk, IfSome, IsTrue, length};
 ghost use Rattle.racp_model.specs.Terms.{AreTermsOf};
 ghost use Rattle.racp_facts.specs.Solutions.{HasPlaces};
-ghost use Rattle.racp_learning.specs.Answers.{IsTrueOf, IsUnstopped};
+ghost use Rattle.racp_learning.specs.Answers.{IsOpenIfSpent, IsTrueOf, IsUnspent, IsUnstopped};
 
 use crate::bound::Bound;
 use crate::engine::{Engine, Halt};
@@ -78,9 +78,9 @@ impl<N: OfProblem> Search<N> {
         tally
     }
 
-    /// Asks whether some schedule lies within bounds, and gives up after so many conflicts. The stop is asked from time to
-    /// time. Where the cost has a lower bound above that of the root, it may find nothing to try, and leave the question
-    /// open.
+    /// Asks whether some schedule lies within bounds, and gives up after so many conflicts, or where it has lost 16 clauses.
+    /// The stop is asked from time to time. Where the cost has a lower bound above that of the root, it may find nothing to
+    /// try, and counts that as a lost clause.
     ///
     /// # Errors
     ///
@@ -99,19 +99,22 @@ impl<N: OfProblem> Search<N> {
         requires places { HasPlaces net.now bounds.now }
         ensures is_true { IfOk result (IsTrueOf N.problem bounds.now) }
         ensures quiet { IsTrue S.QUIET → IfOk result IsUnstopped }
+        ensures spent { IfOk result (IsOpenIfSpent self.old.tally conflicts self.new.tally) }
     {
         if self.ground.is_empty() {
             self.work.begin(&self.ground);
-            return self.refuted(bounds);
+            if let Some(told) = self.refuted(bounds)? {
+                return Ok(told);
+            }
         }
         let assumed = self.assumed(net, bounds)?;
         self.engine.assume(assumed);
-        let end = self.tally.conflicts.saturating_add(conflicts);
-        for _i in 0..u64::MAX {
-            if end <= self.tally.conflicts {
-                break;
-            }
-            if let Some(told) = self.go_on(net, order, bounds, stop)? {
+        let before = self.tally;
+        'halts: while !self.tally.is_spent(&before, conflicts) {
+            let halts = self.tally.halts.saturating_add(1);
+            let end = self.go_on(net, order, bounds, stop)?;
+            self.tally.halts = halts;
+            if let Some(told) = end {
                 return Ok(told);
             }
         }
@@ -132,10 +135,17 @@ impl<N: OfProblem> Search<N> {
         requires places { HasPlaces net.now bounds.now }
         ensures is_true { IfOk result (λ end. IfSome end (IsTrueOf N.problem bounds.now)) }
         ensures quiet { IsTrue S.QUIET → IfOk result (λ end. IfSome end IsUnstopped) }
+        ensures unspent { IfOk result (λ end. IfSome end IsUnspent) }
     {
         match self.engine.advance() {
-            Halt::Found => return Ok(Some(self.found(net, order, bounds)?)),
-            Halt::Stuck => return Ok(Some(Told::Open(Reason::Unconfirmed))),
+            Halt::Found => {
+                let told = self.found(net, order, bounds)?;
+                if told.is_some() {
+                    return Ok(told);
+                }
+                self.lose();
+            }
+            Halt::Stuck => self.lose(),
             Halt::Short => return Err(AllocError),
             Halt::Restart => {
                 self.begin_anew(net, order)?;
@@ -157,35 +167,40 @@ impl<N: OfProblem> Search<N> {
         Ok(None)
     }
 
-    /// What a question says beyond the ground.
+    /// What a question says beyond the ground. What follows from that along precedence is left out, so that clauses name it
+    /// less often.
     fn assumed(&self, net: &Network, bounds: &Domain) -> Result<Vec<Bound>, AllocError> {
-        let mut assumed = Vec::new(*self.clauses.allocator());
+        let alloc = *self.clauses.allocator();
+        let implied = implied_of(alloc, net, bounds)?;
+        let mut assumed = Vec::new(alloc);
         for x in 0..net.job_count() + net.resource_count() + 1 {
             let lower = i64::try_from(bounds.lower_at(x)).unwrap_or(0);
             let upper = i64::try_from(bounds.upper_at(x)).unwrap_or(i64::MAX);
             if self.engine.problem.root_lower(x) < lower {
                 assumed.push(Bound::at_least(x, lower))?;
             }
-            if upper < self.engine.problem.root_upper(x) {
+            let is_implied = implied.get(x).copied().unwrap_or(false);
+            if upper < self.engine.problem.root_upper(x) && !is_implied {
                 assumed.push(Bound::at_most(x, upper))?;
             }
         }
         Ok(assumed)
     }
 
-    /// Tells the schedule that was found.
+    /// Tells the schedule that was found, if it answers.
     fn found(
-        &mut self,
+        &self,
         net: &Network,
         order: &Order,
         bounds: &Domain,
-    ) -> Result<Told<Clause<N>>, AllocError>
+    ) -> Result<Option<Told<Clause<N>>>, AllocError>
         requires named { net.now ≡ N.problem.network }
         requires terms { order.now ≡ N.problem.terms }
         requires fit { AreTermsOf net.now order.now }
         requires places { HasPlaces net.now bounds.now }
-        ensures is_true { IfOk result (IsTrueOf N.problem bounds.now) }
-        ensures unstopped { IfOk result IsUnstopped }
+        ensures is_true { IfOk result (λ end. IfSome end (IsTrueOf N.problem bounds.now)) }
+        ensures unstopped { IfOk result (λ end. IfSome end IsUnstopped) }
+        ensures unspent { IfOk result (λ end. IfSome end IsUnspent) }
     {
         let alloc = *self.clauses.allocator();
         let mut row = Vec::with_capacity(alloc, net.job_count())?;
@@ -193,14 +208,14 @@ impl<N: OfProblem> Search<N> {
             row.push(self.engine.start(i))?;
         }
         if row.len() != net.job_count() {
-            return Ok(Told::Open(Reason::Unconfirmed));
+            return Ok(None);
         }
         let starts = Starts::new(row);
         let capacities = units_of(alloc, net, bounds, &starts)?;
         if answers(net, order, bounds, &starts, &capacities) {
-            return Ok(Told::Found(starts, capacities));
+            return Ok(Some(Told::Found(starts, capacities)));
         }
-        Ok(Told::Open(Reason::Unconfirmed))
+        Ok(None)
     }
 }
 
@@ -231,4 +246,20 @@ fn sides_of(alloc: Global, net: &Network, bounds: &Domain) -> Result<Vec<i64>, A
         row.push(upper.wrapping_neg())?;
     }
     Ok(row)
+}
+
+/// Which jobs start no later than their upper bounds if those that come behind them do.
+fn implied_of(alloc: Global, net: &Network, bounds: &Domain) -> Result<Vec<bool>, AllocError> {
+    let mut implied = Vec::from_elem(alloc, false, net.job_count())?;
+    for &(before, after) in net.arcs() {
+        let i = (before as usize).saturating_sub(1);
+        let j = (after as usize).saturating_sub(1);
+        if i < implied.len() && j < implied.len() {
+            let end = bounds.upper_at(i).saturating_add(net.duration(i) as u64);
+            if bounds.upper_at(j) <= end {
+                implied[i] = true;
+            }
+        }
+    }
+    Ok(implied)
 }

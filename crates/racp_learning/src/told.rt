@@ -1,18 +1,22 @@
 //! What a search tells.
 
+ghost use Rattle.std.specs.Prelude.{◌<◌, IsTrue, IsFalse};
+ghost use Rattle.racp_learning.specs.Answers.{IsSpent};
+
 use racp_model::{Capacities, Starts};
+
+/// So many clauses of a question may be lost before it is left open.
+pub const MOST_LOST: u64 = 16;
 
 /// Why a question is left open.
 #[derive(Clone, Copy, Debug, PartialEq, Eq)]
 pub enum Reason {
-    /// The search met as many conflicts as it may.
+    /// The search met as many conflicts as it may, or lost 16 clauses.
     Budget,
     /// It was stopped.
     Stopped,
     /// Its clauses were to take so little memory that it could not go on.
     Memory,
-    /// What would end it was not confirmed, or there was nothing to try.
-    Unconfirmed,
 }
 
 /// What a search tells of a question, where `C` are the clauses.
@@ -33,8 +37,11 @@ pub struct Tally {
     pub conflicts: u64,
     /// How many decisions it made.
     pub decisions: u64,
-    /// Of how many the clause was not confirmed, or could not be used.
+    /// How often a clause was not confirmed or could not be used, starts that were found did not answer, or there was nothing
+    /// to try.
     pub lost: u64,
+    /// How often it halted, to learn, to begin anew or to ask the stop.
+    pub halts: u64,
     /// How many steps were taken to derive clauses.
     pub hints: u64,
     /// How many literals the clauses have.
@@ -52,10 +59,20 @@ impl Tally {
             conflicts: 0,
             decisions: 0,
             lost: 0,
+            halts: 0,
             hints: 0,
             literals: 0,
             restarts: 0,
             forgotten: 0,
         }
+    }
+    /// Whether the search has met so many conflicts since an earlier tally, or lost 16 clauses; or counts no further.
+    pub(crate) fn is_spent(&self, before: &Tally, conflicts: u64) -> bool
+        ensures spent { IsTrue result → IsSpent before.now conflicts self.now }
+        ensures unspent { IsFalse result → self.now.halts < 18446744073709551615 }
+    {
+        before.conflicts.saturating_add(conflicts) <= self.conflicts
+            || before.lost.saturating_add(MOST_LOST) <= self.lost
+            || self.halts == u64::MAX
     }
 }

@@ -1,15 +1,16 @@
 //! What is asked on the way down.
 
 ghost use Rattle.racp_facts.specs.Solutions.{HasPlaces};
-ghost use Rattle.racp_optimum.specs.Optima.{IsTaskOf, MayBeTold};
+ghost use Rattle.racp_optimum.specs.Optima.{AreTasksOf, IsTaskOf, MayBeTold};
 
 use crate::descent::Descent;
 use crate::hearer::{Asking, Hearer};
 use crate::places::{value_of, variable_count};
 use crate::questions::bounds_of;
-use crate::task::Task;
+use crate::taken::taken_over;
+use crate::task::{Task, Tasks};
 use racp_facts::{Clause, Domain, OfProblem};
-use racp_learning::{Reason, Told};
+use racp_learning::{Reason, Search, Told};
 use racp_model::Starts;
 use racp_schedules::Draft;
 use std::alloc::AllocError;
@@ -28,51 +29,78 @@ pub(crate) enum Heard<C> {
     Open,
 }
 
-impl<N: OfProblem> Descent<N> {
+impl<P: OfProblem> Descent<P> {
     /// Asks whether the variable at a place can be at most so much.
-    pub(crate) fn ask<H: Hearer>(
+    pub(crate) fn ask<N: OfProblem, H: Hearer>(
         &mut self,
-        task: Task<'_>,
+        search: &mut Search<N>,
+        tasks: Tasks<'_>,
         hearer: &H,
         x: usize,
         most: u64,
-    ) -> Result<Heard<Clause<N>>, AllocError>
-        requires is_of { IsTaskOf N.problem task }
-        requires may { MayBeTold N.problem H.may_hear_cost H.may_hear_draft }
+    ) -> Result<Heard<Clause<P>>, AllocError>
+        requires are_of { AreTasksOf N.problem P.problem tasks }
+        requires may { MayBeTold P.problem H.may_hear_cost H.may_hear_draft }
     {
         self.bound(x, most);
-        let bounds = bounds_of(task.alloc, task.root, variable_count(task.net), &self.most)?;
+        match self.told(search, tasks, hearer)? {
+            Told::Found(starts, _) => self.better(tasks.part, hearer, starts, x, most),
+            Told::Refuted(clause) => Ok(match taken_over(tasks.part, clause)? {
+                Some(clause) => Heard::None(clause),
+                None => Heard::Open,
+            }),
+            Told::Open(_) => Ok(Heard::Open),
+        }
+    }
+
+    /// What the search tells of whatever is still of interest.
+    pub(crate) fn told<N: OfProblem, H: Hearer>(
+        &mut self,
+        search: &mut Search<N>,
+        tasks: Tasks<'_>,
+        hearer: &H,
+    ) -> Result<Told<Clause<N>>, AllocError>
+        requires are_of { AreTasksOf N.problem P.problem tasks }
+    {
+        let Task {
+            alloc,
+            net,
+            root,
+            ..
+        } = tasks.part;
+        let bounds = bounds_of(alloc, root, variable_count(net), &self.most)?;
         for _i in 0..u64::MAX {
-            match self.ask_on(task, hearer, &bounds)? {
-                Told::Found(starts, _) => return self.better(task, hearer, starts, x, most),
-                Told::Refuted(clause) => return Ok(Heard::None(clause)),
-                Told::Open(Reason::Budget) if self.left > 0 => {
-                    hearer.hear_tally(self.search.tally());
-                }
-                Told::Open(_) => break,
+            match self.ask_on(search, tasks.whole, hearer, &bounds)? {
+                Told::Open(Reason::Budget) if self.left > 0 => hearer.hear_tally(search.tally()),
+                told => return Ok(told),
             }
         }
-        Ok(Heard::Open)
+        Ok(Told::Open(Reason::Budget))
     }
 
     /// Asks whether something lies within bounds, for some of the conflicts that are left.
-    fn ask_on<H: Hearer>(
+    fn ask_on<N: OfProblem, H: Hearer>(
         &mut self,
-        task: Task<'_>,
+        search: &mut Search<N>,
+        whole: Task<'_>,
         hearer: &H,
         bounds: &Domain,
     ) -> Result<Told<Clause<N>>, AllocError>
-        requires is_of { IsTaskOf N.problem task }
+        requires is_of { IsTaskOf N.problem whole }
         requires places { HasPlaces N.problem.network bounds.now }
     {
-        let before = self.search.tally().conflicts;
+        let before = search.tally().conflicts;
         let conflicts = self.left.min(SLICE);
         let stop = Asking { hearer };
-        let told = self
-            .search
-            .ask(task.net, task.order, bounds, conflicts, &stop)?;
-        let met = self.search.tally().conflicts.saturating_sub(before);
-        self.left = self.left.saturating_sub(met);
+        let told = search.ask(whole.net, whole.order, bounds, conflicts, &stop)?;
+        let met = search.tally().conflicts.saturating_sub(before);
+        // Clauses were lost if the search gave up before.
+        let is_lost = met < conflicts && matches!(told, Told::Open(Reason::Budget));
+        self.left = if is_lost {
+            0
+        } else {
+            self.left.saturating_sub(met)
+        };
         Ok(told)
     }
 
@@ -84,9 +112,9 @@ impl<N: OfProblem> Descent<N> {
         starts: Starts,
         x: usize,
         most: u64,
-    ) -> Result<Heard<Clause<N>>, AllocError>
-        requires is_of { IsTaskOf N.problem task }
-        requires may { MayBeTold N.problem H.may_hear_cost H.may_hear_draft }
+    ) -> Result<Heard<Clause<P>>, AllocError>
+        requires is_of { IsTaskOf P.problem task }
+        requires may { MayBeTold P.problem H.may_hear_cost H.may_hear_draft }
     {
         let Some(draft) = Draft::of_starts(task.alloc, task.net, task.order, starts)? else {
             return Ok(Heard::Open);

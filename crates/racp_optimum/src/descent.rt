@@ -2,46 +2,43 @@
 
 ghost use Rattle.std.specs.Prelude.{IfOk};
 ghost use Rattle.racp_facts.specs.Roots.{IsOpen};
-ghost use Rattle.racp_optimum.specs.Optima.{IsOptimum, IsTaskOf, MayBeTold};
+ghost use Rattle.racp_optimum.specs.Optima.{AreTasksOf, IsOptimum, IsTaskOf, MayBeTold};
 
 use crate::asking::Heard;
 use crate::hearer::Hearer;
-use crate::limits::Limits;
 use crate::optimum::Optimum;
 use crate::places::{value_of, variable_count};
 use crate::serial::serial_starts;
-use crate::task::Task;
+use crate::task::{Task, Tasks};
 use racp_established::{establishes, leaves_none};
 use racp_facts::{Clause, OfProblem};
 use racp_learning::Search;
 use racp_schedules::Draft;
 use std::alloc::AllocError;
 
-/// The search, the best draft that is known, and the clauses that show that nothing is less.
+/// The best draft that is known, and the clauses that show that nothing is less.
 #[derive(Drop)]
-pub(crate) struct Descent<N: OfProblem> {
-    pub(crate) search: Search<N>,
+pub(crate) struct Descent<P: OfProblem> {
     pub(crate) best: Option<Draft>,
     /// What each variable is at most in whatever is still of interest.
     pub(crate) most: Vec<u64>,
-    clauses: Vec<Clause<N>>,
+    pub(crate) clauses: Vec<Clause<P>>,
     /// How many conflicts are left.
     pub(crate) left: u64,
 }
 
-impl<N: OfProblem> Descent<N> {
-    /// From a draft down, if one is known.
+impl<P: OfProblem> Descent<P> {
+    /// From a draft down, if one is known, by so many conflicts at most.
     pub(crate) fn new(
         task: Task<'_>,
-        limits: Limits,
+        conflicts: u64,
         best: Option<Draft>,
     ) -> Result<Self, AllocError>
-        requires { IsTaskOf N.problem task }
+        requires { IsTaskOf P.problem task }
     {
         let Task {
             alloc,
             net,
-            order,
             root,
             ..
         } = task;
@@ -50,35 +47,36 @@ impl<N: OfProblem> Descent<N> {
             most.push(root.upper_at(x))?;
         }
         Ok(Descent {
-            search: Search::new(alloc, net, order, root, limits.seed, limits.bytes)?,
             best,
             most,
             clauses: Vec::new(alloc),
-            left: limits.conflicts,
+            left: conflicts,
         })
     }
 
     /// Goes down by each variable in turn, as far as nothing stays open.
-    pub(crate) fn go_down<H: Hearer>(
+    pub(crate) fn go_down<N: OfProblem, H: Hearer>(
         &mut self,
-        task: Task<'_>,
+        search: &mut Search<N>,
+        tasks: Tasks<'_>,
         hearer: &H,
     ) -> Result<(), AllocError>
-        requires is_of { IsTaskOf N.problem task }
-        requires may { MayBeTold N.problem H.may_hear_cost H.may_hear_draft }
+        requires are_of { AreTasksOf N.problem P.problem tasks }
+        requires may { MayBeTold P.problem H.may_hear_cost H.may_hear_draft }
     {
+        let task = tasks.part;
         let (jobs, resources) = (task.net.job_count(), task.net.resource_count());
-        if !self.settle(task, hearer, jobs + resources)? || self.best.is_none() {
+        if !self.settle(search, tasks, hearer, jobs + resources)? || self.best.is_none() {
             return Ok(());
         }
         for k in 0..resources {
-            if !self.settle(task, hearer, jobs + k)? {
+            if !self.settle(search, tasks, hearer, jobs + k)? {
                 return Ok(());
             }
         }
         self.take_serial(task)?;
         for i in 0..jobs {
-            if !self.settle(task, hearer, i)? {
+            if !self.settle(search, tasks, hearer, i)? {
                 return Ok(());
             }
         }
@@ -87,7 +85,7 @@ impl<N: OfProblem> Descent<N> {
 
     /// Takes the starts of a serial schedule within the capacities of the best draft, if they are less.
     fn take_serial(&mut self, task: Task<'_>) -> Result<(), AllocError>
-        requires { IsTaskOf N.problem task }
+        requires { IsTaskOf P.problem task }
     {
         let Some(best) = &self.best else {
             return Ok(());
@@ -106,15 +104,17 @@ impl<N: OfProblem> Descent<N> {
     }
 
     /// Finds the least value of the variable at a place, with no more of those before it. False where it stays open.
-    fn settle<H: Hearer>(
+    fn settle<N: OfProblem, H: Hearer>(
         &mut self,
-        task: Task<'_>,
+        search: &mut Search<N>,
+        tasks: Tasks<'_>,
         hearer: &H,
         x: usize,
     ) -> Result<bool, AllocError>
-        requires is_of { IsTaskOf N.problem task }
-        requires may { MayBeTold N.problem H.may_hear_cost H.may_hear_draft }
+        requires are_of { AreTasksOf N.problem P.problem tasks }
+        requires may { MayBeTold P.problem H.may_hear_cost H.may_hear_draft }
     {
+        let task = tasks.part;
         let mut least = task.root.lower_at(x);
         let mut closing = None;
         for turn in 0..u64::MAX {
@@ -123,7 +123,7 @@ impl<N: OfProblem> Descent<N> {
                 break;
             }
             let most = below(least, value, is_halved(task, x, turn));
-            match self.ask(task, hearer, x, most)? {
+            match self.ask(search, tasks, hearer, x, most)? {
                 Heard::Less => {}
                 Heard::None(clause) => {
                     least = most.saturating_add(1);
@@ -141,14 +141,14 @@ impl<N: OfProblem> Descent<N> {
     }
 
     /// Keeps a clause that shows that nothing is less.
-    fn close<H: Hearer>(
+    pub(crate) fn close<H: Hearer>(
         &mut self,
         task: Task<'_>,
         hearer: &H,
-        clause: Clause<N>,
+        clause: Clause<P>,
     ) -> Result<(), AllocError>
-        requires is_of { IsTaskOf N.problem task }
-        requires may { MayBeTold N.problem H.may_hear_cost H.may_hear_draft }
+        requires is_of { IsTaskOf P.problem task }
+        requires may { MayBeTold P.problem H.may_hear_cost H.may_hear_draft }
     {
         if let Some(least) = clause.least_cost(task.net) {
             hearer.hear_cost(least);
@@ -174,8 +174,8 @@ impl<N: OfProblem> Descent<N> {
 
     /// The plan, if the clauses show it; or that no capacities are enough, if they show that.
     pub(crate) fn into_optimum(self, task: Task<'_>) -> Result<Optimum, AllocError>
-        requires { IsTaskOf N.problem task }
-        ensures { IfOk result (IsOptimum N.problem.network N.problem.terms) }
+        requires { IsTaskOf P.problem task }
+        ensures { IfOk result (IsOptimum P.problem.network P.problem.terms) }
     {
         let Descent { best, clauses, .. } = self;
         let Some(draft) = best else {
@@ -193,9 +193,9 @@ impl<N: OfProblem> Descent<N> {
 }
 
 /// That no capacities are enough, if the last clause shows it.
-fn without_draft<N: OfProblem>(clauses: &[Clause<N>]) -> Optimum
-    requires { IsOpen N.problem }
-    ensures { IsOptimum N.problem.network N.problem.terms result }
+fn without_draft<P: OfProblem>(clauses: &[Clause<P>]) -> Optimum
+    requires { IsOpen P.problem }
+    ensures { IsOptimum P.problem.network P.problem.terms result }
 {
     match clauses.last() {
         Some(clause) if leaves_none(clause) => Optimum::NoneEnough,

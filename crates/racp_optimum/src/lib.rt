@@ -26,22 +26,32 @@
 //! was given a bound on its conflicts and reached it, was stopped, or left a question open. A `Hearer` is told drafts and
 //! lower bounds on the cost as they are found, and may stop the search.
 //!
+//! An `Optimizer` finds the optima of an order and of parts of it, as with shorter deadlines or lower ceilings. It keeps one
+//! search: a clause of the order holds of each part, where those of its literals that are false at the root of the part
+//! fall away.
+//!
 //! Proved: a plan that is answered is the plan (`IsPlan` of racp_model); where it is answered that no capacities are
 //! enough, none are; and what the hearer is told is true. How a plan is found needs no proof but that it ends. Not proved:
 //! that it is found.
 #![tactic(auto)]
 
+mod any;
 mod asking;
 mod descent;
+mod feasible;
 mod hearer;
 mod limits;
+mod optimizer;
 mod optimum;
 mod places;
 mod questions;
 mod serial;
+mod taken;
 mod task;
 
+pub use feasible::Feasible;
 pub use hearer::Hearer;
 pub use limits::Limits;
+pub use optimizer::Optimizer;
 pub use optimum::{Optimum, optimum_of};
 pub use task::Task;

@@ -19,3 +19,10 @@ pub struct Task<'a> {
     /// The root bounds.
     pub root: &'a Domain,
 }
+
+/// An order, and one that is part of it, as with a shorter deadline or lower ceilings.
+#[derive(Clone, Copy)]
+pub(crate) struct Tasks<'a> {
+    pub(crate) whole: Task<'a>,
+    pub(crate) part: Task<'a>,
+}

@@ -20,7 +20,6 @@ pub enum Answer {
     Budget,
     Stopped,
     Memory,
-    Unconfirmed,
 }
 
 /// The root bounds with up to three of them narrowed by chance: less cost, fewer units, or other starts. They are those
@@ -97,7 +96,6 @@ fn note<N: OfProblem>(record: &mut Record, told: &Told<Clause<N>>) -> Result<(),
         Told::Open(Reason::Budget) => Answer::Budget,
         Told::Open(Reason::Stopped) => Answer::Stopped,
         Told::Open(Reason::Memory) => Answer::Memory,
-        Told::Open(Reason::Unconfirmed) => Answer::Unconfirmed,
     };
     record.answers.push(answer)?;
     Ok(())

@@ -1,0 +1,63 @@
+//! Whether there is any solution.
+
+ghost use Rattle.std.specs.Prelude.{IfOk};
+ghost use Rattle.racp_facts.specs.Roots.{IsOpen};
+ghost use Rattle.racp_optimum.specs.Optima.{AreTasksOf, IsFeasible, IsTaskOf, MayBeTold};
+
+use crate::asking::Heard;
+use crate::descent::Descent;
+use crate::feasible::Feasible;
+use crate::hearer::Hearer;
+use crate::task::{Task, Tasks};
+use racp_established::leaves_none;
+use racp_facts::{Clause, OfProblem};
+use racp_learning::Search;
+use racp_schedules::Draft;
+use std::alloc::AllocError;
+
+impl<P: OfProblem> Descent<P> {
+    /// Looks for any solution.
+    pub(crate) fn find_any<N: OfProblem, H: Hearer>(
+        &mut self,
+        search: &mut Search<N>,
+        tasks: Tasks<'_>,
+        hearer: &H,
+    ) -> Result<(), AllocError>
+        requires are_of { AreTasksOf N.problem P.problem tasks }
+        requires may { MayBeTold P.problem H.may_hear_cost H.may_hear_draft }
+    {
+        let task = tasks.part;
+        let x = task.net.job_count() + task.net.resource_count();
+        let most = task.root.upper_at(x);
+        if let Heard::None(clause) = self.ask(search, tasks, hearer, x, most)? {
+            self.close(task, hearer, clause)?;
+        }
+        Ok(())
+    }
+
+    /// The draft that was found, or that there is none.
+    pub(crate) fn into_feasible(self, task: Task<'_>) -> Result<Feasible, AllocError>
+        requires { IsTaskOf P.problem task }
+        ensures { IfOk result (IsFeasible P.problem.network P.problem.terms) }
+    {
+        let Descent { best, clauses, .. } = self;
+        let Some(draft) = best else {
+            return Ok(none_fits(&clauses));
+        };
+        match Draft::of_starts(task.alloc, task.net, task.order, draft.starts)? {
+            Some(draft) => Ok(Feasible::Fits(draft)),
+            None => Ok(Feasible::Unknown),
+        }
+    }
+}
+
+/// That no capacities are enough, if the last clause shows it.
+fn none_fits<P: OfProblem>(clauses: &[Clause<P>]) -> Feasible
+    requires { IsOpen P.problem }
+    ensures { IsFeasible P.problem.network P.problem.terms result }
+{
+    match clauses.last() {
+        Some(clause) if leaves_none(clause) => Feasible::NoneFits,
+        _ => Feasible::Unknown,
+    }
+}
