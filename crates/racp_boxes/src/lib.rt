@@ -30,11 +30,11 @@
 //!
 //! So four questions are asked for the first of twelve vectors; asking in order takes eight. A vector that is at most a
 //! refuted one is not asked for. Up to 128 refuted vectors are kept. A question about a box of more than one vector
-//! ends after 64,000 nodes. If that is not enough, nothing is learnt, and the halves are searched. If 256 nodes leave a
-//! question open, the asker is told the questions of up to seven boxes that come next if each is refuted. Workers that
-//! have nothing else to do can search them. For a box whose high vector is known to be enough, that is the question of
-//! its half with fewer units. Demeulemeester (1995), too, searches capacities by scheduling problems with given ones,
-//! and goes from vectors that are not enough to dearer ones.
+//! ends after 64,000 nodes, of all workers. If that is not enough, nothing is learnt, and the halves are searched. If
+//! 256 nodes leave a question open, the asker is told the questions of up to seven boxes that come next if each is
+//! refuted. Workers that have nothing else to do can search them. For a box whose high vector is known to be enough,
+//! that is the question of its half with fewer units. Demeulemeester (1995), too, searches capacities by scheduling
+//! problems with given ones, and goes from vectors that are not enough to dearer ones.
 //!
 //! Proved: the answer is the first, by cost and then lexicographically, of all vectors within the roofs with which some
 //! starts in the window fit, even if some questions ended early and nothing is known of them. Not proved: how many

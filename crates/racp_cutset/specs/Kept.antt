@@ -17,9 +17,8 @@ record_numbers p = 2 * length p.jobs + p.resources + 100
 abbrev pub most_records : Project → ℕ → ℕ
 most_records p mebibytes = mebibytes * 262144 / record_numbers p
 
--- Of this many mebibytes, the records that several workers share have one half, and those that they keep of their own the
--- other, in equal parts. A shared record has a place, about 30 numbers, in the index of each worker. One worker alone
--- has all for its own.
+-- Of this many mebibytes, the records that workers share have one half, and those that they keep of their own the other,
+-- in equal parts. A shared record has a place, about 30 numbers, in the index of each worker.
 abbrev pub most_shared : Project → ℕ → ℕ → ℕ
 most_shared p mebibytes workers = mebibytes * 131072 / (record_numbers p + 30 * workers)
 
@@ -28,8 +27,8 @@ most_own p mebibytes workers = mebibytes * 131072 / (record_numbers p * workers)
 
 -- the most records that a board takes, and that each own part keeps, if this many workers have this many mebibytes
 pub record AreShares (p : Project) (mebibytes workers shared own : ℕ) : Type 0 where
-  pub of_one : workers < 2 → (shared ≡ 0) × (own ≡ most_records p mebibytes)
-  pub of_several : 1 < workers → (shared ≡ most_shared p mebibytes workers) × (own ≡ most_own p mebibytes workers)
+  pub of_board : shared ≡ most_shared p mebibytes workers
+  pub of_each : own ≡ most_own p mebibytes workers
 
 -- the first this many records are kept
 abbrev pub front : ℕ → Kept → Kept

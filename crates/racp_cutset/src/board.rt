@@ -1,6 +1,6 @@
 //! The records that threads share.
 
-ghost use Rattle.std.specs.Prelude.{◌≡◌, ◌≤◌, IfOk};
+ghost use Rattle.std.specs.Prelude.{◌≡◌, ◌≤◌, [], IfOk};
 ghost use Rattle.racp_cutset.specs.Kept.{AreShares, most_records};
 
 use crate::local::Local;
@@ -8,15 +8,12 @@ use crate::nogood::Nogood;
 use crate::shares::{DEFAULT_MEMORY, MemoryLimit, Shares, most_records, shares_of};
 use racp_model::{Network, OfNetwork};
 use std::alloc::{AllocError, Global};
-use std::sync::{Mutex, Wait};
+use std::sync::Wait;
 
 /// The records that the threads share, of the network that `N` names. It only grows, and is read without waiting.
-/// Beside it lie the own parts of threads that have ended, for those that come after them: these go on where the others
-/// have read to, with what they kept.
 #[derive(Drop)]
 pub struct Board<N: OfNetwork> {
     records: boxcar::Vec<Nogood<N>>,
-    parts: Mutex<Vec<Local<N>>>,
     /// How many records it takes at most.
     limit: usize,
     /// How many records each own part keeps at most.
@@ -64,7 +61,6 @@ impl<N: OfNetwork> Board<N> {
     {
         Ok(Board {
             records: boxcar::Vec::new(alloc)?,
-            parts: Mutex::new(Vec::new(alloc)),
             limit: shares.shared,
             own: shares.own,
         })
@@ -80,21 +76,12 @@ impl<N: OfNetwork> Board<N> {
         let _ = self.records.push(rt, nogood);
     }
 
-    /// The own part of a thread: one that was given back, or a new one. May wait for another thread that does the same.
-    pub fn take_part(&self, rt: &impl Wait, alloc: Global) -> Local<N>
-        ensures { result.most ≡ self.now.own }
+    /// The own part of a thread, which keeps no record and has read nothing. Takes no memory until a record is kept or
+    /// read.
+    pub fn own_part(&self, alloc: Global) -> Local<N>
+        ensures { result ≡ record { records = []; most = self.now.own } }
     {
-        let part = self.parts.lock(rt).pop();
-        match part {
-            Some(part) if part.most() == self.own => part,
-            _ => Local::of_most(alloc, self.own),
-        }
-    }
-
-    /// Takes back the own part of a thread; it is dropped if there is no room. May wait for another thread that does
-    /// the same.
-    pub fn give_part(&self, rt: &impl Wait, part: Local<N>) {
-        let _ = self.parts.lock(rt).push(part);
+        Local::of_most(alloc, self.own)
     }
 
     /// The record at a place, from 0, if it has been written.

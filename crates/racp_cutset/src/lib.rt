@@ -37,9 +37,8 @@
 //! their early starts as lower bounds, which covers the same nodes. A node has the same rows as its record, so they are
 //! compared place by place: the times first, then the capacities, the started jobs, the third rows and the upper
 //! bounds. `Board` has the records that threads share; it only grows, and is read without waiting. `Local` has one
-//! thread's own records and an index, by a hash of the started jobs, of these and of what it has read of the board. A
-//! thread that ends gives its `Local` to the board (`give_part`), and one that begins takes such a part (`take_part`),
-//! so that it need not read the whole board again. What the index leads to is tested by `covers` before it is answered.
+//! thread's own records and an index, by a hash of the started jobs, of these and of what it has read of the board. What
+//! the index leads to is tested by `covers` before it is answered.
 //! A place of the board stays empty if the push to it was refused; reading goes on past it. The index keeps at most the
 //! 32 newest places for one hash, each with an outline of its record, by which most records that do not cover a node
 //! are passed over without a look at them. A new record takes the place there of those that it covers: a record that
@@ -50,7 +49,7 @@
 //!
 //! How many records fit into memory is reckoned by their size: a record counts for 8 bytes for each job, 4 for each
 //! resource, and 400 others, its place in an index among them. A `Local` without a board has `most_records`.
-//! `Board::within` divides memory among several workers: half of it for the board and half for the workers' own parts.
+//! `Board::within` divides memory among workers: half of it for the board and half for the workers' own parts.
 //! A record of the board counts for 120 bytes more for each worker, since it has a place in the index of each. This is
 //! an estimate on the high side: with 30 jobs and 4 resources it counts 656 bytes for a record that takes about 460.
 //!
@@ -60,8 +59,8 @@
 //! for. A new one comes after them, or takes the place of one that is not among the first ones, and no other changes.
 //! `forget_behind` leaves exactly the first ones. No outline rules out a record that covers a node. In `laws`: why
 //! covering keeps a yes, step by step. Not proved: which records are found or give way. A body that never finds one
-//! would be proved too; that records are found is tested. `push`, `take_part` and `give_part` of `Board` may wait for
-//! another thread, and are the only functions of which it is not claimed that they return.
+//! would be proved too; that records are found is tested. `push` of `Board` may wait for another thread, and is the only
+//! function of which it is not claimed that it returns.
 #![tactic(auto)]
 
 mod board;

@@ -46,18 +46,11 @@ pub(crate) struct Shares {
     pub(crate) own: usize,
 }
 
-/// The parts of the memory for records. Of several workers the board has one half and the own parts the other; one
-/// worker shares nothing.
+/// The parts of the memory for records: the board has one half and the own parts of the workers the other.
 pub(crate) fn shares_of(net: &Network, limit: MemoryLimit) -> Shares
     ensures { AreShares net.now limit.mebibytes limit.workers result.shared result.own }
 {
     let MemoryLimit { mebibytes, workers } = limit;
-    if workers < 2 {
-        return Shares {
-            shared: 0,
-            own: most_records(net, mebibytes),
-        };
-    }
     Shares {
         shared: most_shared(net, mebibytes, workers),
         own: most_own(net, mebibytes, workers),

@@ -1,7 +1,7 @@
 //! The desk: workers on threads of their own answer a series of questions about one network.
 //!
 //! Each takes a piece of a question, searches it, and hands in what it found. The collector and its log change under
-//! one lock alone.
+//! one lock, and there is no other.
 //!
 //! Questions stand by their place in the series, from 0, seats and pieces by their number, from 0.
 //!
@@ -28,28 +28,28 @@
 //!
 //! `run` starts the workers but the first, works as the first on the calling thread, and joins the others.
 //!
-//! A worker's turn: it takes a piece; where no window is open, fewer than two
-//! questions a worker are undecided, the series has not ended and no yes is known, it asks the next question and takes
-//! once more; else it helps another worker, or waits until something has changed. With a piece it lets the lock go, enters
-//! the gate, searches as many nodes as the quantum allows, with the records of the board and its own, takes the lock, hands
-//! the finding in, and takes the next piece. Where it is not alone, it shares the records that it made each 100 nodes, while
-//! the board has room. It leaves where the answer is known or the desk is halted. It halts the desk where the user has asked
-//! to stop, where as many pieces were taken as there are turns and none is out, and where memory was refused. What it kept
-//! of its own goes to the board when it leaves, for the workers of the next run; where each question was a no, what it kept
-//! in this run is forgotten, and a worker that is alone forgets what it kept of a question once that is a no. A hint stands
-//! beside the lock: the least place of a yes that came in, so that a search of the same or a later question, which is of no
-//! use, is left at its next node.
+//! A worker's turn:
 //!
-//! `Boards::run` is a run with the board of those before it, or with one without records, for as much memory, where that is
-//! full. A worker whose own part has less than half of its room left where a run begins forgets what it kept before.
+//! 1. It locks the desk and takes a piece.
+//! 2. Where no window is open, fewer than two questions a worker are undecided, the series has not ended and no yes is
+//!    known, it asks the next question and takes once more. Where there is still no piece, it waits until something has
+//!    changed, and begins anew.
+//! 3. With a piece it lets the lock go, enters the gate, and searches as many nodes as the quantum allows, with the records
+//!    of the board and its own. It pushes what it kept to the board, while that has room, locks the desk, and hands the
+//!    finding in. The windows that are left of the piece are then open for all, so work is parted by itself.
+//! 4. Where the answer is known, or the desk is halted, it leaves.
 //!
-//! A worker helps with a double of a piece that is out and that 100 nodes did not decide, of the least question of which
-//! there is one: most pieces take fewer nodes. It searches the child windows of each node in a pseudo-random order of its
-//! own, and so begins elsewhere than the worker that has the piece. What either refutes becomes a record, and the other
-//! passes over it where it comes to it; so they part the windows between them, and none has to be left for another.
-//! Solvers that share what they learn and search in different orders go this way (Hamadi, Jabbour and Sais 2009, for
-//! satisfiability). Whoever decides the double first hands in the finding of the piece, which the other sees within 100
-//! nodes; its own is then stale.
+//! A worker that comes to take while no turn is left leaves too, and halts the desk where the answer is not known; what is
+//! out then is still handed in, and may make the answer known. A worker also halts the desk where the user has asked to
+//! stop, and where memory was refused. A finding for whose windows there is no memory becomes its piece again, which is
+//! given back. All that wait are told whenever a finding came in, and before a worker leaves. A hint stands beside the
+//! lock: the least place of a yes that came in, so that a search of the same or a later question, which is of no use, is
+//! left at its next node.
+//!
+//! `Records` is what one thread keeps from run to run: the board, and what each worker kept of its own, with the index of
+//! what it has read of the board. A worker begins a run with one of these, and brings it back when it is joined; so no lock
+//! is wanted for them. Without them each run would read the whole board again. A worker whose own records take more than
+//! half of their room where it begins a piece forgets them.
 //!
 //! A `State` is what lies under the lock: the collector, the `Book` of its log, and the total of a ledger. Each of its
 //! five calls is a step of the collector with at most one entry, and adds that entry to the share of who calls. All
@@ -71,22 +71,23 @@
 //! and which of two findings comes first.
 #![tactic(auto)]
 
-mod boards;
 mod book;
 mod gate;
 pub mod laws;
-mod leads;
 mod limits;
 mod log;
+mod records;
 mod running;
 mod state;
+mod stock;
+mod turn;
 mod watch;
 mod worker;
 
-pub use boards::Boards;
 pub use book::{Book, Rules};
 pub use gate::{Gate, Open};
 pub use limits::RunLimits;
 pub use log::{Cause, Entry};
+pub use records::Records;
 pub use running::{DeskFault, run};
-pub use state::{Closed, Names, State};
+pub use state::{Closed, RunNames, State};

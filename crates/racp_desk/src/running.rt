@@ -5,18 +5,19 @@ ghost use Rattle.racp_model.specs.Formed.{AreFormed};
 ghost use Rattle.racp_desk.specs.Closing.{IsRunClosed, IsEnding};
 
 use crate::gate::Gate;
-use crate::leads::Leads;
 use crate::limits::RunLimits;
 use crate::log::Cause;
-use crate::state::{Closed, Names, State};
+use crate::state::{Closed, RunNames, State};
+use crate::stock::Stock;
 use crate::watch::Hint;
-use crate::worker::{Job, Shared, Spent, work};
-use racp_cutset::Board;
+use crate::worker::{RunSetup, Shared, Worker, work};
+use racp_cutset::{Board, Local};
 use racp_model::{Network, OfNetwork};
 use racp_questions::Series;
 use racp_search::Stop;
 use std::alloc::{AllocError, Global};
 use std::marker::Brand;
+use std::mem::replace;
 use std::sync::ledger::{Blank, Share};
 use std::sync::{Condvar, Mutex, Wait};
 use std::thread;
@@ -34,30 +35,22 @@ pub enum DeskFault {
     NoThread,
 }
 
-/// Workers that were started, and the share that is left beside theirs.
+/// Workers that were started, and what is left beside what they have.
 #[derive(Drop)]
-struct Started<M: Names> {
-    handles: Vec<JoinHandle<Spent<M>>>,
-    share: Share<M>,
+struct Started<N: OfNetwork, M: RunNames> {
+    handles: Vec<JoinHandle<Worker<N, M>>>,
+    stock: Stock<N, M>,
 }
 
-/// The share of all workers and of the calling thread, and whether a worker could not be started.
+/// What all workers had, and whether one could not be started.
 #[derive(Drop)]
-struct Joined<M: Names> {
-    share: Share<M>,
+struct Joined<N: OfNetwork, M: RunNames> {
+    stock: Stock<N, M>,
     refused: bool,
 }
 
-/// Joins the share of a worker.
-fn join_share<M: Names>(all: &mut Share<M>, spent: Spent<M>)
-    ensures { all.new.parts ≡ all.old.parts + 1 }
-{
-    let Spent { share } = spent;
-    all.merge(share);
-}
-
 /// Halts the desk, since a worker could not be started, and tells all that wait.
-fn refuse<'a, N: OfNetwork, M: Names, S: Series, G: Gate, P: Stop, R: Wait>(
+fn refuse<'a, N: OfNetwork, M: RunNames, S: Series, G: Gate, P: Stop, R: Wait>(
     rt: &R,
     shared: &Shared<'a, N, M, S, G, P>,
     mine: &mut Share<M>,
@@ -80,7 +73,7 @@ fn start<
     's,
     E,
     N: OfNetwork + Send + Sync + 's,
-    M: Names + Send + Sync + 's,
+    M: RunNames + Send + Sync + 's,
     S: Series + Send + 's,
     G: Gate + Sync + 's,
     P: Stop + Sync + 's,
@@ -89,46 +82,54 @@ fn start<
     scope: &'s Scope<'s, E>,
     rt: &'s R,
     shared: &'s Shared<'s, N, M, S, G, P>,
-    all: Share<M>,
-) -> Result<Started<M>, AllocError>
-    requires { all.parts ≡ shared.now.job.limits.workers + 1 }
+    all: Stock<N, M>,
+) -> Result<Started<N, M>, AllocError>
+    requires { all.share.parts ≡ shared.now.setup.limits.workers + 1 }
     ensures { IfOk result (λ started.
-        started.share.parts + length started.handles.items ≡ shared.now.job.limits.workers + 1) }
+        started.stock.share.parts + length started.handles.items ≡ shared.now.setup.limits.workers + 1) }
 {
-    let workers = shared.job.limits.workers;
-    let mut share = all;
-    let mut handles = Vec::with_capacity(shared.job.alloc, workers)?;
+    let RunSetup {
+        alloc,
+        board,
+        limits,
+        ..
+    } = &shared.setup;
+    let workers = limits.workers;
+    let mut stock = all;
+    let mut handles = Vec::with_capacity(*alloc, workers)?;
     for seat in 1..workers {
-        let mine = share.split_off(1, 0);
-        let job = move || -> Spent<M>
-            requires { mine.parts ≡ 1 }
-        { work(rt, shared, seat, mine) };
+        let worker = stock.hire(*alloc, board, seat);
+        let job = move || -> Worker<N, M> { work(rt, shared, worker) };
         match scope.spawn(job) {
             Ok(handle) => handles.push_reserved(handle),
             Err(error) => {
-                refuse(rt, shared, &mut share);
-                join_share(&mut share, (error.value)());
+                refuse(rt, shared, &mut stock.share);
+                stock.take_back((error.value)());
                 break;
             }
         }
     }
-    let mine = share.split_off(1, 0);
-    join_share(&mut share, work(rt, shared, 0, mine));
-    Ok(Started { handles, share })
+    let worker = stock.hire(*alloc, board, 0);
+    stock.take_back(work(rt, shared, worker));
+    Ok(Started { handles, stock })
 }
 
 /// Joins those of so many workers that were started.
-fn join_all<M: Names, R: Threads + Wait>(rt: &R, started: Started<M>, workers: usize) -> Joined<M>
-    ensures { result.share.parts ≡ started.share.parts + length started.handles.items }
+fn join_all<N: OfNetwork, M: RunNames, R: Threads + Wait>(
+    rt: &R,
+    started: Started<N, M>,
+    workers: usize,
+) -> Joined<N, M>
+    ensures { result.stock.share.parts ≡ started.stock.share.parts + length started.handles.items }
 {
-    let Started { handles, share } = started;
+    let Started { handles, stock } = started;
     let refused = handles.len() + 1 < workers;
     let mut handles = handles;
-    let mut share = share;
+    let mut stock = stock;
     while let Some(handle) = handles.pop() {
-        join_share(&mut share, handle.join(rt));
+        stock.take_back(handle.join(rt));
     }
-    Joined { share, refused }
+    Joined { stock, refused }
 }
 
 /// Starts the workers in a scope, and joins them.
@@ -139,24 +140,28 @@ fn join_all<M: Names, R: Threads + Wait>(rt: &R, started: Started<M>, workers: u
 fn in_scope<
     'a,
     N: OfNetwork + Send + Sync,
-    M: Names + Send + Sync,
+    M: RunNames + Send + Sync,
     S: Series + Send,
     G: Gate + Sync,
     P: Stop + Sync,
     R: Threads + Wait + Sync,
->(rt: &'a R, shared: &'a Shared<'a, N, M, S, G, P>, all: Share<M>) -> Result<Joined<M>, AllocError>
-    requires { all.parts ≡ shared.now.job.limits.workers + 1 }
-    ensures { IfOk result (λ joined. joined.share.parts ≡ shared.now.job.limits.workers + 1) }
+>(
+    rt: &'a R,
+    shared: &'a Shared<'a, N, M, S, G, P>,
+    all: Stock<N, M>,
+) -> Result<Joined<N, M>, AllocError>
+    requires { all.share.parts ≡ shared.now.setup.limits.workers + 1 }
+    ensures { IfOk result (λ joined. joined.stock.share.parts ≡ shared.now.setup.limits.workers + 1) }
 {
     thread::scope(
         thread::scope_env(),
         rt,
-        move |scope| -> Result<Joined<M>, AllocError>
-            requires { all.parts ≡ shared.now.job.limits.workers + 1 }
-            ensures { IfOk result (λ joined. joined.share.parts ≡ shared.entry.now.job.limits.workers + 1) }
+        move |scope| -> Result<Joined<N, M>, AllocError>
+            requires { all.share.parts ≡ shared.now.setup.limits.workers + 1 }
+            ensures { IfOk result (λ joined. joined.stock.share.parts ≡ shared.entry.now.setup.limits.workers + 1) }
         {
             let started = start(scope, rt, shared, all)?;
-            Ok(join_all(rt, started, shared.job.limits.workers))
+            Ok(join_all(rt, started, shared.setup.limits.workers))
         },
     )
 }
@@ -167,14 +172,14 @@ fn in_scope<
 /// # Errors
 ///
 /// A worker could not be started, or memory was refused.
-fn end<N: OfNetwork, M: Names, S: Series>(
+fn end<N: OfNetwork, M: RunNames, S: Series>(
     state: State<N, M, S>,
-    joined: Joined<M>,
+    share: Share<M>,
+    refused: bool,
 ) -> Result<Closed, DeskFault>
-    requires { joined.share.parts ≡ M.parts }
+    requires { share.parts ≡ M.parts }
     ensures { IfOk result (IsRunClosed N.network M.series M.turns M.quiet) }
 {
-    let Joined { share, refused } = joined;
     let mut state = state;
     let mut all = share;
     state.audit(&mut all);
@@ -202,13 +207,28 @@ fn was_ended(cause: Option<Cause>) -> bool
     }
 }
 
-impl<N: OfNetwork + Send + Sync, G: Gate + Sync, P: Stop + Sync> Job<'_, N, G, P> {
-    /// A run about what `M` names.
-    fn run_named<M: Names + Send + Sync, S: Series + Send, R: Threads + Wait + Sync>(
+impl<N: OfNetwork + Send + Sync, G: Gate + Sync, P: Stop + Sync> RunSetup<'_, N, G, P> {
+    /// A run about a series. Its workers take the records that others have kept of their own, and leave theirs.
+    pub(crate) fn run<S: Series + Send, R: Threads + Wait + Sync>(
+        self,
+        rt: &R,
+        series: S,
+        locals: &mut Vec<Local<N>>,
+    ) -> Result<Closed, DeskFault>
+        requires formed { AreFormed N.network (S.questions series) }
+        ensures { IfOk result (IsRunClosed N.network (S.questions series) self.entry.limits.turns P.QUIET) }
+    {
+        let blank = Blank::new(self.limits.workers as u64 + 1);
+        self.run_named::<Brand, S, R>(rt, series, blank, locals)
+    }
+
+    /// The run about what `M` names.
+    fn run_named<M: RunNames + Send + Sync, S: Series + Send, R: Threads + Wait + Sync>(
         self,
         rt: &R,
         series: S,
         blank: Blank,
+        locals: &mut Vec<Local<N>>,
     ) -> Result<Closed, DeskFault>
         requires formed { AreFormed N.network (S.questions series) }
         requires series { S.questions series ≡ M.series }
@@ -219,21 +239,27 @@ impl<N: OfNetwork + Send + Sync, G: Gate + Sync, P: Stop + Sync> Job<'_, N, G, P
         requires parts { blank.parts ≡ self.limits.workers + 1 }
         ensures { IfOk result (IsRunClosed N.network M.series M.turns M.quiet) }
     {
-        let (total, all) = blank.open::<M>();
-        let Ok(state) = State::new(self.alloc, self.net, series, total) else {
+        let (total, share) = blank.open::<M>();
+        let alloc = self.alloc;
+        let Ok(state) = State::new(alloc, self.net, series, total) else {
             return Err(DeskFault::Memory);
         };
         let shared = Shared {
-            leads: Leads::new(self.alloc),
-            job: self,
+            setup: self,
             hint: Hint::new(),
             desk: Mutex::new(state),
             idle: Condvar::new(),
         };
-        let Ok(joined) = in_scope(rt, &shared, all) else {
+        let stock = Stock {
+            share,
+            locals: replace(locals, Vec::new(alloc)),
+        };
+        let Ok(joined) = in_scope(rt, &shared, stock) else {
             return Err(DeskFault::Memory);
         };
-        end(shared.desk.into_inner(), joined)
+        let Joined { stock, refused } = joined;
+        *locals = stock.locals;
+        end(shared.desk.into_inner(), stock.share, refused)
     }
 }
 
@@ -271,8 +297,7 @@ pub fn run<
     requires turns { turns ≤ 1000000000000 }
     ensures { IfOk result (IsRunClosed net.now (S.questions series) turns P.QUIET) }
 {
-    let blank = Blank::new(workers as u64 + 1);
-    let job = Job {
+    let setup = RunSetup {
         alloc,
         net,
         limits: RunLimits {
@@ -284,5 +309,8 @@ pub fn run<
         gate,
         stop,
     };
-    job.run_named::<Brand, S, R>(rt, series, blank)
+    let mut locals = Vec::new(alloc);
+    let closed = setup.run(rt, series, &mut locals);
+    drop(locals);
+    closed
 }

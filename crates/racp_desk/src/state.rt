@@ -30,14 +30,14 @@ use std::sync::ledger;
 use std::sync::ledger::{Ledger, Share};
 
 /// What a desk is about: the turns, whether the stop is quiet, a ledger, and the questions. Each run picks it.
-pub trait Names: Rules + Ledger {
+pub trait RunNames: Rules + Ledger {
     ghost use Rattle.std.specs.Prelude.{List};
     ghost use Rattle.racp_model.specs.declared.question.Question.{Question};
 
     ghost series: { List Question };
 }
 
-impl Names for Brand {
+impl RunNames for Brand {
     ghost use Rattle.std.specs.Prelude.{[]};
 
     ghost series = { [] };
@@ -46,13 +46,13 @@ impl Names for Brand {
 /// A collector of the questions that `M` names, about the network that `N` names, with the log of what happened to it
 /// and the total of a ledger: how many entries all shares count. Contracts see a `Desk`.
 #[derive(Drop)]
-pub struct State<N: OfNetwork, M: Names, S: Series> {
+pub struct State<N: OfNetwork, M: RunNames, S: Series> {
     book: Book<M>,
     core: Core<N, S>,
     total: ledger::Book<M>,
 }
 
-impl<N: OfNetwork, M: Names, S: Series> Model for State<N, M, S> {
+impl<N: OfNetwork, M: RunNames, S: Series> Model for State<N, M, S> {
     ghost use Rattle.std.specs.Prelude.{◌≡◌, length};
     ghost use Rattle.racp_desk.specs.Desk.{Desk, IsDesk};
 
@@ -80,7 +80,7 @@ pub struct Closed {
     made: PhantomData<()>,
 }
 
-impl<N: OfNetwork, M: Names, S: Series> State<N, M, S> {
+impl<N: OfNetwork, M: RunNames, S: Series> State<N, M, S> {
     /// A desk of which no question was asked.
     ///
     /// # Errors

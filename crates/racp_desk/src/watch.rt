@@ -24,13 +24,8 @@ impl Hint {
         self.least.fetch_min(index, Ordering::SeqCst);
     }
 
-    /// Whether a yes was merged.
-    pub(crate) fn is_noted(&self) -> bool {
-        self.least() < u64::MAX
-    }
-
     /// The place of the question of which a yes was merged: pieces of it and of later ones are of no use.
-    pub(crate) fn least(&self) -> u64 {
+    fn least(&self) -> u64 {
         self.least.load(Ordering::SeqCst)
     }
 }
@@ -77,7 +72,7 @@ impl<'a, P: Stop> Reasons for UserOrHint<'a, P> {
     }
 }
 
-/// The stop of a worker's search.
+/// The stop of a worker's search. The prover states no `Stop` of a type that has another one as a parameter.
 #[derive(Drop)]
 pub(crate) struct Watch<T: Reasons> {
     pub(crate) reasons: T,

@@ -6,7 +6,7 @@ use Rattle.std.specs.declared.alloc.AllocError.{AllocError}
 use Rattle.racp_model.specs.Project.{Project}
 use Rattle.racp_model.specs.Window.{Bounds}
 use Rattle.racp_search.specs.Truth.{SearchPiece, SearchFinding, IsExplored, IsFoundOrLeft}
-use Rattle.racp_search.specs.Ends.{AllowsNone, IsEnd, finding_after, short_of, undecided}
+use Rattle.racp_search.specs.Ends.{AllowsNone, IsEnd, finding_after, short_of, untouched}
 use Rattle.racp_search.specs.declared.ended.Ended.{Ended}
 
 -- a quantum that allows some node
@@ -22,7 +22,7 @@ one_allowed (Some most) h = elim (cases_lt 0 most) [
 one_allowed None h = tt
 
 -- a search that may enter no node
-pub explored_none : (p : Project) (piece : SearchPiece) (quantum : Option ℕ) → AllowsNone quantum true → IsExplored p piece quantum (undecided piece 0 false)
+pub explored_none : (p : Project) (piece : SearchPiece) (quantum : Option ℕ) → AllowsNone quantum true → IsExplored p piece quantum (untouched piece)
 explored_none p piece (Some most) h =
     let none : most ≡ 0 = h.0 refl in
     record {

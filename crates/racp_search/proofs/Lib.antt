@@ -12,7 +12,6 @@ mod Entering
 mod Ending
 mod Leaving
 mod Resting
-mod Pursuing
 mod Exploring
 mod Settling
 mod Dividing

@@ -3,15 +3,12 @@ use Rattle.std.specs.Prelude.{◌≡◌, ◌≢◌, ◌↔◌, ℕ, ◌<◌, ◌
 use Rattle.std.specs.declared.alloc.AllocError.{AllocError}
 use Rattle.racp_model.specs.Project.{Project}
 use Rattle.racp_model.specs.Window.{Bounds, Answers}
-use Rattle.racp_model.specs.declared.question.Question.{Question}
 use Rattle.racp_search.specs.Truth.{SearchPiece, SearchFinding, IsFoundOrLeft}
 use Rattle.racp_search.specs.DepthFirst.{SearchFrame, IsHigher, IsSearching, IsSearchingNext}
 use Rattle.racp_search.specs.Steps.{IsLeft}
 use Rattle.racp_search.specs.declared.depth_first.Next.{Next}
 use Rattle.racp_search.specs.declared.depth_first.Halt.{Halt}
 use Rattle.racp_search.specs.declared.depth_first.Halt.TheVariants.{Found, Nothing, Left}
-use Rattle.racp_search.specs.declared.depth_first.Progress.{Progress}
-use Rattle.racp_search.specs.declared.depth_first.Progress.TheVariants.{Decided, Open}
 use Rattle.racp_search.specs.declared.finding.Rest.TheVariants.{Whole, Windows}
 use Rattle.racp_search.specs.declared.ended.Ended.{Ended}
 
@@ -65,29 +62,6 @@ IsEndOf p capacities window Nothing ended =
 IsEndOf p capacities window (Left next stopped) ended =
     (ended.found ≡ None) × IsLeft p capacities window next.window ended.rest.items × (ended.stopped ≡ stopped)
 
--- a search that decided its window, after some nodes
-pub record IsDecided (p : Project) (capacities : List ℕ) (window : Bounds) (nodes : ℕ) (ended : Ended) : Type 0 where
-  pub is_true : IsFoundOrLeft p capacities window ended.found ended.rest.items
-  pub all : ended.rest.items ≡ []
-  pub unstopped : ended.stopped ≡ false
-  pub searched : 0 < nodes
-
--- a search that can be gone on with was stopped, or entered as many nodes as it may
-pub record IsHalfway (most nodes : ℕ) (quiet stopped : Bool) : Type 0 where
-  pub spent : IsFalse stopped → nodes ≡ most
-  pub told : IsTrue quiet → IsFalse stopped
-
--- how far a search came over at most so many nodes
-abbrev pub IsProgress : Project → List ℕ → Bounds → ℕ → ℕ → Bool → Progress → Type 0
-IsProgress p capacities window most nodes quiet (Decided ended) = IsDecided p capacities window nodes ended
-IsProgress p capacities window most nodes quiet (Open stopped) = IsHalfway most nodes quiet stopped
-
--- the question of the search that can be gone on with behind it
-abbrev pub begun_after : Question → Result Progress AllocError → Option Question
-begun_after question (Ok (Open stopped)) = Some question
-begun_after question (Ok (Decided ended)) = None
-begun_after question (Err error) = None
-
 -- one that came to none, for want of memory, does not end
 abbrev pub IsFinished : Project → List ℕ → Bounds → Result Halt AllocError → Ended → Type 0
 IsFinished p capacities window (Ok halt) ended = IsEndOf p capacities window halt ended
@@ -105,14 +79,14 @@ finding_after piece ended nodes =
       short = false;
     }
 
--- findings that leave the whole window of the piece: of a search that was stopped, or searched as many nodes as it may
-abbrev pub undecided : SearchPiece → ℕ → Bool → SearchFinding
-undecided piece nodes stopped = record {
+-- findings that leave the whole window of the piece: of a search that may search no node
+abbrev pub untouched : SearchPiece → SearchFinding
+untouched piece = record {
   piece = piece;
   rest = Whole;
   found = None;
-  nodes = nodes;
-  stopped = stopped;
+  nodes = 0;
+  stopped = false;
   short = false;
 }
 

@@ -1,5 +1,5 @@
 -- What a search of a piece of a question found, and when that is true.
-use Rattle.std.specs.Prelude.{◌≡◌, ◌≢◌, ℕ, ◌+◌, ◌<◌, ◌≤◌, Bool, IsTrue, IsFalse, List, [], ◌∷◌, Option, Some, None, IfSome, Contains}
+use Rattle.std.specs.Prelude.{◌≡◌, ◌≢◌, ℕ, ◌<◌, ◌≤◌, Bool, IsTrue, IsFalse, List, [], ◌∷◌, Option, Some, None, IfSome, Contains}
 use Rattle.racp_model.specs.Project.{Project}
 use Rattle.racp_model.specs.Window.{Bounds, Answers, IsNo, WindowsCover, IsInside}
 use Rattle.racp_model.specs.Formed.{HasBounds}
@@ -70,37 +70,6 @@ pub record IsExplored (p : Project) (piece : SearchPiece) (quantum : Option ℕ)
   -- once a node was searched, each window that is left has a greater sum of lower bounds than the piece's
   pub higher : IsFalse finding.short → 0 < finding.nodes →
       (part : Bounds) → Contains (left_windows finding) part → lower_sum p piece.question.window < lower_sum p part
-
--- what a search of a piece tells that goes on behind the nodes that were spent on it, over at most so many more
-pub record IsPursued (piece : SearchPiece) (spent most : ℕ) (finding : SearchFinding) : Type 0 where
-  -- it is of the piece
-  pub own : finding.piece ≡ piece
-  -- it searched at most as many nodes more as it may, and at least one, unless it may search none or was kept from it
-  pub least : spent ≤ finding.nodes
-  pub few : finding.nodes ≤ spent + most
-  pub searched : 0 < most → IsFalse finding.stopped → IsFalse finding.short → spent < finding.nodes
-  -- windows are left only where memory was refused, it was stopped, or as many nodes were searched as it may; it is then
-  -- the window of the piece
-  pub all : IsFalse finding.stopped → IsFalse finding.short → left_windows finding ≢ [] → finding.nodes ≡ spent + most
-  pub whole : left_windows finding ≢ [] → finding.rest ≡ Whole
-  -- where memory was refused, the window of the piece is left and nothing is found
-  pub short : IsTrue finding.short → (finding.rest ≡ Whole) × (finding.found ≡ None)
-  -- a search that was stopped found nothing and leaves something
-  pub stopped : IsTrue finding.stopped → (finding.found ≡ None) × (left_windows finding ≢ [])
-
--- what a thread goes on with: the order in which it searches child windows, how many of its first records stay, and the
--- question of the search that it has open
-pub record SearchCourse : Type 0 where
-  pub order : ℕ
-  pub first : ℕ
-  pub begun : Option Question
-
--- what such a search of a piece leaves to go on with: in the same order, with the same first records, the search of the piece,
--- where that is not decided
-pub record IsOnCourse (piece : SearchPiece) (most : ℕ) (finding : SearchFinding) (before after : SearchCourse) : Type 0 where
-  pub order : after.order ≡ before.order
-  pub first : after.first ≡ before.first
-  pub begun : 0 < most → IsFalse finding.short → left_windows finding ≢ [] → after.begun ≡ Some piece.question
 
 -- what is decided of a question: starts that answer it, or that nothing does
 abbrev pub IsDecision : Project → List ℕ → Bounds → Option (List ℕ) → Type 0

@@ -19,8 +19,8 @@ use std::cmp::min;
 pub(crate) struct Child {
     /// The window.
     pub(crate) window: Window,
-    /// Those of greater rank are searched first.
-    pub(crate) rank: u32,
+    /// How much time its jobs that go have left, at the least: those with more are searched first.
+    pub(crate) slack: u32,
 }
 
 /// The child window of a node in which these of its active jobs go. `None` where no active job stays, or the first end
@@ -51,9 +51,8 @@ pub(crate) fn child_of<N: OfNetwork>(
         Some(slack) => slack,
         None => return Ok(None),
     };
-    let rank = spare.order.rank(slack);
     let window = put_off(spare, window, gone, end)?;
-    Ok(Some(Child { window, rank }))
+    Ok(Some(Child { window, slack }))
 }
 
 /// The free jobs: the active jobs of a node whose upper bounds are at least the first end of its active jobs. Where any
@@ -93,13 +92,13 @@ fn slack_of(upper: &[u32], gone: &[u32], end: u32) -> Option<u32>
     Some(slack)
 }
 
-/// Puts a child among others, behind those of as great a rank or less.
+/// Puts a child among others, behind those with as much slack or less.
 pub(crate) fn insert(children: &mut Vec<Child>, child: Child) -> Result<(), AllocError>
     ensures { MatchResult result (λ _. IsInserted children.old.items child children.new.items)
         (λ _. children.new.items ≡ children.old.items) }
 {
     let mut at = children.len();
-    while 0 < at && child.rank < children[at - 1].rank {
+    while 0 < at && child.slack < children[at - 1].slack {
         at -= 1;
     }
     children.insert(at, child)?;

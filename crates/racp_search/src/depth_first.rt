@@ -1,12 +1,11 @@
-ghost use Rattle.std.specs.Prelude.{◌≡◌, ◌<◌, ◌≤◌, [], ◌∷◌, ◌++◌, IsTrue, IsFalse, IfOk, OnOk, IfSome, Some, length, take};
+ghost use Rattle.std.specs.Prelude.{◌≡◌, ◌<◌, ◌≤◌, [], ◌∷◌, ◌++◌, IsTrue, IsFalse, IfOk, OnOk, IfSome, length};
 ghost use Rattle.racp_search.specs.declared.depth_first.Halt.TheVariants.{Left};
 ghost use Rattle.racp_model.specs.Window.{IsNo};
 ghost use Rattle.racp_cutset.specs.Kept.{StayKept, front};
 ghost use Rattle.racp_search.specs.DepthFirst.{IsSearching, IsSearchingNext};
-ghost use Rattle.racp_search.specs.Ends.{IsEnd, IsEndOf, IsFinished, IsHalt, IsHaltOf, IsProgress, IsSpent, begun_after};
+ghost use Rattle.racp_search.specs.Ends.{IsEnd, IsEndOf, IsFinished, IsHalt, IsHaltOf, IsSpent};
 ghost use Rattle.racp_search.specs.Steps.{HasFirst, IsEntered, IsFirstLeft, IsFrontWindow, IsLeft, IsNextAnswer, IsKeptSomeOrDropped, IsStep};
 
-use crate::course::Course;
 use crate::ended::Ended;
 use crate::frame::{Frame, expand};
 use crate::glance::{Glance, look_at};
@@ -14,10 +13,9 @@ use crate::subject::Subject;
 use crate::workspace::{Spare, Workspace};
 use racp_cutset::{Local, Nogood};
 use racp_delay::Stop;
-use racp_model::{Network, OfNetwork, Question, Starts, Window};
+use racp_model::{Network, OfNetwork, Starts, Window};
 use racp_timetable::{Tightened, tighten};
 use std::alloc::{AllocError, Global};
-use std::marker::Model;
 
 /// How many windows a search leaves where it can, beside the one in which it is gone on with: enough for other threads
 /// to have one each, and few, as a search that goes by depth through all of them keeps better records.
@@ -41,50 +39,13 @@ pub(crate) fn search<N: OfNetwork, S: Stop>(
     ensures kept { StayKept local.old local.new }
 {
     let first = local.kept_count();
-    let (question, mut stack, next) = OpenSearch::new(alloc, subject, 0)?.into_parts();
+    let window = subject.whole().copy()?;
+    let next = Next { window, from: 0 };
+    let mut stack: Stack<N> = Stack::new(alloc, subject.network());
     let halt = stack.go_on(subject, next, quantum, nodes, local, first, stop);
     let ended = stack.finish(alloc, subject, halt);
     // Dropped here once, not at each way out.
-    drop((question, stack));
-    ended
-}
-
-/// The same over at most so many nodes, without leaving windows. Goes on with the search that the course has open, where
-/// that is of the question, and leaves it one that can be gone on with.
-pub(crate) fn search_further<N: OfNetwork, S: Stop>(
-    alloc: Global,
-    subject: &Subject<N>,
-    course: &mut Course<N>,
-    most: u64,
-    nodes: &mut u64,
-    local: &mut Local<N>,
-    stop: &S,
-) -> Result<Progress, AllocError>
-    requires most { 1 ≤ most }
-    requires nodes { nodes.old ≡ 0 }
-    ensures progress { IfOk result (IsProgress N.network subject.now.capacities subject.now.window most nodes.new S.QUIET) }
-    ensures nodes { nodes.new ≤ most }
-    ensures course { course.new ≡ record {
-      order = course.old.order;
-      first = course.old.first;
-      begun = begun_after subject.now result;
-    } }
-    ensures kept { StayKept (front course.old.first local.old) local.new }
-{
-    let first = course.first();
-    let open = course.start(alloc, subject)?;
-    let (question, mut stack, next) = open.into_parts();
-    let ended = match stack.go_on(subject, next, Some(most), nodes, local, first, stop) {
-        Ok(Halt::Left(next, stopped)) => {
-            course.keep(OpenSearch::of(question, stack, next));
-            return Ok(Progress::Open(stopped));
-        }
-        Ok(Halt::Found(starts)) => Ok(Progress::Decided(Ended::found(alloc, starts))),
-        Ok(Halt::Nothing) => Ok(Progress::Decided(Ended::nothing(alloc))),
-        Err(error) => Err(error),
-    };
-    // Dropped here once, not at each way out.
-    drop((question, stack));
+    drop(stack);
     ended
 }
 
@@ -127,15 +88,6 @@ enum Halt {
     Left(Next, bool),
 }
 
-/// How far a search came.
-#[derive(Drop)]
-pub(crate) enum Progress {
-    /// To its end.
-    Decided(Ended),
-    /// To a halt before it, since it was stopped or since as many nodes were entered as it may. It can be gone on with.
-    Open(bool),
-}
-
 /// The frames on the way to the window that is searched next, the first node first, and the memory that is used again
 /// from node to node.
 #[derive(Drop)]
@@ -144,101 +96,14 @@ struct Stack<N: OfNetwork> {
     workspace: Workspace,
 }
 
-/// A search that can be gone on with: its question, the frames on the way to the window that is searched next, and that
-/// window. Contracts see the question.
-#[derive(Drop)]
-pub(crate) struct OpenSearch<N: OfNetwork> {
-    question: Question,
-    stack: Stack<N>,
-    next: Next,
-}
-
-impl<N: OfNetwork> Model for OpenSearch<N> {
-    ghost use Rattle.racp_model.specs.declared.question.Question as asked;
-    ghost use Rattle.racp_search.specs.DepthFirst.{IsSearchingNext};
-
-    ghost Value = { asked.Question };
-
-    ghost view = { λ s. s.question };
-
-    ghost invariant = { λ s. IsSearchingNext N.network s.question.capacities s.question.window
-        s.stack.frames.items s.next.window s.next.from };
-}
-
-impl<N: OfNetwork> OpenSearch<N> {
-    /// The search of a whole question in this order, of which no node was entered.
-    pub(crate) fn new(alloc: Global, subject: &Subject<N>, order: usize) -> Result<Self, AllocError>
-        ensures { IfOk result (λ start. start ≡ subject.now) }
-    {
-        let window = subject.whole().copy()?;
-        let question = subject.question().copy()?;
-        let stack = Stack::new(alloc, subject.network(), order);
-        Ok(OpenSearch::of(question, stack, Next { window, from: 0 }))
-    }
-
-    /// The search itself where it is that of the question, or else a new one in this order.
-    pub(crate) fn or_new(
-        self,
-        alloc: Global,
-        subject: &Subject<N>,
-        order: usize,
-    ) -> Result<Self, AllocError>
-        ensures { IfOk result (λ start. start ≡ subject.now) }
-    {
-        if self.is_of(subject.question()) {
-            return Ok(self);
-        }
-        // Dropped here once, not at each way out.
-        drop(self);
-        OpenSearch::new(alloc, subject, order)
-    }
-
-    /// The search of a question with this stack, and this window to be searched next.
-    fn of(question: Question, stack: Stack<N>, next: Next) -> Self
-        requires { IsSearchingNext N.network question.capacities question.window
-            stack.frames.items next.window next.from }
-        ensures { result ≡ question }
-    {
-        OpenSearch {
-            question,
-            stack,
-            next,
-        }
-    }
-
-    /// Whether it is the search of this question.
-    fn is_of(&self, question: &Question) -> bool
-        ensures { IsTrue result → self.now ≡ question.now }
-    {
-        let own = &self.question;
-        own.capacities.as_slice() == question.capacities.as_slice()
-            && own.window.lower() == question.window.lower()
-            && own.window.upper() == question.window.upper()
-    }
-
-    /// The question, the stack, and the window that is searched next.
-    fn into_parts(self) -> (Question, Stack<N>, Next)
-        ensures question { result.0 ≡ self }
-        ensures state { IsSearchingNext N.network self.capacities self.window
-            result.1.frames.items result.2.window result.2.from }
-    {
-        let OpenSearch {
-            question,
-            stack,
-            next,
-        } = self;
-        (question, stack, next)
-    }
-}
-
 impl<N: OfNetwork> Stack<N> {
-    /// A stack without frames, for a search in this order. Takes no memory.
-    fn new(alloc: Global, net: &Network, order: usize) -> Self
+    /// A stack without frames. Takes no memory.
+    fn new(alloc: Global, net: &Network) -> Self
         ensures { result.frames.items ≡ [] }
     {
         Stack {
             frames: Vec::new(alloc),
-            workspace: Workspace::new(alloc, net, order),
+            workspace: Workspace::new(alloc, net),
         }
     }
 

@@ -1,11 +1,10 @@
-ghost use Rattle.std.specs.Prelude.{◌≡◌, ◌+◌, ◌≤◌, IsTrue, IsFalse, IfOk};
+ghost use Rattle.std.specs.Prelude.{◌≡◌, IsTrue, IsFalse, IfOk};
 ghost use Rattle.racp_model.specs.Formed.{IsFormed};
-ghost use Rattle.racp_cutset.specs.Kept.{StayKept, front};
-ghost use Rattle.racp_search.specs.Truth.{IsExplored, IsDecision, IsOnCourse, IsPursued};
+ghost use Rattle.racp_cutset.specs.Kept.{StayKept};
+ghost use Rattle.racp_search.specs.Truth.{IsExplored, IsDecision};
 ghost use Rattle.racp_search.specs.Ends.{AllowsNone};
 
-use crate::course::Course;
-use crate::depth_first::{Progress, search, search_further};
+use crate::depth_first::search;
 use crate::finding::Finding;
 use crate::piece::Piece;
 use crate::subject::Subject;
@@ -39,51 +38,12 @@ pub fn explore<N: OfNetwork, S: Stop>(
     ensures kept { StayKept local.old local.new }
 {
     if allows_none(quantum) {
-        return Finding::whole(piece, 0, false);
+        return Finding::whole(piece);
     }
     let mut nodes = 0;
     let subject = Subject::new(net, piece.question(), board);
     let end = search(alloc, &subject, quantum, &mut nodes, local, stop);
     Finding::after(piece, end, nodes)
-}
-
-/// Searches a piece over at most so many nodes, behind as many as were `spent` on it before, and leaves no windows: where
-/// the piece is not decided, the finding leaves the whole of it, and the course has the search open. A search that the
-/// course has open is gone on with where it is that of the piece's question; else the piece is searched from its start, in
-/// the order of the course. Of threads that search one question in different orders, each passes over what the others have
-/// refuted. Records are kept as by `explore`, and the stop is asked as there; where there is no room for a further record,
-/// one gives way that is not among the first ones of the course.
-pub fn pursue<N: OfNetwork, S: Stop>(
-    alloc: Global,
-    net: &Network,
-    piece: Piece<N>,
-    spent: u64,
-    most: u64,
-    board: &Board<N>,
-    local: &mut Local<N>,
-    course: &mut Course<N>,
-    stop: &S,
-) -> Finding<N>
-    requires named { net.now ≡ N.network }
-    requires formed { IsFormed net.now piece.question }
-    requires few { spent + most ≤ 1000000 }
-    ensures pursued { IsPursued piece spent most result }
-    ensures course { IsOnCourse piece most result course.old course.new }
-    ensures quiet { IsTrue S.QUIET → IsFalse result.stopped }
-    ensures kept { StayKept (front course.old.first local.old) local.new }
-{
-    if most == 0 {
-        return Finding::whole(piece, spent, false);
-    }
-    let mut nodes = 0;
-    let subject = Subject::new(net, piece.question(), board);
-    let progress = search_further(alloc, &subject, course, most, &mut nodes, local, stop);
-    let nodes = spent + nodes;
-    match progress {
-        Ok(Progress::Decided(ended)) => Finding::after(piece, Ok(ended), nodes),
-        Ok(Progress::Open(stopped)) => Finding::whole(piece, nodes, stopped),
-        Err(_) => Finding::short_of(piece, nodes),
-    }
 }
 
 /// Whether the quantum allows no node.

@@ -1,7 +1,7 @@
 ghost use Rattle.std.specs.Prelude.{◌≡◌, IfOk, IfErr, option_copied, true};
 ghost use Rattle.racp_model.specs.Formed.{HasBounds};
 ghost use Rattle.racp_search.specs.Truth.{IsFoundOrLeft, IsTrueFinding};
-ghost use Rattle.racp_search.specs.Ends.{finding_after, short_of, undecided};
+ghost use Rattle.racp_search.specs.Ends.{finding_after, short_of, untouched};
 
 use crate::ended::Ended;
 use crate::piece::Piece;
@@ -73,24 +73,23 @@ impl<N: OfNetwork> Finding<N> {
         }
     }
 
-    /// Nothing found, and the whole window of the piece left: since the search was stopped, or since it searched as many
-    /// nodes as it may. Takes no memory.
-    pub(crate) fn whole(piece: Piece<N>, nodes: u64, stopped: bool) -> Self
+    /// Nothing found, and the whole window of the piece left, since it may search no node. Takes no memory.
+    pub(crate) fn whole(piece: Piece<N>) -> Self
         requires { HasBounds N.network piece.question.window }
-        ensures { result ≡ undecided piece nodes stopped }
+        ensures { result ≡ untouched piece }
     {
         Finding {
             piece,
             rest: Rest::Whole,
             found: None,
-            nodes,
-            stopped,
+            nodes: 0,
+            stopped: false,
             short: false,
             of: PhantomData,
         }
     }
 
-    /// The same, since memory was refused.
+    /// Nothing found after so many nodes, and the whole window of the piece left, since memory was refused. Takes no memory.
     pub(crate) fn short_of(piece: Piece<N>, nodes: u64) -> Self
         requires { HasBounds N.network piece.question.window }
         ensures { result ≡ short_of piece nodes }

@@ -38,11 +38,7 @@
 //! these left is refuted: then, and at no other time, its node becomes a record. A search that ends early leaves of its
 //! first frames their child windows; or, where at least as many as there are jobs are still to be made, for each active
 //! job the window in which it alone is put off. It leaves as many frames so as make a few windows, and beside these the
-//! window of the next frame, in which all else that is left lies. `pursue` leaves no windows: it searches some nodes
-//! further, and where the search is not at its end then, a `Course` has it open for the next call. A course is made
-//! with a number of first records, and none of these gives way while it is followed. It can search child windows in
-//! another order than by slack, so that several threads search one question, and each passes over what the others have
-//! refuted. `refute` writes down why a question is infeasible, as the lines of a tree (racp_refutation); it makes no
+//! window of the next frame, in which all else that is left lies. `refute` writes down why a question is infeasible, as the lines of a tree (racp_refutation); it makes no
 //! records and tightens nothing, so it takes longer. A search ends in any case: the place of a frame's last alternative
 //! in lexicographic order rises, and each child window has a greater sum of lower bounds than its parent, at most
 //! 10,000,000 for each job where there is a conflict. Rows and lists are used again, so a node takes memory only where
@@ -52,15 +48,12 @@
 //! of a tree that holds, or `None` exactly where some starts answer. A finding of `explore` is true: the found starts
 //! answer, or what answers lies in a window of the rest, each inside the piece's window. Once a node was searched, and
 //! memory was not refused, each of these has a greater sum of lower bounds. Without a quantum, a stop and lack of
-//! memory nothing is left. A finding of `pursue` is true and decides the piece, or leaves the whole of it: where it was
-//! not stopped and memory was not refused, only behind as many nodes as it may search. The type keeps that truth,
-//! whoever holds the finding.
+//! memory nothing is left. The type keeps that truth, whoever holds the finding.
 //! Tested alone: that the stop is asked, that records are looked for and made, and that memory is not refused without
 //! need. In which order windows are searched, and how many, is not promised.
 #![tactic(auto)]
 
 mod child;
-mod course;
 mod depth_first;
 mod ended;
 mod entry_points;
@@ -73,8 +66,7 @@ mod room;
 mod subject;
 mod workspace;
 
-pub use course::Course;
-pub use entry_points::{decide, explore, pursue};
+pub use entry_points::{decide, explore};
 pub use finding::{Finding, Rest};
 pub use piece::{Collector, Piece};
 pub use racp_delay::{Never, Stop};

@@ -30,7 +30,7 @@ pub fn refute(
     requires { IsFormed net.now question.now }
     ensures { IfOk result (IsRefuteAnswer net.now question.now) }
 {
-    let mut workspace = Workspace::new(alloc, net, 0);
+    let mut workspace = Workspace::new(alloc, net);
     let mut steps = Vec::new(alloc);
     let mut windows = Vec::new(alloc);
     windows.push(question.window.copy()?)?;

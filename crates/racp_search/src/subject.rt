@@ -52,13 +52,6 @@ impl<'a, N: OfNetwork> Subject<'a, N> {
         net
     }
 
-    /// The question.
-    pub(crate) fn question(&self) -> &'a Question
-        ensures { result.now ≡ self.now }
-    {
-        self.question
-    }
-
     /// How many units there are of each resource.
     pub(crate) fn capacities(&self) -> &'a Capacities
         ensures { result.now ≡ self.now.capacities }

@@ -20,8 +20,8 @@ pub(crate) struct Workspace {
 }
 
 impl Workspace {
-    /// For searches in this network, in this order. Takes no memory until it is used.
-    pub(crate) fn new(alloc: Global, net: &Network, order: usize) -> Self {
+    /// For searches in this network. Takes no memory until it is used.
+    pub(crate) fn new(alloc: Global, net: &Network) -> Self {
         Workspace {
             next: Alternative::new(alloc),
             all: DelayingAlternatives::new(alloc),
@@ -30,41 +30,7 @@ impl Workspace {
                 alloc,
                 rows: Vec::new(alloc),
                 lists: Vec::new(alloc),
-                order: ChildOrder::of(order),
             },
-        }
-    }
-}
-
-/// The order in which child windows are searched.
-#[derive(Clone, Copy)]
-pub(crate) enum ChildOrder {
-    /// By their slack.
-    BySlack,
-    /// By pseudo-random numbers: the one from which the next is made.
-    Shuffled(u64),
-}
-
-impl ChildOrder {
-    /// The order of this number: by slack for 0, else pseudo-random.
-    pub(crate) fn of(order: usize) -> Self {
-        if order == 0 {
-            return ChildOrder::BySlack;
-        }
-        ChildOrder::Shuffled(order as u64)
-    }
-
-    /// The rank of a child window with this slack: those of greater rank are searched first.
-    pub(crate) fn rank(&mut self, slack: u32) -> u32 {
-        match *self {
-            ChildOrder::BySlack => slack,
-            ChildOrder::Shuffled(state) => {
-                let state = state
-                    .wrapping_mul(6364136223846793005)
-                    .wrapping_add(1442695040888963407);
-                *self = ChildOrder::Shuffled(state);
-                (state >> 33) as u32
-            }
         }
     }
 }
@@ -75,7 +41,6 @@ pub(crate) struct Spare {
     alloc: Global,
     rows: Vec<Vec<u32>>,
     lists: Vec<Vec<Child>>,
-    pub(crate) order: ChildOrder,
 }
 
 impl Spare {

@@ -9,7 +9,7 @@ use crate::desk::trial::How::{NextSeat, Stopped, Whole};
 use crate::desk::trial::{Call, Heard, make};
 use racp_candidates::Singles;
 use racp_core::Outcome;
-use racp_desk::{Closed, Names, State};
+use racp_desk::{Closed, RunNames, State};
 use racp_model::{Network, OfNetwork};
 use racp_samples::crossed;
 use std::alloc::{AllocError, Global};
@@ -86,7 +86,7 @@ fn ends(closed: &Closed, script: &Script) -> bool {
 }
 
 /// Makes the calls. Whether each is answered as it must be.
-fn follows<N: OfNetwork, M: Names>(
+fn follows<N: OfNetwork, M: RunNames>(
     alloc: Global,
     net: &Network,
     state: &mut State<N, M, Singles>,
@@ -108,7 +108,7 @@ fn follows<N: OfNetwork, M: Names>(
 }
 
 /// Whether a desk does as the script says.
-fn plays<N: OfNetwork, M: Names>(
+fn plays<N: OfNetwork, M: RunNames>(
     alloc: Global,
     net: &Network,
     series: Singles,

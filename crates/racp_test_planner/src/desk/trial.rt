@@ -6,7 +6,7 @@ use crate::desk::stops::AtCall;
 use racp_candidates::Singles;
 use racp_core::{Asked, Merged, Reply};
 use racp_cutset::{Board, Local};
-use racp_desk::{Cause, Names, State};
+use racp_desk::{Cause, RunNames, State};
 use racp_model::{Network, OfNetwork, Question};
 use racp_samples::{SampleFault, question};
 use racp_search::{Collector, Finding, Piece, explore};
@@ -62,7 +62,7 @@ pub(crate) struct Held {
 impl Collector for Held {}
 
 /// Makes a call. A piece that was never taken is stale.
-pub(crate) fn make<N: OfNetwork, M: Names>(
+pub(crate) fn make<N: OfNetwork, M: RunNames>(
     alloc: Global,
     net: &Network,
     state: &mut State<N, M, Singles>,
@@ -87,7 +87,7 @@ pub(crate) fn make<N: OfNetwork, M: Names>(
     }
 }
 
-fn ask<N: OfNetwork, M: Names>(state: &mut State<N, M, Singles>, mine: &mut Share<M>) -> Heard
+fn ask<N: OfNetwork, M: RunNames>(state: &mut State<N, M, Singles>, mine: &mut Share<M>) -> Heard
     requires { 0 < mine.old.parts }
     ensures { mine.new.parts ≡ mine.old.parts }
 {
@@ -100,7 +100,7 @@ fn ask<N: OfNetwork, M: Names>(state: &mut State<N, M, Singles>, mine: &mut Shar
     }
 }
 
-fn take<N: OfNetwork, M: Names>(
+fn take<N: OfNetwork, M: RunNames>(
     state: &mut State<N, M, Singles>,
     mine: &mut Share<M>,
     pieces: &mut Vec<Held>,
@@ -177,7 +177,7 @@ fn explored<N: OfNetwork>(alloc: Global, net: &Network, held: &Held, how: How) -
     finding
 }
 
-fn hand<N: OfNetwork, M: Names>(
+fn hand<N: OfNetwork, M: RunNames>(
     alloc: Global,
     net: &Network,
     state: &mut State<N, M, Singles>,
@@ -199,7 +199,7 @@ fn hand<N: OfNetwork, M: Names>(
     }
 }
 
-fn hand_in<N: OfNetwork, M: Names>(
+fn hand_in<N: OfNetwork, M: RunNames>(
     state: &mut State<N, M, Singles>,
     mine: &mut Share<M>,
     finding: Finding<N>,
@@ -217,7 +217,7 @@ fn hand_in<N: OfNetwork, M: Names>(
     }
 }
 
-fn give_back<N: OfNetwork, M: Names>(
+fn give_back<N: OfNetwork, M: RunNames>(
     alloc: Global,
     net: &Network,
     state: &mut State<N, M, Singles>,

@@ -16,7 +16,7 @@ invariant_of-self-in-Question g c =
     let is : next ≡ i.book.entries ++ Asked c.in-Question.index ∷ [] = cc (c.note_asked.ensures, c.make_room.ensures.entries) in
     let step : IsNextAsked i.core new c.in-Question.index = subst (λ (v : AskReply). IsAsked i.core v new) c.in-Question.is c.in_ok-asked.ensures.step in (
       let long = longer i.book.entries next (Asked c.in-Question.index) is in omega (arith, long, c.add.ensures.total, c.self.invariant.0),
-      desk_asked g.M.Names.series i.core new i.book.entries next c.in-Question.index is c.ask.ensures.questions step c.self.invariant.1,
+      desk_asked g.M.RunNames.series i.core new i.book.entries next c.in-Question.index is c.ask.ensures.questions step c.self.invariant.1,
     )
 
 pub invariant_of-self-in-End : goal.invariant_of-self-in-End
@@ -24,7 +24,7 @@ invariant_of-self-in-End g c =
     let i = c.self.inside in
     let step = subst (λ (v : AskReply). IsAsked i.core v c.ask.new.self) c.in-End.is c.in_ok-asked.ensures.step in (
       let e = c.make_room.ensures.entries in cc (e, c.self.invariant.0),
-      desk_ended g.M.Names.series i.core c.ask.new.self i.book.entries c.make_room.new.self.entries c.make_room.ensures.entries step.3 c.self.invariant.1,
+      desk_ended g.M.RunNames.series i.core c.ask.new.self i.book.entries c.make_room.new.self.entries c.make_room.ensures.entries step.3 c.self.invariant.1,
     )
 
 pub add-requires : goal.add-requires
@@ -33,21 +33,21 @@ add-requires g c = c.requires
 pub invariant_of-self : goal.invariant_of-self
 invariant_of-self g c =
     let e = c.make_room.ensures.entries in
-    (ap (λ es. length es) e ∙ c.self.invariant.0, desk_same g.M.Names.series c.self.inside.core c.self.inside.core c.self.inside.book.entries c.make_room.new.self.entries e refl c.self.invariant.1)
+    (ap (λ es. length es) e ∙ c.self.invariant.0, desk_same g.M.RunNames.series c.self.inside.core c.self.inside.core c.self.inside.book.entries c.make_room.new.self.entries e refl c.self.invariant.1)
 
 pub invariant_of-self-in-Enough : goal.invariant_of-self-in-Enough
 invariant_of-self-in-Enough g c =
     let i = c.self.inside in
     let e = c.make_room.ensures.entries in
     let step = subst (λ (v : AskReply). IsAsked i.core v c.ask.new.self) c.in-Enough.is c.in_ok-asked.ensures.step in
-    (ap (λ es. length es) e ∙ c.self.invariant.0, desk_same g.M.Names.series i.core c.ask.new.self i.book.entries c.make_room.new.self.entries e step.2 c.self.invariant.1)
+    (ap (λ es. length es) e ∙ c.self.invariant.0, desk_same g.M.RunNames.series i.core c.ask.new.self i.book.entries c.make_room.new.self.entries e step.2 c.self.invariant.1)
 
 pub invariant_of-self-in-Halted : goal.invariant_of-self-in-Halted
 invariant_of-self-in-Halted g c =
     let i = c.self.inside in
     let e = c.make_room.ensures.entries in
     let step = subst (λ (v : AskReply). IsAsked i.core v c.ask.new.self) c.in-Halted.is c.in_ok-asked.ensures.step in
-    (ap (λ es. length es) e ∙ c.self.invariant.0, desk_same g.M.Names.series i.core c.ask.new.self i.book.entries c.make_room.new.self.entries e step.1 c.self.invariant.1)
+    (ap (λ es. length es) e ∙ c.self.invariant.0, desk_same g.M.RunNames.series i.core c.ask.new.self i.book.entries c.make_room.new.self.entries e step.1 c.self.invariant.1)
 
 pub returns-in_err-make_room-clause-step : goal.returns-in_err-make_room-clause-step
 returns-in_err-make_room-clause-step g c = IfOk-from_err c.from_residual.result _ c.from_residual.ensures.0

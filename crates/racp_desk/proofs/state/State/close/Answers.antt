@@ -18,7 +18,7 @@ returns-clause-closed g c =
     let same : log ≡ i.book.entries = parts.entries in
     record {
       known = subst (λ (qs : List Question). IsOutcomeKnown g.N.OfNetwork.network qs out.0) c.self.invariant.1.series_is answer.known;
-      told = subst (λ (es : List Entry). out.1 ≡ told_of g.M.Names.series (length (tally es).ready) out.0) (sym same) (answer.capacities ∙ told_is (tally i.book.entries) i.core g.M.Names.series out.0 c.self.invariant.1.counts c.self.invariant.1.series_is);
+      told = subst (λ (es : List Entry). out.1 ≡ told_of g.M.RunNames.series (length (tally es).ready) out.0) (sym same) (answer.capacities ∙ told_is (tally i.book.entries) i.core g.M.RunNames.series out.0 c.self.invariant.1.counts c.self.invariant.1.series_is);
       reached = subst (λ (qs : List Question). IsReached g.N.OfNetwork.network qs out.1) c.self.invariant.1.series_is answer.reached;
       legal = subst (λ (es : List Entry). IsLegal g.M.Rules.turns g.M.Rules.quiet es) (sym same) parts.legal;
       shows = subst (λ (es : List Entry). Shows (tally es) out.0) (sym same) (shows_outcome (tally i.book.entries) i.core out.0 c.self.invariant.1.counts answer.answer);

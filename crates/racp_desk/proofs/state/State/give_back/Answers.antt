@@ -25,7 +25,7 @@ invariant_of-self g c =
     let is : next ≡ i.book.entries ++ GivenBack p.seat p.number ∷ [] = cc (c.note_given_back.ensures, c.seat-seat.ensures, c.number-number.ensures) in
     let step : IsReturned i.core p (p.question.window ∷ []) new = subst (λ (v : Merged). IsGivenBack i.core p v new) c.in-Taken.is c.give_back-merged.ensures.step in (
       let long = longer i.book.entries next (GivenBack p.seat p.number) is in omega (arith, long, c.add.ensures.total, c.self.invariant.0),
-      desk_given_back g.M.Names.series i.core new i.book.entries next p is c.give_back-merged.ensures.questions step c.self.invariant.1,
+      desk_given_back g.M.RunNames.series i.core new i.book.entries next p is c.give_back-merged.ensures.questions step c.self.invariant.1,
     )
 
 pub returns-in-Taken-clause-came_in : goal.returns-in-Taken-clause-came_in

@@ -9,5 +9,5 @@ invariant_of-self g c =
     let next = c.note_halted.new.self.entries in
     let is : next ≡ i.book.entries ++ Halted c.args.cause ∷ [] = c.note_halted.ensures in (
       let long = longer i.book.entries next (Halted c.args.cause) is in omega (arith, long, c.add.ensures.total, c.self.invariant.0),
-      desk_halted g.M.Names.series i.core c.halt.new.self i.book.entries next c.args.cause is c.halt.ensures.step c.self.invariant.1,
+      desk_halted g.M.RunNames.series i.core c.halt.new.self i.book.entries next c.args.cause is c.halt.ensures.step c.self.invariant.1,
     )

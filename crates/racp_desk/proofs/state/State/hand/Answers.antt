@@ -36,7 +36,7 @@ invariant_of-self-in-Taken g c =
     cc (c.note_handed.ensures, c.seat-seat.ensures, c.piece.ensures.piece, c.number-number.ensures, c.piece-2.ensures.piece, c.windows_left-rest.ensures, c.rest.ensures.rest, c.is_found-found.ensures, c.nodes-nodes.ensures) in
     let step : IsMerged i.core f f.found new = subst (λ (v : Merged). IsHanded i.core f v new) c.in-Taken.is c.in_ok-merged.ensures.step in (
       let long = longer i.book.entries next (Handed f.piece.seat f.piece.number (windows_left f.rest) (is_some f.found) f.nodes) is in omega (arith, long, c.add.ensures.total, c.self.invariant.0),
-      desk_handed g.M.Names.series i.core new i.book.entries next f is c.hand.ensures.questions step c.self.invariant.1,
+      desk_handed g.M.RunNames.series i.core new i.book.entries next f is c.hand.ensures.questions step c.self.invariant.1,
     )
 
 pub returns-clause-came_in : goal.returns-clause-came_in
@@ -52,12 +52,12 @@ pub add-requires : goal.add-requires
 add-requires g c = c.requires.parts
 
 pub invariant_of-self : goal.invariant_of-self
-invariant_of-self g c = (c.self.invariant.0, desk_same g.M.Names.series c.self.inside.core c.hand.new.self c.self.inside.book.entries c.self.inside.book.entries refl c.in_err-merged.ensures.err.0 c.self.invariant.1)
+invariant_of-self g c = (c.self.invariant.0, desk_same g.M.RunNames.series c.self.inside.core c.hand.new.self c.self.inside.book.entries c.self.inside.book.entries refl c.in_err-merged.ensures.err.0 c.self.invariant.1)
 
 pub invariant_of-self-in-Stale : goal.invariant_of-self-in-Stale
 invariant_of-self-in-Stale g c =
     let step = subst (λ (v : Merged). IsHanded c.self.inside.core c.args.finding v c.hand.new.self) c.in-Stale.is c.in_ok-merged.ensures.step in
-    (c.self.invariant.0, desk_same g.M.Names.series c.self.inside.core c.hand.new.self c.self.inside.book.entries c.self.inside.book.entries refl step.1 c.self.invariant.1)
+    (c.self.invariant.0, desk_same g.M.RunNames.series c.self.inside.core c.hand.new.self c.self.inside.book.entries c.self.inside.book.entries refl step.1 c.self.invariant.1)
 
 pub returns-in_err-merged-clause-step : goal.returns-in_err-merged-clause-step
 returns-in_err-merged-clause-step g c = IfOk-from_err c.from_residual.result _ c.from_residual.ensures.0

@@ -20,7 +20,7 @@ invariant_of-self-in-Piece g c =
     let is : next ≡ i.book.entries ++ Taken c.args.seat piece.number piece.index ∷ [] = cc (c.note_taken.ensures, c.make_room.ensures.entries, c.number.ensures, c.index.ensures) in
     let step = subst (λ (v : Reply SearchPiece). IsTaken i.core c.args.seat v new) c.in-Piece.is c.in_ok-reply.ensures.step in (
       let long = longer i.book.entries next (Taken c.args.seat piece.number piece.index) is in omega (arith, long, c.add.ensures.total, c.self.invariant.0),
-      desk_taken g.M.Names.series i.core new c.args.seat i.book.entries next piece is c.take.ensures.questions step.2 c.self.invariant.1,
+      desk_taken g.M.RunNames.series i.core new c.args.seat i.book.entries next piece is c.take.ensures.questions step.2 c.self.invariant.1,
     )
 
 pub add-requires : goal.add-requires
@@ -29,28 +29,28 @@ add-requires g c = c.requires.parts
 pub invariant_of-self : goal.invariant_of-self
 invariant_of-self g c =
     let e = c.make_room.ensures.entries in
-    (ap (λ es. length es) e ∙ c.self.invariant.0, desk_same g.M.Names.series c.self.inside.core c.self.inside.core c.self.inside.book.entries c.make_room.new.self.entries e refl c.self.invariant.1)
+    (ap (λ es. length es) e ∙ c.self.invariant.0, desk_same g.M.RunNames.series c.self.inside.core c.self.inside.core c.self.inside.book.entries c.make_room.new.self.entries e refl c.self.invariant.1)
 
 pub invariant_of-self-in-Nothing : goal.invariant_of-self-in-Nothing
 invariant_of-self-in-Nothing g c =
     let i = c.self.inside in
     let e = c.make_room.ensures.entries in
     let step = subst (λ (v : Reply SearchPiece). IsTaken i.core c.args.seat v c.take.new.self) c.in-Nothing.is c.in_ok-reply.ensures.step in
-    (ap (λ es. length es) e ∙ c.self.invariant.0, desk_same g.M.Names.series i.core c.take.new.self i.book.entries c.make_room.new.self.entries e step.3 c.self.invariant.1)
+    (ap (λ es. length es) e ∙ c.self.invariant.0, desk_same g.M.RunNames.series i.core c.take.new.self i.book.entries c.make_room.new.self.entries e step.3 c.self.invariant.1)
 
 pub invariant_of-self-in-Done : goal.invariant_of-self-in-Done
 invariant_of-self-in-Done g c =
     let i = c.self.inside in
     let e = c.make_room.ensures.entries in
     let step = subst (λ (v : Reply SearchPiece). IsTaken i.core c.args.seat v c.take.new.self) c.in-Done.is c.in_ok-reply.ensures.step in
-    (ap (λ es. length es) e ∙ c.self.invariant.0, desk_same g.M.Names.series i.core c.take.new.self i.book.entries c.make_room.new.self.entries e step.1 c.self.invariant.1)
+    (ap (λ es. length es) e ∙ c.self.invariant.0, desk_same g.M.RunNames.series i.core c.take.new.self i.book.entries c.make_room.new.self.entries e step.1 c.self.invariant.1)
 
 pub invariant_of-self-in-Halted : goal.invariant_of-self-in-Halted
 invariant_of-self-in-Halted g c =
     let i = c.self.inside in
     let e = c.make_room.ensures.entries in
     let step = subst (λ (v : Reply SearchPiece). IsTaken i.core c.args.seat v c.take.new.self) c.in-Halted.is c.in_ok-reply.ensures.step in
-    (ap (λ es. length es) e ∙ c.self.invariant.0, desk_same g.M.Names.series i.core c.take.new.self i.book.entries c.make_room.new.self.entries e step.2 c.self.invariant.1)
+    (ap (λ es. length es) e ∙ c.self.invariant.0, desk_same g.M.RunNames.series i.core c.take.new.self i.book.entries c.make_room.new.self.entries e step.2 c.self.invariant.1)
 
 pub returns-in_err-make_room-clause-grown : goal.returns-in_err-make_room-clause-grown
 returns-in_err-make_room-clause-grown g c = rw (sym c.self.view_is, c.make_room.ensures.entries) refl

@@ -7,5 +7,5 @@ ghosts-plays-M-Ledger g a = record { name = a.blank.name; parts = a.blank.parts 
 abbrev pub ghosts-plays-M-Rules : goal.ghosts-plays-M-Rules
 ghosts-plays-M-Rules g a = record { turns = 100; quiet = false }
 
-abbrev pub ghosts-plays-M-Names : goal.ghosts-plays-M-Names
-ghosts-plays-M-Names g a = record { series = a.series }
+abbrev pub ghosts-plays-M-RunNames : goal.ghosts-plays-M-RunNames
+ghosts-plays-M-RunNames g a = record { series = a.series }

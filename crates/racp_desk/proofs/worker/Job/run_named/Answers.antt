@@ -1,4 +1,0 @@
-use Rattle.racp_desk.proofs.worker.Job.run_named.Goals as goal
-
-pub returns : goal.returns
-returns g c = c.end.ensures
