@@ -12,7 +12,9 @@ use Rattle.racp_candidates.specs.Box.{AreBounds}
 use Rattle.racp_bounds.specs.Floors.{AreFloors}
 use Rattle.racp_bounds.specs.Sharp.{IsSharp}
 use Rattle.racp_bounds.specs.declared.sharp.Sharp.{Sharp}
+use Rattle.racp_facts.specs.Roots.{IsOpen}
 use Rattle.racp_lexfix.specs.Answers.{IsNotAfterEnough, ceiling_series}
+use Rattle.racp_lexfix.specs.declared.roots.RootBounds.{RootBounds}
 use Rattle.racp_lexfix.specs.declared.answer.PlanStop.{PlanStop}
 use Rattle.racp_lexfix.specs.declared.answer.PlanStop.TheVariants.{Stopped, Memory, NoThread}
 
@@ -49,6 +51,11 @@ pub record AreFloorsOfEnough (p : Project) (terms : Terms) (floors : List ℕ) :
   pub places : length floors ≡ p.resources
   pub below : (enough : List ℕ) → IsEnough p terms enough → (k : ℕ) → k < p.resources →
       slice_index floors k ≤ slice_index enough k
+
+-- root bounds leave nothing out, and floors are those of all that is enough
+pub record AreRootBounds (p : Project) (terms : Terms) (root : RootBounds) : Type 0 where
+  pub is_open : IsOpen (record { network = p; terms = terms; root = root.bounds })
+  pub floors : AreFloorsOfEnough p terms root.floors
 
 -- they cost at least so much
 abbrev pub IsLeastOfEnough : Project → Terms → ℕ → Type 0

@@ -3,17 +3,16 @@
 ghost use Rattle.std.specs.Prelude.{◌≡◌, IfOk, IfSome};
 ghost use Rattle.racp_model.specs.Terms.{AreTermsOf, release_of, due_of};
 ghost use Rattle.racp_model.specs.Window.{IsRootWindow};
-ghost use Rattle.racp_facts.specs.Roots.{AreNeeded};
+ghost use Rattle.racp_facts.specs.Roots.{IsOpen};
 ghost use Rattle.racp_lexfix.specs.Stages.{IsChosen, MayBeTold};
 
-use crate::bounds::{is_below, lowest_units};
-use crate::planning::{Task, is_small};
+use crate::planning::Task;
+use crate::roots::root_bounds;
 use racp_candidates::AnySeries;
-use racp_facts::root_of;
+use racp_facts::Domain;
 use racp_learning::Tally;
 use racp_model::{Capacities, Starts, Window};
 use racp_optimum::{Hearer, Limits, Optimum, optimum_of};
-use racp_prices::most_units;
 use racp_questions::{Asker, Leeway};
 use racp_schedules::Draft;
 use std::alloc::AllocError;
@@ -25,13 +24,14 @@ const ROUNDS: u32 = 10_000;
 /// The seed of the numbers by chance.
 const SEED: u64 = 1;
 
-/// Tells an asker what a search finds.
+/// Tells an asker what a search for an optimum finds, and stops it where the asker wants questions.
 #[derive(Drop)]
-struct Telling<'a, A: Asker<AnySeries>> {
-    asker: &'a A,
+pub struct Relay<'a, A: Asker<AnySeries>> {
+    /// The asker.
+    pub asker: &'a A,
 }
 
-impl<'a, A: Asker<AnySeries>> Hearer for Telling<'a, A> {
+impl<'a, A: Asker<AnySeries>> Hearer for Relay<'a, A> {
     ghost may_hear_cost = { A.may_hear_cost };
 
     ghost may_hear_draft = { λ draft. A.may_hear_plan draft.capacities draft.starts };
@@ -74,48 +74,52 @@ impl Task<'_> {
         if leeway.conflicts == 0 {
             return Ok(None);
         }
-        let floors = lowest_units(self, root)?;
-        let roofs = most_units(self.alloc, self.net, self.order)?;
-        if !is_below(&floors, &roofs) || is_small(&floors, &roofs) {
-            return Ok(None);
+        match root_bounds(self.alloc, self.net, self.order, root)? {
+            Some(found) if !found.is_small => {
+                asker.hear_floors(&found.floors);
+                self.searched(root, &found.bounds, leeway, asker)
+            }
+            _ => Ok(None),
         }
-        asker.hear_floors(&floors);
-        self.searched(root, &floors, leeway, asker)
     }
 
-    /// The same, from these floors on.
+    /// The same, from these root bounds on.
     fn searched<A: Asker<AnySeries>>(
         &self,
         root: &Window,
-        floors: &Capacities,
+        bounds: &Domain,
         leeway: Leeway,
         asker: &A,
     ) -> Result<Option<Option<(Capacities, Starts)>>, AllocError>
         requires terms { AreTermsOf self.now.net.now self.now.order.now }
         requires root { IsRootWindow self.now.net.now (release_of self.now.order.now) (due_of self.now.order.now) root.now }
-        requires floors { AreNeeded self.now.net.now self.now.order.now floors.now }
+        requires bounds { IsOpen (record { network = self.now.net.now; terms = self.now.order.now; root = bounds.now }) }
         requires heard { MayBeTold self.now.net.now self.now.order.now A.may_hear_floors A.may_hear_cost A.may_hear_plan }
         ensures { IfOk result (λ told. IfSome told (IsChosen self.now.net.now self.now.order.now)) }
     {
-        let bounds = root_of(self.alloc, self.net, self.order, root, floors.as_slice())?;
         let task = racp_optimum::Task {
             alloc: self.alloc,
             net: self.net,
             order: self.order,
             window: root,
-            root: &bounds,
+            root: bounds,
         };
-        let limits = Limits {
-            conflicts: leeway.conflicts,
-            bytes: leeway.bytes,
-            rounds: ROUNDS,
-            seed: SEED,
-        };
-        let telling = Telling { asker };
-        match optimum_of::<Brand, Telling<'_, A>>(task, limits, &telling)? {
+        let limits = limits_of(leeway);
+        let relay = Relay { asker };
+        match optimum_of::<Brand, Relay<'_, A>>(task, limits, &relay)? {
             Optimum::Plan(capacities, starts) => Ok(Some(Some((capacities, starts)))),
             Optimum::NoneEnough => Ok(Some(None)),
             Optimum::Open => Ok(None),
         }
+    }
+}
+
+/// How long an asker leaves a search for an optimum.
+pub fn limits_of(leeway: Leeway) -> Limits {
+    Limits {
+        conflicts: leeway.conflicts,
+        bytes: leeway.bytes,
+        rounds: ROUNDS,
+        seed: SEED,
     }
 }

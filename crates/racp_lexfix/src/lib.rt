@@ -38,8 +38,8 @@
 //! the first yes of stage 4 is not told by the asker: it is the peaks of the starts that were found, since these peaks
 //! are enough too, and none that are stand before it. `Crowd` is an asker with workers: for each series it runs a desk
 //! (racp_desk), by a call that it is handed, and counts over all series the turns, of which a desk takes one for each
-//! piece. A question with a bound on its nodes has one turn, and so has each of those that come next, or as many as its
-//! nodes make pieces of 1,000,000. A question by itself is looked at by one worker first, over 16 nodes, before threads are
+//! piece, of at most 1,000 nodes. A question with a bound on its nodes has as many turns as they make such pieces, and so
+//! has each of those that come next. A question by itself is looked at by one worker first, over 16 nodes, before threads are
 //! started for the others. An `Observer` is told how far planning has come.
 //!
 //! `plan_alone(alloc, net_bytes, order_text)` answers the text of examples/b3.plan for the texts of b.sm and b3.toml,
@@ -64,25 +64,32 @@
 
 mod alone;
 mod answer;
+mod answering;
 mod bounds;
+mod by_workers;
 mod crowd;
 mod facts;
 pub mod laws;
 mod lines;
 mod observer;
+mod one_question;
+mod one_thread;
 mod planning;
 mod printed;
 mod proving;
+mod roots;
 mod starts;
 pub mod status;
 
 pub use alone::Alone;
 pub use answer::{Answer, PlanStop};
+pub use by_workers::{Crew, plan_crowd, plan_crowd_by};
 pub use crowd::{Crowd, Effort, OfTurns};
+pub use facts::{Relay, limits_of};
 pub use lines::answer_lines;
 pub use observer::{Observer, Unheard};
+pub use one_thread::{plan_alone, plan_alone_within};
 pub use planning::plan;
-pub use printed::{
-    Crew, Printed, Refusal, plan_alone, plan_alone_within, plan_crowd, plan_crowd_by,
-};
+pub use printed::{Printed, Refusal};
 pub use proving::prove_alone;
+pub use roots::{RootBounds, root_bounds};

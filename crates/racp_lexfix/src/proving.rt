@@ -13,7 +13,7 @@ ghost use Rattle.racp_lexfix.specs.declared.answer.PlanStop.TheVariants.{Memory}
 use crate::alone::Alone;
 use crate::answer::{Answer, PlanStop};
 use crate::planning::Task;
-use crate::printed::{Printed, Refusal, print_answer};
+use crate::printed::{Printed, Refusal, answer_printed};
 use crate::status::{CHECK_FAILED, DONE};
 use racp_bounds::Sharp;
 use racp_check::{Opening, opening_of};
@@ -107,7 +107,7 @@ fn print_proof(task: &Task, answer: &Answer, sharp: &Option<Sharp>) -> Result<Pr
     match answer {
         Answer::Plan(plan) => Ok(print_certificate(task, plan, sharp)?),
         _ => {
-            let printed = print_answer(task.alloc, task.order, answer)?;
+            let printed = answer_printed(task.alloc, task.order, answer)?;
             Ok(printed)
         }
     }

@@ -1,4 +1,4 @@
-use Rattle.racp_lexfix.proofs.printed.print_plan_by.Given as goal
+use Rattle.racp_lexfix.proofs.by_workers.answer_plan_by.Given as goal
 
 abbrev pub ghosts-plan_by-N-OfNetwork : goal.ghosts-plan_by-N-OfNetwork
 ghosts-plan_by-N-OfNetwork g a = record { network = a.task.now.net.now }

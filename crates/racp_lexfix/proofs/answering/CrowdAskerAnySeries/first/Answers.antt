@@ -1,7 +1,7 @@
 use Rattle.std.proofs.Common.{arith}
 use Rattle.racp_candidates.specs.AnySeries.{any_questions}
 use Rattle.racp_lexfix.proofs.Asking.{answer_right, stop_right}
-use Rattle.racp_lexfix.proofs.crowd.CrowdAskerAnySeries.first.Goals as goal
+use Rattle.racp_lexfix.proofs.answering.CrowdAskerAnySeries.first.Goals as goal
 
 pub returns-clause-answer : goal.returns-clause-answer
 returns-clause-answer g c =

@@ -6,7 +6,7 @@ use Rattle.racp_lexfix.specs.Crowds.{HaveTaken}
 use Rattle.racp_lexfix.specs.declared.answer.Answer.{Answer}
 use Rattle.racp_lexfix.specs.declared.answer.PlanStop.{PlanStop}
 use Rattle.racp_lexfix.proofs.Turns.{crowd_stop}
-use Rattle.racp_lexfix.proofs.printed.plan_with.Goals as goal
+use Rattle.racp_lexfix.proofs.by_workers.plan_with.Goals as goal
 
 pub returns-in-Err-clause-stop : goal.returns-in-Err-clause-stop
 returns-in-Err-clause-stop g c =

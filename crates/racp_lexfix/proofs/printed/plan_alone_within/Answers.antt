@@ -1,4 +1,0 @@
-use Rattle.racp_lexfix.proofs.printed.plan_alone_within.Goals as goal
-
-pub returns : goal.returns
-returns c = c.print_order.ensures c.args.net_bytes.now c.in_ok-net.ensures

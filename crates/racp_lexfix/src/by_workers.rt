@@ -1,0 +1,221 @@
+//! From the texts of a network and an order to the text of the answer, by workers.
+
+ghost use Rattle.std.specs.Prelude.{◌≡◌, ◌≤◌, ℕ, List, Ok, IfOk, IfErr};
+ghost use Rattle.racp_model.specs.Formed.{AreFormed};
+ghost use Rattle.racp_model.specs.Terms.{AreTermsOf};
+ghost use Rattle.racp_candidates.specs.AnySeries.{any_questions};
+ghost use Rattle.racp_sm.specs.Reading.{IsReading};
+ghost use Rattle.racp_desk.specs.Closing.{IsRunClosed};
+ghost use Rattle.racp_lexfix.specs.Answers.{IsAnswer};
+ghost use Rattle.racp_lexfix.specs.Crowds.{RunsDesks};
+ghost use Rattle.racp_lexfix.specs.Printing.{IsAnswerPrinted, IsCrowdPrinting, IsCrowdStop};
+
+use crate::answer::{Answer, PlanStop};
+use crate::crowd::{Crowd, Effort, OfTurns};
+use crate::observer::{Observer, Pricing, Unheard};
+use crate::planning::{Task, plan};
+use crate::printed::{Printed, Refusal, answer_printed};
+use racp_candidates::AnySeries;
+use racp_cutset::{DEFAULT_MEMORY, MemoryLimit};
+use racp_desk::{Closed, DeskFault, Gate, Records, RunLimits};
+use racp_model::{Network, OfNetwork};
+use racp_prices::read_order;
+use racp_questions::Leeway;
+use racp_search::Stop;
+use racp_sm::read_sm;
+use std::alloc::Global;
+use std::marker::Brand;
+use std::sync::Wait;
+use std::thread::Threads;
+
+/// So many turns are no bound.
+const MOST_TURNS: u64 = 1000000000000;
+
+/// The answer to the texts of a network and an order, made by 1 to 64 workers on threads of their own with so many
+/// turns, at most 1,000,000,000,000: the same text as that of `plan_alone`, and how much work was done. A turn is a
+/// piece that a worker takes. It enters the gate before it searches the piece, and leaves it where the stop is asked
+/// for.
+///
+/// # Errors
+///
+/// A text is refused, the network's first; no turn is left, or the stop was asked for; memory was refused; or a worker
+/// could not be started.
+pub fn plan_crowd<G: Gate + Sync, P: Stop + Sync, R: Threads + Wait + Sync>(
+    rt: &R,
+    alloc: Global,
+    net_bytes: &[u8],
+    order_text: &[u8],
+    workers: usize,
+    turns: u64,
+    gate: &G,
+    stop: &P,
+) -> Result<(Printed, Effort), Refusal>
+    requires some_workers { 1 ≤ workers }
+    requires workers { workers ≤ 64 }
+    requires turns { turns ≤ 1000000000000 }
+    ensures { IsCrowdPrinting turns P.QUIET net_bytes.now order_text.now result }
+{
+    let memory = DEFAULT_MEMORY;
+    let crew = Crew {
+        workers,
+        turns,
+        memory,
+        gate,
+        stop,
+        observer: &Unheard,
+    };
+    plan_crowd_by(rt, alloc, net_bytes, order_text, crew)
+}
+
+/// How a plan is made by workers.
+#[derive(Drop)]
+pub struct Crew<'a, G: Gate, P: Stop, O: Observer> {
+    /// How many workers there are, 1 to 64.
+    pub workers: usize,
+    /// How many pieces they take at most, up to 1,000,000,000,000.
+    pub turns: u64,
+    /// How many mebibytes the clauses of the search that learns, and after it all records of refuted nodes, take at most,
+    /// about, up to 1,048,576. Where there is no room for a further one, some give way, and the answer stays the same.
+    pub memory: usize,
+    /// The gate that a worker enters before it searches a piece.
+    pub gate: &'a G,
+    /// Whether planning is to stop: asked before each node, and every few conflicts of the search that learns.
+    pub stop: &'a P,
+    /// Who is told how far planning has come.
+    pub observer: &'a O,
+    pub ghost workers_some: { 1 ≤ workers },
+    pub ghost workers_few: { workers ≤ 64 },
+    pub ghost turns_few: { turns ≤ 1000000000000 },
+    pub ghost memory_few: { memory ≤ 1048576 },
+}
+
+impl<'a, G: Gate, P: Stop, O: Observer> Crew<'a, G, P, O> {
+    /// How much planning may search by itself: as much as it likes, if there are so many turns that they are no bound, and
+    /// else nothing, so that all work is counted by turns.
+    pub fn leeway(&self) -> Leeway {
+        if self.turns < MOST_TURNS {
+            return Leeway::none();
+        }
+        Leeway {
+            conflicts: u64::MAX,
+            bytes: (self.memory as u64).saturating_mul(1 << 20),
+        }
+    }
+}
+
+/// The answer to the texts of a network and an order, made by such workers: what `plan_crowd` answers, whose records take
+/// at most 1,024 mebibytes.
+///
+/// # Errors
+///
+/// As with `plan_crowd`.
+pub fn plan_crowd_by<G: Gate + Sync, P: Stop + Sync, O: Observer, R: Threads + Wait + Sync>(
+    rt: &R,
+    alloc: Global,
+    net_bytes: &[u8],
+    order_text: &[u8],
+    crew: Crew<'_, G, P, O>,
+) -> Result<(Printed, Effort), Refusal>
+    ensures { IsCrowdPrinting crew.entry.turns P.QUIET net_bytes.now order_text.now result }
+{
+    let net = read_sm(alloc, net_bytes)?;
+    answer_order_by(rt, alloc, &net, order_text, &crew)
+}
+
+/// The answer to the text of an order for a network, made by workers, and how much work they did.
+fn answer_order_by<G: Gate + Sync, P: Stop + Sync, O: Observer, R: Threads + Wait + Sync>(
+    rt: &R,
+    alloc: Global,
+    net: &Network,
+    order_text: &[u8],
+    crew: &Crew<'_, G, P, O>,
+) -> Result<(Printed, Effort), Refusal>
+    ensures { (text : List ℕ) → IsReading text (Ok net.now) →
+        IsCrowdPrinting crew.now.turns P.QUIET text order_text.now result }
+{
+    let order = read_order(alloc, order_text, net.resource_count(), net.job_count())?;
+    let task = Task {
+        alloc,
+        net,
+        order: &order,
+    };
+    let printed = answer_plan_by(rt, &task, crew);
+    // Dropped here once, not at each way out.
+    drop(order);
+    Ok(printed?)
+}
+
+/// The text of the plan of an order, or of why there is none, made by workers, and how much work they did.
+fn answer_plan_by<G: Gate + Sync, P: Stop + Sync, O: Observer, R: Threads + Wait + Sync>(
+    rt: &R,
+    task: &Task,
+    crew: &Crew<'_, G, P, O>,
+) -> Result<(Printed, Effort), PlanStop>
+    requires terms { AreTermsOf task.now.net.now task.now.order.now }
+    ensures answer { IfOk result (λ done. IsAnswerPrinted task.now.net.now task.now.order.now done.0.text.items
+        done.0.status) }
+    ensures stop { IfErr result (IsCrowdStop crew.now.turns P.QUIET task.now.net.now task.now.order.now) }
+{
+    let (answer, effort) = plan_by::<Brand, Brand, G, P, O, R>(rt, task, crew)?;
+    let printed = answer_printed(task.alloc, task.order, &answer);
+    // Dropped here once, not at each way out.
+    drop(answer);
+    Ok((printed?, effort))
+}
+
+/// The plan of an order, or why there is none, made by workers, and how much work they did: by runs of a desk over one
+/// board of records. The network is the one that `N` names, and the turns are those that `M` names.
+fn plan_by<
+    N: OfNetwork + Send + Sync,
+    M: OfTurns,
+    G: Gate + Sync,
+    P: Stop + Sync,
+    O: Observer,
+    R: Threads + Wait + Sync,
+>(rt: &R, task: &Task, crew: &Crew<'_, G, P, O>) -> Result<(Answer, Effort), PlanStop>
+    requires named { task.now.net.now ≡ N.network }
+    requires turns { crew.now.turns ≡ M.turns }
+    requires terms { AreTermsOf task.now.net.now task.now.order.now }
+    ensures answer { IfOk result (λ done. IsAnswer task.now.net.now task.now.order.now done.0) }
+    ensures stop { IfErr result (IsCrowdStop M.turns P.QUIET task.now.net.now task.now.order.now) }
+{
+    let (alloc, net, order) = (task.alloc, task.net, task.order);
+    crew.observer.hear_deadline(order.deadline);
+    let limit = MemoryLimit {
+        mebibytes: crew.memory,
+        workers: crew.workers,
+    };
+    let records: Records<N> = Records::within(alloc, net, limit)?;
+    let pricing = Pricing::new(net, order, crew.observer);
+    let crowd: Crowd<'_, N, M, P, Pricing<'_, O>, _> = Crowd::new(
+        crew.workers,
+        crew.turns,
+        pricing,
+        |series: AnySeries, limits: RunLimits| -> Result<Closed, DeskFault>
+            requires { (net.now ≡ N.network) × AreFormed net.now (any_questions series) }
+            ensures { IfOk result (IsRunClosed net.entry.now (any_questions series) limits.turns P.QUIET) }
+        { records.run(rt, alloc, net, series, limits, crew.gate, crew.stop) },
+    );
+    let mut crowd = crowd.with_search(crew.leeway(), crew.stop);
+    plan_with(task, &mut crowd)
+}
+
+/// The plan of an order, or why there is none, by an asker with workers, and how much work these did.
+fn plan_with<
+    N: OfNetwork,
+    M: OfTurns,
+    P: Stop,
+    O: Observer + Drop,
+    F: Fn(AnySeries, RunLimits) -> Result<Closed, DeskFault> + Drop,
+>(task: &Task, crowd: &mut Crowd<'_, N, M, P, O, F>) -> Result<(Answer, Effort), PlanStop>
+    requires named { task.now.net.now ≡ N.network }
+    requires terms { AreTermsOf task.now.net.now task.now.order.now }
+    requires run { RunsDesks N.network P.QUIET (F.pre crowd.old.run) (F.post crowd.old.run) }
+    ensures answer { IfOk result (λ done. IsAnswer task.now.net.now task.now.order.now done.0) }
+    ensures stop { IfErr result (IsCrowdStop M.turns P.QUIET task.now.net.now task.now.order.now) }
+{
+    match plan(task.alloc, task.net, task.order, crowd) {
+        Ok(answer) => Ok((answer, crowd.effort())),
+        Err(stop) => Err(stop),
+    }
+}
