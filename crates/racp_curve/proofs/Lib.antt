@@ -1,4 +1,5 @@
 mod Deadlines
+mod Ceilings
 mod Reasons
 mod Asking
 mod Growing

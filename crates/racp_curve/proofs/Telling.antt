@@ -27,11 +27,11 @@ pub stopped_by : (p : Project) (terms : Terms) (deadline answered : ℕ) (told :
 stopped_by p terms deadline answered told capacities h by l other is before = h.none.none other (enough_later p terms by deadline other (omega (arith, l)) is) before
 
 -- where planning for the order's own deadline stops, there are no steps
-pub stopped_first : (p : Project) (terms : Terms) (may_stop may_want_thread : Type 0) (answered : ℕ) (told : Option (List ℕ)) (steps : List Step) (stop : PlanStop) → steps ≡ [] → IsPlanStop (IsStoppedAt p terms answered told) may_stop may_want_thread stop →
+pub stopped_first : (p : Project) (terms : Terms) (may_stop may_want_thread : Type 0) (steps : List Step) (stop : PlanStop) → steps ≡ [] → IsPlanStop (AreNotAfterEnough p terms (terms.deadline + 1)) may_stop may_want_thread stop →
     IsCurveStop p terms may_stop may_want_thread steps stop
-stopped_first p terms may_stop may_want_thread answered told steps stop none h = subst (λ (s : List Step). IsCurveStop p terms may_stop may_want_thread s stop) (sym none) (record {
+stopped_first p terms may_stop may_want_thread steps stop none h = subst (λ (s : List Step). IsCurveStop p terms may_stop may_want_thread s stop) (sym none) (record {
   are_steps = tt;
-  reason = told_too (IsStoppedAt p terms answered told) (AreNotAfterEnough p terms (terms.deadline + 1)) may_stop may_want_thread stop (λ capacities is. stopped_by p terms terms.deadline answered told capacities is) h;
+  reason = h;
 })
 
 -- an asker that neither stops nor wants a thread

@@ -9,6 +9,8 @@ use Rattle.racp_plan.specs.Plans.{IsPlanOf}
 use Rattle.racp_lexfix.specs.declared.answer.Answer.{Answer}
 use Rattle.racp_lexfix.specs.declared.answer.Answer.TheVariants.{Plan as ThePlan, Impossible, Due, Ceiling}
 use Rattle.racp_curve.specs.Curves.{order_by, first_deadline, AreOthersThanFirst, AreSteps, IsCurve, MayHearCost, MayHearFloors, MayHearPlans}
+use Rattle.racp_facts.specs.Solutions.{Problem}
+use Rattle.racp_curve.specs.declared.ground.Ground.{Ground}
 use Rattle.racp_curve.specs.declared.step.Step.{Step}
 
 -- an asker may be told floors, and a least cost, of what is enough for each deadline up to the order's, and plans for it
@@ -66,3 +68,24 @@ pub record IsBegun (p : Project) (terms : Terms) (begin : ℕ) (steps : List Ste
 abbrev pub IsFollowed : Project → Terms → (deadline : ℕ) → List Step → Option Plan → Type 0
 IsFollowed p terms deadline steps (Some plan) = IsNext p terms plan steps × (plan.deadline < deadline)
 IsFollowed p terms deadline steps None = IsCurve p terms steps
+
+-- terms with the same prices and owned units: those of a problem of which clauses may be taken over
+pub record IsVariantOf (whole other : Terms) : Type 0 where
+  pub prices : other.prices ≡ whole.prices
+  pub owned : other.owned ≡ whole.owned
+
+-- what a curve is of is a problem's network and terms
+pub record IsGroundOf (q : Problem) (ground : Ground) : Type 0 where
+  pub network : ground.net.now ≡ q.network
+  pub terms : ground.order.now ≡ q.terms
+
+-- an order with other ceilings
+abbrev pub order_within : List ℕ → Terms → Terms
+order_within capacities terms = record {
+  deadline = terms.deadline;
+  prices = terms.prices;
+  owned = terms.owned;
+  ceilings = Some capacities;
+  release = terms.release;
+  due = terms.due;
+}

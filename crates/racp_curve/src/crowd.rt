@@ -13,7 +13,7 @@ use crate::ground::Ground;
 use crate::step::{CurveAnswer, CurveStop};
 use racp_candidates::AnySeries;
 use racp_cutset::MemoryLimit;
-use racp_desk::{Boards, Closed, DeskFault, Gate, RunLimits};
+use racp_desk::{Closed, DeskFault, Gate, Records, RunLimits};
 use racp_lexfix::{Crew, Crowd, OfTurns, Unheard};
 use racp_model::{Network, OfNetwork};
 use racp_prices::Order;
@@ -73,8 +73,8 @@ fn curve_by<
         mebibytes: memory,
         workers,
     };
-    let boards: Boards<N> = match Boards::within(alloc, net, limit) {
-        Ok(boards) => boards,
+    let records: Records<N> = match Records::within(alloc, net, limit) {
+        Ok(records) => records,
         Err(_) => return Err(out_of_memory(alloc)),
     };
     let crowd: Crowd<'_, N, M, P, Unheard, _> = Crowd::new(
@@ -84,7 +84,7 @@ fn curve_by<
         |series: AnySeries, limits: RunLimits| -> Result<Closed, DeskFault>
             requires { (net.now ≡ N.network) × AreFormed net.now (any_questions series) }
             ensures { IfOk result (IsRunClosed net.entry.now (any_questions series) limits.turns P.QUIET) }
-        { boards.run(rt, alloc, net, series, limits, gate, stop) },
+        { records.run(rt, alloc, net, series, limits, gate, stop) },
     );
     let mut crowd = crowd.with_search(leeway, stop);
     curve(alloc, net, order, &mut crowd)

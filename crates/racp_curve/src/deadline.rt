@@ -3,13 +3,15 @@
 ghost use Rattle.std.specs.Prelude.{◌≡◌, ◌+◌, ◌≤◌, option_map, IfOk, IfErr};
 ghost use Rattle.racp_lexfix.specs.Answers.{IsPlanStop};
 ghost use Rattle.racp_curve.specs.Curves.{order_by, AreNotAfterEnough};
-ghost use Rattle.racp_curve.specs.Following.{plan_in, IsPlanOrNone, IsRootOrNone, MayHear};
+ghost use Rattle.racp_curve.specs.Following.{order_within, plan_in, IsGroundOf, IsPlanOrNone, IsRootOrNone, MayHear};
 
+use crate::facts::Facts;
 use crate::ground::Ground;
 use racp_candidates::AnySeries;
 use racp_check::{Opening, opening_of};
+use racp_facts::OfProblem;
 use racp_lexfix::{Answer, PlanStop, plan};
-use racp_model::Window;
+use racp_model::{Capacities, Window};
 use racp_plan::Plan;
 use racp_prices::Order;
 use racp_questions::Asker;
@@ -34,6 +36,20 @@ fn with_deadline(alloc: Global, order: &Order, deadline: u32) -> Result<Order, A
     })
 }
 
+/// The order with another deadline, in time units, and these capacities as its ceilings; nothing else changes.
+pub(crate) fn with_ceilings(
+    alloc: Global,
+    order: &Order,
+    deadline: u32,
+    capacities: &Capacities,
+) -> Result<Order, AllocError>
+    ensures { IfOk result (λ other. other ≡ order_within capacities.now (order_by deadline order.now)) }
+{
+    let mut other = with_deadline(alloc, order, deadline)?;
+    other.ceilings = Some(capacities.as_slice().to_vec(alloc)?);
+    Ok(other)
+}
+
 /// A copy of the numbers, if there are any.
 fn copied(alloc: Global, numbers: &Option<Vec<u32>>) -> Result<Option<Vec<u32>>, AllocError>
     ensures { IfOk result (λ copy. option_map (λ c. c.items) copy ≡ option_map (λ c. c.items) numbers.now) }
@@ -44,14 +60,16 @@ fn copied(alloc: Global, numbers: &Option<Vec<u32>>) -> Result<Option<Vec<u32>>,
     }
 }
 
-/// The plan for another deadline, which is at most the order's; or none if there is no plan for it. Questions go to the
-/// asker, which is about this network.
-pub(crate) fn plan_by<A: Asker<AnySeries>>(
+/// The plan for another deadline, which is at most the order's; or none if there is no plan for it. Where facts do not tell,
+/// questions go to the asker, which is about this network.
+pub(crate) fn plan_by<N: OfProblem, A: Asker<AnySeries>>(
     ground: &Ground,
     deadline: u32,
+    facts: &mut Option<Facts<'_, N>>,
     asker: &mut A,
 ) -> Result<Option<Plan>, PlanStop>
     requires named { A.about asker.old ground.now.net.now }
+    requires of { IsGroundOf N.problem ground.now }
     requires deadline { deadline ≤ ground.now.order.now.deadline }
     requires hears { MayHear ground.now.net.now ground.now.order.now A.may_hear_floors A.may_hear_cost A.may_hear_plan }
     ensures network { A.about asker.new ground.now.net.now }
@@ -61,6 +79,11 @@ pub(crate) fn plan_by<A: Asker<AnySeries>>(
 {
     prove!(1 <= ground.net.job_count());
     let other = with_deadline(ground.alloc, ground.order, deadline)?;
+    if let Some(facts) = facts {
+        if let Some(plan) = facts.known_plan(ground, &other, asker)? {
+            return Ok(plan);
+        }
+    }
     let answer = plan(ground.alloc, ground.net, &other, asker)?;
     Ok(plan_in(answer))
 }

@@ -1,6 +1,6 @@
 //! For which deadlines capacities are enough.
 
-ghost use Rattle.std.specs.Prelude.{◌≡◌, ◌≤◌, None, length, OnOk, IfOk, IfErr};
+ghost use Rattle.std.specs.Prelude.{◌≡◌, ◌≤◌, None, length, OnOk, IfOk, IfErr, IfSome};
 ghost use Rattle.racp_model.specs.Schedule.{EndsBy};
 ghost use Rattle.racp_model.specs.Terms.{IsWithinCeilings};
 ghost use Rattle.racp_model.specs.Plan.{IsEnough};
@@ -9,26 +9,32 @@ ghost use Rattle.racp_questions.specs.FirstYes.{IsProbed};
 ghost use Rattle.racp_candidates.specs.Questions.{question_of};
 ghost use Rattle.racp_lexfix.specs.Answers.{IsPlanStop};
 ghost use Rattle.racp_curve.specs.Curves.{order_by};
-ghost use Rattle.racp_curve.specs.Following.{IsShortest, IsSooner};
+ghost use Rattle.racp_curve.specs.Following.{IsGroundOf, IsShortest, IsSooner};
 
-use crate::deadline::root_by;
+use crate::deadline::{root_by, with_ceilings};
+use crate::facts::Facts;
 use crate::ground::Ground;
 use racp_candidates::AnySeries;
 use racp_cpm::last_end;
+use racp_facts::OfProblem;
 use racp_lexfix::PlanStop;
 use racp_model::{Capacities, Network, Question, Starts, Window};
+use racp_optimum::Feasible;
 use racp_questions::{Asker, Probe};
+use std::alloc::AllocError;
 
 /// Lowers a time by which some starts that fit these capacities end, on the terms of the order, to the least such time:
 /// they are enough for that deadline, and for none before it. If it ends early, they are enough for the deadline that
 /// it came to.
-pub(crate) fn shorten<A: Asker<AnySeries>>(
+pub(crate) fn shorten<N: OfProblem, A: Asker<AnySeries>>(
     ground: &Ground,
     capacities: &Capacities,
     end: &mut u32,
+    facts: &mut Option<Facts<'_, N>>,
     asker: &mut A,
 ) -> Result<(), PlanStop>
     requires named { A.about asker.old ground.now.net.now }
+    requires of { IsGroundOf N.problem ground.now }
     requires end { end.old ≤ ground.now.order.now.deadline }
     requires enough { IsEnough ground.now.net.now (order_by end.old ground.now.order.now) capacities.now }
     ensures network { A.about asker.new ground.now.net.now }
@@ -39,7 +45,7 @@ pub(crate) fn shorten<A: Asker<AnySeries>>(
         (A.may_stop asker.new) (A.may_want_thread asker.new)) }
 {
     'ends: while let Some(deadline) = end.checked_sub(1) {
-        match sooner(ground, capacities, deadline, asker)? {
+        match sooner(ground, capacities, deadline, facts, asker)? {
             Some(earlier) => *end = earlier,
             None => return Ok(()),
         }
@@ -48,13 +54,15 @@ pub(crate) fn shorten<A: Asker<AnySeries>>(
 }
 
 /// A deadline, at most this one, for which the capacities are enough; or none if they are not enough for this one.
-fn sooner<A: Asker<AnySeries>>(
+fn sooner<N: OfProblem, A: Asker<AnySeries>>(
     ground: &Ground,
     capacities: &Capacities,
     deadline: u32,
+    facts: &mut Option<Facts<'_, N>>,
     asker: &mut A,
 ) -> Result<Option<u32>, PlanStop>
     requires named { A.about asker.old ground.now.net.now }
+    requires of { IsGroundOf N.problem ground.now }
     requires deadline { deadline ≤ ground.now.order.now.deadline }
     requires places { length capacities.now ≡ ground.now.net.now.resources }
     requires ceilings { IsWithinCeilings ground.now.order.now capacities.now }
@@ -63,6 +71,11 @@ fn sooner<A: Asker<AnySeries>>(
     ensures stop { IfErr result (IsPlanStop (λ told. told ≡ capacities.now)
         (A.may_stop asker.new) (A.may_want_thread asker.new)) }
 {
+    if let Some(facts) = facts {
+        if let Some(known) = known_sooner(ground, capacities, deadline, facts, asker)? {
+            return Ok(known);
+        }
+    }
     let Some(window) = root_by(ground, deadline)? else {
         return Ok(None);
     };
@@ -70,6 +83,31 @@ fn sooner<A: Asker<AnySeries>>(
         Probe::Yes(starts) => Ok(Some(end_of(ground.net, &starts, deadline))),
         Probe::No => Ok(None),
         Probe::Open => unreachable!(),
+    }
+}
+
+/// The same, by facts; `None` where they do not tell.
+fn known_sooner<N: OfProblem, A: Asker<AnySeries>>(
+    ground: &Ground,
+    capacities: &Capacities,
+    deadline: u32,
+    facts: &mut Facts<'_, N>,
+    asker: &A,
+) -> Result<Option<Option<u32>>, AllocError>
+    requires of { IsGroundOf N.problem ground.now }
+    requires deadline { deadline ≤ ground.now.order.now.deadline }
+    requires places { length capacities.now ≡ ground.now.net.now.resources }
+    requires ceilings { IsWithinCeilings ground.now.order.now capacities.now }
+    ensures { IfOk result (λ told. IfSome told (IsSooner ground.now.net.now ground.now.order.now capacities.now deadline)) }
+{
+    let other = with_ceilings(ground.alloc, ground.order, deadline, capacities)?;
+    if !other.is_for(ground.net) {
+        return Ok(None);
+    }
+    match facts.feasible(ground, &other, asker)? {
+        Feasible::Fits(draft) => Ok(Some(Some(end_of(ground.net, &draft.starts, deadline)))),
+        Feasible::NoneFits => Ok(Some(None)),
+        Feasible::Unknown => Ok(None),
     }
 }
 

@@ -1,21 +1,28 @@
 //! The curve, followed from the order's deadline back.
 
-ghost use Rattle.std.specs.Prelude.{◌≡◌, ◌≤◌, [], ◌∷◌, OnOk, OnErr, IfOk, IfErr, MatchResult};
-ghost use Rattle.racp_model.specs.Terms.{AreTermsOf};
+ghost use Rattle.std.specs.Prelude.{◌≡◌, ◌+◌, ◌≤◌, [], ◌∷◌, OnOk, OnErr, IfOk, IfErr, MatchResult};
+ghost use Rattle.racp_model.specs.Terms.{AreTermsOf, release_of, due_of};
+ghost use Rattle.racp_model.specs.Window.{IsRootWindow};
+ghost use Rattle.racp_optimum.specs.Optima.{IsTaskOf};
 ghost use Rattle.racp_plan.specs.Plans.{IsPlanOf};
+ghost use Rattle.racp_lexfix.specs.Answers.{IsAnswer, IsPlanStop};
 ghost use Rattle.racp_lexfix.specs.Laws.{IsNoPlan};
 ghost use Rattle.racp_lexfix.specs.declared.answer.Answer.TheVariants.{Plan as ThePlan};
 ghost use Rattle.racp_lexfix.specs.declared.answer.PlanStop.TheVariants.{Memory};
-ghost use Rattle.racp_curve.specs.Curves.{AreSteps, IsCurve, IsCurveAnswer, IsCurveStop, MayHearCost, MayHearFloors, MayHearPlans};
-ghost use Rattle.racp_curve.specs.Following.{step_of, IsBegun, IsFollowed, IsNext, MayHear};
+ghost use Rattle.racp_curve.specs.Curves.{AreNotAfterEnough, AreSteps, IsCurve, IsCurveAnswer, IsCurveStop, MayHearCost, MayHearFloors, MayHearPlans};
+ghost use Rattle.racp_curve.specs.Following.{step_of, IsBegun, IsFollowed, IsGroundOf, IsNext, MayHear};
 
 use crate::deadline::plan_by;
 use crate::ending::{end_of, shorten};
+use crate::facts::Facts;
 use crate::ground::Ground;
 use crate::step::{CurveAnswer, CurveStop, Step};
 use racp_candidates::AnySeries;
-use racp_lexfix::{Alone, Answer, PlanStop, plan};
-use racp_model::{Network, OfNetwork};
+use racp_check::{Opening, opening_of};
+use racp_facts::OfProblem;
+use racp_lexfix::{Alone, Answer, PlanStop, limits_of, plan, root_bounds};
+use racp_model::{Network, OfNetwork, Window};
+use racp_optimum::{Optimizer, Task};
 use racp_plan::Plan;
 use racp_prices::Order;
 use racp_questions::Asker;
@@ -46,18 +53,136 @@ pub fn curve<A: Asker<AnySeries>>(
     ensures stop { IfErr result (λ end. IsCurveStop net.now order.now (A.may_stop asker.new)
         (A.may_want_thread asker.new) end.steps.items end.stop) }
 {
-    let answer = match plan(alloc, net, order, asker) {
-        Ok(answer) => answer,
-        Err(stop) => {
-            let steps = Vec::new(alloc);
-            return Err(CurveStop { steps, stop });
-        }
-    };
     let ground = Ground { alloc, net, order };
-    match plan_or_reason(answer) {
-        Ok(plan) => curve_from(&ground, plan, asker),
-        Err(reason) => Ok(CurveAnswer::NoPlan(reason)),
+    match opening_of(alloc, net, order) {
+        Ok(
+            Opening::Root {
+                critical: _,
+                window,
+            },
+        ) => curve_within(&ground, &window, asker),
+        Ok(_) => curve_anew::<Brand, A>(&ground, asker),
+        Err(_) => Err(out_of_memory(alloc)),
     }
+}
+
+/// The curve of an order that has this root window. Where there are many vectors and the asker leaves room for a search, what is
+/// learned of one deadline serves the others.
+fn curve_within<A: Asker<AnySeries>>(
+    ground: &Ground,
+    window: &Window,
+    asker: &mut A,
+) -> Result<CurveAnswer, CurveStop>
+    requires named { A.about asker.old ground.now.net.now }
+    requires window { IsRootWindow ground.now.net.now (release_of ground.now.order.now) (due_of ground.now.order.now) window.now }
+    requires hears { MayHear ground.now.net.now ground.now.order.now A.may_hear_floors A.may_hear_cost A.may_hear_plan }
+    ensures network { A.about asker.new ground.now.net.now }
+    ensures curve { IfOk result (IsCurveAnswer ground.now.net.now ground.now.order.now) }
+    ensures stop { IfErr result (λ end. IsCurveStop ground.now.net.now ground.now.order.now (A.may_stop asker.new)
+        (A.may_want_thread asker.new) end.steps.items end.stop) }
+{
+    let Ground { alloc, net, order } = *ground;
+    match root_bounds(alloc, net, order, window) {
+        Ok(Some(root)) if !root.is_small && asker.leeway().conflicts > 0 => {
+            let whole = Task {
+                alloc,
+                net,
+                order,
+                window,
+                root: &root.bounds,
+            };
+            curve_learned::<Brand, A>(ground, whole, asker)
+        }
+        Ok(_) => curve_anew::<Brand, A>(ground, asker),
+        Err(_) => Err(out_of_memory(alloc)),
+    }
+}
+
+/// The curve of an order with these root bounds, by what is learned.
+fn curve_learned<N: OfProblem, A: Asker<AnySeries>>(
+    ground: &Ground,
+    whole: Task<'_>,
+    asker: &mut A,
+) -> Result<CurveAnswer, CurveStop>
+    requires named { A.about asker.old ground.now.net.now }
+    requires of { IsGroundOf N.problem ground.now }
+    requires whole { IsTaskOf N.problem whole }
+    requires hears { MayHear ground.now.net.now ground.now.order.now A.may_hear_floors A.may_hear_cost A.may_hear_plan }
+    ensures network { A.about asker.new ground.now.net.now }
+    ensures curve { IfOk result (IsCurveAnswer ground.now.net.now ground.now.order.now) }
+    ensures stop { IfErr result (λ end. IsCurveStop ground.now.net.now ground.now.order.now (A.may_stop asker.new)
+        (A.may_want_thread asker.new) end.steps.items end.stop) }
+{
+    match Optimizer::<N>::new(whole, limits_of(asker.leeway())) {
+        Ok(optimizer) => curve_with(ground, &mut Some(Facts { whole, optimizer }), asker),
+        Err(_) => Err(out_of_memory(ground.alloc)),
+    }
+}
+
+/// The curve of an order, each deadline by itself.
+fn curve_anew<N: OfProblem, A: Asker<AnySeries>>(
+    ground: &Ground,
+    asker: &mut A,
+) -> Result<CurveAnswer, CurveStop>
+    requires named { A.about asker.old ground.now.net.now }
+    requires of { IsGroundOf N.problem ground.now }
+    requires hears { MayHear ground.now.net.now ground.now.order.now A.may_hear_floors A.may_hear_cost A.may_hear_plan }
+    ensures network { A.about asker.new ground.now.net.now }
+    ensures curve { IfOk result (IsCurveAnswer ground.now.net.now ground.now.order.now) }
+    ensures stop { IfErr result (λ end. IsCurveStop ground.now.net.now ground.now.order.now (A.may_stop asker.new)
+        (A.may_want_thread asker.new) end.steps.items end.stop) }
+{
+    let mut facts: Option<Facts<'_, N>> = None;
+    curve_with(ground, &mut facts, asker)
+}
+
+/// The curve of an order, with what is learned of it, if anything is.
+fn curve_with<N: OfProblem, A: Asker<AnySeries>>(
+    ground: &Ground,
+    facts: &mut Option<Facts<'_, N>>,
+    asker: &mut A,
+) -> Result<CurveAnswer, CurveStop>
+    requires named { A.about asker.old ground.now.net.now }
+    requires of { IsGroundOf N.problem ground.now }
+    requires hears { MayHear ground.now.net.now ground.now.order.now A.may_hear_floors A.may_hear_cost A.may_hear_plan }
+    ensures network { A.about asker.new ground.now.net.now }
+    ensures curve { IfOk result (IsCurveAnswer ground.now.net.now ground.now.order.now) }
+    ensures stop { IfErr result (λ end. IsCurveStop ground.now.net.now ground.now.order.now (A.may_stop asker.new)
+        (A.may_want_thread asker.new) end.steps.items end.stop) }
+{
+    match first_plan(ground, facts, asker) {
+        Ok(Ok(plan)) => curve_from(ground, plan, facts, asker),
+        Ok(Err(reason)) => Ok(CurveAnswer::NoPlan(reason)),
+        Err(stop) => {
+            let steps = Vec::new(ground.alloc);
+            Err(CurveStop { steps, stop })
+        }
+    }
+}
+
+/// The plan for the order's own deadline, or why there is none.
+fn first_plan<N: OfProblem, A: Asker<AnySeries>>(
+    ground: &Ground,
+    facts: &mut Option<Facts<'_, N>>,
+    asker: &mut A,
+) -> Result<Result<Plan, Answer>, PlanStop>
+    requires named { A.about asker.old ground.now.net.now }
+    requires of { IsGroundOf N.problem ground.now }
+    requires hears { MayHear ground.now.net.now ground.now.order.now A.may_hear_floors A.may_hear_cost A.may_hear_plan }
+    ensures network { A.about asker.new ground.now.net.now }
+    ensures plan { IfOk result (λ found. MatchResult found (IsPlanOf ground.now.net.now ground.now.order.now)
+        (λ reason. IsAnswer ground.now.net.now ground.now.order.now reason × IsNoPlan reason)) }
+    ensures stop { IfErr result (IsPlanStop (AreNotAfterEnough ground.now.net.now ground.now.order.now
+        (ground.now.order.now.deadline + 1)) (A.may_stop asker.new) (A.may_want_thread asker.new)) }
+{
+    let Ground { alloc, net, order } = *ground;
+    if let Some(facts) = facts {
+        if let Some(Some(plan)) = facts.known_plan(ground, order, asker)? {
+            return Ok(Ok(plan));
+        }
+    }
+    let answer = plan(alloc, net, order, asker)?;
+    Ok(plan_or_reason(answer))
 }
 
 /// The plan that an answer has, or the reason for which there is none.
@@ -73,12 +198,14 @@ fn plan_or_reason(answer: Answer) -> Result<Plan, Answer>
 }
 
 /// The curve of an order that has this plan.
-fn curve_from<A: Asker<AnySeries>>(
+fn curve_from<N: OfProblem, A: Asker<AnySeries>>(
     ground: &Ground,
     plan: Plan,
+    facts: &mut Option<Facts<'_, N>>,
     asker: &mut A,
 ) -> Result<CurveAnswer, CurveStop>
     requires named { A.about asker.old ground.now.net.now }
+    requires of { IsGroundOf N.problem ground.now }
     requires hears { MayHear ground.now.net.now ground.now.order.now A.may_hear_floors A.may_hear_cost A.may_hear_plan }
     requires plan { IsPlanOf ground.now.net.now ground.now.order.now plan }
     ensures network { A.about asker.new ground.now.net.now }
@@ -87,7 +214,7 @@ fn curve_from<A: Asker<AnySeries>>(
         (A.may_want_thread asker.new) end.steps.items end.stop) }
 {
     let mut steps = Vec::new(ground.alloc);
-    match follow(ground, plan, &mut steps, asker) {
+    match follow(ground, plan, &mut steps, facts, asker) {
         Ok(()) => Ok(CurveAnswer::Steps(steps)),
         Err(stop) => Err(CurveStop { steps, stop }),
     }
@@ -95,13 +222,15 @@ fn curve_from<A: Asker<AnySeries>>(
 
 /// Puts all steps of the curve that are still to come before those so far, which the plan's deadline stands just
 /// before.
-fn follow<A: Asker<AnySeries>>(
+fn follow<N: OfProblem, A: Asker<AnySeries>>(
     ground: &Ground,
     plan: Plan,
     steps: &mut Vec<Step>,
+    facts: &mut Option<Facts<'_, N>>,
     asker: &mut A,
 ) -> Result<(), PlanStop>
     requires named { A.about asker.old ground.now.net.now }
+    requires of { IsGroundOf N.problem ground.now }
     requires hears { MayHear ground.now.net.now ground.now.order.now A.may_hear_floors A.may_hear_cost A.may_hear_plan }
     requires next { IsNext ground.now.net.now ground.now.order.now plan steps.old.items }
     ensures network { A.about asker.new ground.now.net.now }
@@ -111,7 +240,7 @@ fn follow<A: Asker<AnySeries>>(
 {
     let mut plan = plan;
     'plans: loop {
-        match step_back(ground, plan, steps, asker)? {
+        match step_back(ground, plan, steps, facts, asker)? {
             Some(earlier) => plan = earlier,
             None => return Ok(()),
         }
@@ -120,13 +249,15 @@ fn follow<A: Asker<AnySeries>>(
 
 /// Puts the step of a plan before those so far, and gives the plan for the deadline before it; or none if there is
 /// none, so that the curve is whole.
-fn step_back<A: Asker<AnySeries>>(
+fn step_back<N: OfProblem, A: Asker<AnySeries>>(
     ground: &Ground,
     plan: Plan,
     steps: &mut Vec<Step>,
+    facts: &mut Option<Facts<'_, N>>,
     asker: &mut A,
 ) -> Result<Option<Plan>, PlanStop>
     requires named { A.about asker.old ground.now.net.now }
+    requires of { IsGroundOf N.problem ground.now }
     requires hears { MayHear ground.now.net.now ground.now.order.now A.may_hear_floors A.may_hear_cost A.may_hear_plan }
     requires next { IsNext ground.now.net.now ground.now.order.now plan steps.old.items }
     ensures network { A.about asker.new ground.now.net.now }
@@ -134,22 +265,24 @@ fn step_back<A: Asker<AnySeries>>(
     ensures stop { IfErr result (IsCurveStop ground.now.net.now ground.now.order.now (A.may_stop asker.new)
         (A.may_want_thread asker.new) steps.new.items) }
 {
-    let begin = put_step(ground, plan, steps, asker)?;
+    let begin = put_step(ground, plan, steps, facts, asker)?;
     match begin.checked_sub(1) {
-        Some(deadline) => plan_by(ground, deadline, asker),
+        Some(deadline) => plan_by(ground, deadline, facts, asker),
         None => Ok(None),
     }
 }
 
 /// Puts the step of a plan before those so far, and tells its first deadline. If the asker gives up, the step begins at
 /// the deadline that it came to.
-fn put_step<A: Asker<AnySeries>>(
+fn put_step<N: OfProblem, A: Asker<AnySeries>>(
     ground: &Ground,
     plan: Plan,
     steps: &mut Vec<Step>,
+    facts: &mut Option<Facts<'_, N>>,
     asker: &mut A,
 ) -> Result<u32, PlanStop>
     requires named { A.about asker.old ground.now.net.now }
+    requires of { IsGroundOf N.problem ground.now }
     requires next { IsNext ground.now.net.now ground.now.order.now plan steps.old.items }
     ensures network { A.about asker.new ground.now.net.now }
     ensures within { IfOk result (λ begin. begin ≤ plan.deadline) }
@@ -158,7 +291,7 @@ fn put_step<A: Asker<AnySeries>>(
         (A.may_want_thread asker.new) steps.new.items) }
 {
     let mut begin = end_of(ground.net, &plan.starts, plan.deadline);
-    match shorten(ground, &plan.capacities, &mut begin, asker) {
+    match shorten(ground, &plan.capacities, &mut begin, facts, asker) {
         Ok(()) => {
             put_first(steps, step_of(plan, begin))?;
             Ok(begin)

@@ -21,8 +21,12 @@
 //! for each deadline from that time on. Whether they are enough for the time before that is one question, about the
 //! root window by that deadline. Starts that answer it give an earlier end; if it is infeasible, the step begins here.
 //! Then the plan for the deadline before it is made, and so on, down to a deadline for which there is none. So there is
-//! one plan for each step, and the work does not grow with the deadline. All questions go to one `Asker`, whose records
-//! serve the later ones too.
+//! one plan for each step, and the work does not grow with the deadline.
+//!
+//! Where there are more than 64 vectors and the asker leaves room for a search, one search that learns (racp_optimum) finds
+//! the plans and the ends: a clause that holds for a deadline holds for each earlier one, and with lower ceilings, so what
+//! is learned of one serves the next. Capacities are enough for a deadline if the order with that deadline has a plan with
+//! these capacities as its ceilings. All other questions go to one `Asker`, whose records serve the later ones too.
 //!
 //! `curve_alone(alloc, &net, &order, 1024)` does it on the calling thread, `curve_crowd(rt, alloc, &net, &order, crew)`
 //! has workers make the plans over one board of records, and counts the turns of all plans together. `curve_text(alloc,
@@ -44,6 +48,7 @@
 mod crowd;
 mod deadline;
 mod ending;
+mod facts;
 mod following;
 mod ground;
 pub mod laws;

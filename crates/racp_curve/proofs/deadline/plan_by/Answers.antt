@@ -12,6 +12,13 @@ use Rattle.racp_curve.proofs.Reasons.{plan_or_none}
 use Rattle.racp_curve.proofs.Telling.{told_too, stopped_by}
 use Rattle.racp_curve.proofs.deadline.plan_by.Goals as goal
 
+pub known_plan-requires-clause-heard : goal.known_plan-requires-clause-heard
+known_plan-requires-clause-heard g c = record {
+  floors = λ floors are. c.requires.hears.floors c.args.deadline c.requires.deadline floors (subst (λ (t : Terms). AreFloorsOfEnough c.args.ground.now.net.now t floors) c.in_ok-other.ensures are);
+  least = λ least is. c.requires.hears.least c.args.deadline c.requires.deadline least (subst (λ (t : Terms). IsLeastOfEnough c.args.ground.now.net.now t least) c.in_ok-other.ensures is);
+  plans = λ capacities starts are. c.requires.hears.plans c.args.deadline c.requires.deadline capacities starts (subst (λ (t : Terms). AreFitting c.args.ground.now.net.now t capacities starts) c.in_ok-other.ensures are);
+}
+
 pub plan-requires-clause-terms : goal.plan-requires-clause-terms
 plan-requires-clause-terms g c = subst (AreTermsOf c.args.ground.now.net.now) (sym c.in_ok-other.ensures) (terms_by c.args.ground.now.net.now c.args.ground.now.order.now c.args.deadline c.requires.deadline c.args.ground.now.terms)
 

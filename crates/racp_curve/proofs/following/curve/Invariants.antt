@@ -1,0 +1,6 @@
+use Rattle.std.specs.Prelude.{[]}
+use Rattle.racp_curve.proofs.following.curve.Given as goal
+
+-- nothing is learned, so these root bounds are never used
+abbrev pub ghosts-curve_anew : goal.ghosts-curve_anew
+ghosts-curve_anew g a = record { problem = record { network = a.ground.now.net.now; terms = a.ground.now.order.now; root = record { lower = []; upper = [] } } }
