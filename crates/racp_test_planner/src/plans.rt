@@ -3,13 +3,14 @@
 ghost use Rattle.std.specs.Prelude.{◌≡◌};
 ghost use Rattle.racp_model.specs.Terms.{AreTermsOf};
 
-use racp_lexfix::{Alone, Answer, PlanStop, plan};
+use racp_check::{Opening, opening_of};
+use racp_lexfix::{Alone, Answer, PlanStop, plan, root_bounds};
 use racp_model::{NetFault, Network, OfNetwork};
 use racp_plan::Plan;
 use racp_prices::{Order, read_order};
 use racp_reference::{Outcome, plan_by_definition};
 use racp_samples::{Random, chained, crossed, network, parallel, random_network, random_order};
-use std::alloc::Global;
+use std::alloc::{AllocError, Global};
 use std::marker::Brand;
 
 /// A small network.
@@ -290,4 +291,53 @@ fn plans_as_by_definition(rt: HostRuntime) {
         counts[kind] = counts[kind].saturating_add(1);
     }
     assert!(rt; counts.iter().all(|count| 10 <= *count));
+}
+
+/// The most pairs of a capacity vector and a start vector that are looked at.
+const MOST: u64 = 100_000;
+
+/// Whether an order leaves more than 64 vectors, so that facts are looked for, and not too many for plans by definition.
+fn is_large(alloc: Global, net: &Network, order: &Order) -> Result<bool, AllocError>
+    requires { AreTermsOf net.now order.now }
+{
+    let Opening::Root { window, .. } = opening_of(alloc, net, order)? else {
+        return Ok(false);
+    };
+    let Some(root) = root_bounds(alloc, net, order, &window)? else {
+        return Ok(false);
+    };
+    let mut pairs = 1u64;
+    for x in 0..net.job_count().saturating_add(net.resource_count()) {
+        let (low, high) = (root.bounds.lower_at(x), root.bounds.upper_at(x));
+        pairs = pairs.saturating_mul(high.saturating_sub(low).saturating_add(1));
+    }
+    Ok(!root.is_small && pairs <= MOST)
+}
+
+/// Of which kind the answer to the next random order is, if that leaves many vectors.
+fn next_large(alloc: Global, random: &mut Random) -> Option<usize> {
+    let resources = random.below(3).saturating_add(3) as usize;
+    let jobs = random.below(3).saturating_add(2);
+    let net = random_network(alloc, random, resources, jobs).ok()?;
+    let order = random_order(alloc, random, &net).ok()?;
+    if order.is_for(&net) && is_large(alloc, &net, &order).unwrap_or(false) {
+        return Some(kind_of::<Brand>(alloc, &net, &order));
+    }
+    None
+}
+
+#[test]
+fn plans_of_many_vectors_as_by_definition(rt: HostRuntime) {
+    let mut random = Random::new(29);
+    let mut counts: [u32; OTHER] = [0; OTHER];
+    for round in 0..40_000 {
+        if 500 <= counts[0] {
+            break;
+        }
+        if let Some(kind) = next_large(rt.alloc(), &mut random) {
+            assert!(rt; kind < OTHER, "round {round}");
+            counts[kind] = counts[kind].saturating_add(1);
+        }
+    }
+    assert!(rt; 500 <= counts[0], "{} plans", counts[0]);
 }
