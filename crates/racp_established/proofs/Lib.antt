@@ -4,3 +4,4 @@ mod Leading
 mod Leaving
 mod Stepping
 mod Ending
+mod Showing

@@ -42,6 +42,8 @@ pub fn establishes<N: OfProblem>(
     ensures plan { IfOk result (λ yes. IsTrue yes → IsPlan net.now order.now capacities.now starts.now) }
     ensures whole { IfOk result (λ yes. AreFitting net.now order.now capacities.now starts.now →
         AreAllOut net.now root.now (values order.now starts.now capacities.now) (cost_place net.now + 1) clauses.now → IsTrue yes) }
+    ensures shown { IfOk result (λ yes. IsTrue yes → AreFitting net.now order.now capacities.now starts.now ×
+        AreAllOut net.now root.now (values order.now starts.now capacities.now) (cost_place net.now + 1) clauses.now) }
 {
     if !are_fitting(net, order, capacities, starts) {
         return Ok(false);
@@ -71,6 +73,8 @@ pub fn are_the_least<N: OfProblem>(
     ensures plan { IfOk result (λ yes. IsTrue yes → IsPlan net.now order.now capacities.now starts.now) }
     ensures whole { IfOk result (λ yes.
         AreAllOut net.now root.now (values order.now starts.now capacities.now) (cost_place net.now + 1) clauses.now → IsTrue yes) }
+    ensures shown { IfOk result (λ yes. IsTrue yes →
+        AreAllOut net.now root.now (values order.now starts.now capacities.now) (cost_place net.now + 1) clauses.now) }
 {
     let row = row_of(alloc, net, order, starts.as_slice(), capacities.as_slice())?;
     let turns = net.job_count() + net.resource_count() + 1;

@@ -3,7 +3,7 @@
 ghost use Rattle.std.specs.Prelude.{◌≡◌, ◌↔◌, ◌+◌, ◌<◌, ◌≤◌, IsTrue, IfSome, length};
 ghost use Rattle.racp_facts.specs.Solutions.{HasPlaces, cost_place};
 ghost use Rattle.racp_established.specs.Least.{AreLeast, NoneIsLessBy};
-ghost use Rattle.racp_established.specs.Tests.{IsAllOut, AreAllOut, IsNextOut, IsPlaceOf};
+ghost use Rattle.racp_established.specs.Tests.{IsAllOut, AreAllOut, IsNextOut, IsPlaceOf, clause_at};
 
 use crate::leaving_out::leaves_out;
 use racp_facts::{Clause, Domain, OfProblem};
@@ -48,6 +48,7 @@ fn next_for<N: OfProblem>(
     requires place { x ≤ cost_place net.now }
     ensures none { IfSome result (λ _. NoneIsLessBy N.problem x row.now) }
     ensures next { IsNextOut net.now x row.now clauses.now from result }
+    ensures out { IfSome result (λ at. (from ≤ at) × (at < length clauses.now) × IsAllOut net.now x row.now (clause_at clauses.now at)) }
 {
     for at in from..clauses.len() {
         if is_least_by(net, row, x, &clauses[at]) {
@@ -73,6 +74,7 @@ pub(crate) fn are_least<N: OfProblem>(
     requires turns { turns ≤ cost_place net.now + 1 }
     ensures least { IsTrue result → AreLeast N.problem turns row.now }
     ensures whole { AreAllOut net.now root.now row.now turns clauses.now → IsTrue result }
+    ensures shown { IsTrue result → AreAllOut net.now root.now row.now turns clauses.now }
 {
     let mut next = 0;
     for t in 0..turns {
