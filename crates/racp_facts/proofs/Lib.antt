@@ -9,3 +9,4 @@ mod Pairs
 mod Prices
 mod Rooting
 pub mod lemmas
+mod Open

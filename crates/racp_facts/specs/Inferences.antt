@@ -1,5 +1,5 @@
 -- What a rule infers from bounds, and what becomes of them.
-use Rattle.std.specs.Prelude.{⊤, ◌≡◌, ◌≢◌, ℕ, ◌+◌, ◌-◌, ◌<◌, ◌||◌, ◌&&◌, Bool, true, nat_lt, nat_le, if◌then◌else◌, List, [], ◌∷◌, ◌++◌, length, slice_index, slice_index_or, set}
+use Rattle.std.specs.Prelude.{⊤, ◌≡◌, ◌≢◌, ℕ, ◌+◌, ◌-◌, ◌<◌, ◌||◌, ◌&&◌, Bool, true, filter, nat_lt, nat_le, if◌then◌else◌, List, [], ◌∷◌, ◌++◌, length, slice_index, slice_index_or, set}
 use Rattle.racp_model.specs.Project.{Project}
 use Rattle.racp_model.specs.Terms.{Terms}
 use Rattle.racp_model.specs.Window.{Bounds}
@@ -91,3 +91,17 @@ abbrev pub IsOfClause : Bounds → List Literal → ℕ → Inference → Type 0
 IsOfClause bounds clause n Close = (i : ℕ) → i < n → IsFalseAt bounds clause i
 IsOfClause bounds clause n (Narrow l) = (i : ℕ) × IsOnlyOpen bounds clause n l i
 IsOfClause bounds clause n Nothing = (i : ℕ) × (j : ℕ) × AreTwoOpen bounds clause n i j
+
+-- the literals of a clause that are not false within bounds
+abbrev pub open_literals : Bounds → List Literal → List Literal
+open_literals bounds clause = filter (may_have bounds) clause
+
+-- what follows if one of these is true: nothing is left without one, a single one is true, and of two nothing is known
+abbrev pub of_open : List Literal → Inference
+of_open [] = Close
+of_open (l ∷ []) = Narrow l
+of_open (l ∷ m ∷ more) = Nothing
+
+-- what follows from a clause
+abbrev pub by_clause : Bounds → List Literal → Inference
+by_clause bounds clause = of_open (open_literals bounds clause)

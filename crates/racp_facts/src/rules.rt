@@ -1,10 +1,9 @@
 //! The rules by which a derivation goes on. Each does nothing where there is no such pair, job or resource.
 
-ghost use Rattle.std.specs.Prelude.{◌≡◌, length};
+ghost use Rattle.std.specs.Prelude.{◌≡◌};
 ghost use Rattle.racp_model.specs.Terms.{AreTermsOf};
-ghost use Rattle.racp_facts.specs.Inferences.{IsOfClause, with_inference};
+ghost use Rattle.racp_facts.specs.Inferences.{by_clause, with_inference};
 ghost use Rattle.racp_facts.specs.Rules.{along_pair, of_job, of_resource, by_time_table, by_energy, by_request, by_units, by_cost};
-ghost use Rattle.racp_facts.specs.declared.inference.Inference.{Inference};
 
 use crate::clause::Clause;
 use crate::cost::{least_cost, most_units};
@@ -94,8 +93,7 @@ impl<N: OfProblem> Derivation<N> {
     /// If all literals of a clause but one are false within the bounds, narrows them by that one; if all are, nothing
     /// is left.
     pub fn clause(&mut self, clause: &Clause<N>)
-        ensures { (inference : Inference) × IsOfClause self.old.bounds clause.now (length clause.now) inference ×
-            (self.new ≡ with_inference self.old inference) }
+        ensures { self.new ≡ with_inference self.old (by_clause self.old.bounds clause.now) }
     {
         self.apply(unit(self.bounds(), clause.literals()));
     }
