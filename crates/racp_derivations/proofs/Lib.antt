@@ -1,0 +1,3 @@
+mod Numbering
+mod Splitting
+mod Rooted

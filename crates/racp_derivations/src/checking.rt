@@ -1,0 +1,116 @@
+//! What was derived so far.
+
+ghost use Rattle.std.specs.Prelude.{◌≡◌, ◌++◌, ◌∷◌, [], true, false, IfOk, MatchBool, Some, None};
+ghost use Rattle.racp_model.specs.Terms.{AreTermsOf};
+ghost use Rattle.racp_facts.specs.Solutions.{HasPlaces};
+ghost use Rattle.racp_derivations.specs.Checking.{after, after_line, at_first};
+
+use crate::line::Line;
+use crate::lines::line_of;
+use crate::stepping::{Given, take_step};
+use racp_facts::{Clause, Derivation, Domain, OfProblem};
+use std::alloc::{AllocError, Global};
+use std::marker::Model;
+
+/// What was derived so far: the derivation with which each one begins, the present one, and the clauses. Contracts see
+/// `Checked`.
+#[derive(Drop)]
+pub(crate) struct Checking<N: OfProblem> {
+    base: Derivation<N>,
+    present: Derivation<N>,
+    clauses: Vec<Clause<N>>,
+}
+
+impl<N: OfProblem> Model for Checking<N> {
+    ghost use Rattle.std.specs.Prelude.{◌≡◌, []};
+    ghost use Rattle.racp_derivations.specs.Checking.{Checked};
+
+    ghost Value = { Checked };
+
+    ghost view = { λ c. record { base = c.base; now = c.present; clauses = c.clauses.items } };
+
+    ghost invariant = { λ c. c.base.clause ≡ [] };
+}
+
+impl<N: OfProblem> Checking<N> {
+    /// Nothing so far.
+    pub(crate) fn new(alloc: Global, root: &Domain) -> Result<Self, AllocError>
+        requires root { root.now ≡ N.problem.root }
+        requires places { HasPlaces N.problem.network root.now }
+        ensures { IfOk result (λ c. c ≡ at_first root.now) }
+    {
+        let base = Derivation::new(alloc, root)?;
+        let present = Derivation::new(alloc, root)?;
+        Ok(Checking {
+            base,
+            present,
+            clauses: Vec::new(alloc),
+        })
+    }
+
+    /// The clauses so far.
+    pub(crate) fn clauses(&self) -> &[Clause<N>]
+        ensures { result.now ≡ self.now.clauses }
+    {
+        &self.clauses
+    }
+
+    /// Does what a line says, and says true; false if it says nothing, or something that does not follow.
+    pub(crate) fn take_line(
+        &mut self,
+        alloc: Global,
+        given: &Given,
+        line: &[u8],
+    ) -> Result<bool, AllocError>
+        requires named { given.now.net.now ≡ N.problem.network }
+        requires terms { given.now.order.now ≡ N.problem.terms }
+        requires fit { AreTermsOf given.now.net.now given.now.order.now }
+        ensures { IfOk result (λ yes. MatchBool yes
+            (after_line given.now.net.now given.now.order.now self.old line.now ≡ Some self.new)
+            (after_line given.now.net.now given.now.order.now self.old line.now ≡ None)) }
+    {
+        match line_of(given.net, line) {
+            Some(line) => self.take(alloc, given, line),
+            None => Ok(false),
+        }
+    }
+
+    /// Does what it says.
+    fn take(&mut self, alloc: Global, given: &Given, line: Line) -> Result<bool, AllocError>
+        requires named { given.now.net.now ≡ N.problem.network }
+        requires terms { given.now.order.now ≡ N.problem.terms }
+        requires fit { AreTermsOf given.now.net.now given.now.order.now }
+        ensures { IfOk result (λ yes. MatchBool yes
+            (after given.now.net.now given.now.order.now self.old line ≡ Some self.new)
+            (after given.now.net.now given.now.order.now self.old line ≡ None)) }
+    {
+        match line {
+            Line::Suppose(literal) => {
+                self.present.suppose(literal)?;
+                Ok(true)
+            }
+            Line::Take(step) => Ok(take_step(given, &self.clauses, &mut self.present, step)),
+            Line::Holds => conclude(alloc, &self.base, &mut self.present, &mut self.clauses),
+            Line::Keep => Ok(self.base.begin(&self.present)),
+        }
+    }
+}
+
+/// Adds the clause of a derivation, if nothing is left, begins anew and says true.
+fn conclude<N: OfProblem>(
+    alloc: Global,
+    base: &Derivation<N>,
+    present: &mut Derivation<N>,
+    clauses: &mut Vec<Clause<N>>,
+) -> Result<bool, AllocError>
+    requires { base.now.clause ≡ [] }
+    ensures { IfOk result (λ yes. MatchBool yes
+        ((present.old.empty ≡ true) × (present.new ≡ base.now) × (clauses.new.items ≡ clauses.old.items ++ present.old.clause ∷ []))
+        (present.old.empty ≡ false)) }
+{
+    let Some(clause) = present.finish(alloc)? else {
+        return Ok(false);
+    };
+    clauses.push(clause)?;
+    Ok(present.begin(base))
+}

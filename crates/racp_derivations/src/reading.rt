@@ -1,0 +1,90 @@
+//! Reading a derivation text line by line.
+
+ghost use Rattle.std.specs.Prelude.{◌≡◌, IfOk, IsErrOf, IsTrue, MatchBool, Some, None, bytes_eq, codes};
+ghost use Rattle.std.specs.List.{slice_split};
+ghost use Rattle.racp_model.specs.Terms.{AreTermsOf};
+ghost use Rattle.racp_text.specs.Cuts.{is_line_feed};
+ghost use Rattle.racp_delay.specs.declared.following.Unfound.TheVariants.{Stopped};
+ghost use Rattle.racp_derivations.specs.Checking.{clauses_of};
+ghost use Rattle.racp_derivations.specs.Texts.{clauses_in};
+
+use crate::checking::Checking;
+use crate::stepping::Given;
+use racp_delay::{Stop, Unfound};
+use racp_facts::OfProblem;
+use racp_text::cut_at;
+use std::alloc::Global;
+
+/// Whether a text has its form and each clause follows; then these are the clauses. The stop is asked at each line.
+pub(crate) fn read_text<N: OfProblem, S: Stop>(
+    alloc: Global,
+    given: &Given,
+    checking: &mut Checking<N>,
+    text: &[u8],
+    stop: &S,
+) -> Result<bool, Unfound>
+    requires named { given.now.net.now ≡ N.problem.network }
+    requires terms { given.now.order.now ≡ N.problem.terms }
+    requires fit { AreTermsOf given.now.net.now given.now.order.now }
+    ensures clauses { IfOk result (λ yes. MatchBool yes
+        (clauses_in given.now.net.now given.now.order.now checking.old text.now ≡ Some checking.new.clauses)
+        (clauses_in given.now.net.now given.now.order.now checking.old text.now ≡ None)) }
+    ensures quiet { IsTrue S.QUIET → IsErrOf result Unfound.Stopped → ⊥ }
+{
+    let Some((first, rest)) = cut_at(text, b'\n') else {
+        return Ok(false);
+    };
+    if !is_head(first) {
+        return Ok(false);
+    }
+    read_lines(alloc, given, checking, rest, stop)
+}
+
+/// Whether a line is the first of a text.
+fn is_head(line: &[u8]) -> bool
+    ensures { result ≡ bytes_eq line.now (codes "proof 2") }
+{
+    line == b"proof 2".as_slice()
+}
+
+/// Whether a line is the last of a text.
+fn is_last(line: &[u8]) -> bool
+    ensures { result ≡ bytes_eq line.now (codes "end") }
+{
+    line == b"end".as_slice()
+}
+
+/// The same of the lines behind the first.
+fn read_lines<N: OfProblem, S: Stop>(
+    alloc: Global,
+    given: &Given,
+    checking: &mut Checking<N>,
+    text: &[u8],
+    stop: &S,
+) -> Result<bool, Unfound>
+    requires named { given.now.net.now ≡ N.problem.network }
+    requires terms { given.now.order.now ≡ N.problem.terms }
+    requires fit { AreTermsOf given.now.net.now given.now.order.now }
+    ensures clauses { IfOk result (λ yes. MatchBool yes
+        (clauses_of given.now.net.now given.now.order.now checking.old (slice_split is_line_feed text.now) ≡ Some checking.new.clauses)
+        (clauses_of given.now.net.now given.now.order.now checking.old (slice_split is_line_feed text.now) ≡ None)) }
+    ensures quiet { IsTrue S.QUIET → IsErrOf result Unfound.Stopped → ⊥ }
+{
+    let mut rest = text;
+    for _ in 0..text.len() {
+        if stop.asked() {
+            return Err(Unfound::Stopped);
+        }
+        let Some((line, more)) = cut_at(rest, b'\n') else {
+            return Ok(false);
+        };
+        if is_last(line) {
+            return Ok(more.is_empty());
+        }
+        if !checking.take_line(alloc, given, line)? {
+            return Ok(false);
+        }
+        rest = more;
+    }
+    Ok(false)
+}
