@@ -1,3 +1,4 @@
 mod Numbering
 mod Splitting
 mod Rooted
+mod Halving

@@ -1,4 +1,5 @@
 pub mod Words
 pub mod Lines
+pub mod Pairs
 pub mod Checking
 pub mod Texts

@@ -4,6 +4,7 @@
 mod checking;
 mod line;
 mod lines;
+mod pairs;
 mod reading;
 mod root;
 mod stepping;

@@ -1,9 +1,10 @@
 //! Reading what a line says.
 
 ghost use Rattle.std.specs.Prelude.{◌≡◌, ◌≤◌};
-ghost use Rattle.racp_derivations.specs.Lines.{bound_by, bound_on, budget_on, earlier_on, energy_on, line_of, literal_of, pair_at, pair_on, request_on, start_on, step_of, times_on, units_on};
+ghost use Rattle.racp_derivations.specs.Lines.{bound_by, bound_on, budget_on, earlier_on, energy_on, line_of, literal_of, pair_on, request_on, start_on, step_of, times_on, units_on};
 
 use crate::line::{Line, Step};
+use crate::pairs::pair_at;
 use crate::words::{MOST_NUMBER, behind_word, first_word, number_of, place_of};
 use racp_facts::Literal;
 use racp_model::Network;
@@ -124,18 +125,6 @@ fn pair_on(net: &Network, rest: &[u8]) -> Option<Step>
     let second = place_of(net.job_count(), behind_word(rest))?;
     let place = pair_at(net, first, second)?;
     Some(Step::Pair(place))
-}
-
-/// Where the pair of these places stands in the precedence relation.
-fn pair_at(net: &Network, first: usize, second: usize) -> Option<usize>
-    requires first { first ≤ 1000 }
-    requires second { second ≤ 1000 }
-    ensures { result ≡ pair_at net.now first second }
-{
-    let (first, second) = (first as u32 + 1, second as u32 + 1);
-    net.arcs()
-        .iter()
-        .position(|pair| pair.0 == first && pair.1 == second)
 }
 
 /// Time table.
