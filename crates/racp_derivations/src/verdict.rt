@@ -109,7 +109,7 @@ fn establishes_of<N: OfProblem, S: Stop>(
     if !read_text(alloc, given, &mut checking, text, stop)? {
         return Ok(false);
     }
-    let shown = establishes(
+    let is_shown = establishes(
         alloc,
         given.net,
         given.order,
@@ -118,5 +118,5 @@ fn establishes_of<N: OfProblem, S: Stop>(
         &plan.starts,
         checking.clauses(),
     )?;
-    Ok(shown)
+    Ok(is_shown)
 }
