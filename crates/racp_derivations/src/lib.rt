@@ -1,4 +1,28 @@
-//! Texts of clauses with their derivations, and the check of them.
+//! Texts of clauses with their derivations, and whether one shows that a plan is the plan of its order.
+//!
+//! Clauses are those of racp_facts, and what they have to show is told by racp_established. A text is a list of lines,
+//! each of which a derivation takes: a literal that the clause is to have, a step by a rule, or that nothing is left. So
+//! a text is checked line by line, as LRAT's are (Cruz-Filipe, Heule, Hunt, Kaufmann and Schneider-Kamp 2017), and who
+//! made it need not be trusted. docs/FORMATS.md says what each line does, and goes through one text.
+//!
+//! Two jobs of 3 time units with 1 unit each, from 0 to 4; and the clause that there are at least 2 units:
+//!
+//! ```text
+//! units 1 >= 2      suppose not: at most 1 unit
+//! energy 1 0 4      work 6 in 4 time units, rounded up 2: nothing is left
+//! holds             the clause holds
+//! ```
+//!
+//! There are two derivations, `base` with which each one begins, and the present one, and the clauses so far. Lines and
+//! words are slices of the text; memory is taken for the literals of clauses alone. A pair of the precedence relation is
+//! found by halving. Otherwise a line takes as long as its step, which is in proportion to the jobs, the resources or
+//! the literals of the clause that it names; no text takes longer than its bytes times that.
+//!
+//! Proved: `establishes_by_text` says yes exactly where the text has the form, each of its clauses follows by its steps,
+//! each step names what there is and only earlier clauses, the starts fit the capacities, and for each variable in turn
+//! a clause leaves out what is less (`IsDerivationText`); and where it says yes, the capacities and the starts are the
+//! plan of the order (`IsPlan` of racp_model). `establishes_by_text_until` is the same with a stop. Not proved: that a
+//! plan has such a text.
 #![tactic(auto)]
 
 mod checking;
