@@ -24,6 +24,7 @@
 
 mod head;
 mod line_of;
+mod looks;
 mod network_text;
 mod order_text;
 mod plan_faults;

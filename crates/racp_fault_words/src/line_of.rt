@@ -74,16 +74,26 @@ pub(crate) fn push_with_end(
     match ended_line_at(bytes, number) {
         Some((line, has_line_feed)) => {
             push_line(text, line)?;
+            text.push_str(mark_of(line))?;
             text.push_str(end_of(line.ends_with(b"\r"), has_line_feed))
         }
         None => text.push_str("no line"),
     }
 }
 
+/// What is said of the beginning of a line.
+fn mark_of(line: &[u8]) -> &'static str {
+    if line.starts_with(b"\xEF\xBB\xBF") {
+        " after a byte order mark, which dos2unix takes away"
+    } else {
+        ""
+    }
+}
+
 /// What is said of the end of a line.
 fn end_of(has_return: bool, has_line_feed: bool) -> &'static str {
     match (has_return, has_line_feed) {
-        (true, true) => " with a carriage return behind it",
+        (true, true) => " with a carriage return behind it, which dos2unix takes away",
         (true, false) => " with a carriage return behind it, and without a line feed",
         (false, true) => "",
         (false, false) => " without a line feed",

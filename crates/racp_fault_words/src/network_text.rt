@@ -6,6 +6,7 @@ use crate::line_of::{
     body_of, count_words, first_word, is_line_feed, is_space, is_word, line_at, push_quoted,
     push_shown, without_return,
 };
+use crate::looks::look_of;
 use crate::ring::ring_of;
 use crate::wanted::push_wanted;
 use racp_sm::{SmFault, SmFaultKind};
@@ -85,10 +86,9 @@ fn push_missing(
     word: &str,
 ) -> Result<(), AllocError> {
     push_wanted(text, wanted)?;
-    if looks_like_order(body) {
-        text.push_str("what looks like an order; the network comes first")
-    } else {
-        push_like(text, line_like(body, word))
+    match look_of(body) {
+        Some(look) => text.push_str(look),
+        None => push_like(text, line_like(body, word)),
     }
 }
 
@@ -101,16 +101,6 @@ fn push_like(text: &mut String, like: Option<(usize, &[u8])>) -> Result<(), Allo
         }
         None => text.push_str("no such line"),
     }
-}
-
-/// Whether a text looks like an order.
-fn looks_like_order(body: &[u8]) -> bool {
-    body.split(is_line_feed).any(is_like_deadline)
-}
-
-/// Whether a line looks like that of the deadline in an order.
-fn is_like_deadline(line: &[u8]) -> bool {
-    first_word(line).starts_with(b"deadline") && line.contains(&b'=')
 }
 
 /// Adds how many numbers the part with this title has to have, and how many it has.
