@@ -1,11 +1,11 @@
 -- What `show` answers to the texts of a network, an order, a plan and names.
-use Rattle.std.specs.Prelude.{◌≡◌, ◌⊎◌, ℕ, List, [], ◌∷◌, ⊤, IsUtf8, Option, Result, Ok, Err, codes}
+use Rattle.std.specs.Prelude.{◌≡◌, ◌⊎◌, ◌+◌, ℕ, List, [], ◌∷◌, ⊤, IsUtf8, Option, Result, Ok, Err, codes, false, length, true}
 use Rattle.racp_model.specs.Project.{Project}
 use Rattle.racp_model.specs.Terms.{Terms}
 use Rattle.racp_plan.specs.declared.plan.Plan.{Plan}
 use Rattle.racp_plan.specs.Texts.{line}
 use Rattle.racp_check.specs.PlanFaults.{IsChecked}
-use Rattle.racp_show.specs.Called.{names_of}
+use Rattle.racp_show.specs.Called.{are_names_for, names_of}
 use Rattle.racp_show.specs.PlanPictures.{picture}
 use Rattle.racp_show.specs.Sheets.{IsSheet}
 use Rattle.racp_show.specs.Tables.{table_text}
@@ -38,10 +38,21 @@ IsPicture Csv network terms plan names text = text ≡ table_text network plan.s
 abbrev pub names_line : List ℕ
 names_line = line (codes "refused names 1 NotUtf8")
 
+-- the line if there are neither no names nor one for each job and resource
+abbrev pub count_line : List ℕ
+count_line = line (codes "refused names 2 Count")
+
+-- the plan, if there are no names or one for each job and resource
+abbrev pub IsCounted : Look → Project → Terms → Plan → List (List ℕ) → ℕ → List ℕ → Type 0
+IsCounted look network terms plan names status text =
+    ((are_names_for names (length network.jobs + network.resources) ≡ true) × (status ≡ 0) ×
+    IsPicture look.form network terms plan names text) ⊎
+    ((are_names_for names (length network.jobs + network.resources) ≡ false) × (status ≡ 5) × (text ≡ count_line))
+
 -- the plan with these names, or that they are none
 abbrev pub IsNamed : Look → Project → Terms → Plan → List ℕ → ℕ → List ℕ → Type 0
 IsNamed look network terms plan names status text =
-    (IsUtf8 names × (status ≡ 0) × IsPicture look.form network terms plan (names_of names) text) ⊎
+    (IsUtf8 names × IsCounted look network terms plan (names_of names) status text) ⊎
     ((IsUtf8 names → ⊥) × (status ≡ 5) × (text ≡ names_line))
 
 -- the plan, with which nothing is wrong

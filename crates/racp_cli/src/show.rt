@@ -3,7 +3,7 @@
 ghost use Rattle.std.specs.Prelude.{◌≡◌, IfOk, length};
 ghost use Rattle.racp_model.specs.Terms.{AreTermsOf};
 ghost use Rattle.racp_check.specs.PlanFaults.{IsFitting};
-ghost use Rattle.racp_cli.specs.ShowAnswers.{IsNamed, IsPicture, IsSheetPicture, IsShowAnswer, IsShowRun};
+ghost use Rattle.racp_cli.specs.ShowAnswers.{IsCounted, IsNamed, IsPicture, IsSheetPicture, IsShowAnswer, IsShowRun};
 
 use crate::check::{Checked, read_checked};
 use crate::fault::StreamFault;
@@ -29,7 +29,7 @@ pub struct Look {
 /// Reads a network text, an order text, a plan text and names, all of each before the next, and writes to `out` the
 /// plan in the form that is asked for; or, if something is wrong with the plan, what `check_over` writes. The names are
 /// those of the jobs and then of the resources, one a line; there may be none. Returns the status that belongs to what
-/// was written: 0 for a plan, 5 if the names are not UTF-8, else that of `check_over`.
+/// was written: 0 for a plan, 5 if the names are not UTF-8, or neither none nor one for each job and resource, else that of `check_over`.
 ///
 /// # Errors
 ///
@@ -91,12 +91,28 @@ fn named(
     ensures { IfOk result (λ answer. IsNamed look found.now.net found.now.order found.now.plan names.now answer.0 answer.1.items) }
 {
     match Names::read(alloc, names)? {
-        Some(names) => {
-            let text = picture(alloc, &found.net, &found.order, &found.plan, &names, look)?;
-            Ok((DONE, text))
-        }
+        Some(names) => counted(alloc, found, &names, look),
         None => Ok((REFUSED, b"refused names 1 NotUtf8\n".to_vec(alloc)?)),
     }
+}
+
+/// The status and the text if nothing is wrong with a plan, for these names.
+fn counted(
+    alloc: Global,
+    found: &Checked,
+    names: &Names,
+    look: Look,
+) -> Result<(u8, Vec<u8>), AllocError>
+    requires terms { AreTermsOf found.now.net found.now.order }
+    requires capacities { length found.now.plan.capacities ≡ found.now.net.resources }
+    requires fitting { IsFitting found.now.net found.now.order found.now.plan }
+    ensures { IfOk result (λ answer. IsCounted look found.now.net found.now.order found.now.plan names.now answer.0 answer.1.items) }
+{
+    if !names.are_for(found.net.job_count() + found.net.resource_count()) {
+        return Ok((REFUSED, b"refused names 2 Count\n".to_vec(alloc)?));
+    }
+    let text = picture(alloc, &found.net, &found.order, &found.plan, names, look)?;
+    Ok((DONE, text))
 }
 
 /// The plan in the form that is asked for.

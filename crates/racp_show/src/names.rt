@@ -1,7 +1,7 @@
 //! What the jobs and the resources are called.
 
 ghost use Rattle.std.specs.Prelude.{◌≡◌, ◌↔◌, ◌+◌, ◌<◌, ◌^◌, [], IfOk, IfSome, IsSome, IsUtf8, option_map, slice_index_or, string_bytes};
-ghost use Rattle.racp_show.specs.Called.{name_at, names_of, printed};
+ghost use Rattle.racp_show.specs.Called.{are_names_for, name_at, names_of, printed};
 
 use racp_model::limits::{MOST_JOBS, MOST_RESOURCES};
 use std::alloc::{AllocError, Global};
@@ -33,7 +33,7 @@ impl Names {
     }
 
     /// The names of a text, one a line: first the jobs, then the resources. Control characters are dropped. An empty
-    /// line is no name; lines after the first 528, which is 512 jobs and 16 resources, count for nothing. `None` if
+    /// line is no name; lines after the first 529, one more than 512 jobs and 16 resources have, count for nothing. `None` if
     /// the bytes are not UTF-8.
     ///
     /// # Errors
@@ -54,10 +54,17 @@ impl Names {
         ensures { IfOk result (λ names. names ≡ names_of text.now) }
     {
         let mut names = Vec::new(alloc);
-        for line in text.lines().take(MOST_JOBS + MOST_RESOURCES) {
+        for line in text.lines().take(MOST_JOBS + MOST_RESOURCES + 1) {
             names.push(printed(alloc, line)?)?;
         }
         Ok(Names { names })
+    }
+
+    /// Whether there are no names, or this many.
+    pub fn are_for(&self, count: usize) -> bool
+        ensures { result ≡ are_names_for self.now count }
+    {
+        self.names.is_empty() || self.names.len() == count
     }
 
     /// The name at this place, from 0, or the empty text if there is none.

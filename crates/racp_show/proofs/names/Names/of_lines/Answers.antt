@@ -9,7 +9,7 @@ use Rattle.racp_show.proofs.names.Names.of_lines.Goals as goal
 
 pub returns : goal.returns
 returns c =
-    let end = YieldsList-end (YieldsList-from_take 528 (YieldsList-from_lines c.args.text.now cc) cc) c.loop-line.yielded _ c.loop-line.yielded_by _ _ c.in-None.is c.next.ensures.steps in
+    let end = YieldsList-end (YieldsList-from_take 529 (YieldsList-from_lines c.args.text.now cc) cc) c.loop-line.yielded _ c.loop-line.yielded_by _ _ c.in-None.is c.next.ensures.steps in
     c.loop-line.invariant ∙ ap (map printed) end.0
 
 pub loop-line-preserved : goal.loop-line-preserved
