@@ -56,7 +56,7 @@ fn answer(alloc: Global, net: &[u8], order: &[u8], plan: &[u8]) -> Result<(u8, V
 }
 
 /// Reads the texts of a network, an order and a plan, and checks the plan.
-fn check(alloc: Global, net: &[u8], order: &[u8], plan: &[u8]) -> Result<(), CheckFault>
+pub(crate) fn check(alloc: Global, net: &[u8], order: &[u8], plan: &[u8]) -> Result<(), CheckFault>
     ensures { IsCheck net.now order.now plan.now result }
 {
     read_checked(alloc, net, order, plan)?;

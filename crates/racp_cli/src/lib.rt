@@ -15,7 +15,7 @@
 //! - `curve_over` reads a network and an order, and writes what each deadline costs; `curve_crowd_over` is for workers.
 //! - `order_over` reads a network, and writes an order.
 //!
-//! Each returns the status with which the program ends. `verify_over_until` can be stopped. `run_over_within` and `crowd_over_by` also take how much memory
+//! `known_text` makes the text of a plan that is known while planning goes on. Each command returns the status with which the program ends. `verify_over_until` can be stopped. `run_over_within` and `crowd_over_by` also take how much memory
 //! the records of refuted nodes may have. docs/FORMATS.md has every line and every status.
 //!
 //! Two jobs, 1 before 2, run for 2 time units and 1, and use 1 unit and 3; the order has the deadline 4 and the price
@@ -60,6 +60,7 @@ mod crowd;
 mod curve;
 mod curve_crowd;
 mod fault;
+mod known;
 pub mod laws;
 mod lines;
 mod order;
@@ -79,6 +80,7 @@ pub use crowd::{crowd_over, crowd_over_by};
 pub use curve::curve_over;
 pub use curve_crowd::curve_crowd_over;
 pub use fault::StreamFault;
+pub use known::known_text;
 pub use order::{Asked, Time, order_over};
 pub use plan::{run_over, run_over_within};
 pub use prove::prove_over;
