@@ -1,22 +1,18 @@
 //! What is wrong with the texts of a command.
 
-ghost use Rattle.std.specs.Prelude.{◌≡◌, ◌++◌, IfOk, length, string_bytes};
+ghost use Rattle.std.specs.Prelude.{◌≡◌, ◌++◌, IfOk, string_bytes};
 ghost use Rattle.std.specs.Io.{StartsWith};
 ghost use Rattle.racp_model.specs.Terms.{AreTermsOf};
 ghost use Rattle.racp_explain.specs.Causes.{IsNetworkCause, line_head, line_place, placed_head, network_head, order_head, plan_head};
 
-use crate::explain::push_title;
+use crate::faulty::of_fault;
 use crate::finding::{push_more, push_short};
 use crate::input::Input;
+use crate::opening::of_opening;
 use crate::subject::{Line, Subject};
-use racp_check::{Opening, PlanFault, check_plan, opening_of};
-use racp_cpm::longest;
-use racp_fault_words::{
-    Sizes, THERE, push_head_finding, push_network_finding, push_no_room, push_order_finding,
-    push_plan_finding, push_text_finding, push_too_late, push_too_long,
-};
+use racp_fault_words::{Sizes, THERE, push_network_finding, push_order_finding, push_text_finding};
 use racp_model::Network;
-use racp_plan::{Plan, TextFault, read_plan};
+use racp_plan::{TextFault, read_plan};
 use racp_prices::{Order, OrderFault, read_order};
 use racp_sm::{SmFault, read_sm};
 use std::alloc::{AllocError, Global};
@@ -145,7 +141,11 @@ racp: wanted: a certificate for {plan}, as racp prove makes it of its network an
 }
 
 /// What is told of a network text that is refused.
-fn of_network(alloc: Global, net: &Input<'_>, fault: SmFault) -> Result<String, AllocError>
+pub(crate) fn of_network(
+    alloc: Global,
+    net: &Input<'_>,
+    fault: SmFault,
+) -> Result<String, AllocError>
     ensures { IfOk result (λ text. StartsWith (string_bytes text) (network_head net.now.name.now fault)) }
 {
     let mut rest = String::new(alloc);
@@ -279,156 +279,5 @@ fn line_place(alloc: Global, line: usize) -> Result<String, AllocError>
         Ok(String::new(alloc))
     } else {
         format!(in alloc; ":{line}")
-    }
-}
-
-/// Why there is no plan for an order, as far as it is known.
-fn of_opening(alloc: Global, net: &Network, name: &str, order: &Order) -> Result<String, AllocError>
-    requires { AreTermsOf net.now order.now }
-{
-    let mut text = String::new(alloc);
-    push_opening(alloc, &mut text, net, name, order)?;
-    Ok(text)
-}
-
-/// Adds why there is no plan for an order, as far as it is known.
-fn push_opening(
-    alloc: Global,
-    text: &mut String,
-    net: &Network,
-    name: &str,
-    order: &Order,
-) -> Result<(), AllocError>
-    requires { AreTermsOf net.now order.now }
-{
-    match opening_of(alloc, net, order)? {
-        Opening::TooLong { critical } => push_deadline(text, name, order, critical),
-        Opening::TooLate { job } => push_due(alloc, text, net, name, order, job),
-        Opening::Root { .. } => push_ceilings(text, name, order),
-    }
-}
-
-/// Adds that the deadline of an order is too early.
-fn push_deadline(
-    text: &mut String,
-    name: &str,
-    order: &Order,
-    critical: u64,
-) -> Result<(), AllocError> {
-    push_line(text, name, Line::TooLate)?;
-    push_too_long(text, order, critical)?;
-    push_more(text, Subject::Line(Line::TooLate))
-}
-
-/// Adds that a job cannot end by its due time.
-fn push_due(
-    alloc: Global,
-    text: &mut String,
-    net: &Network,
-    name: &str,
-    order: &Order,
-    job: u32,
-) -> Result<(), AllocError>
-    requires { AreTermsOf net.now order.now }
-{
-    push_line(text, name, Line::Due)?;
-    push_too_late(alloc, text, net, order, job)?;
-    push_more(text, Subject::Line(Line::Due))
-}
-
-/// Adds that the ceilings of an order are too low, if it has any.
-fn push_ceilings(text: &mut String, name: &str, order: &Order) -> Result<(), AllocError> {
-    match &order.ceilings {
-        Some(ceilings) => push_low(text, name, order, ceilings),
-        None => Ok(()),
-    }
-}
-
-/// Adds that these ceilings are too low.
-fn push_low(
-    text: &mut String,
-    name: &str,
-    order: &Order,
-    ceilings: &[u32],
-) -> Result<(), AllocError> {
-    push_line(text, name, Line::NoRoom)?;
-    push_no_room(text, order, ceilings)?;
-    push_more(text, Subject::Line(Line::NoRoom))
-}
-
-/// Adds a line without a number after the name of a file, what it means, and what stands before what was wanted.
-fn push_line(text: &mut String, name: &str, line: Line) -> Result<(), AllocError> {
-    write!(text, "racp: {name}: ")?;
-    push_title(text, Subject::Line(line))?;
-    push_short(text, Subject::Line(line))
-}
-
-/// What is wrong with a plan that was read.
-fn of_fault(
-    alloc: Global,
-    net: &Network,
-    order: &Order,
-    name: &str,
-    plan: &Plan,
-) -> Result<String, AllocError>
-    requires terms { AreTermsOf net.now order.now }
-    requires capacities { length plan.now.capacities ≡ net.now.resources }
-    requires starts { length plan.now.starts ≡ length net.now.jobs }
-{
-    let critical = longest(alloc, net, &order.release)?;
-    let mut text = String::new(alloc);
-    let pushed = if plan.deadline != order.deadline || plan.critical != critical {
-        push_head(&mut text, order, name, plan, critical)
-    } else {
-        match check_plan(net, order, plan) {
-            Ok(()) => Ok(()),
-            Err(fault) => push_fault(&mut text, name, fault, plan, net, order),
-        }
-    };
-    pushed?;
-    Ok(text)
-}
-
-/// Adds that the head of a plan is wrong.
-fn push_head(
-    text: &mut String,
-    order: &Order,
-    name: &str,
-    plan: &Plan,
-    critical: u64,
-) -> Result<(), AllocError> {
-    push_line(text, name, Line::Head)?;
-    push_head_finding(text, order, plan, critical)?;
-    push_more(text, Subject::Line(Line::Head))
-}
-
-/// Adds what is wrong with a plan with this fault.
-fn push_fault(
-    text: &mut String,
-    name: &str,
-    fault: PlanFault,
-    plan: &Plan,
-    net: &Network,
-    order: &Order,
-) -> Result<(), AllocError>
-    requires terms { AreTermsOf net.now order.now }
-    requires capacities { length plan.now.capacities ≡ net.now.resources }
-    requires starts { length plan.now.starts ≡ length net.now.jobs }
-{
-    let line = line_of(fault);
-    push_line(text, name, line)?;
-    push_plan_finding(text, net, order, plan, fault)?;
-    push_more(text, Subject::Line(line))
-}
-
-/// The line that tells of a fault.
-fn line_of(fault: PlanFault) -> Line {
-    match fault {
-        PlanFault::Cost => Line::Cost,
-        PlanFault::Late(_) => Line::Late,
-        PlanFault::Order(_, _) => Line::Order,
-        PlanFault::Over(_, _) => Line::Over,
-        PlanFault::Ceiling(_) => Line::Ceiling,
-        PlanFault::Early(_) => Line::Early,
     }
 }

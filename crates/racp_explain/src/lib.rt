@@ -24,6 +24,10 @@
 //! them are read, `order_cause` says why there is no plan, as far as that is known without a search, and `plan_cause`
 //! says what is wrong with the plan.
 //!
+//! `shown_cause` also says what is wrong with names, and `asked_cause` with what an order is to say. `one_line` makes one
+//! line of a cause: `racp: a.sm:25: sm 12 TooFew: a part ends too early; wanted: so many numbers behind this title: 20 (jobs:
+//! 5, resources: 1); there: so many numbers up to the end of the part: 16`.
+//!
 //! The texts are read a second time by the same readers, so the fault is theirs. What was wanted and what is there is
 //! said by racp_fault_words.
 //!
@@ -35,12 +39,17 @@
 //! causes, and that nothing is told about a plan that is right.
 #![tactic(auto)]
 
+mod asked;
+mod brief;
+mod called;
 mod cause;
 mod explain;
+mod faulty;
 mod finding;
 mod input;
 pub mod laws;
 mod line_topics;
+mod opening;
 mod order_topics;
 mod plan_topics;
 mod sm_topics;
@@ -48,6 +57,9 @@ mod subject;
 mod subjects;
 mod topic;
 
+pub use asked::{Numbers, asked_cause};
+pub use brief::one_line;
+pub use called::shown_cause;
 pub use cause::{network_cause, order_cause, plan_cause, proof_cause};
 pub use explain::{explanation, subject_list};
 pub use input::Input;

@@ -135,7 +135,7 @@ be too long to be written.",
 
 const STOPPED: Topic = Topic {
     short: "planning was stopped before the plan was known",
-    meaning: "Planning was stopped, by --turns or --time-limit, before the plan was known. No capacities that are enough
+    meaning: "Planning was stopped, by --turns, --time-limit or Ctrl-C, before the plan was known. No capacities that are enough
 stand before these, so the plan costs at least as much. Of verify the line stands alone: whether the text is a
 certificate was not known when the time was up.",
     command: "racp plan examples/b.sm examples/b3.toml --turns 4",
@@ -165,8 +165,8 @@ const READ: Topic = Topic {
     meaning: "A file cannot be opened, or cannot be read. It may be missing, a folder, or not allowed to be read.",
     command: "racp cpm no-such-file.sm",
     file: "",
-    cure: "Look at the path and at who may read the file; --explain names it, and what the system says. Standard input
-is named - with cpm alone; /dev/stdin names it everywhere.",
+    cure: "Look at the path and at who may read the file; standard error names it, and what the system says. Standard
+input is named -.",
 };
 
 const WRITE: Topic = Topic {

@@ -19,6 +19,8 @@ pub enum Subject {
     Plan(TextFaultKind),
     /// Names that are not UTF-8.
     Names,
+    /// Names of another number than there are jobs and resources.
+    NamesCount,
     /// A line without a number.
     Line(Line),
 }
@@ -123,7 +125,7 @@ impl Subject {
             Subject::Sm(_) => "sm",
             Subject::Order(_) => "order",
             Subject::Plan(_) => "plan",
-            Subject::Names => "names",
+            Subject::Names | Subject::NamesCount => "names",
             Subject::Line(line) => line.first(),
         }
     }
@@ -137,6 +139,7 @@ impl Subject {
             Subject::Order(fault) => Some(fault as u8),
             Subject::Plan(kind) => Some(kind as u8),
             Subject::Names => Some(1),
+            Subject::NamesCount => Some(2),
             Subject::Line(_) => None,
         }
     }
@@ -151,6 +154,7 @@ impl Subject {
             Subject::Order(fault) => fault.name(),
             Subject::Plan(kind) => kind.name(),
             Subject::Names => "NotUtf8",
+            Subject::NamesCount => "Count",
             Subject::Line(line) => line.second(),
         }
     }

@@ -12,7 +12,7 @@ use racp_sm::SmFaultKind;
 use std::alloc::{AllocError, Global};
 
 /// All subjects: those of each format by their numbers, and then the lines without a number.
-pub const SUBJECTS: [Subject; 44] = [
+pub const SUBJECTS: [Subject; 45] = [
     Subject::Sm(SmFaultKind::NoJobs),
     Subject::Sm(SmFaultKind::NoRenewable),
     Subject::Sm(SmFaultKind::ManyProjects),
@@ -40,6 +40,7 @@ pub const SUBJECTS: [Subject; 44] = [
     Subject::Plan(TextFaultKind::Range),
     Subject::Plan(TextFaultKind::Memory),
     Subject::Names,
+    Subject::NamesCount,
     Subject::Line(Line::TooLate),
     Subject::Line(Line::Due),
     Subject::Line(Line::NoRoom),

@@ -29,6 +29,15 @@ const NAMES: Topic = Topic {
     cure: "Save the names as UTF-8, one a line: first the jobs, then the resources.",
 };
 
+/// What is said of names of another number than there are jobs and resources.
+const NAMES_COUNT: Topic = Topic {
+    short: "there are too few names, or too many",
+    meaning: "The file of --names has neither no line nor a line for each job and each resource.",
+    command: "printf 'Start\\nDig\\n' | racp show examples/a.sm examples/a4.toml examples/a4.plan --names -",
+    file: "",
+    cure: "Give one name a line: first the jobs, in the order of their numbers, then the resources. A line may be empty.",
+};
+
 /// What is said of a subject.
 pub fn topic_of(subject: Subject) -> &'static Topic {
     match subject {
@@ -36,6 +45,7 @@ pub fn topic_of(subject: Subject) -> &'static Topic {
         Subject::Order(fault) => order_topic(fault),
         Subject::Plan(kind) => plan_topic(kind),
         Subject::Names => &NAMES,
+        Subject::NamesCount => &NAMES_COUNT,
         Subject::Line(line) => line_topic(line),
     }
 }

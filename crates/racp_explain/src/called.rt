@@ -1,0 +1,80 @@
+//! What is wrong with the texts of a plan that is shown.
+
+use crate::cause::plan_cause;
+use crate::finding::{push_more, push_short};
+use crate::input::Input;
+use crate::subject::Subject;
+use racp_fault_words::THERE;
+use racp_model::Network;
+use racp_sm::read_sm;
+use std::alloc::{AllocError, Global};
+
+/// What is wrong with the texts of a network, an order, a plan and names, in lines that begin with `racp: `; nothing if
+/// the plan is right, and there are no names or one for each job and resource.
+///
+/// # Errors
+///
+/// Memory was refused.
+pub fn shown_cause(
+    alloc: Global,
+    net: &Input<'_>,
+    order: &Input<'_>,
+    plan: &Input<'_>,
+    names: &Input<'_>,
+) -> Result<String, AllocError> {
+    let text = plan_cause(alloc, net, order, plan)?;
+    if !text.is_empty() {
+        return Ok(text);
+    }
+    match read_sm(alloc, net.bytes) {
+        Ok(network) => of_names(alloc, &network, names),
+        Err(_) => Ok(text),
+    }
+}
+
+/// What is wrong with names for a network.
+fn of_names(alloc: Global, net: &Network, names: &Input<'_>) -> Result<String, AllocError> {
+    let mut text = String::new(alloc);
+    push_names(&mut text, net, names)?;
+    Ok(text)
+}
+
+/// Adds what is wrong with names for a network.
+fn push_names(text: &mut String, net: &Network, names: &Input<'_>) -> Result<(), AllocError> {
+    match std::str::from_utf8(names.bytes) {
+        Ok(lines) => push_count(text, net, names.name, lines.lines().count()),
+        Err(_) => push_no_utf8(text, names.name),
+    }
+}
+
+/// Adds that names are not UTF-8.
+fn push_no_utf8(text: &mut String, name: &str) -> Result<(), AllocError> {
+    write!(text, "racp: {name}: names 1 NotUtf8")?;
+    push_short(text, Subject::Names)?;
+    write!(
+        text,
+        "names in UTF-8, one a line{THERE}bytes that are not UTF-8"
+    )?;
+    push_more(text, Subject::Names)
+}
+
+/// Adds how many names there are, if there is neither none nor one for each job and resource.
+fn push_count(
+    text: &mut String,
+    net: &Network,
+    name: &str,
+    lines: usize,
+) -> Result<(), AllocError> {
+    let (jobs, resources) = (net.job_count(), net.resource_count());
+    let wanted = jobs.saturating_add(resources);
+    if lines == 0 || lines == wanted {
+        return Ok(());
+    }
+    write!(text, "racp: {name}: names 2 Count")?;
+    push_short(text, Subject::NamesCount)?;
+    write!(
+        text,
+        "as many lines as {jobs} jobs and {resources} resources need: {wanted}{THERE}so many lines: {lines}"
+    )?;
+    push_more(text, Subject::NamesCount)
+}
