@@ -9,13 +9,14 @@ _racp() {
         return
     fi
     case $command in
-        cpm) options="--explain" ;;
-        plan) options="--workers --turns --stats --memory --time-limit --progress --explain" ;;
-        check) options="--explain" ;;
-        verify) options="--time-limit --explain" ;;
-        show) options="--names --width --ascii --svg --json --csv" ;;
-        curve) options="--workers --turns --memory --svg" ;;
-        order) options="--factor --deadline --prices --owned --ceiling" ;;
+        cpm) options="--explain --quiet" ;;
+        plan) options="--workers --turns --stats --memory --time-limit --progress --best --explain --quiet" ;;
+        prove) options="--explain --quiet" ;;
+        check) options="--explain --quiet" ;;
+        verify) options="--time-limit --explain --quiet" ;;
+        show) options="--names --width --ascii --svg --json --csv --explain --quiet" ;;
+        curve) options="--workers --turns --memory --time-limit --svg --explain --quiet" ;;
+        order) options="--factor --deadline --prices --owned --ceiling --explain --quiet" ;;
         explain)
             mapfile -t COMPREPLY < <(compgen -W "sm order plan names impossible fault --help" -- "$word")
             return

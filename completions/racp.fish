@@ -20,7 +20,7 @@ complete -c racp -n "__fish_seen_subcommand_from verify" -l time-limit -x -d sec
 complete -c racp -n "__fish_seen_subcommand_from verify" -l explain -d "say what is wrong"
 complete -c racp -n "__fish_seen_subcommand_from plan" -l explain -d "say what is wrong"
 complete -c racp -n "__fish_seen_subcommand_from plan" -l workers -x -d "how many workers"
-complete -c racp -n "__fish_seen_subcommand_from plan" -l turns -x -d "how many pieces"
+complete -c racp -n "__fish_seen_subcommand_from plan" -l turns -x -d "how many turns"
 complete -c racp -n "__fish_seen_subcommand_from plan" -l stats -d "tell the work"
 complete -c racp -n "__fish_seen_subcommand_from plan" -l memory -x -d "mebibytes for records"
 complete -c racp -n "__fish_seen_subcommand_from plan" -l time-limit -x -d seconds
@@ -32,7 +32,7 @@ complete -c racp -n "__fish_seen_subcommand_from show" -l svg -d "a picture"
 complete -c racp -n "__fish_seen_subcommand_from show" -l json -d JSON
 complete -c racp -n "__fish_seen_subcommand_from show" -l csv -d CSV
 complete -c racp -n "__fish_seen_subcommand_from curve" -l workers -x -d "how many workers"
-complete -c racp -n "__fish_seen_subcommand_from curve" -l turns -x -d "how many pieces"
+complete -c racp -n "__fish_seen_subcommand_from curve" -l turns -x -d "how many turns"
 complete -c racp -n "__fish_seen_subcommand_from curve" -l memory -x -d "mebibytes for records"
 complete -c racp -n "__fish_seen_subcommand_from curve" -l svg -d "a picture"
 complete -c racp -n "__fish_seen_subcommand_from order" -l factor -x -d "deadline by the critical length"
@@ -40,3 +40,17 @@ complete -c racp -n "__fish_seen_subcommand_from order" -l deadline -x -d deadli
 complete -c racp -n "__fish_seen_subcommand_from order" -l prices -x -d prices
 complete -c racp -n "__fish_seen_subcommand_from order" -l owned -x -d "owned units"
 complete -c racp -n "__fish_seen_subcommand_from order" -l ceiling -x -d "most units"
+complete -c racp -n "__fish_seen_subcommand_from prove" -l explain -d "say what is wrong"
+complete -c racp -n "__fish_seen_subcommand_from show" -l explain -d "say what is wrong"
+complete -c racp -n "__fish_seen_subcommand_from curve" -l explain -d "say what is wrong"
+complete -c racp -n "__fish_seen_subcommand_from order" -l explain -d "say what is wrong"
+complete -c racp -n "__fish_seen_subcommand_from cpm" -l quiet -d "say nothing of what is wrong"
+complete -c racp -n "__fish_seen_subcommand_from plan" -l quiet -d "say nothing of what is wrong"
+complete -c racp -n "__fish_seen_subcommand_from prove" -l quiet -d "say nothing of what is wrong"
+complete -c racp -n "__fish_seen_subcommand_from check" -l quiet -d "say nothing of what is wrong"
+complete -c racp -n "__fish_seen_subcommand_from verify" -l quiet -d "say nothing of what is wrong"
+complete -c racp -n "__fish_seen_subcommand_from show" -l quiet -d "say nothing of what is wrong"
+complete -c racp -n "__fish_seen_subcommand_from curve" -l quiet -d "say nothing of what is wrong"
+complete -c racp -n "__fish_seen_subcommand_from order" -l quiet -d "say nothing of what is wrong"
+complete -c racp -n "__fish_seen_subcommand_from plan" -l best -r -d "file of the best plan known"
+complete -c racp -n "__fish_seen_subcommand_from curve" -l time-limit -x -d seconds

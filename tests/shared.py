@@ -22,6 +22,9 @@ START = pathlib.Path(NAMED).resolve() if NAMED else ROOT / "racp"
 PROGRAM = START if NAMED else ROOT / "out" / "racp"
 RUNS_AT_ONCE = 4
 
+# The commands that tell on standard error what is wrong with the files that they read.
+TELLING = ["cpm", "plan", "prove", "check", "verify", "show", "curve", "order"]
+
 # What a run of the program gives, or has to give.
 Run = collections.namedtuple("Run", "status output error")
 
@@ -48,10 +51,17 @@ def is_ready():
         return False
 
 
+def quiet(words):
+    """The words of a command, with `--quiet` if the command reads files and the words do not ask for more."""
+    if words and words[0] in TELLING and not {"--explain", "--quiet", "--help"} & set(words):
+        return (words[0], "--quiet", *words[1:])
+    return words
+
+
 def command(*words, seconds=10, within=()):
     """The command that runs the program with these words, and ends it if it takes longer; the words `within` stand before the
-    program, as those of a command that runs it."""
-    return ["timeout", str(seconds), *within, PROGRAM, *words]
+    program, as those of a command that runs it. What is wrong with files is not told, unless the words ask for it."""
+    return ["timeout", str(seconds), *within, PROGRAM, *quiet(words)]
 
 
 def run(*words, text=b"", seconds=10, within=()):

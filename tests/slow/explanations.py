@@ -26,7 +26,9 @@ NAMED = [
     (["Memory"], ["sm 15 Memory", "order 7 Memory", "plan 3 Memory"]), (["memory"], ["memory"]),
     (["impossible"], ["impossible critical", "impossible due", "impossible ceiling"]),
     (["ceiling"], ["impossible ceiling", "fault ceiling"]), (["too", "long"], ["too long"]), (["unproved"], ["unproved"]),
-    (["names", "1"], ["names 1 NotUtf8"]), (["plan"], ["plan 1 Syntax", "plan 2 Range", "plan 3 Memory"]),
+    (["names", "1"], ["names 1 NotUtf8"]), (["Count"], ["order 6 Count", "names 2 Count"]),
+    (["impossible critical 3 deadline 2"], ["impossible critical"]), (["read fault"], ["read fault"]), (["stopped 1 2"], ["stopped"]),
+    (["refused sm 12 TooFew line 25"], ["sm 12 TooFew"]), (["plan"], ["plan 1 Syntax", "plan 2 Range", "plan 3 Memory"]),
     (["sm", "16"], []), (["sm", "0"], []), (["order", "TooFew"], []), (["toofew"], []), (["12"], []), ([""], []), (["sm", ""], []),
     (["late", "fault"], []), (["sm", "+12"], []), (["sm", "18446744073709551628"], []),
 ]
@@ -59,6 +61,8 @@ TOLD = [
     ([with_line(A_SM, 23, "   5        1          1           1")], ["NET: sm 14 Cycle", "wait for each other: 1 "]),
     ([with_line(with_line(A_SM, 23, "   5        1          1           4"), 1, "PRECEDENCE as agreed")], ["NET: sm 14 Cycle", "wait for each other: 4 5"]),
     ([A_ORDER], ["NET: sm 1 NoJobs", "looks like an order; the network comes first"]),
+    (["task,weeks,after,Masons\nDig,3,,2\n"], ["NET: sm 1 NoJobs", "looks like a table of tasks"]),
+    (["32 4\n12 13\n"], ["NET: sm 1 NoJobs", "looks like Patterson's format"]),
     ([A_ORDER, A_ORDER], ["NET: sm 1 NoJobs", "looks like an order; the network comes first"]),
     ([A_SM, "deadline = 4\nprice = [10]\n"], ["ORDER: order 2 Missing", "wanted: the key prices", "the key 'price'"]),
     ([A_SM, "prices = [10]\n"], ["ORDER: order 2 Missing", "wanted: the key deadline", "no such key"]),
@@ -99,5 +103,5 @@ def faults():
     for title, name in [("The network text", "sm"), ("The order", "order"), ("The plan", "plan")]:
         part = re.split(r"(?m)^## ", text.partition(f"\n## {title}\n")[2])[0].partition("### Faults")[2]
         found += [f"{name} {number} {fault}" for number, fault in re.findall(r"(?m)^\| ([0-9]+) `([A-Za-z]+)`", part)]
-    found += re.findall(r"`refused (names 1 NotUtf8)`", text)[:1]
+    found += sorted(set(re.findall(r"`refused (names [0-9] \w+)`", text)))
     return found

@@ -17,7 +17,7 @@ use thiserror::Error as ErrorText;
 /// The status after a fault of the command line.
 const WORDS_REFUSED: u8 = 2;
 
-/// What is wrong with the options for an order, or the words for a fault.
+/// What is wrong with the options for an order or for a time, or the words for a fault.
 #[derive(Debug, Clone, Copy, Drop, ErrorText)]
 pub(crate) enum OptionFault {
     /// The deadline is told in no way, or in two.
@@ -27,11 +27,14 @@ pub(crate) enum OptionFault {
     #[error("--factor has to be a decimal such as 1.2")]
     Factor,
     /// The deadline is no whole number.
-    #[error("--deadline has to be a whole number such as 49")]
+    #[error("--deadline has to be a whole number from 0 to 10,000,000")]
     Deadline,
     /// Prices, owned units or ceilings are no whole numbers.
     #[error("--prices, --owned and --ceiling have to be whole numbers such as 3,5")]
     Numbers,
+    /// The limit of time is no number of seconds, or out of its range.
+    #[error("--time-limit has to be a number of seconds such as 60 or 0.5, above 0 and up to 1,000,000,000")]
+    TimeLimit,
     /// No fault has these words.
     #[error("no fault is named by these words; racp explain lists them all")]
     Topic,
@@ -43,7 +46,7 @@ pub(crate) enum Failure {
     Words(Error),
     /// A word is not UTF-8.
     NotText,
-    /// The options for an order are refused, or the words for a fault.
+    /// The options for an order or for a time are refused, or the words for a fault.
     Option(OptionFault),
     /// A file or a stream failed, or memory ran out.
     Stream(StreamFault),

@@ -2,6 +2,7 @@
 
 use crate::failure::Failure;
 use racp_cli::StreamFault;
+use racp_explain::Input;
 use racp_text::MOST_TEXT_BYTES;
 use std::alloc::Global;
 use std::fmt::Display;
@@ -9,16 +10,36 @@ use std::fs::File;
 use std::io::{ErrorKind, Read};
 use std::rt::Files;
 
-/// The file with this path, for reading; or which it is, and what the system says of it.
+/// How standard input is told of.
+pub(crate) const STANDARD_INPUT: &str = "standard input";
+
+/// The path by which a file is opened that is standard input.
+const OF_STANDARD_INPUT: &str = "/dev/stdin";
+
+/// The file with this path, for reading, or standard input for `-`; or which it is, and what the system says of it.
 pub(crate) fn opened<R: Files + AllocGlobal>(rt: &R, path: &str) -> Result<R::File, Failure> {
-    match File::open(rt, path) {
+    let named = if path == "-" { OF_STANDARD_INPUT } else { path };
+    match File::open(rt, named) {
         Ok(file) => Ok(file),
-        Err(error) => Err(told(rt.alloc(), StreamFault::Read, path, &error)),
+        Err(error) => Err(told(rt.alloc(), StreamFault::Read, shown(path), &error)),
     }
 }
 
-/// All bytes of an input with this name; or which it is, and why they cannot be read.
-pub(crate) fn whole<I: Read>(alloc: Global, input: &mut I, name: &str) -> Result<Vec<u8>, Failure> {
+/// A text with this path.
+pub(crate) fn text<'a>(path: &'a str, bytes: &'a [u8]) -> Input<'a> {
+    Input {
+        name: shown(path),
+        bytes,
+    }
+}
+
+/// How a file with this path is told of.
+fn shown(path: &str) -> &str {
+    if path == "-" { STANDARD_INPUT } else { path }
+}
+
+/// All bytes of an input with this path; or which it is, and why they cannot be read.
+pub(crate) fn whole<I: Read>(alloc: Global, input: &mut I, path: &str) -> Result<Vec<u8>, Failure> {
     let mut bytes = Vec::new(alloc);
     match input
         .by_ref()
@@ -29,13 +50,13 @@ pub(crate) fn whole<I: Read>(alloc: Global, input: &mut I, name: &str) -> Result
         Ok(_) => Err(told(
             alloc,
             StreamFault::TooLong,
-            name,
+            shown(path),
             &"more than 16,777,216 bytes",
         )),
         Err(error) if error.kind() == ErrorKind::OutOfMemory => {
             Err(Failure::Stream(StreamFault::Memory))
         }
-        Err(error) => Err(told(alloc, StreamFault::Read, name, &error)),
+        Err(error) => Err(told(alloc, StreamFault::Read, shown(path), &error)),
     }
 }
 

@@ -1,11 +1,12 @@
-//! When a command is stopped by the clock, and planning told of until then.
+//! When a command is stopped by the clock or by the user, and planning told of until then.
 
+use crate::known::Known;
 use crate::progress::Progress;
 use racp_search::Stop;
 use std::time::{Clock, Duration, Instant};
 
 /// Stops a command when so much time has passed since it was made; without a limit it never does. If there is a limit
-/// and the clock cannot be read, it stops at once. Each time that it is asked counts as a node of the search, of which
+/// and the clock cannot be read, it stops at once. It also stops if the user asks so. Each time that it is asked counts as a node of the search, of which
 /// it tells on standard error if that is wanted.
 #[derive(Drop)]
 pub(crate) struct Limit<C: Clock + Eprint + Drop> {
@@ -13,21 +14,28 @@ pub(crate) struct Limit<C: Clock + Eprint + Drop> {
     limit: Option<Duration>,
     begun: Option<Instant>,
     progress: Option<Progress>,
+    known: Known,
 }
 
 impl<C: Clock + Eprint + Drop> Limit<C> {
-    /// A limit of this many seconds from now on, or none, which counts and tells as this says, or does not.
-    pub(crate) fn of(host: C, seconds: Option<u64>, progress: Option<Progress>) -> Self {
+    /// A limit of this time from now on, or none, which counts and tells as this says, or does not.
+    pub(crate) fn of(host: C, limit: Option<Duration>, progress: Option<Progress>) -> Self {
         let begun = match Instant::now(&host) {
             Ok(now) => Some(now),
             Err(_) => None,
         };
         Limit {
             host,
-            limit: seconds.map(Duration::from_secs),
+            limit,
             begun,
             progress,
+            known: Known::new(),
         }
+    }
+
+    /// What is known of the plan.
+    pub(crate) fn known(&self) -> &Known {
+        &self.known
     }
 
     /// What counts the nodes and tells of planning, if that is wanted.
@@ -61,13 +69,16 @@ impl<C: Clock + Eprint + Drop> Stop for Limit<C> {
     const QUIET: bool = false;
 
     fn asked(&self) -> bool {
+        if self.known.is_asked() {
+            return true;
+        }
         if self.limit.is_none() && self.progress.is_none() {
             return false;
         }
         let passed = self.passed();
         if let (Some(progress), Some(passed)) = (&self.progress, passed) {
             if progress.count(passed) {
-                progress.tell(&self.host, passed);
+                progress.tell(&self.host, passed, &self.known);
             }
         }
         self.is_over(passed)

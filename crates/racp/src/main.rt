@@ -23,9 +23,9 @@
 //! racp plan a.sm                     nothing; standard error has what is wrong    status 2
 //! ```
 //!
-//! With `--explain`, the inputs of `cpm`, `plan`, `check` and `verify` are read whole before the same functions of
-//! racp_cli are handed their bytes, so that racp_explain can tell on standard error what is wrong with them; without it
-//! no input is read twice.
+//! Each input is read whole before its bytes are handed to racp_cli, so that racp_explain can tell on standard error what
+//! is wrong with them: in one line, in several with `--explain`, and not at all with `--quiet`. A file with the path `-` is
+//! standard input.
 //!
 //! Files are opened in the order of the words, before the first is read. A file that cannot be opened counts as a read
 //! that failed. Answers go to standard output, and so do help and the version. Words that are refused, a file or a
@@ -35,19 +35,34 @@
 //! Proved: `failure::report` answers 2, 6 or 7 by the reason why no answer is written, and 0 or 7 after help and the
 //! version; `run::status` answers a status that some answer or some reason has. Not proved, and tested over the built
 //! program: that each command reads its own files in their order, that the bytes of files and of standard input are
-//! those that racp_cli is handed, which stream each text goes to, which status goes with which words, and that
-//! `--explain` changes neither standard output nor the status. Trusted: the toolchain, the C library and the machine.
+//! those that racp_cli is handed, which stream each text goes to, which status goes with which words, and that what is told
+//! changes neither standard output nor the status. Trusted: the toolchain, the C library and the machine.
 #![tactic(auto)]
 
-mod explained;
+mod asks;
+mod best;
+mod charting;
+mod checking;
+mod costing;
+mod early;
 mod failure;
 mod inputs;
+mod known;
 mod limit;
+mod listener;
+mod making;
 mod memory;
+mod ordering;
+mod planning;
 mod progress;
+mod proving;
 mod run;
+mod seconds;
 mod shown;
+mod telling;
+mod terms;
 mod tools;
+mod verifying;
 
 use std::io::IsTerminal;
 use std::process::ExitCode;

@@ -1,11 +1,9 @@
 //! What is told of planning while it goes on.
 
-use crate::memory::mebibytes_used;
-use racp_lexfix::Observer;
+use crate::known::Known;
 use std::alloc::{AllocError, Global};
 use std::fmt;
 use std::fmt::{Display, Formatter};
-use std::rt::Files;
 use std::sync::atomic::{AtomicBool, AtomicU64, Ordering};
 use std::time::Duration;
 
@@ -30,8 +28,8 @@ pub(crate) struct Progress {
 }
 
 /// How far planning has come: the deadline, the floor of each resource, by place from 0, what the plan costs at least, how
-/// many conflicts a search that learns has met and how many clauses it keeps, and how many mebibytes of memory were used
-/// when that was last told.
+/// many conflicts a search that learns has met and how many clauses it keeps, and how many mebibytes of memory were used when
+/// that was last told.
 #[derive(Drop)]
 struct Told {
     deadline: AtomicU64,
@@ -104,7 +102,7 @@ impl Progress {
     }
 
     /// Tells the line that was due when so much time had passed. If that cannot be written, nothing is told.
-    pub(crate) fn tell<E: Eprint>(&self, errors: &E, passed: Duration) {
+    pub(crate) fn tell<E: Eprint>(&self, errors: &E, passed: Duration, known: &Known) {
         let seconds = passed.as_secs();
         let is_begun = self.is_begun.swap(true, Ordering::SeqCst);
         let place = if self.on_terminal && is_begun {
@@ -118,7 +116,7 @@ impl Progress {
         let clauses = told.clauses.load(Ordering::SeqCst);
         let memory = told.memory.load(Ordering::SeqCst);
         let _ = errors.eprintln(format_args!(
-            "{place}progress seconds {seconds} {told} nodes {nodes} conflicts {conflicts} clauses {clauses} memory {memory}"
+            "{place}progress seconds {seconds} {told} nodes {nodes} conflicts {conflicts} clauses {clauses} memory {memory} {known}"
         ));
     }
 
@@ -132,8 +130,13 @@ impl Progress {
 }
 
 impl Progress {
+    /// Notes the deadline.
+    pub(crate) fn note_deadline(&self, deadline: u32) {
+        self.told.deadline.store(deadline as u64, Ordering::SeqCst);
+    }
+
     /// Notes the floors that planning has come to.
-    fn note_floors(&self, floors: &[u32]) {
+    pub(crate) fn note_floors(&self, floors: &[u32]) {
         for (told, floor) in self.told.floors.iter().zip(floors) {
             told.store(*floor as u64, Ordering::SeqCst);
         }
@@ -142,62 +145,18 @@ impl Progress {
     }
 
     /// Notes what the plan costs at least.
-    fn note_cost(&self, cost: u64) {
+    pub(crate) fn note_cost(&self, cost: u64) {
         let _ = self.told.cost.fetch_max(cost, Ordering::SeqCst);
     }
 
     /// Notes how far a search that learns has come.
-    fn note_search(&self, conflicts: u64, clauses: u64) {
+    pub(crate) fn note_search(&self, conflicts: u64, clauses: u64) {
         self.told.conflicts.store(conflicts, Ordering::SeqCst);
         self.told.clauses.store(clauses, Ordering::SeqCst);
     }
 
     /// Notes how many mebibytes of memory are used.
-    fn note_memory(&self, memory: u64) {
+    pub(crate) fn note_memory(&self, memory: u64) {
         self.told.memory.store(memory, Ordering::SeqCst);
-    }
-}
-
-/// Hears how far planning has come, and notes it, with the memory that is used then, if that is wanted.
-#[derive(Drop)]
-pub(crate) struct Listener<'a, F: Files + Drop> {
-    host: F,
-    progress: Option<&'a Progress>,
-}
-
-impl<'a, F: Files + Drop> Listener<'a, F> {
-    /// Notes it there.
-    pub(crate) fn of(host: F, progress: Option<&'a Progress>) -> Self {
-        Listener { host, progress }
-    }
-}
-
-impl<'a, F: Files + Drop> Observer for Listener<'a, F> {
-    fn hear_deadline(&self, deadline: u32) {
-        if let Some(progress) = self.progress {
-            let deadline = deadline as u64;
-            progress.told.deadline.store(deadline, Ordering::SeqCst);
-        }
-    }
-
-    fn hear_floors(&self, floors: &[u32]) {
-        if let Some(progress) = self.progress {
-            progress.note_floors(floors);
-            progress.note_memory(mebibytes_used(&self.host));
-        }
-    }
-
-    fn hear_cost(&self, cost: u64) {
-        if let Some(progress) = self.progress {
-            progress.note_cost(cost);
-            progress.note_memory(mebibytes_used(&self.host));
-        }
-    }
-
-    fn hear_search(&self, conflicts: u64, clauses: u64) {
-        if let Some(progress) = self.progress {
-            progress.note_search(conflicts, clauses);
-            progress.note_memory(mebibytes_used(&self.host));
-        }
     }
 }

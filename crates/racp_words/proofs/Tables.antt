@@ -4,8 +4,8 @@ use Rattle.std.proofs.Math.ListN.{get_or, take}
 use Rattle.std.proofs.Math.Seq.{take-suc}
 use Rattle.clap.specs.Words.{App, with_rule, with_subcommand}
 use Rattle.racp_words.specs.Commands.{app_of_line, rule_of_word, with_lines, with_words}
-use Rattle.racp_words.specs.declared.commands.Line.{Line}
-use Rattle.racp_words.specs.declared.commands.Word.{Word}
+use Rattle.racp_words.specs.declared.table.Line.{Line}
+use Rattle.racp_words.specs.declared.table.Word.{Word}
 
 with_last : (app : App) (words : List Word) (word : Word) → with_words app (words ++ word ∷ []) ≡ with_rule (with_words app words) (rule_of_word word)
 with_last app [] word = refl

@@ -8,7 +8,7 @@ use Rattle.clap.proofs.ValueTestLemmas.{Accepts-accepts}
 use Rattle.clap.specs.declared.builder.value_parser.ValueParser.TheVariants.{Unsigned}
 use Rattle.clap.specs.Words.{IsUnsignedIn, Row, Text, fault_of, first_of, subcommand_of}
 use Rattle.clap.proofs.OnLiterals.{clap_on_literals}
-use Rattle.racp_words.specs.CommandLine.{IsCpmLine, AsksForCpm, IsPlanLine, AsksForPlan, IsWorkersLine, AsksForWorkers, IsOfWorkers, IsLimitOf, IsProveLine, AsksForProve, IsCheckLine, AsksForCheck, IsVerifyLine, AsksForVerify, IsCrew, IsPlain, IsRequested, has_crew_option, racp}
+use Rattle.racp_words.specs.CommandLine.{IsCpmLine, AsksForCpm, IsPlanLine, AsksForPlan, IsWorkersLine, AsksForWorkers, IsOfWorkers, IsProveLine, AsksForProve, IsCheckLine, AsksForCheck, IsVerifyLine, AsksForVerify, IsCrew, IsPlain, IsRequested, has_crew_option, racp}
 use Rattle.racp_words.specs.Rules.{IsNumberOf, number_in, is_set, path_at}
 use Rattle.racp_words.specs.Tools.{IsToolOf}
 use Rattle.clap.specs.Kinds.{Kinds, or_else}
@@ -149,7 +149,7 @@ unfolding racp clap_on_literals with_two_paths
 plan_paths name a b net order p q = (rw (p, p, q, q) refl, rw (p, p, q, q) refl)
 
 -- the command that is named, and what `plan` reads of its words
-with_crew : Option (Text × List Row) → Option (Text × (Text × (Text × (Option Text × (Option Text × (Option Text × (Option Text × (Bool × Bool))))))))
+with_crew : Option (Text × List Row) → Option (Text × (Text × (Text × (Option Text × (Option Text × (Option Text × (Option Text × (Bool × (Bool × Option Text)))))))))
 with_crew = option_map (λ command. (
   command.0,
   (
@@ -158,7 +158,7 @@ with_crew = option_map (λ command. (
       path_at (codes "ORDER") command.1,
       (
         first_of (codes "memory") command.1,
-        (first_of (codes "workers") command.1, (first_of (codes "turns") command.1, (first_of (codes "time-limit") command.1, (is_set (codes "stats") command.1, is_set (codes "progress") command.1)))),
+        (first_of (codes "workers") command.1, (first_of (codes "turns") command.1, (first_of (codes "time-limit") command.1, (is_set (codes "stats") command.1, (is_set (codes "progress") command.1, first_of (codes "best") command.1))))),
       ),
     ),
   ),
@@ -175,7 +175,7 @@ workers_fault name a b d net order digits p q r = rw (p, p, q, q, r, r) refl
 
 workers_words : (name : Text) (a b d : ℕ) (net order digits : Text) → (a == 45) ≡ false → (b == 45) ≡ false → (d == 45) ≡ false →
     with_crew (subcommand_of racp (name ∷ codes "plan" ∷ (a ∷ net) ∷ (b ∷ order) ∷ codes "--workers" ∷ (d ∷ digits) ∷ [])) ≡
-    Some (codes "plan", (a ∷ net, (b ∷ order, (None, (Some (d ∷ digits), (None, (None, (false, false))))))))
+    Some (codes "plan", (a ∷ net, (b ∷ order, (None, (Some (d ∷ digits), (None, (None, (false, (false, None)))))))))
 unfolding racp clap_on_literals with_crew
 workers_words name a b d net order digits p q r = rw (p, p, q, q, r, r) refl
 
@@ -224,21 +224,22 @@ some_number in_range = omega (arith, in_range.0.0)
 
 -- where `--workers` alone is given, so many workers are asked for
 workers_crew : (words : List Row) (crew : Option CrewOptions) (number : Text) → first_of (codes "workers") words ≡ Some number → first_of (codes "turns") words ≡ None →
-    first_of (codes "time-limit") words ≡ None → is_set (codes "stats") words ≡ false → is_set (codes "progress") words ≡ false → IsUnsignedIn 1 64 number → IsCrew words crew → IsOfWorkers (number_in number) crew
-workers_crew words None number workers turns limit stats progress in_range asked =
-    let given : has_crew_option words ≡ true = ap (λ (w : Option Text). is_some w || (is_some (first_of (codes "turns") words) || (is_set (codes "stats") words || (is_some (first_of (codes "time-limit") words) || is_set (codes "progress") words)))) workers in
+    first_of (codes "time-limit") words ≡ None → is_set (codes "stats") words ≡ false → is_set (codes "progress") words ≡ false → first_of (codes "best") words ≡ None → IsUnsignedIn 1 64 number → IsCrew words crew → IsOfWorkers (number_in number) crew
+workers_crew words None number workers turns limit stats progress best in_range asked =
+    let given : has_crew_option words ≡ true = ap (λ (w : Option Text). is_some w || (is_some (first_of (codes "turns") words) || (is_set (codes "stats") words || (is_some (first_of (codes "time-limit") words) || (is_set (codes "progress") words || is_some (first_of (codes "best") words)))))) workers in
     absurd (search (rules, given, asked))
-workers_crew words (Some crew) number workers turns limit stats progress in_range asked = (
+workers_crew words (Some crew) number workers turns limit stats progress best in_range asked = (
   subst (λ (w : Option Text). IsNumberOf 64 1 w crew.workers) workers asked.1 in_range,
   subst (λ (w : Option Text). IsNumberOf 1000000000000 1000000000000 w crew.turns) turns asked.2,
-  subst (λ (w : Option Text). IsLimitOf w crew.time_limit) limit asked.3,
+  asked.3 ∙ limit,
   asked.4 ∙ stats,
   asked.5 ∙ progress,
+  asked.6 ∙ best,
 )
 
 -- `plan` asks for the files with these paths, and for so many workers
 workers_asked : (command : Option (Text × List Row)) (net order number : Text) (request : Request) → IsUnsignedIn 1 64 number →
-    with_crew command ≡ Some (codes "plan", (net, (order, (None, (Some number, (None, (None, (false, false)))))))) → IsRequested command request → AsksForWorkers net order (number_in number) request
+    with_crew command ≡ Some (codes "plan", (net, (order, (None, (Some number, (None, (None, (false, (false, None))))))))) → IsRequested command request → AsksForWorkers net order (number_in number) request
 unfolding with_crew
 workers_asked None net order number request in_range e asked = absurd (search rules)
 workers_asked (Some command) net order number (Cpm network) in_range e asked = absurd (asked.0 (ap (λ c. c.0) (same_Some _ _ e)))
@@ -248,7 +249,7 @@ workers_asked (Some command) net order number (Plan files memory crew) in_range 
       asked.1.order ∙ ap (λ c. c.1.1.0) same,
       subst (λ (w : Option Text). IsNumberOf 1048576 1024 w memory.mebibytes) (ap (λ c. c.1.1.1.0) same) asked.2,
       workers_crew command.1 crew number (ap (λ c. c.1.1.1.1.0) same) (ap (λ c. c.1.1.1.1.1.0) same) (ap (λ c. c.1.1.1.1.1.1.0) same)
-          (ap (λ c. c.1.1.1.1.1.1.1.0) same) (ap (λ c. c.1.1.1.1.1.1.1.1) same) in_range asked.3,
+          (ap (λ c. c.1.1.1.1.1.1.1.0) same) (ap (λ c. c.1.1.1.1.1.1.1.1.0) same) (ap (λ c. c.1.1.1.1.1.1.1.1.1) same) in_range asked.3,
     )
 workers_asked (Some command) net order number (Prove files) in_range e asked =
     let same : codes "plan" ≡ codes "prove" = sym (ap (λ c. c.0) (same_Some _ _ e)) ∙ asked.0 in
@@ -354,7 +355,7 @@ verify_asked (Some command) net order plan proof (Verify files limit) e asked =
       asked.1.order ∙ ap (λ c. c.1.1.0) same,
       asked.1.plan ∙ ap (λ c. c.1.1.1.0) same,
       asked.1.proof ∙ ap (λ c. c.1.1.1.1.0) same,
-      subst (λ (w : Option Text). IsLimitOf w limit) (ap (λ c. c.1.1.1.1.1) same) asked.2,
+      asked.2 ∙ ap (λ c. c.1.1.1.1.1) same,
     )
 verify_asked (Some command) net order plan proof (Tool tool) e asked = absurd (no_tool_verify command tool (ap (λ c. c.0) (same_Some _ _ e)) asked)
 

@@ -1,9 +1,9 @@
 -- The words that the program takes, and what they ask for.
 use Rattle.std.specs.Prelude.{◌≡◌, ◌≢◌, ◌⊎◌, ◌||◌, Bool, ℕ, List, [], ◌∷◌, Option, Some, None, codes, false, true}
-use Rattle.std.specs.Prelude.{is_some}
+use Rattle.std.specs.Prelude.{if◌then◌else◌, is_some, option_map}
 use Rattle.clap.specs.Words.{App, IsUnsignedIn, Row, Text, first_of, new_app, new_rule, subcommand_of, with_rule}
 use Rattle.clap.specs.Words.{with_subcommand}
-use Rattle.racp_words.specs.Rules.{AreOrderFiles, ArePlanFiles, AreProofFiles, IsNumberOf, file_rule, flag_rule, is_set, number_in, number_rule, of_order, of_plan, of_workers}
+use Rattle.racp_words.specs.Rules.{AreOrderFiles, ArePlanFiles, AreProofFiles, IsNumberOf, file_rule, flag_rule, is_set, number_in, number_rule, of_order, of_plan, of_workers, telling, text_rule}
 use Rattle.racp_words.specs.Tools.{IsNoTool, IsToolOf, curve, explain, show, order as order_app}
 use Rattle.racp_words.specs.declared.request.CrewOptions.{CrewOptions}
 use Rattle.racp_words.specs.declared.request.Request.{Request}
@@ -11,39 +11,42 @@ use Rattle.racp_words.specs.declared.request.Request.TheVariants.{Cpm, Plan, Pro
 use Rattle.racp_words.specs.declared.request.Source.{Source}
 use Rattle.racp_words.specs.declared.request.Source.TheVariants.{StandardInput, File}
 use Rattle.racp_words.specs.declared.request.Task.{Task}
+use Rattle.racp_words.specs.declared.request.Telling.{Telling}
+use Rattle.racp_words.specs.declared.request.Telling.TheVariants.{Quiet, Line, Whole}
 
--- `cpm [NET] [--explain]`
+-- `cpm [NET] [--explain] [--quiet]`
 abbrev pub cpm : App
-cpm = with_rule (with_rule (new_app (codes "cpm")) (new_rule (codes "NET"))) (flag_rule (codes "explain"))
+cpm = telling (with_rule (new_app (codes "cpm")) (new_rule (codes "NET")))
 
--- `plan NET ORDER [--workers N] [--turns N]`
+-- `plan NET ORDER [-j N | --workers N] [--turns N]`
 abbrev pub plan_of_workers : App
 plan_of_workers = of_workers (codes "plan")
 
--- `plan NET ORDER [--workers N] [--turns N] [--stats] [--memory MIB]`
+-- `plan NET ORDER [-j N | --workers N] [--turns N] [--stats] [--memory MIB]`
 abbrev pub plan_within : App
 plan_within = with_rule (with_rule plan_of_workers (flag_rule (codes "stats"))) (number_rule (codes "memory") 1048576)
 
--- `plan NET ORDER [--workers N] [--turns N] [--stats] [--memory MIB] [--time-limit S] [--progress]`
+-- `plan NET ORDER [-j N | --workers N] [--turns N] [--stats] [--memory MIB] [--time-limit S] [--progress]`
 abbrev pub plan_timed : App
-plan_timed = with_rule (with_rule plan_within (number_rule (codes "time-limit") 1000000000)) (flag_rule (codes "progress"))
+plan_timed = with_rule (with_rule plan_within (text_rule (codes "time-limit"))) (flag_rule (codes "progress"))
 
--- `plan NET ORDER [--workers N] [--turns N] [--stats] [--memory MIB] [--time-limit S] [--progress] [--explain]`
+-- `plan NET ORDER [-j N | --workers N] [--turns N] [--stats] [--memory MIB] [--time-limit S] [--progress] [--best FILE]
+-- [--explain] [--quiet]`
 abbrev pub plan : App
-plan = with_rule plan_timed (flag_rule (codes "explain"))
+plan = telling (with_rule plan_timed (text_rule (codes "best")))
 
--- `check NET ORDER PLAN [--explain]`
+-- `prove NET ORDER [--explain] [--quiet]`
+abbrev pub prove : App
+prove = telling (of_order (codes "prove"))
+
+-- `check NET ORDER PLAN [--explain] [--quiet]`
 abbrev pub check : App
-check = with_rule (of_plan (codes "check")) (flag_rule (codes "explain"))
+check = telling (of_plan (codes "check"))
 
--- `verify NET ORDER PLAN PROOF [--time-limit S]`
-abbrev pub verify_timed : App
-verify_timed = with_rule (with_rule (of_plan (codes "verify")) (file_rule (codes "PROOF")))
-    (number_rule (codes "time-limit") 1000000000)
-
--- `verify NET ORDER PLAN PROOF [--time-limit S] [--explain]`
+-- `verify NET ORDER PLAN PROOF [--time-limit S] [--explain] [--quiet]`
 abbrev pub verify : App
-verify = with_rule verify_timed (flag_rule (codes "explain"))
+verify = telling (with_rule (with_rule (of_plan (codes "verify")) (file_rule (codes "PROOF")))
+    (text_rule (codes "time-limit")))
 
 -- a program that tells its version, in short and in long
 abbrev pub with_version : App → App
@@ -53,10 +56,9 @@ with_version a = record a { top = record a.top { has_version = true; has_long_ve
 abbrev pub racp_planning : App
 racp_planning = with_subcommand (with_subcommand (with_version (new_app (codes "racp"))) cpm.top) plan.top
 
--- `racp [.. | prove NET ORDER | check NET ORDER PLAN [OPTIONS] | verify NET ORDER PLAN PROOF [OPTIONS]]`
+-- `racp [.. | prove NET ORDER [OPTIONS] | check NET ORDER PLAN [OPTIONS] | verify NET ORDER PLAN PROOF [OPTIONS]]`
 abbrev pub racp_checking : App
-racp_checking = with_subcommand (with_subcommand (with_subcommand racp_planning (of_order (codes "prove")).top)
-    check.top) verify.top
+racp_checking = with_subcommand (with_subcommand (with_subcommand racp_planning prove.top) check.top) verify.top
 
 -- `racp [.. | show NET ORDER PLAN [OPTIONS] | curve NET ORDER [OPTIONS] | order NET OPTIONS]`
 abbrev pub racp_charting : App
@@ -77,13 +79,8 @@ has_crew_option words =
     is_some (first_of (codes "workers") words) ||
     (is_some (first_of (codes "turns") words) ||
     (is_set (codes "stats") words ||
-    (is_some (first_of (codes "time-limit") words) || is_set (codes "progress") words)))
-
--- The number of seconds is the one that the option's word writes, from 1 to 1,000,000,000 by the option's rule; without a
--- word there is no limit.
-abbrev pub IsLimitOf : Option Text → Option ℕ → Type 0
-IsLimitOf None limit = limit ≡ None
-IsLimitOf (Some word) limit = IsUnsignedIn 1 1000000000 word → limit ≡ Some (number_in word)
+    (is_some (first_of (codes "time-limit") words) ||
+    (is_set (codes "progress") words || is_some (first_of (codes "best") words)))))
 
 -- these workers are asked for; or none, and so one thread
 abbrev pub IsCrew : List Row → Option CrewOptions → Type 0
@@ -91,8 +88,9 @@ IsCrew words None = has_crew_option words ≡ false
 IsCrew words (Some crew) = (has_crew_option words ≡ true) ×
     IsNumberOf 64 1 (first_of (codes "workers") words) crew.workers ×
     IsNumberOf 1000000000000 1000000000000 (first_of (codes "turns") words) crew.turns ×
-    IsLimitOf (first_of (codes "time-limit") words) crew.time_limit ×
-    (crew.stats ≡ is_set (codes "stats") words) × (crew.progress ≡ is_set (codes "progress") words)
+    (option_map (λ word. word.now) crew.time_limit ≡ first_of (codes "time-limit") words) ×
+    (crew.stats ≡ is_set (codes "stats") words) × (crew.progress ≡ is_set (codes "progress") words) ×
+    (option_map (λ word. word.now) crew.best ≡ first_of (codes "best") words)
 
 -- the command that is named, with its words, asks for this; without a command, `cpm` of standard input is asked for
 abbrev pub IsRequested : Option (Text × List Row) → Request → Type 0
@@ -111,18 +109,24 @@ IsRequested (Some command) (Plan files memory crew) =
 IsRequested (Some command) (Prove files) = (command.0 ≡ codes "prove") × AreOrderFiles command.1 files
 IsRequested (Some command) (Check files) = (command.0 ≡ codes "check") × ArePlanFiles command.1 files
 IsRequested (Some command) (Verify files limit) =
-    (command.0 ≡ codes "verify") × AreProofFiles command.1 files × IsLimitOf (first_of (codes "time-limit") command.1) limit
+    (command.0 ≡ codes "verify") × AreProofFiles command.1 files ×
+    (option_map (λ word. word.now) limit ≡ first_of (codes "time-limit") command.1)
 IsRequested (Some command) (Tool tool) = IsToolOf command tool
 
--- faults are explained if the command that is named has the flag for it
-abbrev pub is_explained : Option (Text × List Row) → Bool
-is_explained None = false
-is_explained (Some command) = is_set (codes "explain") command.1
+-- nothing is told of faults with the flag `--quiet`, and else all with `--explain`, and one line without both
+abbrev pub telling_by : List Row → Telling
+telling_by words =
+    if is_set (codes "quiet") words then Quiet else (if is_set (codes "explain") words then Whole else Line)
+
+-- how much is told of faults by the command that is named
+abbrev pub telling_of : Option (Text × List Row) → Telling
+telling_of None = Line
+telling_of (Some command) = telling_by command.1
 
 -- the command that is named asks for this
 pub record IsTask (command : Option (Text × List Row)) (task : Task) : Type 0 where
   pub request : IsRequested command task.request
-  pub explains : task.explains ≡ is_explained command
+  pub telling : task.telling ≡ telling_of command
 
 -- the words ask for this
 abbrev pub AskFor : List Text → Task → Type 0
@@ -172,12 +176,12 @@ abbrev pub IsWorkersLine : List Text → Text → Text → Text → Type 0
 IsWorkersLine words net order number = (name : Text) × IsPath net × IsPath order × IsUnsignedIn 1 64 number ×
     (words ≡ name ∷ codes "plan" ∷ net ∷ order ∷ codes "--workers" ∷ number ∷ [])
 
--- this many workers, as many pieces as there may be, no limit of time, and nothing is told of them
+-- this many workers, as many turns as there may be, no limit of time, nothing is told of them, and no best plan is kept
 abbrev pub IsOfWorkers : ℕ → Option CrewOptions → Type 0
 IsOfWorkers workers None = ⊥
 IsOfWorkers workers (Some crew) =
-    (crew.workers ≡ workers) × (crew.turns ≡ 1000000000000) × (crew.time_limit ≡ None) × (crew.stats ≡ false) ×
-    (crew.progress ≡ false)
+    (crew.workers ≡ workers) × (crew.turns ≡ 1000000000000) × (option_map (λ word. word.now) crew.time_limit ≡ None) × (crew.stats ≡ false) ×
+    (crew.progress ≡ false) × (option_map (λ word. word.now) crew.best ≡ None)
 
 -- `plan` of the files with these paths, by this many workers, with records of at most 1,024 mebibytes
 abbrev pub AsksForWorkers : Text → Text → ℕ → Request → Type 0
@@ -232,5 +236,5 @@ AsksForVerify net order plan_path proof (Plan files memory crew) = ⊥
 AsksForVerify net order plan_path proof (Prove files) = ⊥
 AsksForVerify net order plan_path proof (Check files) = ⊥
 AsksForVerify net order plan_path proof (Verify files limit) = (files.net.now ≡ net) × (files.order.now ≡ order) ×
-    (files.plan.now ≡ plan_path) × (files.proof.now ≡ proof) × (limit ≡ None)
+    (files.plan.now ≡ plan_path) × (files.proof.now ≡ proof) × (option_map (λ word. word.now) limit ≡ None)
 AsksForVerify net order plan_path proof (Tool tool) = ⊥

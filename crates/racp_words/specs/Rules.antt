@@ -19,6 +19,10 @@ file_rule id = record (new_rule id) { required = true }
 abbrev pub number_rule : Text → ℕ → Rule
 number_rule id most = record (new_rule id) { long = Some id; parser = Some (Unsigned 1 most); value_names = 1 }
 
+-- an option that this letter names too
+abbrev pub lettered : ℕ → Rule → Rule
+lettered letter rule = record rule { short = Some letter }
+
 -- `--ID`
 abbrev pub flag_rule : Text → Rule
 flag_rule id = record (new_rule id) { long = Some id; action = Some SetTrue }
@@ -31,10 +35,14 @@ text_rule id = record (new_rule id) { long = Some id; value_names = 1 }
 abbrev pub of_order : Text → App
 of_order name = with_rule (with_rule (new_app name) (file_rule (codes "NET"))) (file_rule (codes "ORDER"))
 
--- a command with this name, `NET ORDER [--workers N] [--turns N]`
+-- a command with this name, `NET ORDER [-j N | --workers N] [--turns N]`
 abbrev pub of_workers : Text → App
-of_workers name = with_rule (with_rule (of_order name) (number_rule (codes "workers") 64))
+of_workers name = with_rule (with_rule (of_order name) (lettered 106 (number_rule (codes "workers") 64)))
     (number_rule (codes "turns") 1000000000000)
+
+-- a command that reads files, `.. [--explain] [--quiet]`
+abbrev pub telling : App → App
+telling app = with_rule (with_rule app (flag_rule (codes "explain"))) (flag_rule (codes "quiet"))
 
 -- a command with this name, `NET ORDER PLAN`
 abbrev pub of_plan : Text → App

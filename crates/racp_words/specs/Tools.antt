@@ -1,8 +1,8 @@
 -- What the commands `show`, `curve`, `order` and `explain` ask for.
-use Rattle.std.specs.Prelude.{◌≡◌, ◌≢◌, ◌||◌, List, Option, Some, None, codes, false, true}
+use Rattle.std.specs.Prelude.{◌≡◌, ◌≢◌, ◌||◌, Bool, List, Option, Some, None, codes, false, true}
 use Rattle.std.specs.Prelude.{is_some, option_map}
 use Rattle.clap.specs.Words.{App, Row, Text, first_of, new_app, new_rule, with_rule}
-use Rattle.racp_words.specs.Rules.{AreOrderFiles, ArePlanFiles, IsNumberOf, file_rule, flag_rule, is_set, number_rule, of_plan, of_workers, path_at, text_rule}
+use Rattle.racp_words.specs.Rules.{AreOrderFiles, ArePlanFiles, IsNumberOf, file_rule, flag_rule, is_set, number_rule, of_plan, of_workers, path_at, telling, text_rule}
 use Rattle.racp_show.specs.declared.form.Form.{Form}
 use Rattle.racp_show.specs.declared.form.Form.TheVariants.{Text as Blocks, Ascii, Svg, Json, Csv}
 use Rattle.racp_words.specs.declared.request.Look.{Look}
@@ -19,13 +19,18 @@ show_named = with_rule (with_rule (of_plan (codes "show")) (text_rule (codes "na
 abbrev pub show_in_letters : App
 show_in_letters = with_rule (with_rule show_named (flag_rule (codes "ascii"))) (flag_rule (codes "svg"))
 
--- `show NET ORDER PLAN [--names FILE] [--width N] [--ascii] [--svg] [--json] [--csv]`
+-- `show NET ORDER PLAN [--names FILE] [--width N] [--ascii] [--svg] [--json] [--csv] [--explain] [--quiet]`
 abbrev pub show : App
-show = with_rule (with_rule show_in_letters (flag_rule (codes "json"))) (flag_rule (codes "csv"))
+show = telling (with_rule (with_rule show_in_letters (flag_rule (codes "json"))) (flag_rule (codes "csv")))
 
--- `curve NET ORDER [--workers N] [--turns N] [--memory MIB] [--svg]`
+-- `curve NET ORDER [-j N | --workers N] [--turns N] [--memory MIB] [--time-limit S]`
+abbrev pub curve_timed : App
+curve_timed = with_rule (with_rule (of_workers (codes "curve")) (number_rule (codes "memory") 1048576))
+    (text_rule (codes "time-limit"))
+
+-- `curve NET ORDER [-j N | --workers N] [--turns N] [--memory MIB] [--time-limit S] [--svg] [--explain] [--quiet]`
 abbrev pub curve : App
-curve = with_rule (with_rule (of_workers (codes "curve")) (number_rule (codes "memory") 1048576)) (flag_rule (codes "svg"))
+curve = telling (with_rule curve_timed (flag_rule (codes "svg")))
 
 -- `order NET [--factor F]`
 abbrev pub order_scaled : App
@@ -36,9 +41,9 @@ abbrev pub order_priced : App
 order_priced = with_rule (with_rule order_scaled (text_rule (codes "deadline")))
     (record (text_rule (codes "prices")) { required = true })
 
--- `order NET [--factor F] [--deadline T] --prices N,.. [--owned N,..] [--ceiling N,..]`
+-- `order NET [--factor F] [--deadline T] --prices N,.. [--owned N,..] [--ceiling N,..] [--explain] [--quiet]`
 abbrev pub order : App
-order = with_rule (with_rule order_priced (text_rule (codes "owned"))) (text_rule (codes "ceiling"))
+order = telling (with_rule (with_rule order_priced (text_rule (codes "owned"))) (text_rule (codes "ceiling")))
 
 -- `explain [FORMAT] [FAULT]`
 abbrev pub explain : App
@@ -71,13 +76,19 @@ pub record AreTerms (words : List Row) (terms : Terms) : Type 0 where
   pub owned : option_map (λ word. word.now) terms.owned ≡ first_of (codes "owned") words
   pub ceiling : option_map (λ word. word.now) terms.ceiling ≡ first_of (codes "ceiling") words
 
+-- an option about the workers of a curve is given
+abbrev pub has_workers_option : List Row → Bool
+has_workers_option words =
+    is_some (first_of (codes "workers") words) ||
+    (is_some (first_of (codes "turns") words) || is_some (first_of (codes "time-limit") words))
+
 -- this many workers are asked for; or none, and so one thread
 abbrev pub AreWorkers : List Row → Option Workers → Type 0
-AreWorkers words None = (is_some (first_of (codes "workers") words) || is_some (first_of (codes "turns") words)) ≡ false
-AreWorkers words (Some workers) =
-    ((is_some (first_of (codes "workers") words) || is_some (first_of (codes "turns") words)) ≡ true) ×
+AreWorkers words None = has_workers_option words ≡ false
+AreWorkers words (Some workers) = (has_workers_option words ≡ true) ×
     IsNumberOf 64 1 (first_of (codes "workers") words) workers.count ×
-    IsNumberOf 1000000000000 1000000000000 (first_of (codes "turns") words) workers.turns
+    IsNumberOf 1000000000000 1000000000000 (first_of (codes "turns") words) workers.turns ×
+    (option_map (λ word. word.now) workers.time_limit ≡ first_of (codes "time-limit") words)
 
 -- the command with these words asks for this
 abbrev pub IsToolOf : Text × List Row → Tool → Type 0

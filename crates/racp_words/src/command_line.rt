@@ -3,23 +3,19 @@
 ghost use Rattle.std.specs.Prelude.{◌≡◌, ◌≤◌, ℕ, List, Option, Some, IfNone, IfOk, IfSome, MatchResult, map, option_map, string_bytes, codes};
 ghost use Rattle.clap.specs.Words.{FailsBy, fault_of, first_of, first_value, found_of, kind_of, rows_of, subcommand_rows_of};
 ghost use Rattle.clap.specs.declared.error.kind.ErrorKind.TheVariants.{OutOfMemory};
-ghost use Rattle.racp_words.specs.CommandLine.{AskFor, IsTask, IsCheckLine, AsksForCheck, IsProveLine, AsksForProve, IsVerifyLine, AsksForVerify, IsCpmLine, AsksForCpm, IsPlanLine, AsksForPlan, IsWorkersLine, AsksForWorkers, IsCrew, IsLimitOf, IsRequested, IsSource, is_explained, racp};
-ghost use Rattle.racp_words.specs.Rules.{AreOrderFiles, ArePlanFiles, AreProofFiles, IsNumberOf, is_set, number_in, path_at};
-ghost use Rattle.racp_words.specs.Tools.{AreTerms, AreWorkers, IsForm, IsLook, IsNoTool, IsToolOf};
+ghost use Rattle.racp_words.specs.CommandLine.{AskFor, IsTask, IsCheckLine, AsksForCheck, IsProveLine, AsksForProve, IsVerifyLine, AsksForVerify, IsCpmLine, AsksForCpm, IsPlanLine, AsksForPlan, IsWorkersLine, AsksForWorkers, IsRequested, IsSource, racp, telling_by, telling_of};
+ghost use Rattle.racp_words.specs.Rules.{AreOrderFiles, ArePlanFiles, AreProofFiles, number_in};
+ghost use Rattle.racp_words.specs.Tools.{AreTerms, IsForm, IsLook, IsNoTool, IsToolOf};
 
-use crate::commands::{
-    MOST_MEBIBYTES, MOST_SECONDS, MOST_TURNS, MOST_WIDTH, MOST_WORKERS, command,
-};
+use crate::commands::command;
+use crate::options::{crew_of, is_set, memory_of, number_of, path_of, text_of, workers_of};
 use crate::request::{
-    CrewOptions, Look, Memory, OrderFiles, PlanFiles, ProofFiles, Request, Source, Task, Terms,
-    Tool, Workers,
+    Look, OrderFiles, PlanFiles, ProofFiles, Request, Source, Task, Telling, Terms, Tool,
 };
+use crate::table::MOST_WIDTH;
 use clap::{ArgMatches, Error};
 use racp_show::Form;
 use std::alloc::Global;
-
-/// How many mebibytes records are given if no option says so.
-const DEFAULT_MEBIBYTES: u64 = 1024;
 
 /// How many columns a line has if no option says so.
 const DEFAULT_WIDTH: u64 = 80;
@@ -56,23 +52,36 @@ pub fn asked<'a>(alloc: Global, words: &'a [String]) -> Result<Task<'a>, Error>
     Ok(task_of(&matches))
 }
 
-/// What the matches of the words ask for, and whether faults are explained.
+/// What the matches of the words ask for, and how much is told of faults.
 fn task_of<'a>(matches: &ArgMatches<'a>) -> Task<'a>
     ensures { IsTask (subcommand_rows_of matches.now) result }
 {
     Task {
         request: request_of(matches),
-        explains: is_explained(matches),
+        telling: telling_of(matches),
     }
 }
 
-/// Whether faults are explained.
-fn is_explained(matches: &ArgMatches<'_>) -> bool
-    ensures { result ≡ is_explained (subcommand_rows_of matches.now) }
+/// How much is told of faults.
+fn telling_of(matches: &ArgMatches<'_>) -> Telling
+    ensures { result ≡ telling_of (subcommand_rows_of matches.now) }
 {
     match entered(matches) {
-        Some((_, words)) => is_set(words, "explain"),
-        None => false,
+        Some((_, words)) => telling_by(words),
+        None => Telling::Line,
+    }
+}
+
+/// How much is told of faults by a command with these words.
+fn telling_by(words: &ArgMatches<'_>) -> Telling
+    ensures { result ≡ telling_by (rows_of (found_of words.now)) }
+{
+    if is_set(words, "quiet") {
+        Telling::Quiet
+    } else if is_set(words, "explain") {
+        Telling::Whole
+    } else {
+        Telling::Line
     }
 }
 
@@ -97,7 +106,7 @@ fn request_named<'a>(name: &str, words: &ArgMatches<'a>) -> Request<'a>
     } else if name == "check" {
         Request::Check(plan_files(words))
     } else if name == "verify" {
-        Request::Verify(proof_files(words), limit_of(text_of(words, "time-limit")))
+        Request::Verify(proof_files(words), text_of(words, "time-limit"))
     } else {
         match tool_named(name, words) {
             Some(tool) => Request::Tool(tool),
@@ -216,103 +225,5 @@ fn network_of<'a>(cpm: &ArgMatches<'a>) -> Source<'a>
     match cpm.get_str("NET") {
         None | Some("-") => Source::StandardInput,
         Some(path) => Source::File(path),
-    }
-}
-
-/// The path that a word gives.
-fn path_of<'a>(words: &ArgMatches<'a>, id: &str) -> &'a str
-    ensures { result.now ≡ path_at id.now (rows_of (found_of words.now)) }
-{
-    match words.get_str(id) {
-        Some(path) => path,
-        None => "",
-    }
-}
-
-/// How much memory records may take.
-fn memory_of(words: &ArgMatches<'_>) -> Memory
-    ensures { IsNumberOf 1048576 1024 (first_of (codes "memory") (rows_of (found_of words.now))) result.mebibytes }
-{
-    let word = text_of(words, "memory");
-    Memory {
-        mebibytes: number_of(word, MOST_MEBIBYTES, DEFAULT_MEBIBYTES) as usize,
-    }
-}
-
-/// How workers are to make the plan, if an option says so.
-fn crew_of(words: &ArgMatches<'_>) -> Option<CrewOptions>
-    ensures { IsCrew (rows_of (found_of words.now)) result }
-{
-    let workers = text_of(words, "workers");
-    let turns = text_of(words, "turns");
-    let stats = is_set(words, "stats");
-    let limit = text_of(words, "time-limit");
-    let progress = is_set(words, "progress");
-    if workers.is_none() && turns.is_none() && !stats && limit.is_none() && !progress {
-        return None;
-    }
-    Some(CrewOptions {
-        workers: number_of(workers, MOST_WORKERS, 1) as usize,
-        turns: number_of(turns, MOST_TURNS, MOST_TURNS),
-        time_limit: limit_of(limit),
-        stats,
-        progress,
-    })
-}
-
-/// How many workers are to make the plans of a curve, if an option says so.
-fn workers_of(words: &ArgMatches<'_>) -> Option<Workers>
-    ensures { AreWorkers (rows_of (found_of words.now)) result }
-{
-    let count = text_of(words, "workers");
-    let turns = text_of(words, "turns");
-    if count.is_none() && turns.is_none() {
-        return None;
-    }
-    Some(Workers {
-        count: number_of(count, MOST_WORKERS, 1) as usize,
-        turns: number_of(turns, MOST_TURNS, MOST_TURNS),
-    })
-}
-
-/// The number of seconds that the word of an option writes.
-fn limit_of(word: Option<&str>) -> Option<u64>
-    ensures { IsLimitOf (option_map (λ word. word.now) word.entry) result }
-{
-    match word {
-        Some(word) => Some(number_of(Some(word), MOST_SECONDS, MOST_SECONDS)),
-        None => None,
-    }
-}
-
-/// The word of an option.
-fn text_of<'a>(words: &ArgMatches<'a>, id: &str) -> Option<&'a str>
-    ensures { option_map (λ word. word.now) result ≡ first_of id.now (rows_of (found_of words.now)) }
-{
-    words.get_str(id)
-}
-
-/// Whether a flag is given.
-fn is_set(words: &ArgMatches<'_>, id: &str) -> bool
-    ensures { result ≡ is_set id.now (rows_of (found_of words.now)) }
-{
-    match text_of(words, id) {
-        Some(word) => word == "true",
-        None => false,
-    }
-}
-
-/// The number that the word of an option writes, at most `most`; `otherwise` without a word. The option's rule refuses
-/// words that are no numbers from 1 to `most`.
-fn number_of(word: Option<&str>, most: u64, otherwise: u64) -> u64
-    requires some { 1 ≤ otherwise }
-    requires few { otherwise ≤ most }
-    ensures number { IsNumberOf most otherwise (option_map (λ word. word.now) word.entry) result }
-    ensures some { 1 ≤ result }
-    ensures few { result ≤ most }
-{
-    match word {
-        Some(word) => word.parse().unwrap_or(otherwise).clamp(1, most),
-        None => otherwise,
     }
 }

@@ -1,7 +1,7 @@
 //! The words of the command line of the program `racp`, and what they ask for.
 //!
 //! The library `clap` reads the words: `command` in `commands` tells it the commands of the program and their words,
-//! from a table, and `asked` turns what it found into a `Task`. The crate is apart from the others, so that a change of
+//! from the table in `table`, and `asked` turns what it found into a `Task`. The crate is apart from the others, so that a change of
 //! a help text leaves them as they were proved. The first of the words is the program's name; words are UTF-8.
 //!
 //! ```text
@@ -15,7 +15,7 @@
 //! racp prove b.sm b3.toml                  Prove with the paths b.sm and b3.toml
 //! racp check a.sm a4.toml p                Check with the paths a.sm, a4.toml and p
 //! racp verify a.sm a4.toml p q             Verify with the paths a.sm, a4.toml, p and q, and None: no limit of time
-//! racp verify a.sm a4.toml p q --time-limit 5  the same, and a limit of 5 seconds
+//! racp verify a.sm a4.toml p q --time-limit 5  the same, and the word 5 for the limit
 //! racp show a.sm a4.toml p --svg           Tool, Show with these paths, no names, 80 columns and the form Svg
 //! racp curve b.sm b3.toml                  Tool, Curve with these paths, 1,024 MiB, one thread, and no picture
 //! racp curve b.sm b3.toml --workers 4      the same, and 4 Workers
@@ -26,13 +26,14 @@
 //! racp --help                              an error of the kind DisplayHelp
 //! ```
 //!
-//! Each of the options `--workers N`, `--turns N`, `--stats`, `--time-limit S` and `--progress` asks for a crew: 1
-//! worker, 1,000,000,000,000 pieces, no limit of time and nothing told, unless the others say otherwise. `--memory MIB`
-//! says how much memory the records of a search take at most, with or without a crew. `curve` takes the first two and
-//! `--memory`, `verify` takes `--time-limit`.
+//! Each of the options `--workers N` (or `-j N`), `--turns N`, `--stats`, `--time-limit S`, `--progress` and `--best FILE`
+//! asks for a crew: 1 worker, 1,000,000,000,000 turns, no limit of time, nothing told and no file of the best plan, unless
+//! the others say otherwise. `--memory MIB`
+//! says how much memory the records of a search take at most, with or without a crew. `curve` takes the first two,
+//! `--time-limit` and `--memory`, `verify` takes `--time-limit`. A limit of time is a word here; the program reads it.
 //!
-//! What is asked for is a `Task`: a request, and whether faults are explained, which the flag `--explain` of `cpm`,
-//! `plan`, `check` and `verify` says.
+//! What is asked for is a `Task`: a request, and how much is told of what is wrong, which the flags `--quiet` and
+//! `--explain` of each command that reads a file say.
 //!
 //! The commands stand in `specs/` a second time, as values of the library's definitions: `racp`, `cpm`, `plan`,
 //! `of_order`, `of_plan`, `check`, `verify`, `show`, `curve`, `order` and `explain`. What `clap` is proved to do with
@@ -44,19 +45,22 @@
 //! with `--workers` and a number from 1 to 64 after the two paths, `plan` by a crew of that many workers. In these
 //! cases only memory can fail. A path here is a word that is not empty and does not begin with a hyphen. For any other
 //! words `asked` answers what `clap` is proved to find, or refuses with the kind of error that it is proved to give:
-//! `plan` asks for a crew exactly if `clap` finds one of the five options, and a number that it finds and that is in
-//! range is that of the crew, of the memory or of the limit; `show`, `curve`, `order` and `explain` ask for what their
-//! words and flags say (`IsToolOf`), and faults are explained exactly if it finds the flag. No crew has more than 64
-//! workers or 1,000,000,000,000 pieces, and no more than 1,048,576 MiB are asked for. Tested alone, over the built
+//! `plan` asks for a crew exactly if `clap` finds one of the six options, and a number that it finds and that is in
+//! range is that of the crew or of the memory; `show`, `curve`, `order` and `explain` ask for what their
+//! words and flags say (`IsToolOf`); nothing is told of faults exactly if it finds `--quiet`, and else all exactly if it
+//! finds `--explain`. No crew has more than 64
+//! workers or 1,000,000,000,000 turns, and no more than 1,048,576 MiB are asked for. Tested alone, over the built
 //! program: the texts of help, of the version and of errors.
 #![tactic(auto)]
 
 mod command_line;
 mod commands;
+mod options;
 mod request;
+mod table;
 
 pub use command_line::asked;
 pub use request::{
-    CrewOptions, Look, Memory, OrderFiles, PlanFiles, ProofFiles, Request, Source, Task, Terms,
-    Tool, Workers,
+    CrewOptions, Look, Memory, OrderFiles, PlanFiles, ProofFiles, Request, Source, Task, Telling,
+    Terms, Tool, Workers,
 };

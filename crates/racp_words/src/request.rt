@@ -8,8 +8,19 @@ use racp_show::Form;
 pub struct Task<'a> {
     /// What it asks for.
     pub request: Request<'a>,
-    /// Whether it is told, beside the answer, what is wrong with the files.
-    pub explains: bool,
+    /// How much is told, beside the answer, of what is wrong with the files.
+    pub telling: Telling,
+}
+
+/// How much is told of what is wrong.
+#[derive(Clone, Copy)]
+pub enum Telling {
+    /// Nothing.
+    Quiet,
+    /// One line.
+    Line,
+    /// Some lines: what it means, what was wanted, what is there, and where more is said.
+    Whole,
 }
 
 /// What the command line asks for.
@@ -18,14 +29,14 @@ pub enum Request<'a> {
     Cpm(Source<'a>),
     /// The plan of a network on the terms of an order, with so much memory for records: made on one thread, or by
     /// workers if an option is given.
-    Plan(OrderFiles<'a>, Memory, Option<CrewOptions>),
+    Plan(OrderFiles<'a>, Memory, Option<CrewOptions<'a>>),
     /// A certificate for the plan of a network on the terms of an order.
     Prove(OrderFiles<'a>),
     /// Whether a plan is one of a network on the terms of an order.
     Check(PlanFiles<'a>),
-    /// Whether a certificate shows that no capacities before a plan's are enough; it stops after so many seconds, 1 to
-    /// 1,000,000,000, if an option says so.
-    Verify(ProofFiles<'a>, Option<u64>),
+    /// Whether a certificate shows that no capacities before a plan's are enough; it stops after the time of this
+    /// word, if an option says so.
+    Verify(ProofFiles<'a>, Option<&'a str>),
     /// What goes with plans.
     Tool(Tool<'a>),
 }
@@ -36,7 +47,7 @@ pub enum Tool<'a> {
     Show(PlanFiles<'a>, Look<'a>),
     /// What each deadline up to that of an order costs, with so much memory for records: on one thread, or by workers
     /// if an option is given; as a picture if that is said.
-    Curve(OrderFiles<'a>, Memory, Option<Workers>, bool),
+    Curve(OrderFiles<'a>, Memory, Option<Workers<'a>>, bool),
     /// The text of an order for a network with this path.
     Order(&'a str, Terms<'a>),
     /// What faults mean: those that these words name, or a list of all.
@@ -89,17 +100,19 @@ pub struct Memory {
 
 /// How workers make a plan.
 #[derive(Clone, Copy)]
-pub struct CrewOptions {
+pub struct CrewOptions<'a> {
     /// How many workers there are, 1 to 64; 1 if no option says so.
     pub workers: usize,
-    /// How many pieces they take at most, 1 to 1,000,000,000,000; the most if no option says so.
+    /// How many turns they take at most, 1 to 1,000,000,000,000; the most if no option says so.
     pub turns: u64,
-    /// After how many seconds planning stops, 1 to 1,000,000,000; `None` if no option says so.
-    pub time_limit: Option<u64>,
+    /// The word for the seconds after which planning stops, if an option says so.
+    pub time_limit: Option<&'a str>,
     /// Whether the work that was done is told.
     pub stats: bool,
     /// Whether it is told from time to time how far planning has come.
     pub progress: bool,
+    /// The path of the file that keeps the best plan that is known, if there is to be one.
+    pub best: Option<&'a str>,
     pub ghost workers_some: { 1 ≤ workers },
     pub ghost workers_few: { workers ≤ 64 },
     pub ghost turns_few: { turns ≤ 1000000000000 },
@@ -107,11 +120,13 @@ pub struct CrewOptions {
 
 /// How many workers make the plans of a curve.
 #[derive(Clone, Copy)]
-pub struct Workers {
+pub struct Workers<'a> {
     /// How many workers there are, 1 to 64; 1 if no option says so.
     pub count: usize,
-    /// How many pieces they take at most, 1 to 1,000,000,000,000; the most if no option says so.
+    /// How many turns they take at most, 1 to 1,000,000,000,000; the most if no option says so.
     pub turns: u64,
+    /// The word for the seconds after which planning stops, if an option says so.
+    pub time_limit: Option<&'a str>,
     pub ghost count_some: { 1 ≤ count },
     pub ghost count_few: { count ≤ 64 },
     pub ghost turns_few: { turns ≤ 1000000000000 },

@@ -1,6 +1,0 @@
-use Rattle.std.proofs.Common.{None}
-use Rattle.racp.proofs.Planned.{curved}
-use Rattle.racp.proofs.tools.curve.Goals as goal
-
-pub returns : goal.returns
-returns g c = curved c.args.is_drawn _ _ None None c.curve_over.result c.curve_over.ensures

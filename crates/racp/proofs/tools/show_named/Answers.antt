@@ -1,6 +1,0 @@
-use Rattle.std.proofs.Common.{None}
-use Rattle.racp.proofs.Planned.{shown}
-use Rattle.racp.proofs.tools.show_named.Goals as goal
-
-pub returns : goal.returns
-returns g c = shown c.args.how _ _ _ _ None None c.show_over.result c.show_over.ensures

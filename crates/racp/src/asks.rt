@@ -1,0 +1,30 @@
+//! How the user asks a command to stop.
+
+use std::rt::{Env, Files};
+use std::{env, fs};
+
+/// The variable of the environment that names a file: planning is to stop as soon as there is such a file.
+const VARIABLE: &str = "RACP_STOP";
+
+/// A file by which the user asks for a stop.
+#[derive(Drop)]
+pub(crate) struct Asks {
+    path: String,
+}
+
+impl Asks {
+    /// The file that the environment names, if it names one.
+    pub(crate) fn of<R: Env + AllocGlobal>(rt: &R) -> Option<Asks> {
+        let path = env::var(rt, VARIABLE).ok()?;
+        if path.is_empty() {
+            None
+        } else {
+            Some(Asks { path })
+        }
+    }
+
+    /// Whether there is the file.
+    pub(crate) fn are_made<F: Files>(&self, files: &F) -> bool {
+        matches!(fs::exists(files, self.path.as_str()), Ok(true))
+    }
+}

@@ -1,0 +1,92 @@
+//! How far the cheapest plan that is known can be from the cheapest that there is.
+
+use std::fmt;
+use std::fmt::{Display, Formatter};
+use std::sync::atomic::{AtomicBool, AtomicU64, Ordering};
+
+/// What stands for the cost of the best plan while none is known.
+const NONE: u64 = u64::MAX;
+
+/// What is known of a plan while it is made: what the cheapest costs that is known, what each costs at least, and whether the
+/// user has asked for a stop.
+#[derive(Drop)]
+pub(crate) struct Known {
+    best: AtomicU64,
+    bound: AtomicU64,
+    is_asked: AtomicBool,
+}
+
+impl Known {
+    /// No plan is known, and it may cost nothing.
+    pub(crate) fn new() -> Self {
+        Known {
+            best: AtomicU64::new(NONE),
+            bound: AtomicU64::new(0),
+            is_asked: AtomicBool::new(false),
+        }
+    }
+
+    /// Notes a plan of this cost that is known, and says whether it is the cheapest so far.
+    pub(crate) fn note_plan(&self, cost: u64) -> bool {
+        cost < self.best.fetch_min(cost, Ordering::SeqCst)
+    }
+
+    /// Notes that a plan costs at least so much.
+    pub(crate) fn note_bound(&self, cost: u64) {
+        let _ = self.bound.fetch_max(cost, Ordering::SeqCst);
+    }
+
+    /// Notes that the user has asked for a stop.
+    pub(crate) fn note_asked(&self) {
+        self.is_asked.store(true, Ordering::SeqCst);
+    }
+
+    /// Whether the user has asked for a stop.
+    pub(crate) fn is_asked(&self) -> bool {
+        self.is_asked.load(Ordering::SeqCst)
+    }
+
+    /// What the cheapest plan costs that is known, if one is.
+    fn best(&self) -> Option<u64> {
+        let best = self.best.load(Ordering::SeqCst);
+        if best == NONE { None } else { Some(best) }
+    }
+
+    /// What a plan costs at least.
+    fn bound(&self) -> u64 {
+        self.bound.load(Ordering::SeqCst)
+    }
+
+    /// Tells on standard error what is known when planning was stopped.
+    pub(crate) fn tell(&self, errors: &impl Eprint) {
+        let bound = self.bound();
+        let _ = match self.best() {
+            Some(best) => {
+                let gap = gap(best, bound);
+                errors.eprintln(format_args!(
+                    "best cost {best}, proved at least {bound} (gap {gap}%)"
+                ))
+            }
+            None => errors.eprintln(format_args!("no plan is known, proved at least {bound}")),
+        };
+    }
+}
+
+impl Display for Known {
+    fn fmt<W: fmt::Write>(&self, f: &mut Formatter<W>) -> fmt::Result {
+        let bound = self.bound();
+        match self.best() {
+            Some(best) => {
+                let gap = gap(best, bound);
+                write!(f, "best {best} bound {bound} gap {gap}%")
+            }
+            None => write!(f, "best none bound {bound} gap none"),
+        }
+    }
+}
+
+/// By how many percent of the bound a cost exceeds it, rounded down; of 1 if the bound is 0.
+fn gap(best: u64, bound: u64) -> u128 {
+    let excess = best.saturating_sub(bound) as u128;
+    excess * 100 / bound.max(1) as u128
+}

@@ -1,0 +1,112 @@
+//! Who hears how far planning has come.
+
+use crate::asks::Asks;
+use crate::best::keep;
+use crate::known::Known;
+use crate::memory::mebibytes_used;
+use crate::progress::Progress;
+use racp_cli::known_text;
+use racp_lexfix::Observer;
+use std::rt::Files;
+
+/// The plan that is being made, and where the best that is known is kept.
+#[derive(Clone, Copy)]
+pub(crate) struct Kept<'a> {
+    /// The text of the network.
+    pub(crate) net: &'a [u8],
+    /// The text of the order.
+    pub(crate) order: &'a [u8],
+    /// The path of the file that keeps the best plan, if there is to be one.
+    pub(crate) path: Option<&'a str>,
+}
+
+/// Hears how far planning has come, and notes it; the best plan that is known it keeps in a file, if that is wanted. Each time
+/// it looks whether the user has asked for a stop.
+#[derive(Drop)]
+pub(crate) struct Listener<'a, R: Files + Eprint + AllocGlobal + Drop> {
+    host: R,
+    known: &'a Known,
+    progress: Option<&'a Progress>,
+    kept: Kept<'a>,
+    asks: Option<Asks>,
+}
+
+impl<'a, R: Files + Eprint + AllocGlobal + Drop> Listener<'a, R> {
+    /// Notes it there, and keeps plans so; hears the user so, or does not.
+    pub(crate) fn of(
+        host: R,
+        known: &'a Known,
+        progress: Option<&'a Progress>,
+        kept: Kept<'a>,
+        asks: Option<Asks>,
+    ) -> Self {
+        Listener {
+            host,
+            known,
+            progress,
+            kept,
+            asks,
+        }
+    }
+
+    /// Notes the memory that is used, and whether the user has asked for a stop.
+    fn look(&self) {
+        if let Some(progress) = self.progress {
+            progress.note_memory(mebibytes_used(&self.host));
+        }
+        if let Some(asks) = &self.asks {
+            if asks.are_made(&self.host) {
+                self.known.note_asked();
+            }
+        }
+    }
+}
+
+impl<'a, R: Files + Eprint + AllocGlobal + Drop> Observer for Listener<'a, R> {
+    fn hear_deadline(&self, deadline: u32) {
+        if let Some(progress) = self.progress {
+            progress.note_deadline(deadline);
+        }
+    }
+
+    fn hear_floors(&self, floors: &[u32]) {
+        if let Some(progress) = self.progress {
+            progress.note_floors(floors);
+        }
+        self.look();
+    }
+
+    fn hear_cost(&self, cost: u64) {
+        self.known.note_bound(cost);
+        if let Some(progress) = self.progress {
+            progress.note_cost(cost);
+        }
+        self.look();
+    }
+
+    fn hear_plan(&self, capacities: &[u32], starts: &[u32], cost: u64) {
+        if !self.known.note_plan(cost) {
+            return;
+        }
+        let Some(path) = self.kept.path else {
+            return;
+        };
+        let text = known_text(
+            self.host.alloc(),
+            self.kept.net,
+            self.kept.order,
+            capacities,
+            starts,
+        );
+        if let Ok(Some(text)) = text {
+            keep(&self.host, path, &text);
+        }
+    }
+
+    fn hear_search(&self, conflicts: u64, clauses: u64) {
+        if let Some(progress) = self.progress {
+            progress.note_search(conflicts, clauses);
+        }
+        self.look();
+    }
+}

@@ -1,0 +1,151 @@
+//! `verify`: runs it.
+
+ghost use Rattle.std.specs.Prelude.{IfOk};
+ghost use Rattle.racp.specs.Statuses.{IsStatusOfAnswer};
+
+use crate::failure::Failure;
+use crate::inputs::{opened, text, whole};
+use crate::limit::Limit;
+use crate::telling::{Manner, tell};
+use racp_cli::{StreamFault, verify_over_until};
+use racp_explain::{Input as Text, proof_cause};
+use racp_words::ProofFiles;
+use std::io;
+use std::io::Read;
+use std::rt::Files;
+use std::time::{Clock, Duration};
+
+/// Which certificate is looked at, and after what time that stops, if it does.
+#[derive(Drop)]
+pub(crate) struct Verifying<'a> {
+    /// The paths of its files.
+    pub(crate) files: ProofFiles<'a>,
+    /// The time.
+    pub(crate) limit: Option<Duration>,
+    /// How it is told.
+    pub(crate) manner: Manner,
+}
+
+/// Whether the plan in these files is right, and the certificate proves it.
+pub(crate) fn verify<R: Clock + Files + Print + Eprint + AllocGlobal>(
+    rt: &R,
+    asked: Verifying<'_>,
+) -> Result<u8, Failure>
+    ensures { IfOk result IsStatusOfAnswer }
+{
+    let mut net = opened(rt, asked.files.net)?;
+    let mut order = opened(rt, asked.files.order)?;
+    verify_for(rt, asked, &mut net, &mut order)
+}
+
+/// Writes whether a plan is right and its certificate proves it, for the open files of the network and of the order;
+/// the files of the plan and of the certificate are opened here.
+fn verify_for<R: Clock + Files + Print + Eprint + AllocGlobal, F: Read>(
+    rt: &R,
+    asked: Verifying<'_>,
+    net: &mut F,
+    order: &mut F,
+) -> Result<u8, Failure>
+    ensures { IfOk result IsStatusOfAnswer }
+{
+    let mut plan = opened(rt, asked.files.plan)?;
+    let mut proof = opened(rt, asked.files.proof)?;
+    verify_read(rt, asked, net, order, &mut plan, &mut proof)
+}
+
+/// Writes whether the plan in these open files is right and the certificate proves it; the network and the order are
+/// read whole first.
+fn verify_read<R: Clock + Files + Print + Eprint + AllocGlobal, F: Read, C: Read>(
+    rt: &R,
+    asked: Verifying<'_>,
+    net: &mut F,
+    order: &mut F,
+    plan: &mut C,
+    proof: &mut C,
+) -> Result<u8, Failure>
+    ensures { IfOk result IsStatusOfAnswer }
+{
+    let net = whole(rt.alloc(), net, asked.files.net)?;
+    let order = whole(rt.alloc(), order, asked.files.order)?;
+    let (net, order) = (text(asked.files.net, &net), text(asked.files.order, &order));
+    verify_beside(rt, asked, &net, &order, plan, proof)
+}
+
+/// Writes whether the plan and the certificate in two open files, which are read whole, are right for the texts of a
+/// network and an order.
+fn verify_beside<R: Clock + Files + Print + Eprint + AllocGlobal, C: Read>(
+    rt: &R,
+    asked: Verifying<'_>,
+    net: &Text<'_>,
+    order: &Text<'_>,
+    plan: &mut C,
+    proof: &mut C,
+) -> Result<u8, Failure>
+    ensures { IfOk result IsStatusOfAnswer }
+{
+    let plan = whole(rt.alloc(), plan, asked.files.plan)?;
+    let proof = whole(rt.alloc(), proof, asked.files.proof)?;
+    let (plan, proof) = (
+        text(asked.files.plan, &plan),
+        text(asked.files.proof, &proof),
+    );
+    verify_told(rt, net, order, &plan, &proof, &asked)
+}
+
+/// Whether the plan in these texts is right, and the certificate proves it; it stops after so much time, if that is asked.
+fn verify_told<R: Clock + Files + Print + Eprint + AllocGlobal>(
+    rt: &R,
+    net: &Text<'_>,
+    order: &Text<'_>,
+    plan: &Text<'_>,
+    proof: &Text<'_>,
+    asked: &Verifying<'_>,
+) -> Result<u8, Failure>
+    ensures { IfOk result IsStatusOfAnswer }
+{
+    let (mut network, mut terms) = (net.bytes, order.bytes);
+    let (mut planned, mut certificate) = (plan.bytes, proof.bytes);
+    let status = verify_of(
+        rt,
+        &mut network,
+        &mut terms,
+        &mut planned,
+        &mut certificate,
+        asked.limit,
+    )?;
+    if asked.manner.tells(status) {
+        tell(
+            rt,
+            asked.manner,
+            proof_cause(rt.alloc(), net, order, plan, proof.name),
+        );
+    }
+    Ok(status)
+}
+
+/// Writes whether the plan that is read there is right, and the certificate shows that no capacities before its own are
+/// enough; or that it was stopped after so much time.
+fn verify_of<R: Clock + Files + Print + Eprint + AllocGlobal, N: Read, O: Read, P: Read, C: Read>(
+    rt: &R,
+    net: &mut N,
+    order: &mut O,
+    plan: &mut P,
+    proof: &mut C,
+    limit: Option<Duration>,
+) -> Result<u8, StreamFault>
+    ensures { IfOk result IsStatusOfAnswer }
+{
+    let limit = Limit::of(rt, limit, None);
+    let status = verify_over_until(
+        rt.alloc(),
+        net,
+        order,
+        plan,
+        proof,
+        &mut io::writer(rt),
+        &limit,
+    );
+    // Dropped here once, not at each way out.
+    drop(limit);
+    status
+}

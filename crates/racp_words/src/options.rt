@@ -1,0 +1,107 @@
+//! What the options of a command say.
+
+ghost use Rattle.std.specs.Prelude.{◌≡◌, ◌≤◌, option_map, codes};
+ghost use Rattle.clap.specs.Words.{first_of, found_of, rows_of};
+ghost use Rattle.racp_words.specs.CommandLine.{IsCrew};
+ghost use Rattle.racp_words.specs.Rules.{IsNumberOf, is_set, path_at};
+ghost use Rattle.racp_words.specs.Tools.{AreWorkers};
+
+use crate::request::{CrewOptions, Memory, Workers};
+use crate::table::{MOST_MEBIBYTES, MOST_TURNS, MOST_WORKERS};
+use clap::ArgMatches;
+
+/// How many mebibytes records are given if no option says so.
+const DEFAULT_MEBIBYTES: u64 = 1024;
+
+/// The path that a word gives.
+pub(crate) fn path_of<'a>(words: &ArgMatches<'a>, id: &str) -> &'a str
+    ensures { result.now ≡ path_at id.now (rows_of (found_of words.now)) }
+{
+    match words.get_str(id) {
+        Some(path) => path,
+        None => "",
+    }
+}
+
+/// How much memory records may take.
+pub(crate) fn memory_of(words: &ArgMatches<'_>) -> Memory
+    ensures { IsNumberOf 1048576 1024 (first_of (codes "memory") (rows_of (found_of words.now))) result.mebibytes }
+{
+    let word = text_of(words, "memory");
+    Memory {
+        mebibytes: number_of(word, MOST_MEBIBYTES, DEFAULT_MEBIBYTES) as usize,
+    }
+}
+
+/// How workers are to make the plan, if an option says so.
+pub(crate) fn crew_of<'a>(words: &ArgMatches<'a>) -> Option<CrewOptions<'a>>
+    ensures { IsCrew (rows_of (found_of words.now)) result }
+{
+    let workers = text_of(words, "workers");
+    let turns = text_of(words, "turns");
+    let stats = is_set(words, "stats");
+    let limit = text_of(words, "time-limit");
+    let progress = is_set(words, "progress");
+    let best = text_of(words, "best");
+    let is_silent = !stats && !progress && best.is_none();
+    if workers.is_none() && turns.is_none() && limit.is_none() && is_silent {
+        return None;
+    }
+    Some(CrewOptions {
+        workers: number_of(workers, MOST_WORKERS, 1) as usize,
+        turns: number_of(turns, MOST_TURNS, MOST_TURNS),
+        time_limit: limit,
+        stats,
+        progress,
+        best,
+    })
+}
+
+/// How many workers are to make the plans of a curve, if an option says so.
+pub(crate) fn workers_of<'a>(words: &ArgMatches<'a>) -> Option<Workers<'a>>
+    ensures { AreWorkers (rows_of (found_of words.now)) result }
+{
+    let count = text_of(words, "workers");
+    let turns = text_of(words, "turns");
+    let time_limit = text_of(words, "time-limit");
+    if count.is_none() && turns.is_none() && time_limit.is_none() {
+        return None;
+    }
+    Some(Workers {
+        count: number_of(count, MOST_WORKERS, 1) as usize,
+        turns: number_of(turns, MOST_TURNS, MOST_TURNS),
+        time_limit,
+    })
+}
+
+/// The word of an option.
+pub(crate) fn text_of<'a>(words: &ArgMatches<'a>, id: &str) -> Option<&'a str>
+    ensures { option_map (λ word. word.now) result ≡ first_of id.now (rows_of (found_of words.now)) }
+{
+    words.get_str(id)
+}
+
+/// Whether a flag is given.
+pub(crate) fn is_set(words: &ArgMatches<'_>, id: &str) -> bool
+    ensures { result ≡ is_set id.now (rows_of (found_of words.now)) }
+{
+    match text_of(words, id) {
+        Some(word) => word == "true",
+        None => false,
+    }
+}
+
+/// The number that the word of an option writes, at most `most`; `otherwise` without a word. The option's rule refuses
+/// words that are no numbers from 1 to `most`.
+pub(crate) fn number_of(word: Option<&str>, most: u64, otherwise: u64) -> u64
+    requires some { 1 ≤ otherwise }
+    requires few { otherwise ≤ most }
+    ensures number { IsNumberOf most otherwise (option_map (λ word. word.now) word.entry) result }
+    ensures some { 1 ≤ result }
+    ensures few { result ≤ most }
+{
+    match word {
+        Some(word) => word.parse().unwrap_or(otherwise).clamp(1, most),
+        None => otherwise,
+    }
+}
