@@ -5,9 +5,9 @@ use crate::progress::Progress;
 use racp_search::Stop;
 use std::time::{Clock, Duration, Instant};
 
-/// Stops a command when so much time has passed since it was made; without a limit it never does. If there is a limit
-/// and the clock cannot be read, it stops at once. It also stops if the user asks so. Each time that it is asked counts as a node of the search, of which
-/// it tells on standard error if that is wanted.
+/// Stops a command when so much time has passed since it was made, or when the user asks so; without either it never does.
+/// If there is a limit and the clock cannot be read, it stops at once. Each time that it is asked counts as a node of the
+/// search, of which it tells on standard error if that is wanted.
 #[derive(Drop)]
 pub(crate) struct Limit<C: Clock + Eprint + Drop> {
     host: C,
