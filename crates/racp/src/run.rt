@@ -17,7 +17,7 @@ use crate::telling::Manner;
 use crate::tools::tool;
 use crate::verifying::{Verifying, verify};
 use racp_cli::StreamFault;
-use racp_words::{Request, Source, Task, asked};
+use racp_words::{Request, Source, Task, Tool, asked};
 use std::alloc::Global;
 use std::env;
 use std::io::ErrorKind;
@@ -124,8 +124,19 @@ fn answered<R: Clock + Env + Files + Input + Print + Eprint + AllocGlobal + Thre
             };
             verify(rt, asked)
         }
-        Request::Tool(asked) => tool(rt, asked, manner),
+        Request::Tool(asked) => answer_of_tool(rt, asked, manner),
     }
+}
+
+/// Writes the answer to what a command that goes with plans asks for.
+fn answer_of_tool<R: Clock + Files + Print + Eprint + AllocGlobal + Threads + Wait + Sync>(
+    rt: &R,
+    asked: Tool<'_>,
+    manner: Manner,
+) -> Result<u8, Failure>
+    ensures { IfOk result IsStatusOfAnswer }
+{
+    tool(rt, asked, manner)
 }
 
 /// The words of the command line, of which the first is the program's name.
