@@ -37,7 +37,7 @@ pub fn asked_cause(
     is_refused: bool,
 ) -> Result<String, AllocError> {
     match read_sm(alloc, net.bytes) {
-        Ok(network) => of_numbers(alloc, net.name, &network, numbers, is_refused),
+        Ok(network) => of_numbers(alloc, net.name, &network, &numbers, is_refused),
         Err(fault) => of_network(alloc, net, fault),
     }
 }
@@ -47,7 +47,7 @@ fn of_numbers(
     alloc: Global,
     name: &str,
     net: &Network,
-    numbers: Numbers,
+    numbers: &Numbers,
     is_refused: bool,
 ) -> Result<String, AllocError> {
     let mut text = String::new(alloc);
@@ -119,7 +119,7 @@ fn push_early(
 }
 
 /// The deadline; `None` if it is later than a deadline may be.
-fn deadline_of(numbers: Numbers, critical: u64) -> Option<u32> {
+fn deadline_of(numbers: &Numbers, critical: u64) -> Option<u32> {
     match (numbers.deadline, numbers.factor) {
         (Some(deadline), _) => Some(deadline),
         (None, Some(factor)) => factor.deadline(critical),
@@ -128,7 +128,7 @@ fn deadline_of(numbers: Numbers, critical: u64) -> Option<u32> {
 }
 
 /// The word of the first list with another number of elements than there are resources, and how many it has.
-fn other_count(numbers: Numbers, resources: usize) -> Option<(&'static str, usize)> {
+fn other_count(numbers: &Numbers, resources: usize) -> Option<(&'static str, usize)> {
     let lists = [
         ("--prices", Some(numbers.prices)),
         ("--owned", numbers.owned),
