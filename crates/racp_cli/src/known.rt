@@ -1,6 +1,6 @@
 //! The text of a plan that is known while planning goes on.
 
-ghost use Rattle.std.specs.Prelude.{Ok, IfOk, IfSome, tt};
+ghost use Rattle.std.specs.Prelude.{Ok, IfOk, IfSome};
 ghost use Rattle.racp_cli.specs.Checks.{IsCheck};
 
 use crate::check::check;

@@ -97,6 +97,7 @@ fn named(
 }
 
 /// The status and the text if nothing is wrong with a plan, for these names.
+#[tactic(auto, unfolding(racp_plan::specs::Texts::line))]
 fn counted(
     alloc: Global,
     found: &Checked,
