@@ -143,6 +143,7 @@ fn plan_by<
         limit.known().tell(rt);
     }
     // Dropped here once, not at each way out.
+    drop(listener);
     drop(limit);
     let (status, effort) = made?;
     if crew.stats {

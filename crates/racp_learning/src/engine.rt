@@ -8,6 +8,7 @@ use crate::deciding::{Choice, Deciding, View};
 use crate::following::follow;
 use crate::problem::Problem;
 use crate::restarts::Restarts;
+use crate::rows::stored;
 use crate::trail::{Entry, Trail};
 use crate::usage::CoreUsage;
 use std::alloc::{AllocError, Global};
@@ -216,6 +217,16 @@ impl Engine {
             if is_unit || !is_last {
                 self.trail.put(literal, Why::Clause(clause));
             }
+        }
+        Ok(clause)
+    }
+
+    /// Takes a clause of another search over, of which no literal is false without a decision, and gives its number. Nothing
+    /// is tried at that moment.
+    pub(crate) fn adopt(&mut self, literals: &[Bound]) -> Result<u32, AllocError> {
+        let clause = self.clauses.add(literals, stored(literals.len()))?;
+        if literals.len() == 1 {
+            self.trail.put(literals[0], Why::Clause(clause));
         }
         Ok(clause)
     }

@@ -40,6 +40,9 @@ impl<N: OfProblem> Search<N> {
             self.lose();
             return Ok(None);
         }
+        if self.shares {
+            self.keep_short()?;
+        }
         if clause.literals().is_empty() {
             self.ground.clause(&clause);
         } else {
@@ -76,7 +79,7 @@ impl<N: OfProblem> Search<N> {
     }
 
     /// Keeps a clause by its number.
-    fn keep(&mut self, number: usize, clause: Clause<N>) -> Result<(), AllocError> {
+    pub(crate) fn keep(&mut self, number: usize, clause: Clause<N>) -> Result<(), AllocError> {
         for _i in self.clauses.len()..number.saturating_add(1) {
             self.clauses.push(None)?;
         }

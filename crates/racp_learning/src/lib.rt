@@ -30,7 +30,8 @@
 //! `Search::new(alloc, &net, &order, &root, seed, most_bytes)` makes a search over the problem that `N` names (racp_facts).
 //! `ask(&net, &order, &bounds, conflicts, &stop)` asks a question, and tells starts with their units, a clause that is
 //! false within the bounds, or that the question is left open, with the reason. What it has learned serves the next
-//! question too.
+//! question too. Searches over one problem can learn from each other: `take_short` gives short clauses, and `learn_from`
+//! derives one anew where it is of use.
 //!
 //! Nothing of this has to be trusted. Each clause is derived by the rules of racp_facts from the steps that the search
 //! names, and what is not confirmed is dropped and counted. Starts that are found are tested. So the parts below `Search`
@@ -72,6 +73,7 @@ mod rows;
 mod scale;
 mod search;
 mod settling;
+mod sharing;
 mod steps;
 mod tight;
 mod told;

@@ -32,6 +32,9 @@ pub struct Search<N: OfProblem> {
     /// So many entries of the trail are in the ground.
     pub(crate) grounded: usize,
     pub(crate) tally: Tally,
+    /// Whether short clauses are kept for others, and those that wait to be taken.
+    pub(crate) shares: bool,
+    pub(crate) short: Vec<Clause<N>>,
 }
 
 impl<N: OfProblem> Search<N> {
@@ -68,6 +71,8 @@ impl<N: OfProblem> Search<N> {
             clauses: Vec::new(alloc),
             grounded: 0,
             tally: Tally::new(),
+            shares: false,
+            short: Vec::new(alloc),
         })
     }
 

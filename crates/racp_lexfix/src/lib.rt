@@ -65,6 +65,7 @@
 mod alone;
 mod answer;
 mod answering;
+mod beside;
 mod bounds;
 mod by_workers;
 mod crowd;

@@ -1,6 +1,6 @@
 //! From the root window to the plan.
 
-ghost use Rattle.std.specs.Prelude.{ℕ, ◌-◌, List, IfOk, IfErr};
+ghost use Rattle.std.specs.Prelude.{ℕ, ◌-◌, List, IfOk, IfErr, IfSome};
 ghost use Rattle.racp_model.specs.Path.{IsCriticalLength};
 ghost use Rattle.racp_model.specs.Terms.{AreTermsOf, release_of, due_of};
 ghost use Rattle.racp_model.specs.Window.{IsRootWindow};
@@ -55,7 +55,7 @@ pub fn plan<A: Asker<AnySeries>>(
         (A.may_stop asker.new) (A.may_want_thread asker.new)) }
 {
     let task = Task { alloc, net, order };
-    task.plan_and_keep(asker, &mut None)
+    task.plan_known(asker, None)
 }
 
 /// What a plan is made for: an order, which has an entry for each resource and each job of the network.
@@ -67,8 +67,31 @@ pub(crate) struct Task<'a> {
 }
 
 impl Task<'_> {
-    /// The plan, or why there is none, as `plan` tells it. The sharpened floors and the refuted pairs are kept, once they
-    /// are known.
+    /// The plan, or why there is none, as `plan` tells it; what was found before may be known.
+    ///
+    /// # Errors
+    ///
+    /// As with `plan`.
+    pub(crate) fn plan_known<A: Asker<AnySeries>>(
+        &self,
+        asker: &mut A,
+        known: Option<Option<(Capacities, Starts)>>,
+    ) -> Result<Answer, PlanStop>
+        requires named { A.about asker.old self.now.net.now }
+        requires terms { AreTermsOf self.now.net.now self.now.order.now }
+        requires known { IfSome known (IsChosen self.now.net.now self.now.order.now) }
+        requires heard { MayBeTold self.now.net.now self.now.order.now A.may_hear_floors A.may_hear_cost A.may_hear_plan }
+        ensures network { A.about asker.new self.now.net.now }
+        ensures answer { IfOk result (IsAnswer self.now.net.now self.now.order.now) }
+        ensures stop { IfErr result (IsPlanStop (IsStoppedAt self.now.net.now self.now.order.now
+            (A.answered asker.new - A.answered asker.old) (A.told asker.new))
+            (A.may_stop asker.new) (A.may_want_thread asker.new)) }
+    {
+        self.plan_and_keep(asker, &mut None, known)
+    }
+
+    /// The plan, or why there is none, as `plan` tells it; what was found before may be known. The sharpened floors and the
+    /// refuted pairs are kept, once they are known.
     ///
     /// # Errors
     ///
@@ -77,9 +100,11 @@ impl Task<'_> {
         &self,
         asker: &mut A,
         kept: &mut Option<Sharp>,
+        known: Option<Option<(Capacities, Starts)>>,
     ) -> Result<Answer, PlanStop>
         requires named { A.about asker.old self.now.net.now }
         requires terms { AreTermsOf self.now.net.now self.now.order.now }
+        requires known { IfSome known (IsChosen self.now.net.now self.now.order.now) }
         requires heard { MayBeTold self.now.net.now self.now.order.now A.may_hear_floors A.may_hear_cost A.may_hear_plan }
         ensures network { A.about asker.new self.now.net.now }
         ensures answer { IfOk result (IsAnswer self.now.net.now self.now.order.now) }
@@ -89,7 +114,7 @@ impl Task<'_> {
     {
         match opening_of(self.alloc, self.net, self.order)? {
             Opening::Root { critical, window } => {
-                let Some((capacities, starts)) = self.decided(&window, asker, kept)? else {
+                let Some((capacities, starts)) = self.decided(&window, asker, kept, known)? else {
                     return Ok(Answer::Ceiling);
                 };
                 let order = self.order;
@@ -114,9 +139,11 @@ impl Task<'_> {
         root: &Window,
         asker: &mut A,
         kept: &mut Option<Sharp>,
+        known: Option<Option<(Capacities, Starts)>>,
     ) -> Result<Option<(Capacities, Starts)>, PlanStop>
         requires named { A.about asker.old self.now.net.now }
         requires terms { AreTermsOf self.now.net.now self.now.order.now }
+        requires known { IfSome known (IsChosen self.now.net.now self.now.order.now) }
         requires root { IsRootWindow self.now.net.now (release_of self.now.order.now) (due_of self.now.order.now) root.now }
         requires heard { MayBeTold self.now.net.now self.now.order.now A.may_hear_floors A.may_hear_cost A.may_hear_plan }
         ensures network { A.about asker.new self.now.net.now }
@@ -125,7 +152,11 @@ impl Task<'_> {
             (A.answered asker.new - A.answered asker.old) (A.told asker.new))
             (A.may_stop asker.new) (A.may_want_thread asker.new)) }
     {
-        match self.by_facts(root, asker)? {
+        let known = match known {
+            Some(chosen) => Some(chosen),
+            None => self.by_facts(root, asker)?,
+        };
+        match known {
             Some(chosen) => Ok(chosen),
             None => self.chosen(root, asker, kept),
         }

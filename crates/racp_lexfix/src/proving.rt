@@ -90,7 +90,7 @@ fn plan_with_floors<N: OfNetwork>(
 {
     // A search of its own would not sharpen the floors.
     let mut alone: Alone<N> = Alone::new(task.alloc, task.net)?.with_conflicts(0);
-    let planned = task.plan_and_keep(&mut alone, sharp);
+    let planned = task.plan_and_keep(&mut alone, sharp, None);
     // Dropped here once, not at each way out.
     drop(alone);
     planned

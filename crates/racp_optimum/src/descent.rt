@@ -7,7 +7,7 @@ ghost use Rattle.racp_optimum.specs.Optima.{AreTasksOf, IsOptimum, IsTaskOf, May
 use crate::asking::Heard;
 use crate::hearer::Hearer;
 use crate::optimum::Optimum;
-use crate::places::{value_of, variable_count};
+use crate::places::{place_in_turn, value_of, variable_count};
 use crate::serial::serial_starts;
 use crate::task::{Task, Tasks};
 use racp_established::{establishes, leaves_none};
@@ -25,6 +25,10 @@ pub(crate) struct Descent<P: OfProblem> {
     pub(crate) clauses: Vec<Clause<P>>,
     /// How many conflicts are left.
     pub(crate) left: u64,
+    /// For how many variables nothing less is left.
+    settled: usize,
+    /// Whether the cost is asked for from its least on.
+    pub(crate) rises: bool,
 }
 
 impl<P: OfProblem> Descent<P> {
@@ -51,10 +55,20 @@ impl<P: OfProblem> Descent<P> {
             most,
             clauses: Vec::new(alloc),
             left: conflicts,
+            settled: 0,
+            rises: false,
         })
     }
 
-    /// Goes down by each variable in turn, as far as nothing stays open.
+    /// Whether all is known that there is to know.
+    pub(crate) fn is_finished(&self, task: Task<'_>) -> bool {
+        match &self.best {
+            Some(_) => variable_count(task.net) <= self.settled,
+            None => 0 < self.settled,
+        }
+    }
+
+    /// Goes down by each variable in turn, as far as nothing stays open; from where it was left, if it was.
     pub(crate) fn go_down<N: OfProblem, H: Hearer>(
         &mut self,
         search: &mut Search<N>,
@@ -64,20 +78,18 @@ impl<P: OfProblem> Descent<P> {
         requires are_of { AreTasksOf N.problem P.problem tasks }
         requires may { MayBeTold P.problem H.may_hear_cost H.may_hear_draft }
     {
-        let task = tasks.part;
-        let (jobs, resources) = (task.net.job_count(), task.net.resource_count());
-        if !self.settle(search, tasks, hearer, jobs + resources)? || self.best.is_none() {
-            return Ok(());
-        }
-        for k in 0..resources {
-            if !self.settle(search, tasks, hearer, jobs + k)? {
-                return Ok(());
+        let net = tasks.part.net;
+        let resources = net.resource_count();
+        for turn in self.settled..variable_count(net) {
+            if turn == resources + 1 {
+                self.take_serial(tasks.part)?;
             }
-        }
-        self.take_serial(task)?;
-        for i in 0..jobs {
-            if !self.settle(search, tasks, hearer, i)? {
-                return Ok(());
+            if !self.settle(search, tasks, hearer, place_in_turn(net, turn))? {
+                break;
+            }
+            self.settled = turn + 1;
+            if self.best.is_none() {
+                break;
             }
         }
         Ok(())
@@ -122,7 +134,11 @@ impl<P: OfProblem> Descent<P> {
             if value <= least {
                 break;
             }
-            let most = below(least, value, is_halved(task, x, turn));
+            let most = if self.rises && x == task.net.job_count() + task.net.resource_count() {
+                least.max(search.least_cost()).min(value - 1)
+            } else {
+                below(least, value, is_halved(task, x, turn))
+            };
             match self.ask(search, tasks, hearer, x, most)? {
                 Heard::Less => {}
                 Heard::None(clause) => {

@@ -26,6 +26,10 @@
 //! was given a bound on its conflicts and reached it, was stopped, or left a question open. A `Hearer` is told drafts and
 //! lower bounds on the cost as they are found, and may stop the search.
 //!
+//! `optimum_beside` answers the same by several searches on threads of their own, with other seeds. They show each other short
+//! clauses and the best draft, and the first one that finishes ends the others. With four or more, one asks for the cost from
+//! its least on, so that its lower bound rises.
+//!
 //! An `Optimizer` finds the optima of an order and of parts of it, as with shorter deadlines or lower ceilings. It keeps one
 //! search: a clause of the order holds of each part, where those of its literals that are false at the root of the part
 //! fall away.
@@ -37,6 +41,8 @@
 
 mod any;
 mod asking;
+mod beside;
+mod common;
 mod descent;
 mod feasible;
 mod hearer;
@@ -49,6 +55,7 @@ mod serial;
 mod taken;
 mod task;
 
+pub use beside::optimum_beside;
 pub use feasible::Feasible;
 pub use hearer::Hearer;
 pub use limits::Limits;

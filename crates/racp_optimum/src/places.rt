@@ -25,3 +25,15 @@ pub(crate) fn value_of(net: &Network, draft: &Draft, x: usize) -> u64 {
         None => draft.cost,
     }
 }
+
+/// The place of the variable whose turn it is, from 0: the cost, then the units, then the starts.
+pub(crate) fn place_in_turn(net: &Network, turn: usize) -> usize {
+    let (jobs, resources) = (net.job_count(), net.resource_count());
+    if turn == 0 {
+        jobs + resources
+    } else if turn <= resources {
+        jobs.saturating_add(turn - 1)
+    } else {
+        turn.saturating_sub(resources + 1)
+    }
+}

@@ -10,12 +10,12 @@ use Rattle.racp_lexfix.proofs.by_workers.plan_with.Goals as goal
 
 pub returns-in-Err-clause-stop : goal.returns-in-Err-clause-stop
 returns-in-Err-clause-stop g c =
-    let crowd = c.plan.new.asker in
+    let crowd = c.plan_known.new.asker in
     let net = c.args.task.now.net.now in
     let order = c.args.task.now.order.now in
     let quiet = g.P.Stop.QUIET in
     let answered = crowd.answered - c.args.crowd.now.answered in
     let may_stop = (crowd.left ≡ 0) ⊎ (quiet ≡ false) in
     let taken = subst (λ (p : Project). HaveTaken p quiet crowd.pieces) (sym c.requires.named) crowd.taken in
-    let stopped = subst (λ (r : Result Answer PlanStop). IfErr r (IsPlanStop (IsStoppedAt net order answered crowd.told) may_stop ⊤)) c.in-Err.is c.plan.ensures.stop in
+    let stopped = subst (λ (r : Result Answer PlanStop). IfErr r (IsPlanStop (IsStoppedAt net order answered crowd.told) may_stop ⊤)) c.in-Err.is c.plan_known.ensures.stop in
     crowd_stop net order quiet crowd.left crowd.pieces g.M.OfTurns.turns answered crowd.told c.in-Err.stop taken crowd.counted stopped
