@@ -23,21 +23,21 @@ pub(crate) struct Kept<'a> {
 /// Hears how far planning has come, and notes it; the best plan that is known it keeps in a file, if that is wanted. Each time
 /// it looks whether the user has asked for a stop.
 #[derive(Drop)]
-pub(crate) struct Listener<'a, R: Files + Eprint + AllocGlobal + Drop> {
+pub(crate) struct Listener<'a, 'k, R: Files + Eprint + AllocGlobal + Drop> {
     host: R,
     known: &'a Known,
     progress: Option<&'a Progress>,
-    kept: Kept<'a>,
+    kept: Kept<'k>,
     asks: Option<Asks>,
 }
 
-impl<'a, R: Files + Eprint + AllocGlobal + Drop> Listener<'a, R> {
+impl<'a, 'k, R: Files + Eprint + AllocGlobal + Drop> Listener<'a, 'k, R> {
     /// Notes it there, and keeps plans so; hears the user so, or does not.
     pub(crate) fn of(
         host: R,
         known: &'a Known,
         progress: Option<&'a Progress>,
-        kept: Kept<'a>,
+        kept: Kept<'k>,
         asks: Option<Asks>,
     ) -> Self {
         Listener {
@@ -62,7 +62,7 @@ impl<'a, R: Files + Eprint + AllocGlobal + Drop> Listener<'a, R> {
     }
 }
 
-impl<'a, R: Files + Eprint + AllocGlobal + Drop> Observer for Listener<'a, R> {
+impl<'a, 'k, R: Files + Eprint + AllocGlobal + Drop> Observer for Listener<'a, 'k, R> {
     fn hear_deadline(&self, deadline: u32) {
         if let Some(progress) = self.progress {
             progress.note_deadline(deadline);
