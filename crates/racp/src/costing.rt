@@ -73,14 +73,26 @@ fn curve_told<R: Clock + Files + Print + Eprint + AllocGlobal + Threads + Wait +
     ensures { IfOk result IsStatusOfTool }
 {
     let (mut network, mut terms) = (net.bytes, order.bytes);
-    let status = match costing.workers {
-        Some(workers) => curve_by(rt, &mut network, &mut terms, workers, costing)?,
-        None => curve_alone(rt, &mut network, &mut terms, costing)?,
-    };
+    let status = curve_made(rt, &mut network, &mut terms, costing)?;
     if costing.manner.tells(status) {
         tell(rt, costing.manner, order_cause(rt.alloc(), net, order));
     }
     Ok(status)
+}
+
+/// Writes what each deadline up to that of the order that is read there costs, by plans that workers make, if there are such,
+/// and else one thread.
+fn curve_made<
+    R: Clock + Files + Print + Eprint + AllocGlobal + Threads + Wait + Sync,
+    N: Read,
+    O: Read,
+>(rt: &R, net: &mut N, order: &mut O, costing: Costing<'_>) -> Result<u8, StreamFault>
+    ensures { IfOk result IsStatusOfTool }
+{
+    match costing.workers {
+        Some(workers) => curve_by(rt, net, order, workers, costing),
+        None => curve_alone(rt, net, order, costing),
+    }
 }
 
 /// Writes what each deadline up to that of the order that is read there costs, by plans that one thread makes.
