@@ -73,16 +73,16 @@ fn curve_told<R: Clock + Files + Print + Eprint + AllocGlobal + Threads + Wait +
     ensures { IfOk result IsStatusOfTool }
 {
     let (mut network, mut terms) = (net.bytes, order.bytes);
-    let status = curve_made(rt, &mut network, &mut terms, costing)?;
+    let status = curve_of(rt, &mut network, &mut terms, costing)?;
     if costing.manner.tells(status) {
         tell(rt, costing.manner, order_cause(rt.alloc(), net, order));
     }
     Ok(status)
 }
 
-/// Writes what each deadline up to that of the order that is read there costs, by plans that workers make, if there are such,
+/// Writes what each deadline up to that of the order that is read there costs, by plans that workers make, if there are some,
 /// and else one thread.
-fn curve_made<
+fn curve_of<
     R: Clock + Files + Print + Eprint + AllocGlobal + Threads + Wait + Sync,
     N: Read,
     O: Read,
@@ -128,7 +128,7 @@ fn curve_by<
 ) -> Result<u8, StreamFault>
     ensures { IfOk result IsStatusOfTool }
 {
-    let limit = Limit::of(rt, costing.limit, None);
+    let limit = Limit::of(rt, costing.limit, None, None);
     let crew = Crew {
         workers: workers.count,
         turns: workers.turns,

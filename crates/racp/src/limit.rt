@@ -1,5 +1,6 @@
 //! When a command is stopped by the clock or by the user, and planning told of until then.
 
+use crate::asks::Asks;
 use crate::known::Known;
 use crate::progress::Progress;
 use racp_search::Stop;
@@ -15,11 +16,18 @@ pub(crate) struct Limit<C: Clock + Eprint + Drop> {
     begun: Option<Instant>,
     progress: Option<Progress>,
     known: Known,
+    asks: Option<Asks>,
 }
 
 impl<C: Clock + Eprint + Drop> Limit<C> {
-    /// A limit of this time from now on, or none, which counts and tells as this says, or does not.
-    pub(crate) fn of(host: C, limit: Option<Duration>, progress: Option<Progress>) -> Self {
+    /// A limit of this time from now on, or none, which counts and tells as this says, or does not, with the file
+    /// by which the user asks for a stop, if there is one.
+    pub(crate) fn of(
+        host: C,
+        limit: Option<Duration>,
+        progress: Option<Progress>,
+        asks: Option<Asks>,
+    ) -> Self {
         let begun = match Instant::now(&host) {
             Ok(now) => Some(now),
             Err(_) => None,
@@ -30,7 +38,13 @@ impl<C: Clock + Eprint + Drop> Limit<C> {
             begun,
             progress,
             known: Known::new(),
+            asks,
         }
+    }
+
+    /// The file by which the user asks for a stop, if there is one.
+    pub(crate) fn asks(&self) -> Option<&Asks> {
+        self.asks.as_ref()
     }
 
     /// What is known of the plan.

@@ -28,7 +28,7 @@ pub(crate) struct Listener<'a, 'k, R: Files + Eprint + AllocGlobal + Drop> {
     known: &'a Known,
     progress: Option<&'a Progress>,
     kept: Kept<'k>,
-    asks: Option<Asks>,
+    asks: Option<&'a Asks>,
 }
 
 impl<'a, 'k, R: Files + Eprint + AllocGlobal + Drop> Listener<'a, 'k, R> {
@@ -37,8 +37,8 @@ impl<'a, 'k, R: Files + Eprint + AllocGlobal + Drop> Listener<'a, 'k, R> {
         host: R,
         known: &'a Known,
         progress: Option<&'a Progress>,
+        asks: Option<&'a Asks>,
         kept: Kept<'k>,
-        asks: Option<Asks>,
     ) -> Self {
         Listener {
             host,
@@ -54,7 +54,7 @@ impl<'a, 'k, R: Files + Eprint + AllocGlobal + Drop> Listener<'a, 'k, R> {
         if let Some(progress) = self.progress {
             progress.note_memory(mebibytes_used(&self.host));
         }
-        if let Some(asks) = &self.asks {
+        if let Some(asks) = self.asks {
             if asks.are_made(&self.host) {
                 self.known.note_asked();
             }

@@ -66,17 +66,30 @@ fn plan_told<'a, R: Clock + Env + Files + Print + Eprint + AllocGlobal + Threads
 ) -> Result<u8, Failure>
     ensures { IfOk result IsStatusOfAnswer }
 {
-    let status = match crew_of(rt, making.crew) {
-        Some(crew) => plan_kept(rt, net.bytes, order.bytes, crew, making)?,
-        None => {
-            let (mut network, mut terms) = (net.bytes, order.bytes);
-            plan_alone(rt, &mut network, &mut terms, making.memory)?
-        }
-    };
+    let status = plan_of(rt, net.bytes, order.bytes, making)?;
     if making.manner.tells(status) {
         tell(rt, making.manner, order_cause(rt.alloc(), net, order));
     }
     Ok(status)
+}
+
+/// Writes the plan for the texts of a network and an order, or why there is none: made by workers if there is a crew, and
+/// else on one thread.
+fn plan_of<'a, R: Clock + Env + Files + Print + Eprint + AllocGlobal + Threads + Wait + Sync>(
+    rt: &R,
+    net: &'a [u8],
+    order: &'a [u8],
+    making: Making<'a>,
+) -> Result<u8, StreamFault>
+    ensures { IfOk result IsStatusOfAnswer }
+{
+    match crew_of(rt, making.crew) {
+        Some(crew) => plan_kept(rt, net, order, crew, making),
+        None => {
+            let (mut network, mut terms) = (net, order);
+            plan_alone(rt, &mut network, &mut terms, making.memory)
+        }
+    }
 }
 
 /// Writes the plan for the texts of a network and an order, or why there is none, made by the workers of a crew. The plan
@@ -125,10 +138,10 @@ fn plan_by<
         Ok(progress) => progress,
         Err(_) => return Err(StreamFault::Memory),
     };
-    let limit = Limit::of(rt, making.limit, progress);
+    let limit = Limit::of(rt, making.limit, progress, Asks::of(rt));
     let path = crew.best;
     let kept = Kept { net, order, path };
-    let listener = Listener::of(rt, limit.known(), limit.progress(), kept, Asks::of(rt));
+    let listener = Listener::of(rt, limit.known(), limit.progress(), limit.asks(), kept);
     let workers = racp_lexfix::Crew {
         workers: crew.workers,
         turns: crew.turns,
@@ -143,7 +156,6 @@ fn plan_by<
         limit.known().tell(rt);
     }
     // Dropped here once, not at each way out.
-    drop(listener);
     drop(limit);
     let (status, effort) = made?;
     if crew.stats {

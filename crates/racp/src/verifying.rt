@@ -135,7 +135,7 @@ fn verify_of<R: Clock + Files + Print + Eprint + AllocGlobal, N: Read, O: Read, 
 ) -> Result<u8, StreamFault>
     ensures { IfOk result IsStatusOfAnswer }
 {
-    let limit = Limit::of(rt, limit, None);
+    let limit = Limit::of(rt, limit, None, None);
     let status = verify_over_until(
         rt.alloc(),
         net,
