@@ -6,7 +6,7 @@ import signal
 import subprocess
 import threading
 
-from shared import PROGRAM, Run
+from shared import PROGRAM, Run, quiet
 
 CPU_SECONDS = 10
 MEMORY_BYTES = 1 << 30
@@ -41,8 +41,10 @@ def keep_limits(pid, cpu_seconds, memory_bytes):
 
 
 def run(words, most, name, cpu_seconds=CPU_SECONDS, memory_bytes=MEMORY_BYTES):
-    """What the program gives for these words; the status of a run that a signal ends is less than 0."""
-    process = subprocess.Popen([PROGRAM, *words], stdin=subprocess.DEVNULL, stdout=subprocess.PIPE, stderr=subprocess.PIPE)
+    """What the program gives for these words; the status of a run that a signal ends is less than 0. What is wrong with files
+    is not told, unless the words ask for it."""
+    command = [PROGRAM, *quiet(words)]
+    process = subprocess.Popen(command, stdin=subprocess.DEVNULL, stdout=subprocess.PIPE, stderr=subprocess.PIPE)
     keep_limits(process.pid, cpu_seconds, memory_bytes)
     end = threading.Timer(WALL_SECONDS, process.kill)
     end.start()
