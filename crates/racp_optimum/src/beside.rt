@@ -1,19 +1,18 @@
 //! Searches for one optimum side by side.
 
-ghost use Rattle.std.specs.Prelude.{IfOk, IfSome, ⊤};
-ghost use Rattle.racp_schedules.specs.Drafts.{IsDraft};
+ghost use Rattle.std.specs.Prelude.{IfOk};
 ghost use Rattle.racp_optimum.specs.Optima.{IsOptimum, IsTaskOf, MayBeTold};
 
 use crate::common::Common;
 use crate::descent::Descent;
 use crate::hearer::Hearer;
+use crate::hearing::{Loud, Quiet};
 use crate::limits::Limits;
 use crate::optimizer::first_draft;
 use crate::optimum::{Optimum, optimum_of};
 use crate::task::{Task, Tasks};
+use crate::worker::Worker;
 use racp_facts::OfProblem;
-use racp_learning::{Search, Tally};
-use racp_schedules::Draft;
 use std::alloc::AllocError;
 use std::sync::Wait;
 use std::thread;
@@ -21,166 +20,6 @@ use std::thread::{JoinHandle, Scope, Threads};
 
 /// So many conflicts a search may meet before others are started beside it.
 const ALONE: u64 = 1_000;
-
-/// Searches tell each other what they have learned once in so many conflicts.
-const SLICE: u64 = 250;
-
-/// The search in this seat, the fourth one, asks for the cost from its least on.
-const RISING: usize = 3;
-
-/// A search among others.
-#[derive(Drop)]
-struct Worker<N: OfProblem> {
-    search: Search<N>,
-    descent: Descent<N>,
-    seat: usize,
-    /// Up to this place it has read what others have shown.
-    read: usize,
-}
-
-/// Hears nothing, and stops where one search has finished.
-#[derive(Drop)]
-struct Quiet<'a, 'b, N: OfProblem> {
-    common: &'a Common<'b, N>,
-}
-
-impl<'a, 'b, N: OfProblem> Hearer for Quiet<'a, 'b, N> {
-    ghost may_hear_cost = { λ _. ⊤ };
-
-    ghost may_hear_draft = { λ _. ⊤ };
-
-    fn stops(&self) -> bool {
-        self.common.is_done()
-    }
-
-    fn hear_cost(&self, _least: u64) {}
-
-    fn hear_draft(&self, _draft: &Draft) {}
-
-    fn hear_tally(&self, _tally: Tally) {}
-}
-
-/// Tells a hearer what is found, and stops where one search has finished.
-#[derive(Drop)]
-struct Loud<'a, 'b, 'c, N: OfProblem, H: Hearer> {
-    common: &'a Common<'b, N>,
-    hearer: &'c H,
-}
-
-impl<'a, 'b, 'c, N: OfProblem, H: Hearer> Hearer for Loud<'a, 'b, 'c, N, H> {
-    ghost may_hear_cost = { H.may_hear_cost };
-
-    ghost may_hear_draft = { H.may_hear_draft };
-
-    fn stops(&self) -> bool {
-        self.common.is_done() || self.hearer.stops()
-    }
-
-    fn hear_cost(&self, least: u64) {
-        self.hearer.hear_cost(least);
-    }
-
-    fn hear_draft(&self, draft: &Draft) {
-        self.hearer.hear_draft(draft);
-    }
-
-    fn hear_tally(&self, tally: Tally) {
-        self.hearer.hear_tally(tally);
-    }
-}
-
-impl<N: OfProblem> Worker<N> {
-    /// A search that has learned nothing yet, from a draft on.
-    fn new(common: &Common<'_, N>, seat: usize, draft: Option<Draft>) -> Result<Self, AllocError> {
-        let Limits {
-            seed,
-            bytes,
-            conflicts,
-            ..
-        } = common.limits;
-        let Task {
-            alloc,
-            net,
-            order,
-            root,
-            ..
-        } = common.task;
-        let seed = seed.wrapping_add(seat as u64);
-        let mut search = Search::new(alloc, net, order, root, seed, bytes)?;
-        search.share();
-        let mut descent = Descent::new(common.task, conflicts, draft)?;
-        descent.rises = seat == RISING;
-        Ok(Worker {
-            search,
-            descent,
-            seat,
-            read: 0,
-        })
-    }
-
-    /// Searches, and tells the others and learns from them, until it has finished, or is to stop.
-    fn work<H: Hearer, R: Wait>(
-        &mut self,
-        rt: &R,
-        common: &Common<'_, N>,
-        hearer: &H,
-    ) -> Result<(), AllocError>
-        requires may { MayBeTold N.problem H.may_hear_cost H.may_hear_draft }
-    {
-        let task = common.task;
-        let tasks = Tasks {
-            whole: task,
-            part: task,
-        };
-        let mut left = common.limits.conflicts;
-        for _i in 0..u64::MAX {
-            if left == 0 || hearer.stops() {
-                break;
-            }
-            let lost = self.search.tally().lost;
-            let slice = left.min(SLICE);
-            self.descent.left = slice;
-            self.descent.go_down(&mut self.search, tasks, hearer)?;
-            if self.descent.is_finished(task) {
-                common.finish();
-            }
-            let is_lost = lost.saturating_add(slice) <= self.search.tally().lost;
-            left = if is_lost {
-                0
-            } else {
-                left.saturating_sub(slice)
-            };
-            self.tell(rt, common, hearer)?;
-        }
-        Ok(())
-    }
-
-    /// Tells the others what was learned and found, and learns from them.
-    fn tell<H: Hearer, R: Wait>(
-        &mut self,
-        rt: &R,
-        common: &Common<'_, N>,
-        hearer: &H,
-    ) -> Result<(), AllocError>
-        requires may { MayBeTold N.problem H.may_hear_cost H.may_hear_draft }
-    {
-        common.show(rt, self.seat, &mut self.search);
-        self.read = common.read(self.seat, self.read, &mut self.search)?;
-        if let Some(draft) = common.better(rt, &self.descent.best)? {
-            let Task {
-                alloc,
-                net,
-                order,
-                ..
-            } = common.task;
-            if let Some(draft) = Draft::of_starts(alloc, net, order, draft.starts)? {
-                hearer.hear_draft(&draft);
-                self.descent.best = Some(draft);
-            }
-        }
-        Ok(())
-    }
-}
 
 /// Searches on a thread of its own.
 fn help<N: OfProblem, R: Wait>(

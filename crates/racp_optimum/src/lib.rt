@@ -30,6 +30,8 @@
 //! clauses and the best draft, and the first one that finishes ends the others. With four or more, one asks for the cost from
 //! its least on, so that its lower bound rises.
 //!
+//! `optimum_recorded` answers the same, with the derivations of the clauses, for a certificate.
+//!
 //! An `Optimizer` finds the optima of an order and of parts of it, as with shorter deadlines or lower ceilings. It keeps one
 //! search: a clause of the order holds of each part, where those of its literals that are false at the root of the part
 //! fall away.
@@ -46,14 +48,17 @@ mod common;
 mod descent;
 mod feasible;
 mod hearer;
+mod hearing;
 mod limits;
 mod optimizer;
 mod optimum;
 mod places;
 mod questions;
+mod recorded;
 mod serial;
 mod taken;
 mod task;
+mod worker;
 
 pub use beside::optimum_beside;
 pub use feasible::Feasible;
@@ -61,4 +66,5 @@ pub use hearer::Hearer;
 pub use limits::Limits;
 pub use optimizer::Optimizer;
 pub use optimum::{Optimum, optimum_of};
+pub use recorded::{Recorded, optimum_recorded};
 pub use task::Task;

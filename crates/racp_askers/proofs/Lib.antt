@@ -1,0 +1,4 @@
+mod Working
+mod Probing
+mod Asking
+mod Turns

@@ -1,0 +1,74 @@
+//! The optimum of an order, with what its clauses were derived from.
+
+ghost use Rattle.std.specs.Prelude.{IfOk};
+ghost use Rattle.racp_optimum.specs.Optima.{IsOptimum, IsTaskOf, MayBeTold};
+
+use crate::descent::Descent;
+use crate::hearer::Hearer;
+use crate::limits::Limits;
+use crate::optimizer::first_draft;
+use crate::optimum::Optimum;
+use crate::task::{Task, Tasks};
+use racp_facts::OfProblem;
+use racp_learning::{Derivations, Search};
+use std::alloc::AllocError;
+
+/// What is found of the plan of an order, and what the clauses that show it were derived from.
+#[derive(Drop)]
+pub struct Recorded {
+    /// What is found.
+    pub optimum: Optimum,
+    /// The derivations. No contract speaks of them: who reads them has to check them.
+    pub derivations: Option<Derivations>,
+}
+
+/// What `optimum_of` tells, with the derivations of all clauses that were learned on the way. These take at most so many
+/// bytes, about; where they are spent, neither the plan nor that there is none is known.
+///
+/// # Errors
+///
+/// Memory was refused.
+pub fn optimum_recorded<N: OfProblem, H: Hearer>(
+    task: Task<'_>,
+    limits: Limits,
+    most_bytes: usize,
+    hearer: &H,
+) -> Result<Recorded, AllocError>
+    requires is_of { IsTaskOf N.problem task }
+    requires may { MayBeTold N.problem H.may_hear_cost H.may_hear_draft }
+    ensures { IfOk result (λ found. IsOptimum N.problem.network N.problem.terms found.optimum) }
+{
+    let draft = first_draft::<N, H>(task, limits, hearer)?;
+    let mut descent: Descent<N> = Descent::new(task, limits.conflicts, draft)?;
+    let mut search = recording_search::<N>(task, limits, most_bytes)?;
+    let tasks = Tasks {
+        whole: task,
+        part: task,
+    };
+    descent.go_down::<N, H>(&mut search, tasks, hearer)?;
+    let optimum = descent.into_optimum(task)?;
+    Ok(Recorded {
+        optimum,
+        derivations: search.into_derivations(),
+    })
+}
+
+/// A search that keeps what its clauses are derived from.
+fn recording_search<N: OfProblem>(
+    task: Task<'_>,
+    limits: Limits,
+    most_bytes: usize,
+) -> Result<Search<N>, AllocError>
+    requires { IsTaskOf N.problem task }
+{
+    let Task {
+        alloc,
+        net,
+        order,
+        root,
+        ..
+    } = task;
+    let mut search = Search::new(alloc, net, order, root, limits.seed, limits.bytes)?;
+    search.record(net, root, most_bytes)?;
+    Ok(search)
+}

@@ -1,0 +1,127 @@
+//! One of several searches for one optimum.
+
+ghost use Rattle.racp_optimum.specs.Optima.{MayBeTold};
+
+use crate::common::Common;
+use crate::descent::Descent;
+use crate::hearer::Hearer;
+use crate::limits::Limits;
+use crate::task::{Task, Tasks};
+use racp_facts::OfProblem;
+use racp_learning::Search;
+use racp_schedules::Draft;
+use std::alloc::AllocError;
+use std::sync::Wait;
+
+/// Searches tell each other what they have learned once in so many conflicts.
+const SLICE: u64 = 250;
+
+/// The search in this seat, the fourth one, asks for the cost from its least on.
+const RISING: usize = 3;
+
+/// A search among others.
+#[derive(Drop)]
+pub(crate) struct Worker<N: OfProblem> {
+    pub(crate) search: Search<N>,
+    pub(crate) descent: Descent<N>,
+    seat: usize,
+    /// Up to this place it has read what others have shown.
+    read: usize,
+}
+
+impl<N: OfProblem> Worker<N> {
+    /// A search that has learned nothing yet, from a draft on.
+    pub(crate) fn new(
+        common: &Common<'_, N>,
+        seat: usize,
+        draft: Option<Draft>,
+    ) -> Result<Self, AllocError> {
+        let Limits {
+            seed,
+            bytes,
+            conflicts,
+            ..
+        } = common.limits;
+        let Task {
+            alloc,
+            net,
+            order,
+            root,
+            ..
+        } = common.task;
+        let seed = seed.wrapping_add(seat as u64);
+        let mut search = Search::new(alloc, net, order, root, seed, bytes)?;
+        search.share();
+        let mut descent = Descent::new(common.task, conflicts, draft)?;
+        descent.rises = seat == RISING;
+        Ok(Worker {
+            search,
+            descent,
+            seat,
+            read: 0,
+        })
+    }
+
+    /// Searches, and tells the others and learns from them, until it has finished, or is to stop.
+    pub(crate) fn work<H: Hearer, R: Wait>(
+        &mut self,
+        rt: &R,
+        common: &Common<'_, N>,
+        hearer: &H,
+    ) -> Result<(), AllocError>
+        requires may { MayBeTold N.problem H.may_hear_cost H.may_hear_draft }
+    {
+        let task = common.task;
+        let tasks = Tasks {
+            whole: task,
+            part: task,
+        };
+        let mut left = common.limits.conflicts;
+        for _i in 0..u64::MAX {
+            if left == 0 || hearer.stops() {
+                break;
+            }
+            let lost = self.search.tally().lost;
+            let slice = left.min(SLICE);
+            self.descent.left = slice;
+            self.descent.go_down(&mut self.search, tasks, hearer)?;
+            if self.descent.is_finished(task) {
+                common.finish();
+            }
+            let is_lost = lost.saturating_add(slice) <= self.search.tally().lost;
+            left = if is_lost {
+                0
+            } else {
+                left.saturating_sub(slice)
+            };
+            self.tell(rt, common, hearer)?;
+        }
+        Ok(())
+    }
+
+    /// Tells the others what was learned and found, and learns from them.
+    pub(crate) fn tell<H: Hearer, R: Wait>(
+        &mut self,
+        rt: &R,
+        common: &Common<'_, N>,
+        hearer: &H,
+    ) -> Result<(), AllocError>
+        requires may { MayBeTold N.problem H.may_hear_cost H.may_hear_draft }
+    {
+        common.show(rt, self.seat, &mut self.search);
+        self.read = common.read(self.seat, self.read, &mut self.search)?;
+        if let Some(draft) = common.better(rt, &self.descent.best)? {
+            let Task {
+                alloc,
+                net,
+                order,
+                ..
+            } = common.task;
+            if let Some(draft) = Draft::of_starts(alloc, net, order, draft.starts)? {
+                hearer.hear_draft(&draft);
+                self.descent.best = Some(draft);
+            }
+        }
+        Ok(())
+    }
+}
