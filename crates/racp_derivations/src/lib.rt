@@ -35,4 +35,5 @@ mod stepping;
 mod verdict;
 mod words;
 
+pub use root::root_bounds;
 pub use verdict::{establishes_by_text, establishes_by_text_until};

@@ -13,8 +13,12 @@ use racp_model::{Network, Window};
 use racp_prices::{Order, due_times};
 use std::alloc::{AllocError, Global};
 
-/// The root bounds of an order whose floors are 0, or `None` if no starts are in time.
-pub(crate) fn root_bounds(
+/// The root bounds of an order whose floors are 0, or `None` if no starts are in time. Derivations of a text begin with them.
+///
+/// # Errors
+///
+/// Memory was refused.
+pub fn root_bounds(
     alloc: Global,
     net: &Network,
     order: &Order,

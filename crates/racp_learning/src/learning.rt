@@ -45,9 +45,11 @@ impl<N: OfProblem> Search<N> {
         }
         if clause.literals().is_empty() {
             self.ground.clause(&clause);
+            self.recorder.conclude_empty();
         } else {
             let number = self.engine.learn()?;
             self.keep(number as usize, clause)?;
+            self.recorder.conclude(number);
         }
         if !is_last {
             return Ok(None);
@@ -55,6 +57,8 @@ impl<N: OfProblem> Search<N> {
         let told = self.refuted(bounds)?;
         if told.is_none() {
             self.lose();
+        } else {
+            self.recorder.tell();
         }
         Ok(told)
     }
@@ -97,9 +101,11 @@ impl<N: OfProblem> Search<N> {
     {
         self.settle_ground(net, order);
         self.work.begin(&self.ground);
+        self.recorder.begin();
         for &bound in self.engine.analysis.learned().literals() {
             if let Some(literal) = literal_of(bound) {
                 self.work.suppose(literal)?;
+                self.recorder.suppose(literal);
                 self.tally.literals = self.tally.literals.saturating_add(1);
             }
         }
@@ -110,6 +116,7 @@ impl<N: OfProblem> Search<N> {
             }
             let hint = hints[hints.len() - 1 - i];
             apply(net, order, &self.clauses, &mut self.work, hint);
+            self.recorder.take(net, hint);
             self.tally.hints = self.tally.hints.saturating_add(1);
         }
         Ok(())
@@ -122,11 +129,14 @@ impl<N: OfProblem> Search<N> {
         requires fit { AreTermsOf net.now order.now }
     {
         let until = self.engine.trail.grounded();
+        self.recorder.begin();
         for at in self.grounded..until {
             if let Some(entry) = self.engine.trail.entries().get(at).copied() {
-                apply_entry(net, order, &self.clauses, &mut self.ground, &entry);
+                let (ground, recorder) = (&mut self.ground, &mut self.recorder);
+                apply_entry(net, order, &self.clauses, ground, &entry, recorder);
             }
         }
+        self.recorder.keep();
         self.grounded = self.grounded.max(until);
     }
 

@@ -31,7 +31,8 @@
 //! `ask(&net, &order, &bounds, conflicts, &stop)` asks a question, and tells starts with their units, a clause that is
 //! false within the bounds, or that the question is left open, with the reason. What it has learned serves the next
 //! question too. Searches over one problem can learn from each other: `take_short` gives short clauses, and `learn_from`
-//! derives one anew where it is of use.
+//! derives one anew where it is of use. After `record` it keeps what its clauses are derived from (`Derivations`), for who
+//! wants to show them.
 //!
 //! Nothing of this has to be trusted. Each clause is derived by the rules of racp_facts from the steps that the search
 //! names, and what is not confirmed is dropped and counted. Starts that are found are tested. So the parts below `Search`
@@ -55,6 +56,7 @@ mod bound;
 mod candidate;
 mod clauses;
 mod deciding;
+mod derivations;
 mod engine;
 mod events;
 mod following;
@@ -68,6 +70,8 @@ mod narrowing;
 mod needs;
 mod problem;
 mod reasons;
+mod recorder;
+mod recording;
 mod restarts;
 mod rows;
 mod scale;
@@ -83,6 +87,7 @@ mod usage_reasons;
 mod watches;
 mod watching;
 
+pub use derivations::{Derivations, Step};
 pub use racp_delay::Stop;
 pub use search::Search;
 pub use told::{Reason, Tally, Told};

@@ -9,6 +9,7 @@ use crate::bound::Bound;
 use crate::engine::{Engine, Halt};
 use crate::found::answers;
 use crate::problem::Problem;
+use crate::recorder::Recorder;
 use crate::settling::settle;
 use crate::told::{Reason, Tally, Told};
 use racp_delay::Stop;
@@ -35,6 +36,8 @@ pub struct Search<N: OfProblem> {
     /// Whether short clauses are kept for others, and those that wait to be taken.
     pub(crate) shares: bool,
     pub(crate) short: Vec<Clause<N>>,
+    /// Keeps what clauses are derived from, if that is asked for.
+    pub(crate) recorder: Recorder,
 }
 
 impl<N: OfProblem> Search<N> {
@@ -73,6 +76,7 @@ impl<N: OfProblem> Search<N> {
             tally: Tally::new(),
             shares: false,
             short: Vec::new(alloc),
+            recorder: Recorder::off(),
         })
     }
 
@@ -154,7 +158,7 @@ impl<N: OfProblem> Search<N> {
             Halt::Short => return Err(AllocError),
             Halt::Restart => {
                 self.begin_anew(net, order)?;
-                if self.engine.clauses.are_cramped() {
+                if self.engine.clauses.are_cramped() || self.recorder.is_full() {
                     return Ok(Some(Told::Open(Reason::Memory)));
                 }
             }

@@ -58,7 +58,7 @@ fn settle_energy<N: OfProblem>(
 }
 
 /// The times at which jobs start, or end, at their bounds, each once; where these are too many, some of them.
-fn times_of(
+pub(crate) fn times_of(
     alloc: Global,
     net: &Network,
     root: &Domain,

@@ -5,6 +5,7 @@ ghost use Rattle.racp_model.specs.Terms.{AreTermsOf};
 
 use crate::analysis::Hint;
 use crate::bound::{Bound, Why};
+use crate::recorder::Recorder;
 use crate::rows::{short, stored};
 use crate::trail::Entry;
 use racp_facts::{Clause, Derivation, Literal, OfProblem, Times};
@@ -55,13 +56,15 @@ pub(crate) fn apply<N: OfProblem>(
     }
 }
 
-/// Takes the step of a bound that follows without a decision. A bound by core usage has no resource: each is tried.
+/// Takes the step of a bound that follows without a decision. A bound by core usage has no resource: each is tried, and
+/// those that change nothing are not recorded.
 pub(crate) fn apply_entry<N: OfProblem>(
     net: &Network,
     order: &Order,
     clauses: &[Option<Clause<N>>],
     derivation: &mut Derivation<N>,
     entry: &Entry,
+    recorder: &mut Recorder,
 )
     requires named { net.now ≡ N.problem.network }
     requires terms { order.now ≡ N.problem.terms }
@@ -79,8 +82,25 @@ pub(crate) fn apply_entry<N: OfProblem>(
         };
         if is_tried {
             let hint = hint_of(net, entry, stored(k));
+            let before = standing(derivation, hint.bound);
             apply(net, order, clauses, derivation, hint);
+            let is_same = standing(derivation, hint.bound) == before;
+            if !is_same || !matches!(entry.why, Why::Usage(_)) {
+                recorder.take(net, hint);
+            }
         }
+    }
+}
+
+/// Where the side of a bound stands; `None` where nothing is left.
+fn standing<N: OfProblem>(derivation: &Derivation<N>, bound: Bound) -> Option<u64> {
+    if derivation.is_empty() {
+        return None;
+    }
+    if bound.is_lower() {
+        Some(derivation.bounds().lower_at(bound.variable()))
+    } else {
+        Some(derivation.bounds().upper_at(bound.variable()))
     }
 }
 
