@@ -18,7 +18,7 @@ use Rattle.racp_words.specs.declared.request.CrewOptions.{CrewOptions}
 use Rattle.racp_words.specs.declared.request.Request.{Request}
 use Rattle.racp_words.specs.declared.request.Request.TheVariants.{Cpm, Plan, Prove, Check, Verify, Tool}
 use Rattle.racp_words.specs.declared.request.Tool as declared
-use Rattle.racp_words.specs.declared.request.Tool.TheVariants.{Show, Curve, Order, Explain}
+use Rattle.racp_words.specs.declared.request.Tool.TheVariants.{Show, Curve, Order, Import, Explain}
 
 -- the command that is named, and the word for its network
 with_network : Option (Text × List Row) → Option (Text × Option Text)
@@ -60,11 +60,12 @@ cpm_word name (first ∷ rest) plain = by_first (first == 45) refl
 
 -- a tool has another name than the other commands
 by_name : (command : Text × List Row) (tool : declared.Tool) (name : Text) → command.0 ≡ name → IsToolOf command tool →
-    (name ≡ codes "show" → ⊥) → (name ≡ codes "curve" → ⊥) → (name ≡ codes "order" → ⊥) → (name ≡ codes "explain" → ⊥) → ⊥
-by_name command (Show files look) name is asked no_show no_curve no_order no_explain = no_show (sym is ∙ asked.0)
-by_name command (Curve files memory workers is_drawn) name is asked no_show no_curve no_order no_explain = no_curve (sym is ∙ asked.0)
-by_name command (Order net terms) name is asked no_show no_curve no_order no_explain = no_order (sym is ∙ asked.0)
-by_name command (Explain format fault) name is asked no_show no_curve no_order no_explain = no_explain (sym is ∙ asked.0)
+    (name ≡ codes "show" → ⊥) → (name ≡ codes "curve" → ⊥) → (name ≡ codes "order" → ⊥) → (name ≡ codes "import" → ⊥) → (name ≡ codes "explain" → ⊥) → ⊥
+by_name command (Show files look) name is asked no_show no_curve no_order no_import no_explain = no_show (sym is ∙ asked.0)
+by_name command (Curve files memory workers is_drawn) name is asked no_show no_curve no_order no_import no_explain = no_curve (sym is ∙ asked.0)
+by_name command (Order net terms) name is asked no_show no_curve no_order no_import no_explain = no_order (sym is ∙ asked.0)
+by_name command (Import table) name is asked no_show no_curve no_order no_import no_explain = no_import (sym is ∙ asked.0)
+by_name command (Explain format fault) name is asked no_show no_curve no_order no_import no_explain = no_explain (sym is ∙ asked.0)
 
 -- a text has another letter at its first or second place
 first_differs : (s t : Text) → s ≡ t → slice_index s 0 ≡ slice_index t 0
@@ -78,6 +79,7 @@ no_tool_cpm command tool is asked = by_name command tool (codes "cpm") is asked
     (λ e. let letter : 99 ≡ 115 = first_differs (codes "cpm") (codes "show") e in omega (arith, letter))
     (λ e. let letter : 112 ≡ 117 = second_differs (codes "cpm") (codes "curve") e in omega (arith, letter))
     (λ e. let letter : 99 ≡ 111 = first_differs (codes "cpm") (codes "order") e in omega (arith, letter))
+    (λ e. let letter : 99 ≡ 105 = first_differs (codes "cpm") (codes "import") e in omega (arith, letter))
     (λ e. let letter : 99 ≡ 101 = first_differs (codes "cpm") (codes "explain") e in omega (arith, letter))
 
 no_tool_plan : (command : Text × List Row) (tool : declared.Tool) → command.0 ≡ codes "plan" → IsToolOf command tool → ⊥
@@ -85,6 +87,7 @@ no_tool_plan command tool is asked = by_name command tool (codes "plan") is aske
     (λ e. let letter : 112 ≡ 115 = first_differs (codes "plan") (codes "show") e in omega (arith, letter))
     (λ e. let letter : 112 ≡ 99 = first_differs (codes "plan") (codes "curve") e in omega (arith, letter))
     (λ e. let letter : 112 ≡ 111 = first_differs (codes "plan") (codes "order") e in omega (arith, letter))
+    (λ e. let letter : 112 ≡ 105 = first_differs (codes "plan") (codes "import") e in omega (arith, letter))
     (λ e. let letter : 112 ≡ 101 = first_differs (codes "plan") (codes "explain") e in omega (arith, letter))
 
 no_tool_prove : (command : Text × List Row) (tool : declared.Tool) → command.0 ≡ codes "prove" → IsToolOf command tool → ⊥
@@ -92,6 +95,7 @@ no_tool_prove command tool is asked = by_name command tool (codes "prove") is as
     (λ e. let letter : 112 ≡ 115 = first_differs (codes "prove") (codes "show") e in omega (arith, letter))
     (λ e. let letter : 112 ≡ 99 = first_differs (codes "prove") (codes "curve") e in omega (arith, letter))
     (λ e. let letter : 112 ≡ 111 = first_differs (codes "prove") (codes "order") e in omega (arith, letter))
+    (λ e. let letter : 112 ≡ 105 = first_differs (codes "prove") (codes "import") e in omega (arith, letter))
     (λ e. let letter : 112 ≡ 101 = first_differs (codes "prove") (codes "explain") e in omega (arith, letter))
 
 no_tool_check : (command : Text × List Row) (tool : declared.Tool) → command.0 ≡ codes "check" → IsToolOf command tool → ⊥
@@ -99,6 +103,7 @@ no_tool_check command tool is asked = by_name command tool (codes "check") is as
     (λ e. let letter : 99 ≡ 115 = first_differs (codes "check") (codes "show") e in omega (arith, letter))
     (λ e. let letter : 104 ≡ 117 = second_differs (codes "check") (codes "curve") e in omega (arith, letter))
     (λ e. let letter : 99 ≡ 111 = first_differs (codes "check") (codes "order") e in omega (arith, letter))
+    (λ e. let letter : 99 ≡ 105 = first_differs (codes "check") (codes "import") e in omega (arith, letter))
     (λ e. let letter : 99 ≡ 101 = first_differs (codes "check") (codes "explain") e in omega (arith, letter))
 
 no_tool_verify : (command : Text × List Row) (tool : declared.Tool) → command.0 ≡ codes "verify" → IsToolOf command tool → ⊥
@@ -106,6 +111,7 @@ no_tool_verify command tool is asked = by_name command tool (codes "verify") is 
     (λ e. let letter : 118 ≡ 115 = first_differs (codes "verify") (codes "show") e in omega (arith, letter))
     (λ e. let letter : 118 ≡ 99 = first_differs (codes "verify") (codes "curve") e in omega (arith, letter))
     (λ e. let letter : 118 ≡ 111 = first_differs (codes "verify") (codes "order") e in omega (arith, letter))
+    (λ e. let letter : 118 ≡ 105 = first_differs (codes "verify") (codes "import") e in omega (arith, letter))
     (λ e. let letter : 118 ≡ 101 = first_differs (codes "verify") (codes "explain") e in omega (arith, letter))
 
 -- no command asks for the network that no word names
@@ -113,7 +119,7 @@ none_asked : (command : Option (Text × List Row)) (request : Request) → with_
 unfolding with_network
 none_asked None (Cpm network) e asked = asked
 none_asked None (Plan files memory crew) e asked = asked
-none_asked None (Prove files) e asked = asked
+none_asked None (Prove files facts) e asked = asked
 none_asked None (Check files) e asked = asked
 none_asked None (Verify files limit) e asked = asked
 none_asked None (Tool tool) e asked = asked
@@ -127,7 +133,7 @@ cpm_asked (Some command) word (Cpm network) e asked = rw (← ap (λ c. c.1) (sa
 cpm_asked (Some command) word (Plan files memory crew) e asked =
     let same : codes "cpm" ≡ codes "plan" = sym (ap (λ c. c.0) (same_Some _ _ e)) ∙ asked.0 in
     let letter : 99 ≡ 112 = ap (λ t. slice_index t 0) same in absurd (omega (arith, letter))
-cpm_asked (Some command) word (Prove files) e asked =
+cpm_asked (Some command) word (Prove files facts) e asked =
     let same : codes "cpm" ≡ codes "prove" = sym (ap (λ c. c.0) (same_Some _ _ e)) ∙ asked.0 in
     let letter : 99 ≡ 112 = ap (λ t. slice_index t 0) same in absurd (omega (arith, letter))
 cpm_asked (Some command) word (Check files) e asked =
@@ -197,7 +203,7 @@ plan_asked (Some command) net order (Plan files memory crew) e asked =
       subst (λ (w : Option Text). IsNumberOf 1048576 1024 w memory.mebibytes) (ap (λ c. c.1.1.1.0) same) asked.2,
       no_crew command.1 crew (ap (λ c. c.1.1.1.1) same) asked.3,
     )
-plan_asked (Some command) net order (Prove files) e asked =
+plan_asked (Some command) net order (Prove files facts) e asked =
     let same : codes "plan" ≡ codes "prove" = sym (ap (λ c. c.0) (same_Some _ _ e)) ∙ asked.0 in
     let letter : 108 ≡ 114 = ap (λ t. slice_index t 1) same in absurd (omega (arith, letter))
 plan_asked (Some command) net order (Check files) e asked =
@@ -251,7 +257,7 @@ workers_asked (Some command) net order number (Plan files memory crew) in_range 
       workers_crew command.1 crew number (ap (λ c. c.1.1.1.1.0) same) (ap (λ c. c.1.1.1.1.1.0) same) (ap (λ c. c.1.1.1.1.1.1.0) same)
           (ap (λ c. c.1.1.1.1.1.1.1.0) same) (ap (λ c. c.1.1.1.1.1.1.1.1.0) same) (ap (λ c. c.1.1.1.1.1.1.1.1.1) same) in_range asked.3,
     )
-workers_asked (Some command) net order number (Prove files) in_range e asked =
+workers_asked (Some command) net order number (Prove files facts) in_range e asked =
     let same : codes "plan" ≡ codes "prove" = sym (ap (λ c. c.0) (same_Some _ _ e)) ∙ asked.0 in
     let letter : 108 ≡ 114 = ap (λ t. slice_index t 1) same in absurd (omega (arith, letter))
 workers_asked (Some command) net order number (Check files) in_range e asked =
@@ -262,27 +268,27 @@ workers_asked (Some command) net order number (Verify files limit) in_range e as
     let letter : 112 ≡ 118 = ap (λ t. slice_index t 0) same in absurd (omega (arith, letter))
 workers_asked (Some command) net order number (Tool tool) in_range e asked = absurd (no_tool_plan command tool (ap (λ c. c.0) (same_Some _ _ e)) asked)
 
--- the command that is named, and the paths of its words for a network and an order
-with_files : Option (Text × List Row) → Option (Text × (Text × Text))
-with_files = option_map (λ command. (command.0, (path_at (codes "NET") command.1, path_at (codes "ORDER") command.1)))
+-- the command that is named, the paths of its words for a network and an order, and whether it is asked for clauses
+with_files : Option (Text × List Row) → Option (Text × (Text × (Text × Bool)))
+with_files = option_map (λ command. (command.0, (path_at (codes "NET") command.1, (path_at (codes "ORDER") command.1, is_set (codes "facts") command.1))))
 
 prove_paths : (name : Text) (a b : ℕ) (net order : Text) → (a == 45) ≡ false → (b == 45) ≡ false →
     (fault_of racp (name ∷ codes "prove" ∷ (a ∷ net) ∷ (b ∷ order) ∷ []) ≡ []) ×
-    (with_files (subcommand_of racp (name ∷ codes "prove" ∷ (a ∷ net) ∷ (b ∷ order) ∷ [])) ≡ Some (codes "prove", (a ∷ net, b ∷ order)))
+    (with_files (subcommand_of racp (name ∷ codes "prove" ∷ (a ∷ net) ∷ (b ∷ order) ∷ [])) ≡ Some (codes "prove", (a ∷ net, (b ∷ order, false))))
 unfolding racp clap_on_literals with_files
 prove_paths name a b net order p q = (rw (p, p, q, q) refl, rw (p, p, q, q) refl)
 
 -- `prove` asks for the files with these paths
-prove_asked : (command : Option (Text × List Row)) (net order : Text) (request : Request) → with_files command ≡ Some (codes "prove", (net, order)) → IsRequested command request → AsksForProve net order request
+prove_asked : (command : Option (Text × List Row)) (net order : Text) (request : Request) → with_files command ≡ Some (codes "prove", (net, (order, false))) → IsRequested command request → AsksForProve net order request
 unfolding with_files
 prove_asked None net order request e asked = absurd (search rules)
 prove_asked (Some command) net order (Cpm network) e asked = absurd (asked.1 (ap (λ c. c.0) (same_Some _ _ e)))
 prove_asked (Some command) net order (Plan files memory crew) e asked =
     let same : codes "prove" ≡ codes "plan" = sym (ap (λ c. c.0) (same_Some _ _ e)) ∙ asked.0 in
     let letter : 114 ≡ 108 = ap (λ t. slice_index t 1) same in absurd (omega (arith, letter))
-prove_asked (Some command) net order (Prove files) e asked =
+prove_asked (Some command) net order (Prove files facts) e asked =
     let same = same_Some _ _ e in
-    (asked.1.net ∙ ap (λ c. c.1.0) same, asked.1.order ∙ ap (λ c. c.1.1) same)
+    (asked.1.net ∙ ap (λ c. c.1.0) same, asked.1.order ∙ ap (λ c. c.1.1.0) same, asked.2 ∙ ap (λ c. c.1.1.1) same)
 prove_asked (Some command) net order (Check files) e asked =
     let same : codes "prove" ≡ codes "check" = sym (ap (λ c. c.0) (same_Some _ _ e)) ∙ asked.0 in
     let letter : 112 ≡ 99 = ap (λ t. slice_index t 0) same in absurd (omega (arith, letter))
@@ -310,7 +316,7 @@ check_asked (Some command) net order plan (Cpm network) e asked = absurd (asked.
 check_asked (Some command) net order plan (Plan files memory crew) e asked =
     let same : codes "check" ≡ codes "plan" = sym (ap (λ c. c.0) (same_Some _ _ e)) ∙ asked.0 in
     let letter : 99 ≡ 112 = ap (λ t. slice_index t 0) same in absurd (omega (arith, letter))
-check_asked (Some command) net order plan (Prove files) e asked =
+check_asked (Some command) net order plan (Prove files facts) e asked =
     let same : codes "check" ≡ codes "prove" = sym (ap (λ c. c.0) (same_Some _ _ e)) ∙ asked.0 in
     let letter : 99 ≡ 112 = ap (λ t. slice_index t 0) same in absurd (omega (arith, letter))
 check_asked (Some command) net order plan (Check files) e asked =
@@ -343,7 +349,7 @@ verify_asked (Some command) net order plan proof (Cpm network) e asked = absurd 
 verify_asked (Some command) net order plan proof (Plan files memory crew) e asked =
     let same : codes "verify" ≡ codes "plan" = sym (ap (λ c. c.0) (same_Some _ _ e)) ∙ asked.0 in
     let letter : 118 ≡ 112 = ap (λ t. slice_index t 0) same in absurd (omega (arith, letter))
-verify_asked (Some command) net order plan proof (Prove files) e asked =
+verify_asked (Some command) net order plan proof (Prove files facts) e asked =
     let same : codes "verify" ≡ codes "prove" = sym (ap (λ c. c.0) (same_Some _ _ e)) ∙ asked.0 in
     let letter : 118 ≡ 112 = ap (λ t. slice_index t 0) same in absurd (omega (arith, letter))
 verify_asked (Some command) net order plan proof (Check files) e asked =

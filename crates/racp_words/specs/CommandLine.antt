@@ -3,8 +3,8 @@ use Rattle.std.specs.Prelude.{◌≡◌, ◌≢◌, ◌⊎◌, ◌||◌, Bool, �
 use Rattle.std.specs.Prelude.{if◌then◌else◌, is_some, option_map}
 use Rattle.clap.specs.Words.{App, IsUnsignedIn, Row, Text, first_of, new_app, new_rule, subcommand_of, with_rule}
 use Rattle.clap.specs.Words.{with_subcommand}
-use Rattle.racp_words.specs.Rules.{AreOrderFiles, ArePlanFiles, AreProofFiles, IsNumberOf, file_rule, flag_rule, is_set, number_in, number_rule, of_order, of_plan, of_workers, telling, text_rule}
-use Rattle.racp_words.specs.Tools.{IsNoTool, IsToolOf, curve, explain, show, order as order_app}
+use Rattle.racp_words.specs.Rules.{AreOrderFiles, ArePlanFiles, AreProofFiles, IsNumberOf, answering, file_rule, flag_rule, is_set, number_rule, of_order, of_plan, of_workers, telling, text_rule}
+use Rattle.racp_words.specs.Tools.{IsNoTool, IsToolOf, curve, explain, import_table, show, order as order_app}
 use Rattle.racp_words.specs.declared.request.CrewOptions.{CrewOptions}
 use Rattle.racp_words.specs.declared.request.Request.{Request}
 use Rattle.racp_words.specs.declared.request.Request.TheVariants.{Cpm, Plan, Prove, Check, Verify, Tool}
@@ -14,9 +14,9 @@ use Rattle.racp_words.specs.declared.request.Task.{Task}
 use Rattle.racp_words.specs.declared.request.Telling.{Telling}
 use Rattle.racp_words.specs.declared.request.Telling.TheVariants.{Quiet, Line, Whole}
 
--- `cpm [NET] [--explain] [--quiet]`
+-- `cpm [NET] [--json] [--explain] [--quiet]`
 abbrev pub cpm : App
-cpm = telling (with_rule (new_app (codes "cpm")) (new_rule (codes "NET")))
+cpm = answering (with_rule (new_app (codes "cpm")) (new_rule (codes "NET")))
 
 -- `plan NET ORDER [-j N | --workers N] [--turns N]`
 abbrev pub plan_of_workers : App
@@ -31,21 +31,21 @@ abbrev pub plan_timed : App
 plan_timed = with_rule (with_rule plan_within (text_rule (codes "time-limit"))) (flag_rule (codes "progress"))
 
 -- `plan NET ORDER [-j N | --workers N] [--turns N] [--stats] [--memory MIB] [--time-limit S] [--progress] [--best FILE]
--- [--explain] [--quiet]`
+-- [--json] [--explain] [--quiet]`
 abbrev pub plan : App
-plan = telling (with_rule plan_timed (text_rule (codes "best")))
+plan = answering (with_rule plan_timed (text_rule (codes "best")))
 
--- `prove NET ORDER [--explain] [--quiet]`
+-- `prove NET ORDER [--facts] [--explain] [--quiet]`
 abbrev pub prove : App
-prove = telling (of_order (codes "prove"))
+prove = telling (with_rule (of_order (codes "prove")) (flag_rule (codes "facts")))
 
--- `check NET ORDER PLAN [--explain] [--quiet]`
+-- `check NET ORDER PLAN [--json] [--explain] [--quiet]`
 abbrev pub check : App
-check = telling (of_plan (codes "check"))
+check = answering (of_plan (codes "check"))
 
--- `verify NET ORDER PLAN PROOF [--time-limit S] [--explain] [--quiet]`
+-- `verify NET ORDER PLAN PROOF [--time-limit S] [--json] [--explain] [--quiet]`
 abbrev pub verify : App
-verify = telling (with_rule (with_rule (of_plan (codes "verify")) (file_rule (codes "PROOF")))
+verify = answering (with_rule (with_rule (of_plan (codes "verify")) (file_rule (codes "PROOF")))
     (text_rule (codes "time-limit")))
 
 -- a program that tells its version, in short and in long
@@ -64,9 +64,9 @@ racp_checking = with_subcommand (with_subcommand (with_subcommand racp_planning 
 abbrev pub racp_charting : App
 racp_charting = with_subcommand (with_subcommand (with_subcommand racp_checking show.top) curve.top) order_app.top
 
--- `racp [.. | explain [FORMAT] [FAULT]]`
+-- `racp [.. | import FILE OPTIONS | explain [FORMAT] [FAULT]]`
 unfoldable pub racp : App
-racp = with_subcommand racp_charting explain.top
+racp = with_subcommand (with_subcommand racp_charting import_table.top) explain.top
 
 -- standard input if no word names a file, or `-` does; else the file of this path
 abbrev pub IsSource : Option Text → Source → Type 0
@@ -96,7 +96,7 @@ IsCrew words (Some crew) = (has_crew_option words ≡ true) ×
 abbrev pub IsRequested : Option (Text × List Row) → Request → Type 0
 IsRequested None (Cpm network) = IsSource None network
 IsRequested None (Plan files memory crew) = ⊥
-IsRequested None (Prove files) = ⊥
+IsRequested None (Prove files facts) = ⊥
 IsRequested None (Check files) = ⊥
 IsRequested None (Verify files limit) = ⊥
 IsRequested None (Tool tool) = ⊥
@@ -106,7 +106,8 @@ IsRequested (Some command) (Cpm network) =
 IsRequested (Some command) (Plan files memory crew) =
     (command.0 ≡ codes "plan") × AreOrderFiles command.1 files ×
     IsNumberOf 1048576 1024 (first_of (codes "memory") command.1) memory.mebibytes × IsCrew command.1 crew
-IsRequested (Some command) (Prove files) = (command.0 ≡ codes "prove") × AreOrderFiles command.1 files
+IsRequested (Some command) (Prove files facts) = (command.0 ≡ codes "prove") × AreOrderFiles command.1 files ×
+    (facts ≡ is_set (codes "facts") command.1)
 IsRequested (Some command) (Check files) = (command.0 ≡ codes "check") × ArePlanFiles command.1 files
 IsRequested (Some command) (Verify files limit) =
     (command.0 ≡ codes "verify") × AreProofFiles command.1 files ×
@@ -123,10 +124,16 @@ abbrev pub telling_of : Option (Text × List Row) → Telling
 telling_of None = Line
 telling_of (Some command) = telling_by command.1
 
+-- the answer of the command that is named is written as JSON: with the flag `--json`
+abbrev pub is_json_of : Option (Text × List Row) → Bool
+is_json_of None = false
+is_json_of (Some command) = is_set (codes "json") command.1
+
 -- the command that is named asks for this
 pub record IsTask (command : Option (Text × List Row)) (task : Task) : Type 0 where
   pub request : IsRequested command task.request
   pub telling : task.telling ≡ telling_of command
+  pub json : task.is_json ≡ is_json_of command
 
 -- the words ask for this
 abbrev pub AskFor : List Text → Task → Type 0
@@ -146,7 +153,7 @@ IsCpmLine words (Some word) = (name : Text) × IsPlain word × (words ≡ name �
 abbrev pub AsksForCpm : Option Text → Request → Type 0
 AsksForCpm word (Cpm network) = IsSource word network
 AsksForCpm word (Plan files memory crew) = ⊥
-AsksForCpm word (Prove files) = ⊥
+AsksForCpm word (Prove files facts) = ⊥
 AsksForCpm word (Check files) = ⊥
 AsksForCpm word (Verify files limit) = ⊥
 AsksForCpm word (Tool tool) = ⊥
@@ -166,7 +173,7 @@ abbrev pub AsksForPlan : Text → Text → Request → Type 0
 AsksForPlan net order (Cpm network) = ⊥
 AsksForPlan net order (Plan files memory crew) =
     (files.net.now ≡ net) × (files.order.now ≡ order) × (memory.mebibytes ≡ 1024) × (crew ≡ None)
-AsksForPlan net order (Prove files) = ⊥
+AsksForPlan net order (Prove files facts) = ⊥
 AsksForPlan net order (Check files) = ⊥
 AsksForPlan net order (Verify files limit) = ⊥
 AsksForPlan net order (Tool tool) = ⊥
@@ -188,7 +195,7 @@ abbrev pub AsksForWorkers : Text → Text → ℕ → Request → Type 0
 AsksForWorkers net order workers (Cpm network) = ⊥
 AsksForWorkers net order workers (Plan files memory crew) =
     (files.net.now ≡ net) × (files.order.now ≡ order) × (memory.mebibytes ≡ 1024) × IsOfWorkers workers crew
-AsksForWorkers net order workers (Prove files) = ⊥
+AsksForWorkers net order workers (Prove files facts) = ⊥
 AsksForWorkers net order workers (Check files) = ⊥
 AsksForWorkers net order workers (Verify files limit) = ⊥
 AsksForWorkers net order workers (Tool tool) = ⊥
@@ -198,11 +205,11 @@ abbrev pub IsProveLine : List Text → Text → Text → Type 0
 IsProveLine words net order = (name : Text) × IsPath net × IsPath order ×
     (words ≡ name ∷ codes "prove" ∷ net ∷ order ∷ [])
 
--- `prove` of the files with these paths
+-- `prove` of the files with these paths, and not by clauses
 abbrev pub AsksForProve : Text → Text → Request → Type 0
 AsksForProve net order (Cpm network) = ⊥
 AsksForProve net order (Plan files memory crew) = ⊥
-AsksForProve net order (Prove files) = (files.net.now ≡ net) × (files.order.now ≡ order)
+AsksForProve net order (Prove files facts) = (files.net.now ≡ net) × (files.order.now ≡ order) × (facts ≡ false)
 AsksForProve net order (Check files) = ⊥
 AsksForProve net order (Verify files limit) = ⊥
 AsksForProve net order (Tool tool) = ⊥
@@ -217,7 +224,7 @@ IsCheckLine words net order plan_path =
 abbrev pub AsksForCheck : Text → Text → Text → Request → Type 0
 AsksForCheck net order plan_path (Cpm network) = ⊥
 AsksForCheck net order plan_path (Plan files memory crew) = ⊥
-AsksForCheck net order plan_path (Prove files) = ⊥
+AsksForCheck net order plan_path (Prove files facts) = ⊥
 AsksForCheck net order plan_path (Check files) = (files.net.now ≡ net) × (files.order.now ≡ order) ×
     (files.plan.now ≡ plan_path)
 AsksForCheck net order plan_path (Verify files limit) = ⊥
@@ -233,7 +240,7 @@ IsVerifyLine words net order plan_path proof =
 abbrev pub AsksForVerify : Text → Text → Text → Text → Request → Type 0
 AsksForVerify net order plan_path proof (Cpm network) = ⊥
 AsksForVerify net order plan_path proof (Plan files memory crew) = ⊥
-AsksForVerify net order plan_path proof (Prove files) = ⊥
+AsksForVerify net order plan_path proof (Prove files facts) = ⊥
 AsksForVerify net order plan_path proof (Check files) = ⊥
 AsksForVerify net order plan_path proof (Verify files limit) = (files.net.now ≡ net) × (files.order.now ≡ order) ×
     (files.plan.now ≡ plan_path) × (files.proof.now ≡ proof) × (option_map (λ word. word.now) limit ≡ None)

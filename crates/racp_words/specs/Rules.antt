@@ -44,6 +44,10 @@ of_workers name = with_rule (with_rule (of_order name) (lettered 106 (number_rul
 abbrev pub telling : App → App
 telling app = with_rule (with_rule app (flag_rule (codes "explain"))) (flag_rule (codes "quiet"))
 
+-- a command whose answer may be written as JSON, `.. [--json] [--explain] [--quiet]`
+abbrev pub answering : App → App
+answering app = telling (with_rule app (flag_rule (codes "json")))
+
 -- a command with this name, `NET ORDER PLAN`
 abbrev pub of_plan : Text → App
 of_plan name = with_rule (of_order name) (file_rule (codes "PLAN"))

@@ -1,15 +1,16 @@
--- What the commands `show`, `curve`, `order` and `explain` ask for.
+-- What the commands `show`, `curve`, `order`, `import` and `explain` ask for.
 use Rattle.std.specs.Prelude.{◌≡◌, ◌≢◌, ◌||◌, Bool, List, Option, Some, None, codes, false, true}
 use Rattle.std.specs.Prelude.{is_some, option_map}
 use Rattle.clap.specs.Words.{App, Row, Text, first_of, new_app, new_rule, with_rule}
-use Rattle.racp_words.specs.Rules.{AreOrderFiles, ArePlanFiles, IsNumberOf, file_rule, flag_rule, is_set, number_rule, of_plan, of_workers, path_at, telling, text_rule}
+use Rattle.racp_words.specs.Rules.{AreOrderFiles, ArePlanFiles, IsNumberOf, answering, file_rule, flag_rule, is_set, number_rule, of_plan, of_workers, path_at, telling, text_rule}
 use Rattle.racp_show.specs.declared.form.Form.{Form}
 use Rattle.racp_show.specs.declared.form.Form.TheVariants.{Text as Blocks, Ascii, Svg, Json, Csv}
 use Rattle.racp_words.specs.declared.request.Look.{Look}
+use Rattle.racp_words.specs.declared.request.TableWords.{TableWords}
 use Rattle.racp_words.specs.declared.request.Terms.{Terms}
 use Rattle.racp_words.specs.declared.request.Tool.{Tool}
 use Rattle.racp_words.specs.declared.request.Workers.{Workers}
-use Rattle.racp_words.specs.declared.request.Tool.TheVariants.{Show, Curve, Order, Explain}
+use Rattle.racp_words.specs.declared.request.Tool.TheVariants.{Show, Curve, Order, Import, Explain}
 
 -- `show NET ORDER PLAN [--names FILE] [--width N]`
 abbrev pub show_named : App
@@ -28,9 +29,9 @@ abbrev pub curve_timed : App
 curve_timed = with_rule (with_rule (of_workers (codes "curve")) (number_rule (codes "memory") 1048576))
     (text_rule (codes "time-limit"))
 
--- `curve NET ORDER [-j N | --workers N] [--turns N] [--memory MIB] [--time-limit S] [--svg] [--explain] [--quiet]`
+-- `curve NET ORDER [-j N | --workers N] [--turns N] [--memory MIB] [--time-limit S] [--svg] [--json] [--explain] [--quiet]`
 abbrev pub curve : App
-curve = telling (with_rule curve_timed (flag_rule (codes "svg")))
+curve = answering (with_rule curve_timed (flag_rule (codes "svg")))
 
 -- `order NET [--factor F]`
 abbrev pub order_scaled : App
@@ -41,9 +42,26 @@ abbrev pub order_priced : App
 order_priced = with_rule (with_rule order_scaled (text_rule (codes "deadline")))
     (record (text_rule (codes "prices")) { required = true })
 
--- `order NET [--factor F] [--deadline T] --prices N,.. [--owned N,..] [--ceiling N,..] [--explain] [--quiet]`
+-- `order NET [--factor F] [--deadline T] --prices N,.. [--owned N,..] [--ceiling N,..] [--json]
+-- [--explain] [--quiet]`
 abbrev pub order : App
-order = telling (with_rule (with_rule order_priced (text_rule (codes "owned"))) (text_rule (codes "ceiling")))
+order = answering (with_rule (with_rule order_priced (text_rule (codes "owned"))) (text_rule (codes "ceiling")))
+
+-- `import FILE --out PROJECT [--from FORMAT]`
+abbrev pub import_from : App
+import_from = with_rule (with_rule (with_rule (new_app (codes "import")) (file_rule (codes "FILE")))
+    (record (text_rule (codes "out")) { required = true })) (text_rule (codes "from"))
+
+-- `import FILE --out PROJECT [--from FORMAT] [--prices N,..] [--factor F] [--deadline T]`
+abbrev pub import_priced : App
+import_priced = with_rule (with_rule (with_rule import_from (text_rule (codes "prices"))) (text_rule (codes "factor")))
+    (text_rule (codes "deadline"))
+
+-- `import FILE --out PROJECT [--from FORMAT] [--prices N,..] [--factor F] [--deadline T] [--owned N,..] [--ceiling N,..]
+-- [--quiet]`
+abbrev pub import_table : App
+import_table = with_rule (with_rule (with_rule import_priced (text_rule (codes "owned"))) (text_rule (codes "ceiling")))
+    (flag_rule (codes "quiet"))
 
 -- `explain [FORMAT] [FAULT]`
 abbrev pub explain : App
@@ -76,6 +94,17 @@ pub record AreTerms (words : List Row) (terms : Terms) : Type 0 where
   pub owned : option_map (λ word. word.now) terms.owned ≡ first_of (codes "owned") words
   pub ceiling : option_map (λ word. word.now) terms.ceiling ≡ first_of (codes "ceiling") words
 
+-- the words for a table of tasks
+pub record AreTableWords (words : List Row) (table : TableWords) : Type 0 where
+  pub file : table.file.now ≡ path_at (codes "FILE") words
+  pub out : table.out.now ≡ path_at (codes "out") words
+  pub from : option_map (λ word. word.now) table.from ≡ first_of (codes "from") words
+  pub prices : option_map (λ word. word.now) table.prices ≡ first_of (codes "prices") words
+  pub factor : option_map (λ word. word.now) table.factor ≡ first_of (codes "factor") words
+  pub deadline : option_map (λ word. word.now) table.deadline ≡ first_of (codes "deadline") words
+  pub owned : option_map (λ word. word.now) table.owned ≡ first_of (codes "owned") words
+  pub ceiling : option_map (λ word. word.now) table.ceiling ≡ first_of (codes "ceiling") words
+
 -- an option about the workers of a curve is given
 abbrev pub has_workers_option : List Row → Bool
 has_workers_option words =
@@ -100,6 +129,7 @@ IsToolOf command (Curve files memory workers is_drawn) =
     AreWorkers command.1 workers × (is_drawn ≡ is_set (codes "svg") command.1)
 IsToolOf command (Order net terms) =
     (command.0 ≡ codes "order") × (net.now ≡ path_at (codes "NET") command.1) × AreTerms command.1 terms
+IsToolOf command (Import table) = (command.0 ≡ codes "import") × AreTableWords command.1 table
 IsToolOf command (Explain format fault) =
     (command.0 ≡ codes "explain") × (option_map (λ word. word.now) format ≡ first_of (codes "FORMAT") command.1) ×
     (option_map (λ word. word.now) fault ≡ first_of (codes "FAULT") command.1)
@@ -109,4 +139,5 @@ pub record IsNoTool (name : Text) : Type 0 where
   pub no_show : name ≢ codes "show"
   pub no_curve : name ≢ codes "curve"
   pub no_order : name ≢ codes "order"
+  pub no_import : name ≢ codes "import"
   pub no_explain : name ≢ codes "explain"

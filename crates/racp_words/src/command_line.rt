@@ -3,16 +3,17 @@
 ghost use Rattle.std.specs.Prelude.{◌≡◌, ◌≤◌, ℕ, List, Option, Some, IfNone, IfOk, IfSome, MatchResult, map, option_map, string_bytes, codes};
 ghost use Rattle.clap.specs.Words.{FailsBy, fault_of, first_of, first_value, found_of, kind_of, rows_of, subcommand_rows_of};
 ghost use Rattle.clap.specs.declared.error.kind.ErrorKind.TheVariants.{OutOfMemory};
-ghost use Rattle.racp_words.specs.CommandLine.{AskFor, IsTask, IsCheckLine, AsksForCheck, IsProveLine, AsksForProve, IsVerifyLine, AsksForVerify, IsCpmLine, AsksForCpm, IsPlanLine, AsksForPlan, IsWorkersLine, AsksForWorkers, IsRequested, IsSource, racp, telling_by, telling_of};
+ghost use Rattle.racp_words.specs.CommandLine.{AskFor, IsTask, IsCheckLine, AsksForCheck, IsProveLine, AsksForProve, IsVerifyLine, AsksForVerify, IsCpmLine, AsksForCpm, IsPlanLine, AsksForPlan, IsWorkersLine, AsksForWorkers, IsRequested, IsSource, is_json_of, racp, telling_by, telling_of};
 ghost use Rattle.racp_words.specs.Rules.{AreOrderFiles, ArePlanFiles, AreProofFiles, number_in};
-ghost use Rattle.racp_words.specs.Tools.{AreTerms, IsForm, IsLook, IsNoTool, IsToolOf};
+ghost use Rattle.racp_words.specs.Tools.{AreTableWords, AreTerms, IsForm, IsLook, IsNoTool, IsToolOf};
 
 use crate::commands::command;
+use crate::most::MOST_WIDTH;
 use crate::options::{crew_of, is_set, memory_of, number_of, path_of, text_of, workers_of};
 use crate::request::{
-    Look, OrderFiles, PlanFiles, ProofFiles, Request, Source, Task, Telling, Terms, Tool,
+    Look, OrderFiles, PlanFiles, ProofFiles, Request, Source, TableWords, Task, Telling, Terms,
+    Tool,
 };
-use crate::table::MOST_WIDTH;
 use clap::{ArgMatches, Error};
 use racp_show::Form;
 use std::alloc::Global;
@@ -52,13 +53,14 @@ pub fn asked<'a>(alloc: Global, words: &'a [String]) -> Result<Task<'a>, Error>
     Ok(task_of(&matches))
 }
 
-/// What the matches of the words ask for, and how much is told of faults.
+/// What the matches of the words ask for, how much is told of faults, and whether JSON is written.
 fn task_of<'a>(matches: &ArgMatches<'a>) -> Task<'a>
     ensures { IsTask (subcommand_rows_of matches.now) result }
 {
     Task {
         request: request_of(matches),
         telling: telling_of(matches),
+        is_json: is_json_of(matches),
     }
 }
 
@@ -85,6 +87,16 @@ fn telling_by(words: &ArgMatches<'_>) -> Telling
     }
 }
 
+/// Whether the answer is written as JSON.
+fn is_json_of(matches: &ArgMatches<'_>) -> bool
+    ensures { result ≡ is_json_of (subcommand_rows_of matches.now) }
+{
+    match entered(matches) {
+        Some((_, words)) => is_set(words, "json"),
+        None => false,
+    }
+}
+
 /// What the matches of the words ask for.
 fn request_of<'a>(matches: &ArgMatches<'a>) -> Request<'a>
     ensures { IsRequested (subcommand_rows_of matches.now) result }
@@ -102,7 +114,7 @@ fn request_named<'a>(name: &str, words: &ArgMatches<'a>) -> Request<'a>
     if name == "plan" {
         Request::Plan(order_files(words), memory_of(words), crew_of(words))
     } else if name == "prove" {
-        Request::Prove(order_files(words))
+        Request::Prove(order_files(words), is_set(words, "facts"))
     } else if name == "check" {
         Request::Check(plan_files(words))
     } else if name == "verify" {
@@ -128,6 +140,8 @@ fn tool_named<'a>(name: &str, words: &ArgMatches<'a>) -> Option<Tool<'a>>
         Some(Tool::Curve(files, memory_of(words), workers, is_set(words, "svg")))
     } else if name == "order" {
         Some(Tool::Order(path_of(words, "NET"), terms_of(words)))
+    } else if name == "import" {
+        Some(Tool::Import(table_of(words)))
     } else if name == "explain" {
         Some(Tool::Explain(text_of(words, "FORMAT"), text_of(words, "FAULT")))
     } else {
@@ -205,6 +219,22 @@ fn terms_of<'a>(words: &ArgMatches<'a>) -> Terms<'a>
         factor: text_of(words, "factor"),
         deadline: text_of(words, "deadline"),
         prices: path_of(words, "prices"),
+        owned: text_of(words, "owned"),
+        ceiling: text_of(words, "ceiling"),
+    }
+}
+
+/// The words for a table of tasks.
+fn table_of<'a>(words: &ArgMatches<'a>) -> TableWords<'a>
+    ensures { AreTableWords (rows_of (found_of words.now)) result }
+{
+    TableWords {
+        file: path_of(words, "FILE"),
+        out: path_of(words, "out"),
+        from: text_of(words, "from"),
+        prices: text_of(words, "prices"),
+        factor: text_of(words, "factor"),
+        deadline: text_of(words, "deadline"),
         owned: text_of(words, "owned"),
         ceiling: text_of(words, "ceiling"),
     }

@@ -21,6 +21,7 @@ const BEHIND_HELP: &str =
 deadline = 49, prices = [3, 5, 2, 7].
 
 Examples:
+  racp import tasks.csv --out net          a network of a table of tasks: net.sm and net.names
   racp cpm net.sm                          the critical length and the early starts
   racp order net.sm --factor 1.2 --prices 3,5 > order.toml
   racp plan net.sm order.toml > net.plan   the cheapest capacities, with the least starts

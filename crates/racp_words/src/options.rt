@@ -6,8 +6,8 @@ ghost use Rattle.racp_words.specs.CommandLine.{IsCrew};
 ghost use Rattle.racp_words.specs.Rules.{IsNumberOf, is_set, path_at};
 ghost use Rattle.racp_words.specs.Tools.{AreWorkers};
 
+use crate::most::{MOST_MEBIBYTES, MOST_TURNS, MOST_WORKERS};
 use crate::request::{CrewOptions, Memory, Workers};
-use crate::table::{MOST_MEBIBYTES, MOST_TURNS, MOST_WORKERS};
 use clap::ArgMatches;
 
 /// How many mebibytes records are given if no option says so.

@@ -10,6 +10,8 @@ pub struct Task<'a> {
     pub request: Request<'a>,
     /// How much is told, beside the answer, of what is wrong with the files.
     pub telling: Telling,
+    /// Whether the answer is written as JSON.
+    pub is_json: bool,
 }
 
 /// How much is told of what is wrong.
@@ -30,8 +32,8 @@ pub enum Request<'a> {
     /// The plan of a network on the terms of an order, with so much memory for records: made on one thread, or by
     /// workers if an option is given.
     Plan(OrderFiles<'a>, Memory, Option<CrewOptions<'a>>),
-    /// A certificate for the plan of a network on the terms of an order.
-    Prove(OrderFiles<'a>),
+    /// A certificate for the plan of a network on the terms of an order; by clauses if that is said.
+    Prove(OrderFiles<'a>, bool),
     /// Whether a plan is one of a network on the terms of an order.
     Check(PlanFiles<'a>),
     /// Whether a certificate shows that no capacities before a plan's are enough; it stops after the time of this
@@ -50,6 +52,8 @@ pub enum Tool<'a> {
     Curve(OrderFiles<'a>, Memory, Option<Workers<'a>>, bool),
     /// The text of an order for a network with this path.
     Order(&'a str, Terms<'a>),
+    /// A network, and perhaps an order, of a table of tasks.
+    Import(TableWords<'a>),
     /// What faults mean: those that these words name, or a list of all.
     Explain(Option<&'a str>, Option<&'a str>),
 }
@@ -75,6 +79,27 @@ pub struct Terms<'a> {
     pub deadline: Option<&'a str>,
     /// The prices.
     pub prices: &'a str,
+    /// How many units are owned, if that is told.
+    pub owned: Option<&'a str>,
+    /// How many units there may be, if that is told.
+    pub ceiling: Option<&'a str>,
+}
+
+/// The words for a table of tasks, and what is to be written of it.
+#[derive(Drop)]
+pub struct TableWords<'a> {
+    /// The path of the table.
+    pub file: &'a str,
+    /// How the paths of the files begin that are written.
+    pub out: &'a str,
+    /// The format of the table, if that is told.
+    pub from: Option<&'a str>,
+    /// The prices, if an order is to be written.
+    pub prices: Option<&'a str>,
+    /// By what the critical length is multiplied, if the deadline is told in this way.
+    pub factor: Option<&'a str>,
+    /// The deadline, if it is told itself.
+    pub deadline: Option<&'a str>,
     /// How many units are owned, if that is told.
     pub owned: Option<&'a str>,
     /// How many units there may be, if that is told.

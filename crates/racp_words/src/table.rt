@@ -1,16 +1,7 @@
 //! The commands of the program and their words, in a table.
 
-/// The most workers that can be asked for.
-pub(crate) const MOST_WORKERS: u64 = 64;
-
-/// The most pieces that workers can be asked to take.
-pub(crate) const MOST_TURNS: u64 = 1_000_000_000_000;
-
-/// The most mebibytes that records can be given.
-pub(crate) const MOST_MEBIBYTES: u64 = 1_048_576;
-
-/// The most columns that a line can be asked to have.
-pub(crate) const MOST_WIDTH: u64 = 1000;
+use crate::most::{MOST_MEBIBYTES, MOST_TURNS, MOST_WIDTH, MOST_WORKERS};
+use crate::table_words::IMPORT;
 
 /// A word of a command: its name first, and what help says of it last.
 #[derive(Clone, Copy)]
@@ -79,8 +70,17 @@ const TIME_LIMIT: Word = Word::Text(
     "After how many seconds it stops, up to 1,000,000,000: 60 or 0.5",
 );
 
+/// Whether a certificate is one by clauses.
+const FACTS: Word = Word::Flag(
+    "facts",
+    "Prints one by clauses instead: that the plan is the plan of the order, starts and all",
+);
+
 /// Whether a picture is written.
 const SVG: Word = Word::Flag("svg", "Writes a picture for a browser, SVG");
+
+/// Whether an answer is written as JSON.
+const JSON: Word = Word::Flag("json", "Writes the answer as one object of JSON");
 
 /// Whether faults are explained.
 const EXPLAIN: Word = Word::Flag(
@@ -89,7 +89,7 @@ const EXPLAIN: Word = Word::Flag(
 );
 
 /// Whether nothing is told of faults.
-const QUIET: Word = Word::Flag(
+pub(crate) const QUIET: Word = Word::Flag(
     "quiet",
     "Says nothing on standard error of what is wrong with the files",
 );
@@ -104,6 +104,7 @@ pub(crate) const COMMANDS: &[Line] = &[
                 "NET",
                 "The network; standard input where it is - or left out",
             ),
+            JSON,
             EXPLAIN,
             QUIET,
         ],
@@ -131,6 +132,7 @@ pub(crate) const COMMANDS: &[Line] = &[
                 "FILE",
                 "Keeps in FILE the cheapest plan that is known, while the plan is made",
             ),
+            JSON,
             EXPLAIN,
             QUIET,
         ],
@@ -138,12 +140,12 @@ pub(crate) const COMMANDS: &[Line] = &[
     Line {
         name: "prove",
         about: "Prints a certificate that no capacities before those of the plan are enough",
-        words: &[NET, ORDER, EXPLAIN, QUIET],
+        words: &[NET, ORDER, FACTS, EXPLAIN, QUIET],
     },
     Line {
         name: "check",
         about: "Checks a plan against a network and an order",
-        words: &[NET, ORDER, PLAN, EXPLAIN, QUIET],
+        words: &[NET, ORDER, PLAN, JSON, EXPLAIN, QUIET],
     },
     Line {
         name: "verify",
@@ -154,6 +156,7 @@ pub(crate) const COMMANDS: &[Line] = &[
             PLAN,
             Word::File("PROOF", "The certificate"),
             TIME_LIMIT,
+            JSON,
             EXPLAIN,
             QUIET,
         ],
@@ -201,6 +204,7 @@ pub(crate) const COMMANDS: &[Line] = &[
             MEMORY,
             TIME_LIMIT,
             SVG,
+            JSON,
             EXPLAIN,
             QUIET,
         ],
@@ -227,9 +231,15 @@ pub(crate) const COMMANDS: &[Line] = &[
                 "N,..",
                 "How many units of each resource there may be: 5,9",
             ),
+            JSON,
             EXPLAIN,
             QUIET,
         ],
+    },
+    Line {
+        name: "import",
+        about: "Makes a network of a table of tasks, and an order if there are prices",
+        words: IMPORT,
     },
     Line {
         name: "explain",

@@ -1,0 +1,246 @@
+//! Answers as JSON.
+
+use crate::bound::bound_of;
+use crate::curve::{Step, steps_of};
+use crate::early::{Early, early_of};
+use crate::fault::{fault_of, refusal_of};
+use crate::line::rows_of;
+use crate::order::{Terms, terms_of};
+use crate::sheet::sheet_of_plan;
+use crate::told::{Command, Told, Words};
+use crate::work::Work;
+use racp_show::{Names, Sheet};
+use serde::Serialize;
+use std::alloc::{AllocError, Global};
+
+/// The status of an answer.
+const DONE: u8 = 0;
+
+/// The status if there is no plan.
+const IMPOSSIBLE: u8 = 3;
+
+/// The status of a run that was stopped.
+const STOPPED: u8 = 4;
+
+/// The status if a text is refused.
+const REFUSED: u8 = 5;
+
+/// The status if a plan has a fault or is not proved.
+const CHECK_FAILED: u8 = 8;
+
+/// A word alone: `ok`, `verified`, `stopped`, `memory` or `no thread`.
+#[derive(Clone, Copy, Serialize)]
+struct WordAnswer<'a> {
+    status: &'a str,
+}
+
+/// Early starts.
+#[derive(Drop, Serialize)]
+struct EarlyAnswer {
+    status: &'static str,
+    #[serde(flatten)]
+    early: Early,
+}
+
+/// A plan.
+#[derive(Drop, Serialize)]
+struct PlanAnswer<'a> {
+    status: &'static str,
+    #[serde(flatten)]
+    plan: Sheet<'a>,
+    #[serde(flatten)]
+    work: Work,
+}
+
+/// A plan that is not known.
+#[derive(Drop, Serialize)]
+struct StopAnswer<'a> {
+    status: &'static str,
+    not_before: Vec<u64>,
+    bound: Option<u64>,
+    best: Option<Sheet<'a>>,
+    #[serde(flatten)]
+    work: Work,
+}
+
+/// A curve, or the end of one.
+#[derive(Drop, Serialize)]
+struct CurveAnswer {
+    status: &'static str,
+    steps: Vec<Step>,
+    #[serde(skip_serializing_if = "Option::is_none")]
+    not_before: Option<Vec<u64>>,
+    #[serde(flatten)]
+    work: Work,
+}
+
+/// An order.
+#[derive(Drop, Serialize)]
+struct OrderAnswer {
+    status: &'static str,
+    #[serde(flatten)]
+    terms: Terms,
+}
+
+/// An answer as one object of JSON, with a line feed behind it. The words are what is told beside it of what is wrong.
+///
+/// # Errors
+///
+/// Memory was refused.
+pub fn json_of(alloc: Global, told: &Told<'_>, words: Words<'_>) -> Result<String, AllocError> {
+    // Each text of a command is UTF-8.
+    let text = std::str::from_utf8(told.text).unwrap_or("");
+    match told.status {
+        DONE => done(alloc, told, text),
+        STOPPED => stopped(alloc, told, text),
+        REFUSED => refused(alloc, told, text, words),
+        IMPOSSIBLE | CHECK_FAILED => faulty(alloc, told, text, words),
+        _ => word(alloc, text),
+    }
+}
+
+/// The object of a text that is refused.
+fn refused(
+    alloc: Global,
+    told: &Told<'_>,
+    text: &str,
+    words: Words<'_>,
+) -> Result<String, AllocError> {
+    let answer = refusal_of(alloc, first_line(text), told.files, words)?;
+    written(alloc, &answer)
+}
+
+/// The object of a plan that has a fault or is not proved, or of no plan.
+fn faulty(
+    alloc: Global,
+    told: &Told<'_>,
+    text: &str,
+    words: Words<'_>,
+) -> Result<String, AllocError> {
+    let answer = fault_of(alloc, first_line(text), told.files, words)?;
+    written(alloc, &answer)
+}
+
+/// The object of an answer that says what was asked.
+fn done(alloc: Global, told: &Told<'_>, text: &str) -> Result<String, AllocError> {
+    match told.command {
+        Command::Cpm => early(alloc, text),
+        Command::Plan => plan(alloc, told),
+        Command::Check | Command::Verify => word(alloc, text),
+        Command::Curve => curve(alloc, told, text, "done", None),
+        Command::Order => order(alloc, told),
+    }
+}
+
+/// The object of a run that was stopped.
+fn stopped(alloc: Global, told: &Told<'_>, text: &str) -> Result<String, AllocError> {
+    match told.command {
+        Command::Plan => stopped_plan(alloc, told, first_row(alloc, text)?),
+        Command::Curve => curve(alloc, told, text, "stopped", Some(first_row(alloc, text)?)),
+        _ => word(alloc, text),
+    }
+}
+
+/// The object of a word.
+fn word(alloc: Global, text: &str) -> Result<String, AllocError> {
+    let status = first_line(text);
+    written(alloc, &WordAnswer { status })
+}
+
+/// The object of early starts.
+fn early(alloc: Global, text: &str) -> Result<String, AllocError> {
+    let answer = EarlyAnswer {
+        status: "done",
+        early: early_of(alloc, text)?,
+    };
+    written(alloc, &answer)
+}
+
+/// The object of a plan.
+fn plan(alloc: Global, told: &Told<'_>) -> Result<String, AllocError> {
+    let names = Names::none(alloc);
+    match sheet_of_plan(alloc, told.net, told.order, told.text, &names)? {
+        Some(plan) => {
+            let answer = PlanAnswer {
+                status: "optimal",
+                plan,
+                work: told.work,
+            };
+            written(alloc, &answer)
+        }
+        // The plan is right, so memory ran out.
+        None => Err(AllocError),
+    }
+}
+
+/// The object of a plan that is not known: no capacities that are enough stand before these.
+fn stopped_plan(
+    alloc: Global,
+    told: &Told<'_>,
+    not_before: Vec<u64>,
+) -> Result<String, AllocError> {
+    let names = Names::none(alloc);
+    let answer = StopAnswer {
+        status: "stopped",
+        bound: bound_of(alloc, told.net, told.order, &not_before)?,
+        not_before,
+        best: sheet_of_plan(alloc, told.net, told.order, told.best, &names)?,
+        work: told.work,
+    };
+    written(alloc, &answer)
+}
+
+/// The object of a curve.
+fn curve(
+    alloc: Global,
+    told: &Told<'_>,
+    text: &str,
+    status: &'static str,
+    not_before: Option<Vec<u64>>,
+) -> Result<String, AllocError> {
+    let answer = CurveAnswer {
+        status,
+        steps: steps_of(alloc, text)?,
+        not_before,
+        work: told.work,
+    };
+    written(alloc, &answer)
+}
+
+/// The object of an order.
+fn order(alloc: Global, told: &Told<'_>) -> Result<String, AllocError> {
+    match terms_of(alloc, told.net, told.text)? {
+        Some(terms) => {
+            let answer = OrderAnswer {
+                status: "done",
+                terms,
+            };
+            written(alloc, &answer)
+        }
+        // The text is an order for the network, so memory ran out.
+        None => Err(AllocError),
+    }
+}
+
+/// The numbers of the line that begins with `stopped`.
+fn first_row(alloc: Global, text: &str) -> Result<Vec<u64>, AllocError> {
+    let mut rows = rows_of(alloc, text, "stopped")?;
+    Ok(rows.pop().unwrap_or(Vec::new(alloc)))
+}
+
+/// The first line of a text; empty if there is none.
+fn first_line(text: &str) -> &str {
+    text.lines().next().unwrap_or("")
+}
+
+/// A value as JSON, with a line feed behind it.
+fn written<T: Serialize>(alloc: Global, value: &T) -> Result<String, AllocError> {
+    match serde_json::to_string(alloc, value) {
+        Ok(mut text) => {
+            text.push('\n')?;
+            Ok(text)
+        }
+        // None of these values is one that JSON cannot say.
+        Err(_) => Err(AllocError),
+    }
+}

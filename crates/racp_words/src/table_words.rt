@@ -1,0 +1,43 @@
+//! The words of the command that reads a table of tasks.
+
+use crate::table::{QUIET, Word};
+
+/// The words of `import`.
+pub(crate) const IMPORT: &[Word] = &[
+    Word::File(
+        "FILE",
+        "The table: rows and cells, CSV, or Patterson's format, .rcp",
+    ),
+    Word::Needed(
+        "out",
+        "PROJECT",
+        "What the files are called: PROJECT.sm, PROJECT.names and PROJECT.toml",
+    ),
+    Word::Text(
+        "from",
+        "FORMAT",
+        "The format of the table, csv or rcp; else its first line tells",
+    ),
+    Word::Text(
+        "prices",
+        "N,..",
+        "What a unit of each resource costs: 9,30 or Masons=9,Cranes=30",
+    ),
+    Word::Text(
+        "factor",
+        "F",
+        "The deadline as so many times the critical length, rounded down: 1.2",
+    ),
+    Word::Text("deadline", "T", "The deadline, 0 to 10,000,000"),
+    Word::Text(
+        "owned",
+        "N,..",
+        "How many units of each resource are owned, and cost nothing: 0,4",
+    ),
+    Word::Text(
+        "ceiling",
+        "N,..",
+        "How many units of each resource there may be: 5,9",
+    ),
+    QUIET,
+];
