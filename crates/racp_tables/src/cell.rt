@@ -1,0 +1,66 @@
+//! Cells of a table.
+
+use crate::fault::TableFault;
+use csv::StringRecord;
+use racp_text::number;
+use std::alloc::Global;
+
+/// The text of a cell, without the blanks around it; none if the row has no such cell.
+pub(crate) fn cell_at(record: &StringRecord, place: usize) -> &str {
+    match record.get(place) {
+        Some(cell) => cell.trim(),
+        None => "",
+    }
+}
+
+/// The text of a cell of a column that may be missing.
+pub(crate) fn optional_cell(record: &StringRecord, place: Option<usize>) -> &str {
+    match place {
+        Some(place) => cell_at(record, place),
+        None => "",
+    }
+}
+
+/// The line of the text at which a row begins.
+pub(crate) fn line_of(record: &StringRecord) -> u64 {
+    match record.position() {
+        Some(position) => position.line(),
+        None => 0,
+    }
+}
+
+/// Whether a row has nothing but blanks from this cell on.
+pub(crate) fn is_empty_from(record: &StringRecord, first: usize) -> bool {
+    for place in first..record.len() {
+        if !cell_at(record, place).is_empty() {
+            return false;
+        }
+    }
+    true
+}
+
+/// The whole number that a cell of this column says, up to the most.
+pub(crate) fn number_in(
+    alloc: Global,
+    line: u64,
+    column: &str,
+    cell: &str,
+    most: u32,
+) -> Result<u32, TableFault> {
+    match number(cell.as_bytes()) {
+        Some(number) if number <= most as u64 => Ok(number as u32),
+        _ => Err(TableFault::at(
+            line,
+            format!(in alloc; "{column} '{cell}' is no whole number from 0 to {most}"),
+        )),
+    }
+}
+
+/// A text without its control characters, in whose place blanks stand.
+pub(crate) fn plain(alloc: Global, text: &str) -> Result<String, TableFault> {
+    let mut name = String::new(alloc);
+    for letter in text.chars() {
+        name.push(if letter.is_control() { ' ' } else { letter })?;
+    }
+    Ok(name)
+}
