@@ -4,6 +4,7 @@ pub mod Checks
 pub mod Verifies
 pub mod Plans
 pub mod Proofs
+pub mod ClauseProofs
 pub mod Crowds
 pub mod Streams
 pub mod Pieces

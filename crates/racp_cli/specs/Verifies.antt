@@ -1,9 +1,14 @@
 -- What `verify` answers to the texts of a network, an order, a plan and a certificate.
 use Rattle.std.specs.Prelude.{◌≡◌, ◌↔◌, ◌⊎◌, ℕ, Bool, true, false, IsTrue, List, [], length, Option, Some, None, Result, Ok, Err}
+use Rattle.std.specs.Prelude.{MatchBool, bytes_eq, codes}
+use Rattle.std.specs.List.{before_first}
 use Rattle.racp_model.specs.Project.{Project}
 use Rattle.racp_model.specs.Terms.{Terms, AreTermsOf}
+use Rattle.racp_model.specs.Plan.{IsPlan}
+use Rattle.racp_text.specs.Cuts.{is_line_feed}
 use Rattle.racp_plan.specs.declared.plan.Plan.{Plan}
 use Rattle.racp_trees.specs.Certificates.{IsCertificate}
+use Rattle.racp_derivations.specs.Texts.{IsDerivationText}
 use Rattle.racp_check.specs.PlanFaults.{IsChecked}
 use Rattle.racp_check.specs.Leastness.{HasNoneEnoughBefore, IsLongEnough}
 use Rattle.racp_cli.specs.Texts.{stopped_line, verified_line, unproved_line}
@@ -19,12 +24,27 @@ AreChecked net order text (Ok found) =
     IsChecked found.net found.order found.plan (Ok tt)
 AreChecked net order text (Err fault) = IsCheck net order text (Err fault)
 
--- whether a text is a certificate for the plan; if it is, no capacities that are enough stand before the plan's, and the
--- critical length is at most the deadline
-pub record IsVerdict (network : Project) (terms : Terms) (plan : Plan) (proof : List ℕ) (proved : Bool) : Type 0 where
+-- whether a text is a certificate by trees for the plan; if it is, no capacities that are enough stand before the plan's, and
+-- the critical length is at most the deadline
+pub record IsTreeVerdict (network : Project) (terms : Terms) (plan : Plan) (proof : List ℕ) (proved : Bool) : Type 0 where
   pub exact : IsTrue proved ↔ IsCertificate network terms plan.capacities proof
   pub leastness : IsTrue proved → HasNoneEnoughBefore network terms plan.capacities
   pub in_time : IsTrue proved → IsLongEnough network terms
+
+-- whether a text is a certificate by clauses for the plan; if it is, its capacities and starts are the plan of the order
+pub record IsClauseVerdict (network : Project) (terms : Terms) (plan : Plan) (proof : List ℕ) (proved : Bool) : Type 0 where
+  pub exact : IsTrue proved ↔ IsDerivationText network terms plan.capacities plan.starts proof
+  pub is_plan : IsTrue proved → IsPlan network terms plan.capacities plan.starts
+
+-- what stands before the first line feed of a text is `proof 2`
+unfoldable pub is_by_clauses : List ℕ → Bool
+is_by_clauses proof = bytes_eq (before_first is_line_feed proof) (codes "proof 2")
+
+-- whether a text is a certificate for the plan: one by clauses, if its first line is `proof 2`, or else one by trees
+abbrev pub IsVerdict : Project → Terms → Plan → List ℕ → Bool → Type 0
+IsVerdict network terms plan proof proved =
+    MatchBool (is_by_clauses proof) (IsClauseVerdict network terms plan proof proved)
+    (IsTreeVerdict network terms plan proof proved)
 
 -- what is right for the texts of a network, an order, a plan and a certificate: if nothing is wrong with the plan, whether the
 -- last text is a certificate for it; else what `check` says

@@ -2,7 +2,7 @@
 
 ghost use Rattle.std.specs.Prelude.{◌≡◌, ℕ, ◌≤◌, Bool, IfErr, IfOk, ⊤};
 ghost use Rattle.racp_model.specs.Project.{Project};
-ghost use Rattle.racp_lexfix.specs.Crowds.{MayStop};
+ghost use Rattle.racp_askers.specs.Crowds.{MayStop};
 ghost use Rattle.racp_curve.specs.Curves.{IsCurveAnswer as IsAnswerOfCurve, IsCurveStop};
 ghost use Rattle.racp_cli.specs.CurveAnswers.{IsCurveCrowdAnswer, IsCurveCrowdRun, IsToldByCrowd, stopped_text};
 ghost use Rattle.racp_cli.specs.Responses.{IsEndedText};
@@ -14,9 +14,10 @@ use crate::respond::respond;
 use crate::status::{STOPPED, STREAM_FAILED};
 use crate::streams::read_whole;
 use crate::texts::read_texts;
+use racp_askers::Unheard;
 use racp_curve::{CurveAnswer, CurveStop, Step, curve_crowd, step_lines};
 use racp_desk::Gate;
-use racp_lexfix::{Crew, PlanStop, Unheard};
+use racp_lexfix::{Crew, PlanStop};
 use racp_prices::Order;
 use racp_search::Stop;
 use std::alloc::{AllocError, Global};

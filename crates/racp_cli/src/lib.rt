@@ -8,14 +8,17 @@
 //! - `cpm_over` reads a network, and writes its critical length and early starts.
 //! - `run_over` reads a network and an order, and writes the plan or why there is none; `crowd_over` lets workers make
 //!   it.
-//! - `prove_over` reads a network and an order, and writes a certificate for the plan.
+//! - `prove_over` reads a network and an order, and writes a certificate for the plan; `prove_by_clauses_over` writes one
+//!   by clauses.
 //! - `check_over` reads a network, an order and a plan, and writes `ok` or what is wrong.
-//! - `verify_over` reads these and a certificate, and writes whether it shows that no cheaper capacities would do.
+//! - `verify_over` reads these and a certificate, and writes whether it shows that no cheaper capacities would do; or, if
+//!   it is one by clauses, that the plan is the plan of the order.
 //! - `show_over` reads a network, an order and a plan, and writes a picture of the plan.
 //! - `curve_over` reads a network and an order, and writes what each deadline costs; `curve_crowd_over` is for workers.
 //! - `order_over` reads a network, and writes an order.
 //!
-//! `known_text` makes the text of a plan that is known while planning goes on. Each command returns the status with which the program ends. `verify_over_until` can be stopped. `run_over_within` and `crowd_over_by` also take how much memory
+//! `known_text` makes the text of a plan that is known while planning goes on. Each command returns the status with which
+//! the program ends. `verify_over_until` can be stopped. `run_over_within` and `crowd_over_by` also take how much memory
 //! the records of refuted nodes may have. docs/FORMATS.md has every line and every status.
 //!
 //! Two jobs, 1 before 2, run for 2 time units and 1, and use 1 unit and 3; the order has the deadline 4 and the price
@@ -40,9 +43,10 @@
 //! once. A call that takes no byte, or fails, is `Write`; a call that is interrupted counts as failed.
 //!
 //! In `specs/`, an answer is a value, with the text and the status that stand for it. `IsCpmAnswer`, `IsPlanAnswer`,
-//! `IsCrowdAnswer`, `IsProofAnswer`, `IsCheckAnswer`, `IsVerifyAnswer`, `IsVerifyAnswerUntil`, `IsShowAnswer`, `IsCurveAnswer`,
-//! `IsCurveCrowdAnswer` and `IsOrderAnswer` say when text and status are right for the bytes of one to four inputs, and
-//! `IsRun` ties answers to what the readers had and what the writer holds, for all commands.
+//! `IsCrowdAnswer`, `IsProofAnswer`, `IsClauseProofAnswer`, `IsCheckAnswer`, `IsVerifyAnswer`, `IsVerifyAnswerUntil`,
+//! `IsShowAnswer`, `IsCurveAnswer`, `IsCurveCrowdAnswer` and `IsOrderAnswer` say when text and status are right for the
+//! bytes of one to four inputs, and `IsRun` ties answers to what the readers had and what the writer holds, for all
+//! commands.
 //!
 //! Proved: if a command returns a status, all of each reader was read, and what was written is exactly the text of a
 //! right answer, with its status. After `Write` what is out is a beginning of such a text; after `Read`, `TooLong` and
@@ -66,12 +70,14 @@ mod lines;
 mod order;
 mod plan;
 mod prove;
+mod prove_by_clauses;
 mod refusal;
 mod respond;
 mod show;
 mod status;
 mod streams;
 mod texts;
+mod verdict;
 mod verify;
 
 pub use check::check_over;
@@ -84,6 +90,7 @@ pub use known::known_text;
 pub use order::{Asked, Time, order_over};
 pub use plan::{run_over, run_over_within};
 pub use prove::prove_over;
+pub use prove_by_clauses::prove_by_clauses_over;
 pub use show::{Look, show_over};
 pub use status::{CHECK_FAILED, DONE, IMPOSSIBLE, OUT_OF_MEMORY, REFUSED, STOPPED, STREAM_FAILED};
 pub use verify::{verify_over, verify_over_until};

@@ -1,4 +1,4 @@
-//! `verify`: whether a text is a certificate that no capacities before those of a plan are enough.
+//! `verify`: whether a text is a certificate for a plan.
 
 ghost use Rattle.std.specs.Prelude.{◌≡◌, IfOk};
 ghost use Rattle.racp_cli.specs.Streams.{IsVerifyRun, IsVerifyRunUntil};
@@ -11,15 +11,16 @@ use crate::lines::stopped_line;
 use crate::respond::respond;
 use crate::status::{CHECK_FAILED, DONE, STOPPED};
 use crate::streams::read_whole;
-use racp_check::check_proof_until;
+use crate::verdict::is_proved;
 use racp_delay::{Never, Stop, Unfound};
 use std::alloc::{AllocError, Global};
 use std::io::{Read, Write};
 
 /// Reads a network text, an order text, a plan text and a certificate, all of each before the next, and writes to `out`
-/// whether the certificate shows that no capacities before the plan's are enough; or, if something is wrong with the
-/// plan, what `check_over` writes. Returns the status that belongs to the line that was written: 0 for `verified`, 8
-/// for `unproved`, else that of `check_over`.
+/// whether the certificate shows that the plan is the plan of the order, if its first line is `proof 2`, or else that
+/// no capacities before the plan's are enough; or, if something is wrong with the plan, what `check_over` writes.
+/// Returns the status that belongs to the line that was written: 0 for `verified`, 8 for `unproved`, else that of
+/// `check_over`.
 ///
 /// # Errors
 ///
@@ -101,7 +102,7 @@ fn verify<S: Stop>(
     ensures { IsVerifyUntil S.QUIET net.now order.now plan.now proof.now result }
 {
     let found = read_checked(alloc, net, order, plan)?;
-    let proved = check_proof_until(alloc, &found.net, &found.order, &found.plan, proof, stop);
+    let proved = is_proved(alloc, &found, proof, stop);
     // Dropped here once, not at each way out.
     drop(found);
     match proved {

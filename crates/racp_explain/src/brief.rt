@@ -5,6 +5,35 @@ use std::alloc::{AllocError, Global};
 /// How many lines of a cause say what is wrong, what was wanted and what is there.
 const LINES: usize = 3;
 
+/// What a cause says, part by part; empty what it does not say.
+#[derive(Clone, Copy)]
+pub struct Parts<'a> {
+    /// What is wrong, and where.
+    pub says: &'a str,
+    /// What was wanted there.
+    pub wanted: &'a str,
+    /// What is there.
+    pub found: &'a str,
+}
+
+/// The parts of a cause: its first three lines, without the words that each begins with.
+pub fn parts_of(cause: &str) -> Parts<'_> {
+    let mut lines = cause.lines();
+    Parts {
+        says: behind(lines.next(), "racp: "),
+        wanted: behind(lines.next(), "racp: wanted: "),
+        found: behind(lines.next(), "racp: there:  "),
+    }
+}
+
+/// A line without the words that it begins with; nothing of no line.
+fn behind<'a>(line: Option<&'a str>, front: &str) -> &'a str {
+    match line {
+        Some(line) => line.strip_prefix(front).unwrap_or(line),
+        None => "",
+    }
+}
+
 /// A cause in one line: what is wrong, what was wanted, and what is there; nothing of an empty cause. The words by which
 /// `explain` says more are left out.
 ///

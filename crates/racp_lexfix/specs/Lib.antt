@@ -2,9 +2,8 @@ pub mod Answers
 pub mod Texts
 pub mod Printing
 pub mod Proving
-pub mod Working
+pub mod Showing
 pub mod Fixing
 pub mod Stages
 pub mod Boxed
 pub mod Laws
-pub mod Crowds

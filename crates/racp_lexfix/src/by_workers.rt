@@ -1,25 +1,22 @@
 //! From the texts of a network and an order to the text of the answer, by workers.
 
-ghost use Rattle.std.specs.Prelude.{◌≡◌, ◌≤◌, ℕ, List, Ok, IfOk, IfErr, IfSome};
+ghost use Rattle.std.specs.Prelude.{◌≡◌, ◌≤◌, ℕ, List, Ok, IfOk, IfErr};
 ghost use Rattle.racp_model.specs.Formed.{AreFormed};
 ghost use Rattle.racp_model.specs.Terms.{AreTermsOf};
 ghost use Rattle.racp_candidates.specs.AnySeries.{any_questions};
 ghost use Rattle.racp_sm.specs.Reading.{IsReading};
 ghost use Rattle.racp_desk.specs.Closing.{IsRunClosed};
 ghost use Rattle.racp_lexfix.specs.Answers.{IsAnswer};
-ghost use Rattle.racp_lexfix.specs.Crowds.{RunsDesks};
 ghost use Rattle.racp_lexfix.specs.Printing.{IsAnswerPrinted, IsCrowdPrinting, IsCrowdStop};
-ghost use Rattle.racp_lexfix.specs.Stages.{IsChosen};
 
 use crate::answer::{Answer, PlanStop};
-use crate::crowd::{Crowd, Effort, OfTurns};
-use crate::observer::{Observer, Pricing, Unheard};
 use crate::planning::Task;
 use crate::printed::{Printed, Refusal, answer_printed};
+use racp_askers::{Crowd, Effort, Observer, OfTurns, Pricing, Unheard};
 use racp_candidates::AnySeries;
 use racp_cutset::{DEFAULT_MEMORY, MemoryLimit};
 use racp_desk::{Closed, DeskFault, Gate, Records, RunLimits};
-use racp_model::{Capacities, Network, OfNetwork, Starts};
+use racp_model::{Network, OfNetwork};
 use racp_prices::read_order;
 use racp_questions::Leeway;
 use racp_search::Stop;
@@ -199,29 +196,7 @@ fn plan_by<
     );
     let mut crowd = crowd.with_search(crew.leeway(), crew.stop);
     let known = task.by_searches(rt, crew.workers, &crowd)?;
-    plan_with(task, &mut crowd, known)
-}
-
-/// The plan of an order, or why there is none, by an asker with workers, and how much work these did.
-fn plan_with<
-    N: OfNetwork,
-    M: OfTurns,
-    P: Stop,
-    O: Observer + Drop,
-    F: Fn(AnySeries, RunLimits) -> Result<Closed, DeskFault> + Drop,
->(
-    task: &Task,
-    crowd: &mut Crowd<'_, N, M, P, O, F>,
-    known: Option<Option<(Capacities, Starts)>>,
-) -> Result<(Answer, Effort), PlanStop>
-    requires named { task.now.net.now ≡ N.network }
-    requires terms { AreTermsOf task.now.net.now task.now.order.now }
-    requires known { IfSome known (IsChosen task.now.net.now task.now.order.now) }
-    requires run { RunsDesks N.network P.QUIET (F.pre crowd.old.run) (F.post crowd.old.run) }
-    ensures answer { IfOk result (λ done. IsAnswer task.now.net.now task.now.order.now done.0) }
-    ensures stop { IfErr result (IsCrowdStop M.turns P.QUIET task.now.net.now task.now.order.now) }
-{
-    match task.plan_known(crowd, known) {
+    match task.plan_known(&mut crowd, known) {
         Ok(answer) => Ok((answer, crowd.effort())),
         Err(stop) => Err(stop),
     }

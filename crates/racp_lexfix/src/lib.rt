@@ -32,15 +32,9 @@
 //! Where stage 4 has more than 64 vectors, they are not asked in order: the box is searched by halves (racp_boxes), and
 //! the vector that this leads to is asked for once more, so that its records serve the starts.
 //!
-//! Each stage asks through `Asker`, so the same planner runs over one thread or more. `Alone` is an asker on the
-//! calling thread, over a collector of one seat: it asks a question, takes its one piece, searches that to its end and
-//! hands it in. Records of a question that was a yes serve those after it; those of a no are forgotten. The vector of
-//! the first yes of stage 4 is not told by the asker: it is the peaks of the starts that were found, since these peaks
-//! are enough too, and none that are stand before it. `Crowd` is an asker with workers: for each series it runs a desk
-//! (racp_desk), by a call that it is handed, and counts over all series the turns, of which a desk takes one for each
-//! piece, of at most 1,000 nodes. A question with a bound on its nodes has as many turns as they make such pieces, and so
-//! has each of those that come next. A question by itself is looked at by one worker first, over 16 nodes, before threads are
-//! started for the others. An `Observer` is told how far planning has come.
+//! Each stage asks through `Asker`, so the same planner runs over one thread or more (racp_askers). The vector of the first
+//! yes of stage 4 is not told by the asker: it is the peaks of the starts that were found, since these peaks are enough too,
+//! and none that are stand before it. An asker may be told how far planning has come.
 //!
 //! `plan_alone(alloc, net_bytes, order_text)` answers the text of examples/b3.plan for the texts of b.sm and b3.toml,
 //! with the status 0; for a.sm and a2.toml it answers `impossible critical 3 deadline 2` with the status 3. `plan_crowd`
@@ -57,23 +51,19 @@
 //! tells capacities before which none are enough: the floors so far, the vector that was reached, or the plan's own.
 //! While it plans, it tells the asker floors that all capacities which are enough are at or above, what these cost at
 //! least, and plans that fit the order; that it tells them in time is tested alone.
-//! `Crowd` stops only where no turn is left, or where its stop may ask at all. In `laws`: an order for a network has an
+//! In `laws`: an order for a network has an
 //! answer, and only one. Tested alone: that memory is not refused without need. How long planning takes is measured
 //! (docs/PERFORMANCE.md), not promised.
 #![tactic(auto)]
 
-mod alone;
 mod answer;
-mod answering;
 mod beside;
 mod bounds;
+mod by_clauses;
 mod by_workers;
-mod crowd;
 mod facts;
 pub mod laws;
 mod lines;
-mod observer;
-mod one_question;
 mod one_thread;
 mod planning;
 mod printed;
@@ -82,13 +72,11 @@ mod roots;
 mod starts;
 pub mod status;
 
-pub use alone::Alone;
 pub use answer::{Answer, PlanStop};
+pub use by_clauses::prove_by_clauses;
 pub use by_workers::{Crew, plan_crowd, plan_crowd_by};
-pub use crowd::{Crowd, Effort, OfTurns};
 pub use facts::{Relay, limits_of};
 pub use lines::answer_lines;
-pub use observer::{Observer, Unheard};
 pub use one_thread::{plan_alone, plan_alone_within};
 pub use planning::plan;
 pub use printed::{Printed, Refusal};

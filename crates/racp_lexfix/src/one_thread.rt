@@ -7,10 +7,10 @@ ghost use Rattle.racp_lexfix.specs.Answers.{IsAnswer};
 ghost use Rattle.racp_lexfix.specs.Printing.{IsAnswerPrinted, IsPrinting};
 ghost use Rattle.racp_lexfix.specs.declared.answer.PlanStop.TheVariants.{Memory};
 
-use crate::alone::Alone;
 use crate::answer::{Answer, PlanStop};
 use crate::planning::{Task, plan};
 use crate::printed::{Printed, Refusal, answer_printed};
+use racp_askers::Alone;
 use racp_cutset::DEFAULT_MEMORY;
 use racp_model::{Network, OfNetwork};
 use racp_prices::read_order;

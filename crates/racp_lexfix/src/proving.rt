@@ -10,11 +10,11 @@ ghost use Rattle.racp_lexfix.specs.Proving.{IsAnswerProved, IsProofOf, IsProving
 ghost use Rattle.racp_lexfix.specs.declared.answer.Answer.TheVariants.{Plan as ThePlan};
 ghost use Rattle.racp_lexfix.specs.declared.answer.PlanStop.TheVariants.{Memory};
 
-use crate::alone::Alone;
 use crate::answer::{Answer, PlanStop};
 use crate::planning::Task;
 use crate::printed::{Printed, Refusal, answer_printed};
 use crate::status::{CHECK_FAILED, DONE};
+use racp_askers::Alone;
 use racp_bounds::Sharp;
 use racp_check::{Opening, opening_of};
 use racp_model::{Capacities, Network, OfNetwork, Window};

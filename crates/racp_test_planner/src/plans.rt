@@ -3,8 +3,9 @@
 ghost use Rattle.std.specs.Prelude.{◌≡◌};
 ghost use Rattle.racp_model.specs.Terms.{AreTermsOf};
 
+use racp_askers::Alone;
 use racp_check::{Opening, opening_of};
-use racp_lexfix::{Alone, Answer, PlanStop, plan, root_bounds};
+use racp_lexfix::{Answer, PlanStop, plan, root_bounds};
 use racp_model::{NetFault, Network, OfNetwork};
 use racp_plan::Plan;
 use racp_prices::{Order, read_order};

@@ -15,20 +15,21 @@ enum Command {
 }
 
 /// A network of two jobs, the first before the second, that run for two time units and one, and use one unit and three.
-const NETWORK: &[u8] =
+pub(crate) const NETWORK: &[u8] =
     b"jobs: 2\n- renewable: 1 R\nPRECEDENCE RELATIONS:\n\n1 1 1 2\n2 1 0\nREQUESTS/DURATIONS:\n\n1 1 2 1\n2 1 1 3\n";
 
 /// An order for it.
-const ORDER: &[u8] = b"deadline = 4\nprices = [5]\n";
+pub(crate) const ORDER: &[u8] = b"deadline = 4\nprices = [5]\n";
 
 /// Its plan.
-const PLAN: &[u8] = b"deadline 4\ncritical 3\ncost 15\ncapacity 1 3\nstart 1 0\nstart 2 2\nend\n";
+pub(crate) const PLAN: &[u8] =
+    b"deadline 4\ncritical 3\ncost 15\ncapacity 1 3\nstart 1 0\nstart 2 2\nend\n";
 
 /// A certificate that nothing before the plan is enough.
 const PROOF: &[u8] = b"proof\nvector 2\nD 2\nend\n";
 
 /// Its critical length and early starts.
-const EARLY: &[u8] = b"critical 3\nstart 1 0\nstart 2 2\nend\n";
+pub(crate) const EARLY: &[u8] = b"critical 3\nstart 1 0\nstart 2 2\nend\n";
 
 /// A command, what its readers give, the status that it returns, and what it writes.
 type Answer = (Command, [&'static [u8]; 4], u8, &'static [u8]);

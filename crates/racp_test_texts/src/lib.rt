@@ -1,6 +1,8 @@
-//! Tests of the readers of networks, orders and plans, of the check of plans, and of the commands over any streams.
+//! Tests of the readers of networks, orders and plans, of the check of plans, of the commands over any streams, and of answers as JSON.
 #![tactic(auto)]
 
+#[cfg(test)]
+mod answers;
 #[cfg(test)]
 mod commands;
 #[cfg(test)]

@@ -1,7 +1,7 @@
 use Rattle.std.proofs.Common.{IfOk, inl, subst, List}
 use Rattle.std.specs.Prelude.{Result, IfErr, ⊤}
 use Rattle.std.proofs.lemmas.Result.{IfOk-weaker}
-use Rattle.racp_lexfix.specs.Crowds.{MayStop}
+use Rattle.racp_askers.specs.Crowds.{MayStop}
 use Rattle.racp_curve.specs.Curves.{IsCurveAnswer, IsCurveStop}
 use Rattle.racp_curve.specs.declared.step.CurveAnswer.{CurveAnswer}
 use Rattle.racp_curve.specs.declared.step.CurveStop.{CurveStop}

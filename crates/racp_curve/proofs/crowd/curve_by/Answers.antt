@@ -2,7 +2,7 @@ use Rattle.std.proofs.Common.{◌≡◌, ◌⊎◌, false, sym, subst}
 use Rattle.std.specs.Prelude.{⊤}
 use Rattle.std.proofs.lemmas.Result.{IfErr-weaker}
 use Rattle.racp_model.specs.Project.{Project}
-use Rattle.racp_lexfix.specs.Crowds.{HaveTaken, MayStop}
+use Rattle.racp_askers.specs.Crowds.{HaveTaken, MayStop}
 use Rattle.racp_curve.specs.Curves.{IsCurveStop}
 use Rattle.racp_curve.proofs.Telling.{crowd_stop}
 use Rattle.racp_curve.proofs.crowd.curve_by.Goals as goal

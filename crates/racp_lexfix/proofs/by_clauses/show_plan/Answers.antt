@@ -1,0 +1,26 @@
+use Rattle.std.proofs.Common.{subst}
+use Rattle.racp_check.specs.Openings.{IsOpening}
+use Rattle.racp_check.specs.declared.opening.Opening.TheVariants.{Root}
+use Rattle.racp_lexfix.proofs.by_clauses.show_plan.Goals as goal
+
+pub show_within-requires-clause-critical : goal.show_within-requires-clause-critical
+show_within-requires-clause-critical c =
+    let opening : IsOpening c.args.task.now.net.now c.args.task.now.order.now (Root c.in-Root.critical c.in-Root.window) = subst (IsOpening c.args.task.now.net.now c.args.task.now.order.now) c.in-Root.is c.in_ok-critical.ensures in
+    opening.length
+
+pub show_within-requires-clause-window : goal.show_within-requires-clause-window
+show_within-requires-clause-window c =
+    let opening : IsOpening c.args.task.now.net.now c.args.task.now.order.now (Root c.in-Root.critical c.in-Root.window) = subst (IsOpening c.args.task.now.net.now c.args.task.now.order.now) c.in-Root.is c.in_ok-critical.ensures in
+    opening.window_is
+
+pub print_none-requires-clause-answer : goal.print_none-requires-clause-answer
+print_none-requires-clause-answer c = subst (IsOpening c.args.task.now.net.now c.args.task.now.order.now) c.in-TooLong.is c.in_ok-critical.ensures
+
+pub print_none-requires-clause-none : goal.print_none-requires-clause-none
+print_none-requires-clause-none c = λ plan is. absurd (cc is)
+
+pub print_none-requires-in-TooLate-clause-answer : goal.print_none-requires-in-TooLate-clause-answer
+print_none-requires-in-TooLate-clause-answer c = subst (IsOpening c.args.task.now.net.now c.args.task.now.order.now) c.in-TooLate.is c.in_ok-critical.ensures
+
+pub print_none-requires-in-TooLate-clause-none : goal.print_none-requires-in-TooLate-clause-none
+print_none-requires-in-TooLate-clause-none c = λ plan is. absurd (cc is)

@@ -1,0 +1,212 @@
+//! A certificate by clauses for the plan of an order.
+
+ghost use Rattle.std.specs.Prelude.{◌≡◌, ℕ, List, Ok, IfOk, IfErr};
+ghost use Rattle.racp_model.specs.Path.{IsCriticalLength};
+ghost use Rattle.racp_model.specs.Plan.{IsPlan};
+ghost use Rattle.racp_model.specs.Terms.{AreTermsOf, release_of, due_of};
+ghost use Rattle.racp_model.specs.Window.{IsRootWindow};
+ghost use Rattle.racp_facts.specs.Roots.{IsOpen};
+ghost use Rattle.racp_sm.specs.Reading.{IsReading};
+ghost use Rattle.racp_optimum.specs.Optima.{IsOptimum};
+ghost use Rattle.racp_lexfix.specs.Answers.{IsAnswer};
+ghost use Rattle.racp_lexfix.specs.Proving.{unproved_line};
+ghost use Rattle.racp_lexfix.specs.Showing.{IsAnswerShown, IsShowing};
+ghost use Rattle.racp_plan.specs.declared.plan.Plan.{Plan};
+ghost use Rattle.racp_lexfix.specs.declared.answer.Answer.TheVariants.{Plan as ThePlan};
+
+use crate::answer::Answer;
+use crate::facts::limits_of;
+use crate::planning::Task;
+use crate::printed::{Printed, Refusal, answer_printed};
+use crate::status::{CHECK_FAILED, DONE};
+use racp_check::{Opening, opening_of};
+use racp_derivations::root_bounds;
+use racp_facts::Domain;
+use racp_learning::{Derivations, Tally};
+use racp_model::{Capacities, Network, Starts, Window};
+use racp_optimum::{Hearer, Optimum, Recorded, optimum_recorded};
+use racp_plan::Plan;
+use racp_prices::{cost_of, read_order};
+use racp_questions::Leeway;
+use racp_schedules::Draft;
+use racp_sm::read_sm;
+use racp_trimming::certificate_by_clauses;
+use std::alloc::{AllocError, Global};
+use std::marker::Brand;
+
+/// So many bytes the clauses of the search take at most, about, and so many what they were derived from.
+const MOST_BYTES: u32 = 1 << 30;
+
+/// Hears nothing, and stops nothing.
+#[derive(Drop)]
+struct Deaf;
+
+impl Hearer for Deaf {
+    ghost use Rattle.std.specs.Prelude.{⊤};
+
+    ghost may_hear_cost = { λ _. ⊤ };
+
+    ghost may_hear_draft = { λ _. ⊤ };
+
+    fn stops(&self) -> bool {
+        false
+    }
+
+    fn hear_cost(&self, _least: u64) {}
+
+    fn hear_draft(&self, _draft: &Draft) {}
+
+    fn hear_tally(&self, _tally: Tally) {}
+}
+
+/// A certificate by clauses for the plan of the texts of a network and an order, made on the calling thread: a text that
+/// shows that its capacities are the first of all that are enough, and its starts the least. Where there is no plan, the line
+/// that says why. Where the certificate would have more than 16,777,216 bytes, or what clauses were derived from takes more
+/// than about 1 GiB, the line `unproved`, with the status 8.
+///
+/// # Errors
+///
+/// A text is refused, the network's first; or memory was refused. It neither stops nor wants a thread.
+pub fn prove_by_clauses(
+    alloc: Global,
+    net_bytes: &[u8],
+    order_text: &[u8],
+) -> Result<Printed, Refusal>
+    ensures { IsShowing net_bytes.now order_text.now result }
+{
+    let net = read_sm(alloc, net_bytes)?;
+    prove_order(alloc, &net, order_text)
+}
+
+/// A certificate for the plan of the text of an order for a network, or why there is none.
+fn prove_order(alloc: Global, net: &Network, order_text: &[u8]) -> Result<Printed, Refusal>
+    ensures { (text : List ℕ) → IsReading text (Ok net.now) → IsShowing text order_text.now result }
+{
+    let order = read_order(alloc, order_text, net.resource_count(), net.job_count())?;
+    let task = Task {
+        alloc,
+        net,
+        order: &order,
+    };
+    let printed = show_plan(&task);
+    // Dropped here once, not at each way out.
+    drop(order);
+    Ok(printed?)
+}
+
+/// A certificate for the plan of an order, or why there is none.
+fn show_plan(task: &Task) -> Result<Printed, AllocError>
+    requires terms { AreTermsOf task.now.net.now task.now.order.now }
+    ensures { IfOk result (λ printed. IsAnswerShown task.now.net.now task.now.order.now printed.text.items printed.status) }
+{
+    match opening_of(task.alloc, task.net, task.order)? {
+        Opening::Root { critical, window } => show_within(task, critical, &window),
+        Opening::TooLong { critical } => print_none(
+            task,
+            &Answer::Impossible { longest: critical },
+        ),
+        Opening::TooLate { job } => print_none(task, &Answer::Due { job }),
+    }
+}
+
+/// The same within the root window, with the critical length.
+fn show_within(task: &Task, critical: u64, window: &Window) -> Result<Printed, AllocError>
+    requires terms { AreTermsOf task.now.net.now task.now.order.now }
+    requires critical { IsCriticalLength task.now.net.now (release_of task.now.order.now) critical }
+    requires window { IsRootWindow task.now.net.now (release_of task.now.order.now) (due_of task.now.order.now) window.now }
+    ensures { IfOk result (λ printed. IsAnswerShown task.now.net.now task.now.order.now printed.text.items printed.status) }
+{
+    let Some(root) = root_bounds(task.alloc, task.net, task.order)? else {
+        return unproved(task);
+    };
+    let Recorded {
+        optimum,
+        derivations,
+    } = recorded(task, window, &root)?;
+    match optimum {
+        Optimum::Plan(capacities, starts) => {
+            let plan = plan_of(task, critical, capacities, starts);
+            print_shown(task, &root, &plan, &derivations)
+        }
+        Optimum::NoneEnough => print_none(task, &Answer::Ceiling),
+        Optimum::Open => unproved(task),
+    }
+}
+
+/// What a search finds of the plan, with its derivations.
+fn recorded(given: &Task, window: &Window, root: &Domain) -> Result<Recorded, AllocError>
+    requires { IsOpen (record { network = given.now.net.now; terms = given.now.order.now; root = root.now }) }
+    ensures { IfOk result (λ found. IsOptimum given.now.net.now given.now.order.now found.optimum) }
+{
+    let task = racp_optimum::Task {
+        alloc: given.alloc,
+        net: given.net,
+        order: given.order,
+        window,
+        root,
+    };
+    let limits = limits_of(Leeway {
+        conflicts: u64::MAX,
+        bytes: MOST_BYTES as u64,
+    });
+    optimum_recorded::<Brand, Deaf>(task, limits, MOST_BYTES as usize, &Deaf)
+}
+
+/// The plan with these capacities and starts.
+fn plan_of(task: &Task, critical: u64, capacities: Capacities, starts: Starts) -> Plan
+    requires terms { AreTermsOf task.now.net.now task.now.order.now }
+    requires critical { IsCriticalLength task.now.net.now (release_of task.now.order.now) critical }
+    requires plan { IsPlan task.now.net.now task.now.order.now capacities starts }
+    ensures { IsAnswer task.now.net.now task.now.order.now (ThePlan result) }
+{
+    let order = task.order;
+    let cost = cost_of(task.net, order, capacities.as_slice());
+    Plan {
+        deadline: order.deadline,
+        critical,
+        cost,
+        capacities,
+        starts,
+    }
+}
+
+/// A certificate for the plan, or that none was made.
+fn print_shown(
+    task: &Task,
+    root: &Domain,
+    plan: &Plan,
+    derivations: &Option<Derivations>,
+) -> Result<Printed, AllocError>
+    requires terms { AreTermsOf task.now.net.now task.now.order.now }
+    requires plan { IsAnswer task.now.net.now task.now.order.now (ThePlan plan.now) }
+    ensures { IfOk result (λ printed. IsAnswerShown task.now.net.now task.now.order.now printed.text.items printed.status) }
+{
+    let Some(derivations) = derivations else {
+        return unproved(task);
+    };
+    let (alloc, net, order) = (task.alloc, task.net, task.order);
+    match certificate_by_clauses(alloc, net, order, root, plan, derivations)? {
+        Some(text) => Ok(Printed { text, status: DONE }),
+        None => unproved(task),
+    }
+}
+
+/// Why there is no plan.
+fn print_none(task: &Task, answer: &Answer) -> Result<Printed, AllocError>
+    requires answer { IsAnswer task.now.net.now task.now.order.now answer.now }
+    requires none { (plan : Plan) → answer.now ≡ ThePlan plan → ⊥ }
+    ensures { IfOk result (λ printed. IsAnswerShown task.now.net.now task.now.order.now printed.text.items printed.status) }
+{
+    answer_printed(task.alloc, task.order, answer)
+}
+
+/// That no certificate was made.
+fn unproved(task: &Task) -> Result<Printed, AllocError>
+    ensures line { IfOk result (λ printed. (printed.status ≡ 8) × (printed.text.items ≡ unproved_line)) }
+    ensures shown { IfOk result (λ printed. IsAnswerShown task.now.net.now task.now.order.now printed.text.items printed.status) }
+{
+    Ok(Printed {
+        text: b"unproved\n".to_vec(task.alloc)?,
+        status: CHECK_FAILED,
+    })
+}
