@@ -3,6 +3,7 @@ use Rattle.std.proofs.Common.{ℕ, Bool, true, false, List, [], ◌∷◌, Optio
 use Rattle.std.specs.Prelude.{Result}
 use Rattle.racp_cli.specs.Plans.{IsPlanAnswer}
 use Rattle.racp_cli.specs.Proofs.{IsProofAnswer, IsProofRun}
+use Rattle.racp_cli.specs.ClauseProofs.{IsClauseProofAnswer, IsClauseProofRun}
 use Rattle.racp_cli.specs.Verifies.{IsVerifyAnswerUntil}
 use Rattle.racp_cli.specs.Streams.{Reader, ToOne, ToTwo, ToFour, IsPlanRun, IsVerifyRunUntil}
 use Rattle.racp_cli.specs.declared.fault.StreamFault.{StreamFault}
@@ -28,12 +29,23 @@ planned_alone net order old new (Err fault) run = tt
 with_certificate : (inputs : List (List ℕ)) (status : ℕ) (text : List ℕ) → ToTwo IsProofAnswer inputs status text → IsStatusOfAnswer status
 with_certificate [] status text answer = absurd answer
 with_certificate (net ∷ []) status text answer = absurd answer
-with_certificate (net ∷ (order ∷ [])) status text answer = inr (inr (inr (inl (net, order, text, answer))))
+with_certificate (net ∷ (order ∷ [])) status text answer = inr (inr (inr (inl (net, order, text, inl answer))))
 with_certificate (net ∷ (order ∷ (other ∷ inputs))) status text answer = absurd answer
 
 pub proved_alone : (net order : Reader) (old new : Option (List ℕ)) (result : Result ℕ StreamFault) → IsProofRun net order old new result → IfOk result IsStatusOfAnswer
 proved_alone net order old new (Ok status) run = with_certificate run.0 status run.2.0 run.2.1
 proved_alone net order old new (Err fault) run = tt
+
+-- the same with one by clauses
+with_clauses : (inputs : List (List ℕ)) (status : ℕ) (text : List ℕ) → ToTwo IsClauseProofAnswer inputs status text → IsStatusOfAnswer status
+with_clauses [] status text answer = absurd answer
+with_clauses (net ∷ []) status text answer = absurd answer
+with_clauses (net ∷ (order ∷ [])) status text answer = inr (inr (inr (inl (net, order, text, inr answer))))
+with_clauses (net ∷ (order ∷ (other ∷ inputs))) status text answer = absurd answer
+
+pub proved_by_clauses : (net order : Reader) (old new : Option (List ℕ)) (result : Result ℕ StreamFault) → IsClauseProofRun net order old new result → IfOk result IsStatusOfAnswer
+proved_by_clauses net order old new (Ok status) run = with_clauses run.0 status run.2.0 run.2.1
+proved_by_clauses net order old new (Err fault) run = tt
 
 -- what is answered to a certificate
 of_certificate : (inputs : List (List ℕ)) (status : ℕ) (text : List ℕ) → ToFour (IsVerifyAnswerUntil false) inputs status text → IsStatusOfAnswer status

@@ -12,11 +12,12 @@ use Rattle.racp_cli.specs.ShowAnswers.{IsShowAnswer}
 use Rattle.racp_cli.specs.declared.order.Asked.{Asked}
 use Rattle.racp_cli.specs.declared.show.Look.{Look}
 use Rattle.racp_cli.specs.Proofs.{IsProofAnswer}
+use Rattle.racp_cli.specs.ClauseProofs.{IsClauseProofAnswer}
 use Rattle.racp_cli.specs.Verifies.{IsVerifyAnswerUntil}
 use Rattle.racp_cli.specs.Streams.{fault_status}
 use Rattle.racp_cli.specs.declared.fault.StreamFault.TheVariants as stream
 use Rattle.racp.specs.declared.failure.Failure.{Failure}
-use Rattle.racp.specs.declared.failure.Failure.TheVariants.{Words, NotText, Option as OptionIs, Stream, Told}
+use Rattle.racp.specs.declared.failure.Failure.TheVariants.{Words, NotText, Option as OptionIs, Stream, Told, Refused}
 
 -- the status if the library of the command line stops: help and the version are written, or writing them fails; memory
 -- runs out; or the words are refused
@@ -33,6 +34,7 @@ IsStatusOf NotText status = status ≡ 2
 IsStatusOf (OptionIs fault) status = status ≡ 2
 IsStatusOf (Stream fault) status = status ≡ fault_status fault
 IsStatusOf (Told fault words) status = status ≡ fault_status fault
+IsStatusOf (Refused words) status = status ≡ 5
 
 -- some answer of a command that goes with plans has this status
 abbrev pub IsStatusOfTool : ℕ → Type 0
@@ -49,7 +51,7 @@ IsStatusOfAnswer status =
     ((turns : ℕ) × (quiet : Bool) × (net order : List ℕ) × (text : List ℕ) ×
     IsCrowdAnswer turns quiet net order status text) ⊎
     ((net order plan : List ℕ) × (text : List ℕ) × IsCheckAnswer net order plan status text) ⊎
-    ((net order : List ℕ) × (text : List ℕ) × IsProofAnswer net order status text) ⊎
+    ((net order : List ℕ) × (text : List ℕ) × (IsProofAnswer net order status text ⊎ IsClauseProofAnswer net order status text)) ⊎
     ((net order plan proof : List ℕ) × (text : List ℕ) × IsVerifyAnswerUntil false net order plan proof status text) ⊎
     IsStatusOfTool status
 

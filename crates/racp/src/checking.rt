@@ -5,12 +5,14 @@ ghost use Rattle.racp.specs.Statuses.{IsStatusOfAnswer};
 
 use crate::failure::Failure;
 use crate::inputs::{opened, text, whole};
-use crate::telling::{Manner, tell};
+use crate::telling::{Manner, end};
 use racp_cli::{StreamFault, check_over};
 use racp_explain::{Input as Text, plan_cause};
+use racp_json::{Command, FileNames, Told, Work};
 use racp_words::PlanFiles;
+use std::alloc::Global;
 use std::io;
-use std::io::Read;
+use std::io::{Read, Write};
 use std::rt::Files;
 
 /// Which plan is looked at, and how that is told.
@@ -77,22 +79,66 @@ fn check_told<R: Print + Eprint + AllocGlobal>(
 ) -> Result<u8, Failure>
     ensures { IfOk result IsStatusOfAnswer }
 {
-    let (mut network, mut terms, mut planned) = (net.bytes, order.bytes, plan.bytes);
-    let status = check_of(rt, &mut network, &mut terms, &mut planned)?;
-    if manner.tells(status) {
-        tell(rt, manner, plan_cause(rt.alloc(), net, order, plan));
-    }
+    let mut text = Vec::new(rt.alloc());
+    let status = check_written(rt, net, order, plan, manner.is_json, &mut text)?;
+    let cause = if manner.looks(status) {
+        plan_cause(rt.alloc(), net, order, plan)
+    } else {
+        Ok(String::new(rt.alloc()))
+    };
+    let told = Told {
+        command: Command::Check,
+        status,
+        text: &text,
+        net: net.bytes,
+        order: order.bytes,
+        best: &[],
+        files: FileNames {
+            net: net.name,
+            order: order.name,
+            plan: plan.name,
+            proof: "",
+        },
+        work: Work::unknown(),
+    };
+    end(rt, manner, &told, cause)?;
     Ok(status)
 }
 
-/// Writes whether the plan that is read there is right.
-fn check_of<R: Print + AllocGlobal, N: Read, O: Read, P: Read>(
+/// Writes whether the plan in these texts is right; to `text`, if it is to be JSON.
+fn check_written<R: Print + AllocGlobal>(
     rt: &R,
-    net: &mut N,
-    order: &mut O,
-    plan: &mut P,
+    net: &Text<'_>,
+    order: &Text<'_>,
+    plan: &Text<'_>,
+    is_json: bool,
+    text: &mut Vec<u8>,
 ) -> Result<u8, StreamFault>
     ensures { IfOk result IsStatusOfAnswer }
 {
-    check_over(rt.alloc(), net, order, plan, &mut io::writer(rt))
+    let (mut network, mut terms, mut planned) = (net.bytes, order.bytes, plan.bytes);
+    if is_json {
+        check_of(rt.alloc(), &mut network, &mut terms, &mut planned, text)
+    } else {
+        check_of(
+            rt.alloc(),
+            &mut network,
+            &mut terms,
+            &mut planned,
+            &mut io::writer(rt),
+        )
+    }
+}
+
+/// Writes whether the plan that is read there is right.
+fn check_of<N: Read, O: Read, P: Read, W: Write>(
+    alloc: Global,
+    net: &mut N,
+    order: &mut O,
+    plan: &mut P,
+    out: &mut W,
+) -> Result<u8, StreamFault>
+    ensures { IfOk result IsStatusOfAnswer }
+{
+    check_over(alloc, net, order, plan, out)
 }

@@ -3,17 +3,21 @@
 ghost use Rattle.std.specs.Prelude.{IfOk};
 ghost use Rattle.racp.specs.Statuses.{IsStatusOfTool};
 
+use crate::begun::Begun;
 use crate::failure::Failure;
 use crate::inputs::{opened, text, whole};
 use crate::limit::Limit;
-use crate::telling::{Manner, tell};
+use crate::telling::{Manner, end};
+use racp_askers::Unheard;
 use racp_cli::{StreamFault, curve_crowd_over, curve_over};
 use racp_desk::Open;
 use racp_explain::{Input as Text, order_cause};
-use racp_lexfix::{Crew, Unheard};
+use racp_json::{Command, FileNames, Told, Work};
+use racp_lexfix::Crew;
 use racp_words::{Memory, OrderFiles, Workers};
+use std::alloc::Global;
 use std::io;
-use std::io::Read;
+use std::io::{Read, Write};
 use std::rt::Files;
 use std::sync::Wait;
 use std::thread::Threads;
@@ -72,59 +76,104 @@ fn curve_told<R: Clock + Files + Print + Eprint + AllocGlobal + Threads + Wait +
 ) -> Result<u8, Failure>
     ensures { IfOk result IsStatusOfTool }
 {
-    let (mut network, mut terms) = (net.bytes, order.bytes);
-    let status = curve_of(rt, &mut network, &mut terms, costing)?;
-    if costing.manner.tells(status) {
-        tell(rt, costing.manner, order_cause(rt.alloc(), net, order));
-    }
+    let manner = costing.manner;
+    let begun = Begun::now(rt);
+    let mut text = Vec::new(rt.alloc());
+    let status = curve_written(rt, net.bytes, order.bytes, costing, &mut text)?;
+    let cause = if manner.looks(status) {
+        order_cause(rt.alloc(), net, order)
+    } else {
+        Ok(String::new(rt.alloc()))
+    };
+    let told = Told {
+        command: Command::Curve,
+        status,
+        text: &text,
+        net: net.bytes,
+        order: order.bytes,
+        best: &[],
+        files: FileNames {
+            net: net.name,
+            order: order.name,
+            plan: "",
+            proof: "",
+        },
+        work: Work {
+            seconds: begun.seconds(rt),
+            ..Work::unknown()
+        },
+    };
+    end(rt, manner, &told, cause)?;
     Ok(status)
+}
+
+/// Writes the curve of these texts; to `text`, if it is to be JSON.
+fn curve_written<R: Clock + Files + Print + Eprint + AllocGlobal + Threads + Wait + Sync>(
+    rt: &R,
+    net: &[u8],
+    order: &[u8],
+    costing: Costing<'_>,
+    text: &mut Vec<u8>,
+) -> Result<u8, StreamFault>
+    ensures { IfOk result IsStatusOfTool }
+{
+    let (mut network, mut terms) = (net, order);
+    if costing.manner.is_json {
+        curve_of(rt, &mut network, &mut terms, costing, text)
+    } else {
+        curve_of(rt, &mut network, &mut terms, costing, &mut io::writer(rt))
+    }
 }
 
 /// Writes what each deadline up to that of the order that is read there costs, by plans that workers make, if there are some,
 /// and else one thread.
 fn curve_of<
-    R: Clock + Files + Print + Eprint + AllocGlobal + Threads + Wait + Sync,
+    R: Clock + Files + Eprint + AllocGlobal + Threads + Wait + Sync,
     N: Read,
     O: Read,
->(rt: &R, net: &mut N, order: &mut O, costing: Costing<'_>) -> Result<u8, StreamFault>
+    W: Write,
+>(rt: &R, net: &mut N, order: &mut O, costing: Costing<'_>, out: &mut W) -> Result<u8, StreamFault>
     ensures { IfOk result IsStatusOfTool }
 {
     match costing.workers {
-        Some(workers) => curve_by(rt, net, order, workers, costing),
-        None => curve_alone(rt, net, order, costing),
+        Some(workers) => curve_by(rt, net, order, workers, costing, out),
+        None => curve_alone(rt.alloc(), net, order, costing, out),
     }
 }
 
 /// Writes what each deadline up to that of the order that is read there costs, by plans that one thread makes.
-fn curve_alone<R: Files + Print + AllocGlobal, N: Read, O: Read>(
-    rt: &R,
+fn curve_alone<N: Read, O: Read, W: Write>(
+    alloc: Global,
     net: &mut N,
     order: &mut O,
     costing: Costing<'_>,
+    out: &mut W,
 ) -> Result<u8, StreamFault>
     ensures { IfOk result IsStatusOfTool }
 {
     curve_over(
-        rt.alloc(),
+        alloc,
         net,
         order,
         costing.memory.mebibytes,
         costing.is_drawn,
-        &mut io::writer(rt),
+        out,
     )
 }
 
 /// Writes what each deadline up to that of the order that is read there costs, by plans that workers make.
 fn curve_by<
-    R: Clock + Files + Print + Eprint + AllocGlobal + Threads + Wait + Sync,
+    R: Clock + Files + Eprint + AllocGlobal + Threads + Wait + Sync,
     N: Read,
     O: Read,
+    W: Write,
 >(
     rt: &R,
     net: &mut N,
     order: &mut O,
     workers: Workers<'_>,
     costing: Costing<'_>,
+    out: &mut W,
 ) -> Result<u8, StreamFault>
     ensures { IfOk result IsStatusOfTool }
 {
@@ -137,15 +186,7 @@ fn curve_by<
         stop: &limit,
         observer: &Unheard,
     };
-    let status = curve_crowd_over(
-        rt,
-        rt.alloc(),
-        crew,
-        net,
-        order,
-        costing.is_drawn,
-        &mut io::writer(rt),
-    );
+    let status = curve_crowd_over(rt, rt.alloc(), crew, net, order, costing.is_drawn, out);
     // Dropped here once, not at each way out.
     drop(limit);
     status

@@ -5,12 +5,14 @@ ghost use Rattle.racp.specs.Statuses.{IsStatusOfAnswer};
 
 use crate::failure::Failure;
 use crate::inputs::{STANDARD_INPUT, opened, text, whole};
-use crate::telling::{Manner, tell};
+use crate::telling::{Manner, end};
 use racp_cli::{StreamFault, cpm_over};
 use racp_explain::{Input as Text, network_cause};
+use racp_json::{Command, FileNames, Told, Work};
 use racp_words::Source;
+use std::alloc::Global;
 use std::io;
-use std::io::Read;
+use std::io::{Read, Write};
 use std::rt::Files;
 
 /// The critical length and the early starts of the network that is read there.
@@ -49,17 +51,52 @@ fn cpm_told<R: Print + Eprint + AllocGlobal>(
 ) -> Result<u8, Failure>
     ensures { IfOk result IsStatusOfAnswer }
 {
-    let mut bytes = net.bytes;
-    let status = cpm_of(rt, &mut bytes)?;
-    if manner.tells(status) {
-        tell(rt, manner, network_cause(rt.alloc(), net));
-    }
+    let mut text = Vec::new(rt.alloc());
+    let status = cpm_written(rt, net, manner.is_json, &mut text)?;
+    let cause = if manner.looks(status) {
+        network_cause(rt.alloc(), net)
+    } else {
+        Ok(String::new(rt.alloc()))
+    };
+    let told = Told {
+        command: Command::Cpm,
+        status,
+        text: &text,
+        net: net.bytes,
+        order: &[],
+        best: &[],
+        files: FileNames {
+            net: net.name,
+            order: "",
+            plan: "",
+            proof: "",
+        },
+        work: Work::unknown(),
+    };
+    end(rt, manner, &told, cause)?;
     Ok(status)
 }
 
-/// Writes the critical length and the early starts of the network that is read there.
-fn cpm_of<R: Print + AllocGlobal, N: Read>(rt: &R, net: &mut N) -> Result<u8, StreamFault>
+/// Writes the critical length and the early starts of this text; to `text`, if it is to be JSON.
+fn cpm_written<R: Print + AllocGlobal>(
+    rt: &R,
+    net: &Text<'_>,
+    is_json: bool,
+    text: &mut Vec<u8>,
+) -> Result<u8, StreamFault>
     ensures { IfOk result IsStatusOfAnswer }
 {
-    cpm_over(rt.alloc(), net, &mut io::writer(rt))
+    let mut bytes = net.bytes;
+    if is_json {
+        cpm_of(rt.alloc(), &mut bytes, text)
+    } else {
+        cpm_of(rt.alloc(), &mut bytes, &mut io::writer(rt))
+    }
+}
+
+/// Writes the critical length and the early starts of the network that is read there.
+fn cpm_of<N: Read, W: Write>(alloc: Global, net: &mut N, out: &mut W) -> Result<u8, StreamFault>
+    ensures { IfOk result IsStatusOfAnswer }
+{
+    cpm_over(alloc, net, out)
 }

@@ -10,7 +10,7 @@ ghost use Rattle.racp_cli.specs.declared.fault.StreamFault.TheVariants as stream
 use crate::shown::Shown;
 use clap::Error;
 use clap::error::ErrorKind;
-use racp_cli::{DONE, StreamFault};
+use racp_cli::{DONE, REFUSED, StreamFault};
 use std::alloc::AllocError;
 use thiserror::Error as ErrorText;
 
@@ -35,6 +35,15 @@ pub(crate) enum OptionFault {
     /// The limit of time is no number of seconds, or out of its range.
     #[error("--time-limit has to be a number of seconds such as 60 or 0.5, above 0 and up to 1,000,000,000")]
     TimeLimit,
+    /// The format of a table is none that is read.
+    #[error("--from has to be csv or rcp")]
+    Format,
+    /// There are words for an order, and no prices.
+    #[error("an order has to have --prices, and one of --factor and --deadline")]
+    NoPrices,
+    /// Prices by name name another thing than each resource once.
+    #[error("--prices has to name each resource once, as in Masons=9,Cranes=30, or none")]
+    PriceNames,
     /// No fault has these words.
     #[error("no fault is named by these words; racp explain lists them all")]
     Topic,
@@ -52,6 +61,8 @@ pub(crate) enum Failure {
     Stream(StreamFault),
     /// A file or a stream failed, and these words say which, and why.
     Told(StreamFault, String),
+    /// A table is refused, and these words say why; nothing is said if they are empty.
+    Refused(String),
 }
 
 impl From<OptionFault> for Failure {
@@ -107,6 +118,17 @@ pub(crate) fn report<R: Print + Eprint>(rt: &R, failure: Failure) -> u8
             let _ = rt.eprintln(Shown::of(&words));
             status
         }
+        Failure::Refused(words) => {
+            report_refusal(rt, &words);
+            REFUSED
+        }
+    }
+}
+
+/// Prints why a table is refused, if that is said.
+fn report_refusal(rt: &impl Eprint, words: &str) {
+    if !words.is_empty() {
+        let _ = rt.eprintln(Shown::of(words));
     }
 }
 

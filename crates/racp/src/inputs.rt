@@ -34,7 +34,7 @@ pub(crate) fn text<'a>(path: &'a str, bytes: &'a [u8]) -> Input<'a> {
 }
 
 /// How a file with this path is told of.
-fn shown(path: &str) -> &str {
+pub(crate) fn shown(path: &str) -> &str {
     if path == "-" { STANDARD_INPUT } else { path }
 }
 

@@ -57,6 +57,18 @@ impl Known {
         self.bound.load(Ordering::SeqCst)
     }
 
+    /// Writes the members of a JSON object that tell it.
+    pub(crate) fn write_json<W: fmt::Write>(&self, f: &mut Formatter<W>) -> fmt::Result {
+        let bound = self.bound();
+        match self.best() {
+            Some(best) => {
+                let gap = gap(best, bound);
+                write!(f, "\"best\":{best},\"bound\":{bound},\"gap\":{gap}")
+            }
+            None => write!(f, "\"best\":null,\"bound\":{bound},\"gap\":null"),
+        }
+    }
+
     /// Tells on standard error what is known when planning was stopped.
     pub(crate) fn tell(&self, errors: &impl Eprint) {
         let bound = self.bound();

@@ -1,10 +1,12 @@
 //! When a command is stopped by the clock or by the user, and planning told of until then.
 
 use crate::asks::Asks;
+use crate::begun::Begun;
 use crate::known::Known;
 use crate::progress::Progress;
+use racp_json::Work;
 use racp_search::Stop;
-use std::time::{Clock, Duration, Instant};
+use std::time::{Clock, Duration};
 
 /// Stops a command when so much time has passed since it was made, or when the user asks so; without either it never does.
 /// If there is a limit and the clock cannot be read, it stops at once. Each time that it is asked counts as a node of the
@@ -13,7 +15,7 @@ use std::time::{Clock, Duration, Instant};
 pub(crate) struct Limit<C: Clock + Eprint + Drop> {
     host: C,
     limit: Option<Duration>,
-    begun: Option<Instant>,
+    begun: Begun,
     progress: Option<Progress>,
     known: Known,
     asks: Option<Asks>,
@@ -28,10 +30,7 @@ impl<C: Clock + Eprint + Drop> Limit<C> {
         progress: Option<Progress>,
         asks: Option<Asks>,
     ) -> Self {
-        let begun = match Instant::now(&host) {
-            Ok(now) => Some(now),
-            Err(_) => None,
-        };
+        let begun = Begun::now(&host);
         Limit {
             host,
             limit,
@@ -57,11 +56,17 @@ impl<C: Clock + Eprint + Drop> Limit<C> {
         self.progress.as_ref()
     }
 
-    /// How much time has passed, if the clock can be read.
-    fn passed(&self) -> Option<Duration> {
-        match self.begun?.elapsed(&self.host) {
-            Ok(passed) => Some(passed),
-            Err(_) => None,
+    /// How much work was done so far, as far as it is counted.
+    pub(crate) fn work(&self) -> Work {
+        let (nodes, conflicts) = match &self.progress {
+            Some(progress) => (Some(progress.nodes()), Some(progress.conflicts())),
+            None => (None, None),
+        };
+        Work {
+            pieces: None,
+            nodes,
+            conflicts,
+            seconds: self.begun.seconds(&self.host),
         }
     }
 
@@ -89,7 +94,7 @@ impl<C: Clock + Eprint + Drop> Stop for Limit<C> {
         if self.limit.is_none() && self.progress.is_none() {
             return false;
         }
-        let passed = self.passed();
+        let passed = self.begun.passed(&self.host);
         if let (Some(progress), Some(passed)) = (&self.progress, passed) {
             if progress.count(passed) {
                 progress.tell(&self.host, passed, &self.known);

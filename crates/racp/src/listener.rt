@@ -5,8 +5,9 @@ use crate::best::keep;
 use crate::known::Known;
 use crate::memory::mebibytes_used;
 use crate::progress::Progress;
+use racp_askers::Observer;
 use racp_cli::known_text;
-use racp_lexfix::Observer;
+use std::cell::Cell;
 use std::rt::Files;
 
 /// The plan that is being made, and where the best that is known is kept.
@@ -18,27 +19,31 @@ pub(crate) struct Kept<'a> {
     pub(crate) order: &'a [u8],
     /// The path of the file that keeps the best plan, if there is to be one.
     pub(crate) path: Option<&'a str>,
+    /// Whether the best plan is kept in memory too.
+    pub(crate) in_memory: bool,
 }
 
 /// Hears how far planning has come, and notes it; the best plan that is known it keeps in a file, if that is wanted. Each time
 /// it looks whether the user has asked for a stop.
 #[derive(Drop)]
-pub(crate) struct Listener<'a, 'k, R: Files + Eprint + AllocGlobal + Drop> {
+pub(crate) struct Listener<'a, 'b, 'k, R: Files + Eprint + AllocGlobal + Drop> {
     host: R,
     known: &'a Known,
     progress: Option<&'a Progress>,
     kept: Kept<'k>,
     asks: Option<&'a Asks>,
+    best: &'b Cell<Vec<u8>>,
 }
 
-impl<'a, 'k, R: Files + Eprint + AllocGlobal + Drop> Listener<'a, 'k, R> {
-    /// Notes it there, and keeps plans so; hears the user so, or does not.
+impl<'a, 'b, 'k, R: Files + Eprint + AllocGlobal + Drop> Listener<'a, 'b, 'k, R> {
+    /// Notes it there, and keeps plans so, and there in memory; hears the user so, or does not.
     pub(crate) fn of(
         host: R,
         known: &'a Known,
         progress: Option<&'a Progress>,
         asks: Option<&'a Asks>,
         kept: Kept<'k>,
+        best: &'b Cell<Vec<u8>>,
     ) -> Self {
         Listener {
             host,
@@ -46,6 +51,17 @@ impl<'a, 'k, R: Files + Eprint + AllocGlobal + Drop> Listener<'a, 'k, R> {
             progress,
             kept,
             asks,
+            best,
+        }
+    }
+
+    /// Keeps the text of a plan.
+    fn keep_text(&self, text: Vec<u8>) {
+        if let Some(path) = self.kept.path {
+            keep(&self.host, path, &text);
+        }
+        if self.kept.in_memory {
+            drop(self.best.replace(text));
         }
     }
 
@@ -62,7 +78,7 @@ impl<'a, 'k, R: Files + Eprint + AllocGlobal + Drop> Listener<'a, 'k, R> {
     }
 }
 
-impl<'a, 'k, R: Files + Eprint + AllocGlobal + Drop> Observer for Listener<'a, 'k, R> {
+impl<'a, 'b, 'k, R: Files + Eprint + AllocGlobal + Drop> Observer for Listener<'a, 'b, 'k, R> {
     fn hear_deadline(&self, deadline: u32) {
         if let Some(progress) = self.progress {
             progress.note_deadline(deadline);
@@ -88,9 +104,9 @@ impl<'a, 'k, R: Files + Eprint + AllocGlobal + Drop> Observer for Listener<'a, '
         if !self.known.note_plan(cost) {
             return;
         }
-        let Some(path) = self.kept.path else {
+        if self.kept.path.is_none() && !self.kept.in_memory {
             return;
-        };
+        }
         let text = known_text(
             self.host.alloc(),
             self.kept.net,
@@ -99,7 +115,7 @@ impl<'a, 'k, R: Files + Eprint + AllocGlobal + Drop> Observer for Listener<'a, '
             starts,
         );
         if let Ok(Some(text)) = text {
-            keep(&self.host, path, &text);
+            self.keep_text(text);
         }
     }
 

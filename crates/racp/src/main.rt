@@ -9,6 +9,7 @@
 //! - `racp show NET ORDER PLAN` draws a plan.
 //! - `racp curve NET ORDER` says what each deadline costs.
 //! - `racp order NET` writes an order.
+//! - `racp import FILE --out PROJECT` makes a network of a table of tasks.
 //! - `racp cpm NET` prints the critical length and the early starts.
 //! - `racp explain` says what faults mean.
 //!
@@ -32,7 +33,7 @@
 //! stream that failed, and lack of memory for the words or the inputs are told on standard error. If nothing can be
 //! written there, the status alone tells.
 //!
-//! Proved: `failure::report` answers 2, 6 or 7 by the reason why no answer is written, and 0 or 7 after help and the
+//! Proved: `failure::report` answers 2, 5, 6 or 7 by the reason why no answer is written, and 0 or 7 after help and the
 //! version; `run::status` answers a status that some answer or some reason has. Not proved, and tested over the built
 //! program: that each command reads its own files in their order, that the bytes of files and of standard input are
 //! those that racp_cli is handed, which stream each text goes to, which status goes with which words, and that what is told
@@ -40,12 +41,16 @@
 #![tactic(auto)]
 
 mod asks;
+mod begun;
 mod best;
 mod charting;
 mod checking;
 mod costing;
+mod crewing;
 mod early;
 mod failure;
+mod files;
+mod importing;
 mod inputs;
 mod known;
 mod limit;
@@ -54,6 +59,7 @@ mod making;
 mod memory;
 mod ordering;
 mod planning;
+mod pricing;
 mod progress;
 mod proving;
 mod run;

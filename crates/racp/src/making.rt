@@ -48,12 +48,14 @@ impl<'a> Making<'a> {
     }
 }
 
-/// The workers that are asked for; or one, if the user may ask for a stop, which one thread alone does not hear.
+/// The workers that are asked for; or one, if the work is told, which is counted for workers alone, or if the user may ask
+/// for a stop, which one thread alone does not hear.
 pub(crate) fn crew_of<'a, R: Env + AllocGlobal>(
     rt: &R,
     crew: Option<CrewOptions<'a>>,
+    is_json: bool,
 ) -> Option<CrewOptions<'a>> {
-    if crew.is_some() || Asks::of(rt).is_none() {
+    if crew.is_some() || (!is_json && Asks::of(rt).is_none()) {
         return crew;
     }
     Some(CrewOptions {

@@ -16,6 +16,56 @@ const MOST_RESOURCES: usize = 16;
 /// What a terminal is sent before a line that takes the place of the one above: up one line, and clear it.
 const IN_PLACE: &str = "\x1b[A\x1b[K";
 
+/// A line of JSON that tells how far planning has come.
+#[derive(Drop)]
+struct JsonLine<'a> {
+    seconds: u64,
+    progress: &'a Progress,
+    known: &'a Known,
+}
+
+impl<'a> Display for JsonLine<'a> {
+    fn fmt<W: fmt::Write>(&self, f: &mut Formatter<W>) -> fmt::Result {
+        let told = &self.progress.told;
+        let deadline = told.deadline.load(Ordering::SeqCst);
+        write!(
+            f,
+            "{{\"seconds\":{},\"deadline\":{deadline},\"floors\":[",
+            self.seconds
+        )?;
+        let resources = told.resources.load(Ordering::SeqCst) as usize;
+        for (k, floor) in told.floors.iter().take(resources).enumerate() {
+            if k > 0 {
+                write!(f, ",")?;
+            }
+            write!(f, "{}", floor.load(Ordering::SeqCst))?;
+        }
+        let cost = told.cost.load(Ordering::SeqCst);
+        let (nodes, conflicts) = (self.progress.nodes(), self.progress.conflicts());
+        let clauses = told.clauses.load(Ordering::SeqCst);
+        let memory = told.memory.load(Ordering::SeqCst);
+        write!(
+            f,
+            "],\"cost\":{cost},\"nodes\":{nodes},\"conflicts\":{conflicts},\"clauses\":{clauses},\"memory\":{memory},"
+        )?;
+        self.known.write_json(f)?;
+        write!(f, "}}")
+    }
+}
+
+/// How it is told how far planning has come.
+#[derive(Clone, Copy, PartialEq, Eq)]
+pub(crate) enum Pace {
+    /// Not at all; it is only counted.
+    Silent,
+    /// In lines.
+    Lines,
+    /// In lines, each in the place of the one before it.
+    InPlace,
+    /// In lines of JSON.
+    Json,
+}
+
 /// Counts the nodes of a search, is told how far planning has come, and tells both: every two seconds, if a node is
 /// searched then.
 #[derive(Drop)]
@@ -23,7 +73,7 @@ pub(crate) struct Progress {
     nodes: AtomicU64,
     due: AtomicU64,
     is_begun: AtomicBool,
-    on_terminal: bool,
+    pace: Pace,
     told: Told,
 }
 
@@ -76,18 +126,17 @@ impl Display for Told {
 }
 
 impl Progress {
-    /// No node is counted, nothing is told, and the first line is due after two seconds. On a terminal each line takes
-    /// the place of the one before it.
+    /// No node is counted, nothing is told, and the first line is due after two seconds.
     ///
     /// # Errors
     ///
     /// Memory was refused.
-    pub(crate) fn new(alloc: Global, on_terminal: bool) -> Result<Self, AllocError> {
+    pub(crate) fn new(alloc: Global, pace: Pace) -> Result<Self, AllocError> {
         Ok(Progress {
             nodes: AtomicU64::new(0),
             due: AtomicU64::new(PERIOD),
             is_begun: AtomicBool::new(false),
-            on_terminal,
+            pace,
             told: Told::new(alloc)?,
         })
     }
@@ -96,23 +145,45 @@ impl Progress {
     /// worker's to tell, and no other's.
     pub(crate) fn count(&self, passed: Duration) -> bool {
         let _ = self.nodes.fetch_add(1, Ordering::SeqCst);
+        if self.pace == Pace::Silent {
+            return false;
+        }
         let seconds = passed.as_secs();
         let due = self.due.load(Ordering::SeqCst);
         due <= seconds && self.takes(due, seconds)
     }
 
+    /// How many nodes are counted.
+    pub(crate) fn nodes(&self) -> u64 {
+        self.nodes.load(Ordering::SeqCst)
+    }
+
+    /// How many conflicts a search that learns has met.
+    pub(crate) fn conflicts(&self) -> u64 {
+        self.told.conflicts.load(Ordering::SeqCst)
+    }
+
     /// Tells the line that was due when so much time had passed. If that cannot be written, nothing is told.
     pub(crate) fn tell<E: Eprint>(&self, errors: &E, passed: Duration, known: &Known) {
         let seconds = passed.as_secs();
+        if self.pace == Pace::Json {
+            let line = JsonLine {
+                seconds,
+                progress: self,
+                known,
+            };
+            let _ = errors.eprintln(line);
+            return;
+        }
         let is_begun = self.is_begun.swap(true, Ordering::SeqCst);
-        let place = if self.on_terminal && is_begun {
+        let place = if self.pace == Pace::InPlace && is_begun {
             IN_PLACE
         } else {
             ""
         };
-        let nodes = self.nodes.load(Ordering::SeqCst);
+        let nodes = self.nodes();
         let told = &self.told;
-        let conflicts = told.conflicts.load(Ordering::SeqCst);
+        let conflicts = self.conflicts();
         let clauses = told.clauses.load(Ordering::SeqCst);
         let memory = told.memory.load(Ordering::SeqCst);
         let _ = errors.eprintln(format_args!(

@@ -29,6 +29,10 @@ use std::time::Clock;
 /// What a network is read from if standard input is a terminal.
 const HINT: &str = "racp: reading a network from the terminal; racp --help lists the commands";
 
+/// What is told of words that ask `plan` for what an order says.
+const OF_AN_ORDER: &str =
+    "racp: plan takes the deadline and the prices from an order; racp order NET --deadline 47 --prices 3,5 writes one";
+
 /// Which standard streams are terminals.
 #[derive(Clone, Copy)]
 pub(crate) struct Terminals {
@@ -58,8 +62,25 @@ fn answer<R: Clock + Env + Files + Input + Print + Eprint + AllocGlobal + Thread
     ensures { IfOk result IsStatusOfAnswer }
 {
     let words = words(rt)?;
+    if are_of_an_order(&words) {
+        let _ = rt.eprintln(OF_AN_ORDER);
+    }
     let task = asked(rt.alloc(), words.as_slice())?;
     answer_to(rt, task, terminals)
+}
+
+/// Whether words ask `plan` for what an order says.
+fn are_of_an_order(words: &[String]) -> bool {
+    match words.get(1) {
+        Some(command) => command.as_str() == "plan" && words.iter().any(is_of_an_order),
+        None => false,
+    }
+}
+
+/// Whether a word is an option of `order` that says what an order says.
+fn is_of_an_order(word: &String) -> bool {
+    let name = word.as_str();
+    name.starts_with("--deadline") || name.starts_with("--prices") || name.starts_with("--factor")
 }
 
 /// Writes the answer to a task, and a hint if a network is read from a terminal.
@@ -70,11 +91,16 @@ fn answer_to<R: Clock + Env + Files + Input + Print + Eprint + AllocGlobal + Thr
 ) -> Result<u8, Failure>
     ensures { IfOk result IsStatusOfAnswer }
 {
-    let Task { request, telling } = task;
+    let Task {
+        request,
+        telling,
+        is_json,
+    } = task;
     let on_terminal = terminals.errors;
     let manner = Manner {
         telling,
         on_terminal,
+        is_json,
     };
     if terminals.input && matches!(&request, Request::Cpm(Source::StandardInput)) {
         let _ = rt.eprintln(HINT);
@@ -90,6 +116,7 @@ fn answer_to<R: Clock + Env + Files + Input + Print + Eprint + AllocGlobal + Thr
 fn failure_told(alloc: Global, failure: Failure, manner: Manner) -> Failure {
     match failure {
         Failure::Told(fault, _) if manner.is_quiet() => Failure::Stream(fault),
+        Failure::Refused(_) if manner.is_quiet() => Failure::Refused(String::new(alloc)),
         Failure::Stream(StreamFault::Write) if !manner.is_quiet() => told(
             alloc,
             StreamFault::Write,
@@ -113,7 +140,7 @@ fn answered<R: Clock + Env + Files + Input + Print + Eprint + AllocGlobal + Thre
         Request::Plan(files, memory, crew) => {
             plan(rt, files, Making::of(memory, crew, manner)?)
         },
-        Request::Prove(files) => prove(rt, files, manner),
+        Request::Prove(files, by_clauses) => prove(rt, files, by_clauses, manner),
         Request::Check(files) => check(rt, files, manner),
         Request::Verify(files, word) => {
             let limit = time_limit(word)?;

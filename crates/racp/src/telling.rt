@@ -1,8 +1,9 @@
 //! How it is told, beside an answer, what is wrong.
 
 use crate::shown::Shown;
-use racp_cli::{CHECK_FAILED, IMPOSSIBLE, REFUSED};
-use racp_explain::one_line;
+use racp_cli::{CHECK_FAILED, IMPOSSIBLE, REFUSED, StreamFault};
+use racp_explain::{one_line, parts_of};
+use racp_json::{Told, Words, json_of};
 use racp_words::Telling;
 use std::alloc::AllocError;
 
@@ -13,12 +14,19 @@ pub(crate) struct Manner {
     pub(crate) telling: Telling,
     /// Whether standard error is a terminal.
     pub(crate) on_terminal: bool,
+    /// Whether the answer is written as JSON.
+    pub(crate) is_json: bool,
 }
 
 impl Manner {
     /// Whether it is told why an answer has this status.
     pub(crate) fn tells(&self, status: u8) -> bool {
-        !self.is_quiet() && (status == IMPOSSIBLE || status == REFUSED || status == CHECK_FAILED)
+        !self.is_quiet() && is_wrong(status)
+    }
+
+    /// Whether it is looked why an answer has this status: to tell it, or to write it as JSON.
+    pub(crate) fn looks(&self, status: u8) -> bool {
+        (self.is_json || !self.is_quiet()) && is_wrong(status)
     }
 
     /// Whether nothing is told of what is wrong.
@@ -27,21 +35,71 @@ impl Manner {
     }
 }
 
+/// Whether an answer with this status says that something is wrong.
+fn is_wrong(status: u8) -> bool {
+    status == IMPOSSIBLE || status == REFUSED || status == CHECK_FAILED
+}
+
 /// Tells on standard error what is wrong; nothing if memory ran out for the words.
 pub(crate) fn tell<R: Eprint + AllocGlobal>(
     rt: &R,
     manner: Manner,
     cause: Result<String, AllocError>,
 ) {
-    let Ok(cause) = cause else {
-        return;
-    };
+    if let Ok(cause) = cause {
+        tell_text(rt, manner, &cause);
+    }
+}
+
+/// Tells on standard error what is wrong.
+fn tell_text<R: Eprint + AllocGlobal>(rt: &R, manner: Manner, cause: &str) {
     match manner.telling {
         Telling::Quiet => {}
-        Telling::Line => tell_line(rt, &cause),
+        Telling::Line => tell_line(rt, cause),
         Telling::Whole => {
-            let _ = rt.eprint(Shown::of(&cause));
+            let _ = rt.eprint(Shown::of(cause));
         }
+    }
+}
+
+/// Tells on standard error what is wrong, or nothing if memory ran out for the words; and writes the answer as JSON, if
+/// that is asked.
+pub(crate) fn end<R: Print + Eprint + AllocGlobal>(
+    rt: &R,
+    manner: Manner,
+    told: &Told<'_>,
+    cause: Result<String, AllocError>,
+) -> Result<(), StreamFault> {
+    let cause = match cause {
+        Ok(cause) => cause,
+        Err(_) => String::new(rt.alloc()),
+    };
+    tell_text(rt, manner, &cause);
+    if manner.is_json {
+        write_json(rt, told, &cause)
+    } else {
+        Ok(())
+    }
+}
+
+/// Writes an answer as JSON, with what is wrong.
+fn write_json<R: Print + AllocGlobal>(
+    rt: &R,
+    told: &Told<'_>,
+    cause: &str,
+) -> Result<(), StreamFault> {
+    let parts = parts_of(cause);
+    let words = Words {
+        says: parts.says,
+        wanted: parts.wanted,
+        found: parts.found,
+    };
+    let Ok(text) = json_of(rt.alloc(), told, words) else {
+        return Err(StreamFault::Memory);
+    };
+    match rt.print(&text) {
+        Ok(()) => Ok(()),
+        Err(_) => Err(StreamFault::Write),
     }
 }
 

@@ -6,6 +6,7 @@ ghost use Rattle.racp.specs.Statuses.{IsStatusOfTool};
 use crate::charting::show;
 use crate::costing::{Costing, curve};
 use crate::failure::{Failure, OptionFault};
+use crate::importing::import;
 use crate::ordering::order;
 use crate::seconds::time_limit;
 use crate::telling::Manner;
@@ -36,12 +37,13 @@ pub(crate) fn tool<R: Clock + Files + Print + Eprint + AllocGlobal + Threads + W
                 memory,
                 workers,
                 limit,
-                is_drawn,
+                is_drawn: is_drawn && !manner.is_json,
                 manner,
             };
             curve(rt, files, costing)
         }
         Tool::Order(net, terms) => order(rt, net, asked_order(rt.alloc(), &terms)?, manner),
+        Tool::Import(words) => import(rt, &words),
         Tool::Explain(format, fault) => explain(rt, format, fault),
     }
 }

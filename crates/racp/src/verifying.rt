@@ -6,12 +6,13 @@ ghost use Rattle.racp.specs.Statuses.{IsStatusOfAnswer};
 use crate::failure::Failure;
 use crate::inputs::{opened, text, whole};
 use crate::limit::Limit;
-use crate::telling::{Manner, tell};
+use crate::telling::{Manner, end};
 use racp_cli::{StreamFault, verify_over_until};
 use racp_explain::{Input as Text, proof_cause};
+use racp_json::{Command, FileNames, Told, Work};
 use racp_words::ProofFiles;
 use std::io;
-use std::io::Read;
+use std::io::{Read, Write};
 use std::rt::Files;
 use std::time::{Clock, Duration};
 
@@ -103,48 +104,85 @@ fn verify_told<R: Clock + Files + Print + Eprint + AllocGlobal>(
 ) -> Result<u8, Failure>
     ensures { IfOk result IsStatusOfAnswer }
 {
-    let (mut network, mut terms) = (net.bytes, order.bytes);
-    let (mut planned, mut certificate) = (plan.bytes, proof.bytes);
-    let status = verify_of(
-        rt,
-        &mut network,
-        &mut terms,
-        &mut planned,
-        &mut certificate,
-        asked.limit,
-    )?;
-    if asked.manner.tells(status) {
-        tell(
-            rt,
-            asked.manner,
-            proof_cause(rt.alloc(), net, order, plan, proof.name),
-        );
-    }
+    let manner = asked.manner;
+    let mut text = Vec::new(rt.alloc());
+    let status = verify_written(rt, net, order, plan, proof.bytes, asked, &mut text)?;
+    let cause = if manner.looks(status) {
+        proof_cause(rt.alloc(), net, order, plan, proof.name)
+    } else {
+        Ok(String::new(rt.alloc()))
+    };
+    let told = Told {
+        command: Command::Verify,
+        status,
+        text: &text,
+        net: net.bytes,
+        order: order.bytes,
+        best: &[],
+        files: FileNames {
+            net: net.name,
+            order: order.name,
+            plan: plan.name,
+            proof: proof.name,
+        },
+        work: Work::unknown(),
+    };
+    end(rt, manner, &told, cause)?;
     Ok(status)
+}
+
+/// Writes whether the plan in these texts is right, and the certificate proves it; to `text`, if it is to be JSON.
+fn verify_written<R: Clock + Files + Print + Eprint + AllocGlobal>(
+    rt: &R,
+    net: &Text<'_>,
+    order: &Text<'_>,
+    plan: &Text<'_>,
+    proof: &[u8],
+    asked: &Verifying<'_>,
+    text: &mut Vec<u8>,
+) -> Result<u8, StreamFault>
+    ensures { IfOk result IsStatusOfAnswer }
+{
+    let (mut network, mut terms) = (net.bytes, order.bytes);
+    let (mut planned, mut certificate) = (plan.bytes, proof);
+    if asked.manner.is_json {
+        verify_of(
+            rt,
+            &mut network,
+            &mut terms,
+            &mut planned,
+            &mut certificate,
+            asked.limit,
+            text,
+        )
+    } else {
+        verify_of(
+            rt,
+            &mut network,
+            &mut terms,
+            &mut planned,
+            &mut certificate,
+            asked.limit,
+            &mut io::writer(rt),
+        )
+    }
 }
 
 /// Writes whether the plan that is read there is right, and the certificate shows that no capacities before its own are
 /// enough; or that it was stopped after so much time.
-fn verify_of<R: Clock + Files + Print + Eprint + AllocGlobal, N: Read, O: Read, P: Read, C: Read>(
+fn verify_of<R: Clock + Files + Eprint + AllocGlobal, N: Read, O: Read, P: Read, C: Read, W: Write>(
     rt: &R,
     net: &mut N,
     order: &mut O,
     plan: &mut P,
     proof: &mut C,
     limit: Option<Duration>,
+    out: &mut W,
 ) -> Result<u8, StreamFault>
     ensures { IfOk result IsStatusOfAnswer }
 {
     let limit = Limit::of(rt, limit, None, None);
-    let status = verify_over_until(
-        rt.alloc(),
-        net,
-        order,
-        plan,
-        proof,
-        &mut io::writer(rt),
-        &limit,
-    );
+    let status = verify_over_until(rt.alloc(), net, order, plan, proof, out, &limit);
     // Dropped here once, not at each way out.
     drop(limit);
     status

@@ -1,0 +1,216 @@
+//! `plan` by workers: runs it.
+
+ghost use Rattle.std.specs.Prelude.{◌≡◌, IfOk};
+ghost use Rattle.racp.specs.Statuses.{IsStatusOfAnswer};
+
+use crate::asks::Asks;
+use crate::best::keep;
+use crate::limit::Limit;
+use crate::listener::{Kept, Listener};
+use crate::making::Making;
+use crate::progress::{Pace, Progress};
+use crate::telling::Manner;
+use racp_askers::Effort;
+use racp_cli::{DONE, STOPPED, StreamFault, crowd_over_by};
+use racp_desk::Open;
+use racp_json::Work;
+use racp_words::CrewOptions;
+use std::alloc::{AllocError, Global};
+use std::cell::Cell;
+use std::io;
+use std::io::Write;
+use std::rt::{Env, Files};
+use std::sync::Wait;
+use std::thread::Threads;
+use std::time::Clock;
+
+/// What planning came to.
+#[derive(Drop)]
+pub(crate) struct Made {
+    /// The status.
+    pub(crate) status: u8,
+    /// The text that is still to be written as JSON; empty if it was written.
+    pub(crate) text: Vec<u8>,
+    /// The text of the best plan that is known, if planning was stopped; else empty.
+    pub(crate) best: Vec<u8>,
+    /// How much work was done.
+    pub(crate) work: Work,
+}
+
+impl Made {
+    /// An answer with this status was written.
+    pub(crate) fn written(alloc: Global, status: u8) -> Self
+        ensures { result.status ≡ status }
+    {
+        Made {
+            status,
+            text: Vec::new(alloc),
+            best: Vec::new(alloc),
+            work: Work::unknown(),
+        }
+    }
+}
+
+/// Writes the plan for the texts of a network and an order, or why there is none, made by the workers of a crew; into
+/// memory, if it is to be JSON. The plan is also kept in a file, if that is wanted.
+pub(crate) fn plan_kept<
+    'a,
+    R: Clock + Env + Files + Print + Eprint + AllocGlobal + Threads + Wait + Sync,
+>(
+    rt: &R,
+    net: &'a [u8],
+    order: &'a [u8],
+    crew: CrewOptions<'a>,
+    making: Making<'_>,
+) -> Result<Made, StreamFault>
+    ensures { IfOk result (λ made. IsStatusOfAnswer made.status) }
+{
+    if crew.best.is_none() && !making.manner.is_json {
+        return plan_by(rt, net, order, crew, making, &mut io::writer(rt));
+    }
+    let mut text = Vec::new(rt.alloc());
+    let made = plan_by(rt, net, order, crew, making, &mut text)?;
+    if let Some(path) = crew.best {
+        if made.status == DONE {
+            keep(rt, path, &text);
+        }
+    }
+    with_text(rt, made, text, making.manner.is_json)
+}
+
+/// What planning came to with this text, which is written now unless it is to be JSON.
+fn with_text<R: Print>(
+    rt: &R,
+    made: Made,
+    text: Vec<u8>,
+    is_json: bool,
+) -> Result<Made, StreamFault>
+    ensures { IfOk result (λ done. done.status ≡ made.status) }
+{
+    if is_json {
+        return Ok(Made { text, ..made });
+    }
+    match io::writer(rt).write_all(&text) {
+        Ok(()) => Ok(made),
+        Err(_) => Err(StreamFault::Write),
+    }
+}
+
+/// Writes the plan for the texts of a network and an order to `out`, or why there is none, made by the workers of a crew.
+/// With an answer, the work that was done goes to standard error if that is asked for, and until then how far planning has come. If
+/// it is stopped, standard error tells what is known by then.
+fn plan_by<
+    'a,
+    R: Clock + Env + Files + Print + Eprint + AllocGlobal + Threads + Wait + Sync,
+    W: Write,
+>(
+    rt: &R,
+    net: &'a [u8],
+    order: &'a [u8],
+    crew: CrewOptions<'a>,
+    making: Making<'_>,
+    out: &mut W,
+) -> Result<Made, StreamFault>
+    ensures { IfOk result (λ made. IsStatusOfAnswer made.status) }
+{
+    let manner = making.manner;
+    let progress = match progress_of(rt.alloc(), crew.progress, manner) {
+        Ok(progress) => progress,
+        Err(_) => return Err(StreamFault::Memory),
+    };
+    let best = Cell::new(Vec::new(rt.alloc()));
+    let limit = Limit::of(rt, making.limit, progress, Asks::of(rt));
+    let kept = Kept {
+        net,
+        order,
+        path: crew.best,
+        in_memory: manner.is_json,
+    };
+    let listener = Listener::of(
+        rt,
+        limit.known(),
+        limit.progress(),
+        limit.asks(),
+        kept,
+        &best,
+    );
+    let workers = racp_lexfix::Crew {
+        workers: crew.workers,
+        turns: crew.turns,
+        memory: making.memory.mebibytes,
+        gate: &Open,
+        stop: &limit,
+        observer: &listener,
+    };
+    let (mut network, mut terms) = (net, order);
+    let made = crowd_over_by(rt, rt.alloc(), workers, &mut network, &mut terms, out);
+    if is_stopped(&made) && !manner.is_quiet() {
+        limit.known().tell(rt);
+    }
+    let work = limit.work();
+    // Dropped here once, not at each way out.
+    drop(limit);
+    let (status, effort) = made?;
+    if crew.stats {
+        tell_effort(rt, effort);
+    }
+    Ok(Made {
+        status,
+        text: Vec::new(rt.alloc()),
+        best: best.into_inner(),
+        work: with_effort(work, effort),
+    })
+}
+
+/// Whether planning was stopped.
+fn is_stopped(made: &Result<(u8, Option<Effort>), StreamFault>) -> bool {
+    match made {
+        Ok((status, _)) => *status == STOPPED,
+        Err(_) => false,
+    }
+}
+
+/// Tells on standard error how much work was done; nothing if there was no answer.
+fn tell_effort(rt: &impl Eprint, effort: Option<Effort>) {
+    if let Some(effort) = effort {
+        let _ = rt.eprintln(format_args!("stats pieces {} nodes {}", effort.pieces, effort.nodes));
+    }
+}
+
+/// The work that was done, with the pieces and nodes of an answer if there is one.
+fn with_effort(work: Work, effort: Option<Effort>) -> Work {
+    match effort {
+        Some(effort) => Work {
+            pieces: Some(effort.pieces),
+            nodes: Some(effort.nodes),
+            ..work
+        },
+        None => work,
+    }
+}
+
+/// What counts and tells how far planning has come, if that is asked for, or counts it alone for JSON.
+fn progress_of(
+    alloc: Global,
+    is_asked: bool,
+    manner: Manner,
+) -> Result<Option<Progress>, AllocError> {
+    if is_asked || manner.is_json {
+        Ok(Some(Progress::new(alloc, pace_of(is_asked, manner))?))
+    } else {
+        Ok(None)
+    }
+}
+
+/// How it is told how far planning has come.
+fn pace_of(is_asked: bool, manner: Manner) -> Pace {
+    if !is_asked {
+        Pace::Silent
+    } else if manner.is_json {
+        Pace::Json
+    } else if manner.on_terminal {
+        Pace::InPlace
+    } else {
+        Pace::Lines
+    }
+}

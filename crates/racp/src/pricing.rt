@@ -1,0 +1,100 @@
+//! The order of a table of tasks.
+
+use crate::failure::{Failure, OptionFault};
+use crate::inputs::text;
+use crate::ordering::numbers_of;
+use crate::terms::asked_order;
+use racp_cli::{Asked, DONE, order_over};
+use racp_explain::{asked_cause, one_line};
+use racp_words::{TableWords, Terms};
+use std::alloc::Global;
+
+/// The text of the order that the words ask for, for the text of a network with these resources, if they ask for one.
+pub(crate) fn order_of(
+    alloc: Global,
+    words: &TableWords<'_>,
+    network: &[u8],
+    resources: &[String],
+) -> Result<Option<Vec<u8>>, Failure> {
+    let Some(prices) = words.prices else {
+        return no_order(words);
+    };
+    let prices = prices_of(alloc, prices, resources)?;
+    let terms = Terms {
+        factor: words.factor,
+        deadline: words.deadline,
+        prices: prices.as_str(),
+        owned: words.owned,
+        ceiling: words.ceiling,
+    };
+    let asked = asked_order(alloc, &terms)?;
+    Ok(Some(order_text(alloc, words.file, network, asked)?))
+}
+
+/// No order, if the words for a table ask for none, which has no prices.
+fn no_order(words: &TableWords<'_>) -> Result<Option<Vec<u8>>, Failure> {
+    let is_timed = words.factor.is_some() || words.deadline.is_some();
+    if is_timed || words.owned.is_some() || words.ceiling.is_some() {
+        return Err(Failure::Option(OptionFault::NoPrices));
+    }
+    Ok(None)
+}
+
+/// The text of the order that is asked for, for the text of the network of a table with this path.
+fn order_text(alloc: Global, path: &str, network: &[u8], asked: Asked) -> Result<Vec<u8>, Failure> {
+    let numbers = numbers_of(&asked);
+    let mut order = Vec::new(alloc);
+    let mut rest = network;
+    if order_over(alloc, &mut rest, asked, &mut order)? == DONE {
+        return Ok(order);
+    }
+    let cause = asked_cause(alloc, &text(path, network), numbers, true)?;
+    Err(Failure::Refused(one_line(alloc, &cause)?))
+}
+
+/// The prices between commas, of a word that has them so, or that names the resource of each.
+fn prices_of(alloc: Global, word: &str, resources: &[String]) -> Result<String, Failure> {
+    if !word.contains('=') {
+        return Ok(String::from_str(alloc, word)?);
+    }
+    if word.split(',').any(|part| !is_of_resource(part, resources)) {
+        return Err(Failure::Option(OptionFault::PriceNames));
+    }
+    let mut prices = String::new(alloc);
+    for resource in resources {
+        let Some(price) = price_of(word, resource.as_str()) else {
+            return Err(Failure::Option(OptionFault::PriceNames));
+        };
+        if !prices.is_empty() {
+            prices.push(',')?;
+        }
+        prices.push_str(price)?;
+    }
+    Ok(prices)
+}
+
+/// Whether a part of a word names one of the resources.
+fn is_of_resource(part: &str, resources: &[String]) -> bool {
+    match part.split_once('=') {
+        Some((name, _)) => resources
+            .iter()
+            .any(|resource| resource.as_str() == name.trim()),
+        None => false,
+    }
+}
+
+/// The price of a resource, by a word with prices by name, if it has one for it.
+fn price_of<'a>(word: &'a str, resource: &str) -> Option<&'a str> {
+    let mut price = None;
+    for part in word.split(',') {
+        if let Some((name, number)) = part.split_once('=')
+            && name.trim() == resource
+        {
+            if price.is_some() {
+                return None;
+            }
+            price = Some(number.trim());
+        }
+    }
+    price
+}
