@@ -2,21 +2,22 @@
 
 _racp() {
     local word=${COMP_WORDS[COMP_CWORD]} before=${COMP_WORDS[COMP_CWORD - 1]} command=${COMP_WORDS[1]}
-    local commands="cpm plan prove check verify show curve order explain help"
+    local commands="cpm plan prove check verify show curve order import explain help"
     local options=""
     if [ "$COMP_CWORD" -eq 1 ]; then
         mapfile -t COMPREPLY < <(compgen -W "$commands --help --version" -- "$word")
         return
     fi
     case $command in
-        cpm) options="--explain --quiet" ;;
-        plan) options="--workers --turns --stats --memory --time-limit --progress --best --explain --quiet" ;;
-        prove) options="--explain --quiet" ;;
-        check) options="--explain --quiet" ;;
-        verify) options="--time-limit --explain --quiet" ;;
+        cpm) options="--json --explain --quiet" ;;
+        plan) options="--workers --turns --stats --memory --time-limit --progress --best --json --explain --quiet" ;;
+        prove) options="--facts --explain --quiet" ;;
+        check) options="--json --explain --quiet" ;;
+        verify) options="--time-limit --json --explain --quiet" ;;
         show) options="--names --width --ascii --svg --json --csv --explain --quiet" ;;
-        curve) options="--workers --turns --memory --time-limit --svg --explain --quiet" ;;
-        order) options="--factor --deadline --prices --owned --ceiling --explain --quiet" ;;
+        curve) options="--workers --turns --memory --time-limit --svg --json --explain --quiet" ;;
+        order) options="--factor --deadline --prices --owned --ceiling --json --explain --quiet" ;;
+        import) options="--out --from --prices --factor --deadline --owned --ceiling --quiet" ;;
         explain)
             mapfile -t COMPREPLY < <(compgen -W "sm order plan names impossible fault --help" -- "$word")
             return
@@ -28,7 +29,7 @@ _racp() {
     esac
     case $before in
         --workers | --turns | --memory | --time-limit | --width) return ;;
-        --factor | --deadline | --prices | --owned | --ceiling) return ;;
+        --factor | --deadline | --prices | --owned | --ceiling | --from) return ;;
     esac
     if [[ $word == -* ]]; then
         mapfile -t COMPREPLY < <(compgen -W "$options --help" -- "$word")

@@ -1,6 +1,6 @@
 # Completions of racp for fish: put this file into ~/.config/fish/completions.
 
-set -l commands cpm plan prove check verify show curve order explain help
+set -l commands cpm plan prove check verify show curve order import explain help
 set -l none "not __fish_seen_subcommand_from $commands"
 complete -c racp -n "$none" -a cpm -d "the critical length and the early starts of a network"
 complete -c racp -n "$none" -a plan -d "the cheapest capacities that meet an order, with the least starts"
@@ -10,6 +10,7 @@ complete -c racp -n "$none" -a verify -d "whether a certificate shows that no ch
 complete -c racp -n "$none" -a show -d "a chart of a plan"
 complete -c racp -n "$none" -a curve -d "what each deadline costs"
 complete -c racp -n "$none" -a order -d "the text of an order"
+complete -c racp -n "$none" -a import -d "a network of a table of tasks"
 complete -c racp -n "$none" -a explain -d "what a fault means"
 complete -c racp -n "$none" -a help -d help
 complete -c racp -n "$none" -l version -d "print the version"
@@ -40,6 +41,7 @@ complete -c racp -n "__fish_seen_subcommand_from order" -l deadline -x -d deadli
 complete -c racp -n "__fish_seen_subcommand_from order" -l prices -x -d prices
 complete -c racp -n "__fish_seen_subcommand_from order" -l owned -x -d "owned units"
 complete -c racp -n "__fish_seen_subcommand_from order" -l ceiling -x -d "most units"
+complete -c racp -n "__fish_seen_subcommand_from prove" -l facts -d "one by clauses"
 complete -c racp -n "__fish_seen_subcommand_from prove" -l explain -d "say what is wrong"
 complete -c racp -n "__fish_seen_subcommand_from show" -l explain -d "say what is wrong"
 complete -c racp -n "__fish_seen_subcommand_from curve" -l explain -d "say what is wrong"
@@ -54,3 +56,17 @@ complete -c racp -n "__fish_seen_subcommand_from curve" -l quiet -d "say nothing
 complete -c racp -n "__fish_seen_subcommand_from order" -l quiet -d "say nothing of what is wrong"
 complete -c racp -n "__fish_seen_subcommand_from plan" -l best -r -d "file of the best plan known"
 complete -c racp -n "__fish_seen_subcommand_from curve" -l time-limit -x -d seconds
+complete -c racp -n "__fish_seen_subcommand_from cpm" -l json -d JSON
+complete -c racp -n "__fish_seen_subcommand_from plan" -l json -d JSON
+complete -c racp -n "__fish_seen_subcommand_from check" -l json -d JSON
+complete -c racp -n "__fish_seen_subcommand_from verify" -l json -d JSON
+complete -c racp -n "__fish_seen_subcommand_from curve" -l json -d JSON
+complete -c racp -n "__fish_seen_subcommand_from order" -l json -d JSON
+complete -c racp -n "__fish_seen_subcommand_from import" -l out -r -d "beginning of the written paths"
+complete -c racp -n "__fish_seen_subcommand_from import" -l from -x -a "csv rcp" -d "format of the table"
+complete -c racp -n "__fish_seen_subcommand_from import" -l prices -x -d prices
+complete -c racp -n "__fish_seen_subcommand_from import" -l factor -x -d "deadline by the critical length"
+complete -c racp -n "__fish_seen_subcommand_from import" -l deadline -x -d deadline
+complete -c racp -n "__fish_seen_subcommand_from import" -l owned -x -d "owned units"
+complete -c racp -n "__fish_seen_subcommand_from import" -l ceiling -x -d "most units"
+complete -c racp -n "__fish_seen_subcommand_from import" -l quiet -d "say nothing of what is wrong"
