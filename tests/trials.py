@@ -124,7 +124,7 @@ class Trial:
 
     def proved(self, texts):
         """The certificate of `prove` is right, and so is what is said of it and of changes of it."""
-        proof = self.run(texts[:2], "prove")
+        proof = self.run(texts[:2], "prove", *self.chance.choice([[], ["--facts"]]))
         if proof.status != 0:
             return
         texts = [*texts, proof.output]

@@ -3,7 +3,7 @@ docs/FORMATS.md says of the texts that each command reads."""
 
 import collections
 
-from slow import certificates_to_check, orders_to_plan, plans_to_check, texts_of_a_size, texts_to_read
+from slow import certificates_to_check, derivations_to_check, orders_to_plan, plans_to_check, texts_of_a_size, texts_to_read
 from slow.bounded import command_of
 from slow.mutations import FORMATS, PROOF, mutated
 from slow.networks import FIVE_JOBS, network_text
@@ -30,7 +30,7 @@ class Pool:
 
 def made(chance):
     """The name and the texts of an entry that is made at random, and right for the most part."""
-    kind = chance.choice(["network", "order", "order", "order", "plan", "plan", "certificate", "certificate", "size"])
+    kind = chance.choice(["network", "order", "order", "order", "plan", "plan", "certificate", "certificate", "clauses", "size"])
     if kind == "network":
         return kind, (texts_to_read.random_text(chance),)
     if kind == "order":
@@ -41,10 +41,13 @@ def made(chance):
         return kind, tuple(text.encode() for text in texts)
     if kind == "size":
         return kind, made_of_a_size(chance)
-    case = certificates_to_check.random_case(chance.getrandbits(48))
+    if kind == "clauses":
+        makes, case = derivations_to_check, derivations_to_check.random_derivation(chance.getrandbits(48))
+    else:
+        makes, case = certificates_to_check, certificates_to_check.random_case(chance.getrandbits(48))
     texts = [network_text(case.network), order_text(case.order), plan_text(case.plan), case.proof]
     if chance.random() < 0.4:
-        texts[PROOF] = certificates_to_check.changed(chance, case.proof)
+        texts[PROOF] = makes.changed(chance, case.proof)
     return kind, tuple(text.encode() for text in texts)
 
 
