@@ -5,7 +5,7 @@ ghost use Rattle.racp_show.specs.PlanPictures.{bar_element, job_line, label_begi
 
 use crate::axis::across;
 use crate::escape::push_escaped;
-use crate::label::label;
+use crate::label::label_within;
 use crate::sheet::JobEntry;
 use std::alloc::{AllocError, Global};
 
@@ -22,7 +22,7 @@ pub(crate) fn push_job(
 ) -> Result<(), AllocError>
     ensures { OnOk result (string_bytes text.new ≡ string_bytes text.old ++ job_line deadline place entry.now) }
 {
-    let label = label(alloc, entry.name, "job", entry.job, LABEL)?;
+    let label = label_within(alloc, entry.name, "job", entry.job, LABEL)?;
     push_labelled(text, deadline, place, entry, label.as_str())
 }
 

@@ -6,7 +6,7 @@ ghost use Rattle.racp_show.specs.Pictures.{escape, escaped};
 use std::alloc::AllocError;
 
 /// Adds a text in which no character stands for itself that means something else in XML.
-pub(crate) fn push_escaped(text: &mut String, plain: &str) -> Result<(), AllocError>
+pub fn push_escaped(text: &mut String, plain: &str) -> Result<(), AllocError>
     ensures { OnOk result (string_bytes text.new ≡ string_bytes text.old ++ escaped plain.now) }
 {
     for letter in plain.chars() {

@@ -25,16 +25,16 @@ pub(crate) fn labels(
     let mut labels = Vec::new(alloc);
     let jobs = net.job_count();
     for i in 0..jobs {
-        labels.push(label(alloc, names.job(i), "job", i + 1, most)?)?;
+        labels.push(label_within(alloc, names.job(i), "job", i + 1, most)?)?;
     }
     for k in 0..net.resource_count() {
-        labels.push(label(alloc, names.resource(jobs, k), "resource", k + 1, most)?)?;
+        labels.push(label_within(alloc, names.resource(jobs, k), "resource", k + 1, most)?)?;
     }
     Ok(labels)
 }
 
 /// A name cut to this many columns; or a word and a number, if there is none.
-pub(crate) fn label(
+pub fn label_within(
     alloc: Global,
     name: Option<&str>,
     word: &str,

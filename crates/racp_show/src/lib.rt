@@ -68,9 +68,12 @@ mod usage;
 
 pub use chart::{Chart, JobRow, ResourceRow, chart_of};
 pub use costs::{Corner, costs_svg};
+pub use escape::push_escaped;
 pub use form::Form;
 pub use json::json_text;
+pub use label::label_within;
 pub use names::Names;
+pub use page::{MOST_MARKS, mark_of};
 pub use scale::{Bar, Scale};
 pub use sheet::{JobEntry, ResourceEntry, Sheet, sheet_of};
 pub use svg::svg_text;

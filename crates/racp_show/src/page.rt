@@ -7,7 +7,7 @@ ghost use Rattle.racp_show.specs.Pictures.{head_element, line_element, mark_elem
 use std::alloc::AllocError;
 
 /// How many numbers an axis has at most after the first.
-pub(crate) const MOST_MARKS: u64 = 12;
+pub const MOST_MARKS: u64 = 12;
 
 /// Adds the beginning of a picture of this height.
 #[tactic(auto, unfolding(crate::specs::Pictures::head_element))]
@@ -23,7 +23,7 @@ pub(crate) fn push_head(text: &mut String, height: u128) -> Result<(), AllocErro
 
 /// How much there is from one number of an axis to the next: 1, 2 or 5 times a power of ten, the least that has no more
 /// than `MOST_MARKS` up to this number.
-pub(crate) fn mark_of(most: u64) -> u128
+pub fn mark_of(most: u64) -> u128
     ensures mark { result ≡ mark_of most }
     ensures some { 1 ≤ result }
     ensures small { result < 2 ^ 62 }

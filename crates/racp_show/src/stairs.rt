@@ -5,7 +5,7 @@ ghost use Rattle.racp_show.specs.PlanPictures.{capacity_element, height_of, labe
 
 use crate::axis::across;
 use crate::bars::{LABEL, push_label};
-use crate::label::label;
+use crate::label::label_within;
 use crate::page::{push_begin, push_step};
 use crate::sheet::ResourceEntry;
 use crate::usage::Step;
@@ -22,7 +22,7 @@ pub(crate) fn push_resource(
     requires { top < 2 ^ 72 }
     ensures { OnOk result (string_bytes text.new ≡ string_bytes text.old ++ resource_line deadline top entry.now) }
 {
-    let label = label(alloc, entry.name, "resource", entry.resource, LABEL)?;
+    let label = label_within(alloc, entry.name, "resource", entry.resource, LABEL)?;
     push_labelled(text, deadline, top, entry, label.as_str())
 }
 
