@@ -1,0 +1,4 @@
+pub mod Reports
+pub mod Elements
+pub mod Drawings
+pub mod Pages

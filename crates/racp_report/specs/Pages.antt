@@ -1,0 +1,174 @@
+-- A page: what stands in it, from its head to its end, but for its style.
+use Rattle.std.specs.Prelude.{◌≡◌, ℕ, ◌+◌, ◌-◌, ◌*◌, Bool, List, [], ◌∷◌, String, codes, flat_map, length, option_map, string_bytes, if◌then◌else◌}
+use Rattle.std.specs.Fmt.{decimal}
+use Rattle.std.specs.Global.{Global}
+use Rattle.racp_json.specs.declared.curve.Step.{Step}
+use Rattle.racp_show.specs.Pictures.{◌⋅◌}
+use Rattle.racp_report.specs.declared.axis.Span.{Span}
+use Rattle.racp_report.specs.declared.choice.Choice.{Choice}
+use Rattle.racp_report.specs.declared.report.Report.{Report}
+use Rattle.racp_report.specs.declared.task.Task.{Task}
+use Rattle.racp_report.specs.Drawings.{cost_drawing, panel_element, task_blocks}
+use Rattle.racp_report.specs.Elements.{name_text, number_list, shape_class}
+
+-- the beginning of a page, up to its style
+unfoldable pub opening_element : ℕ → ℕ → List ℕ
+opening_element cost deadline =
+    codes "<!DOCTYPE html>\n<html lang=\"en\">\n<head>\n<meta charset=\"utf-8\">\n<meta name=\"viewport\" "
+    ⋅ codes "content=\"width=device-width, initial-scale=1\">\n<title>Plan of cost " ⋅ decimal cost
+    ⋅ codes " by deadline " ⋅ decimal deadline ⋅ codes "</title>\n"
+
+-- its title
+unfoldable pub title_element : ℕ → ℕ → List ℕ
+title_element cost deadline =
+    codes "</head>\n<body>\n<main>\n<h1>Plan of cost " ⋅ decimal cost ⋅ codes " by deadline " ⋅ decimal deadline
+    ⋅ codes "</h1>\n"
+
+-- the cost and the deadline, and the critical length and the number of tasks
+unfoldable pub times_element : ℕ → ℕ → List ℕ
+times_element cost deadline =
+    codes "<dl><div><dt>Cost</dt><dd>" ⋅ decimal cost ⋅ codes "</dd></div><div><dt>Deadline</dt><dd>"
+    ⋅ decimal deadline ⋅ codes "</dd></div>"
+
+unfoldable pub lengths_element : ℕ → ℕ → List ℕ
+lengths_element critical tasks =
+    codes "<div><dt>Critical length</dt><dd>" ⋅ decimal critical ⋅ codes "</dd></div><div><dt>Tasks</dt><dd>"
+    ⋅ decimal tasks ⋅ codes "</dd></div></dl>\n"
+
+-- what is proved of the plan
+unfoldable pub claim_element : List ℕ
+claim_element =
+    codes "<p>The plan was checked when this page was made: each task comes after those that it waits for "
+    ⋅ codes "and ends in time, no resource is used beyond its units, and the cost is right. However many "
+    ⋅ codes "units there are, it takes at least the critical length. That no cheaper choice keeps the "
+    ⋅ codes "deadline is proved by a certificate; how to make and check one stands at the end.</p>\n"
+
+-- the heading
+unfoldable pub heading_element : ℕ → ℕ → ℕ → ℕ → List ℕ
+heading_element cost deadline critical tasks =
+    title_element cost deadline ⋅ times_element cost deadline ⋅ lengths_element critical tasks ⋅ claim_element
+
+-- how the plan is checked, and the end of the page
+unfoldable pub checking_element : List ℕ
+checking_element =
+    codes "<h2>How to check it</h2>\n<p>NET, ORDER and PLAN are the files that this page was made of. The "
+    ⋅ codes "first command says whether the plan keeps the order; it prints <code>ok</code>. The other two "
+    ⋅ codes "make a certificate and check it: <code>verified</code> says that no cheaper choice keeps the "
+    ⋅ codes "deadline.</p>\n<pre>racp check NET ORDER PLAN\nracp prove NET ORDER &gt; PROOF\nracp verify NET "
+    ⋅ codes "ORDER PLAN PROOF</pre>\n</main>\n</body>\n</html>\n"
+
+-- the numbers of a resource: it costs the price of the units that are not owned
+unfoldable pub choice_cells : Choice → List ℕ
+choice_cells choice =
+    codes "</th><td>" ⋅ decimal choice.units ⋅ codes "</td><td>" ⋅ decimal choice.owned ⋅ codes "</td><td>"
+    ⋅ decimal choice.price ⋅ codes "</td><td>" ⋅ decimal (choice.price * (choice.units - choice.owned))
+    ⋅ codes "</td><td>" ⋅ decimal choice.busy ⋅ codes "%</td></tr>\n"
+
+-- the row of a resource
+unfoldable pub choice_row : Choice → List ℕ
+choice_row choice =
+    codes "<tr><th scope=\"row\">"
+    ⋅ name_text (option_map (λ name. name.now) choice.name) (codes "resource") choice.resource ⋅ choice_cells choice
+
+-- the row of what all resources cost, and the end of their table
+unfoldable pub total_row : ℕ → List ℕ
+total_row cost =
+    codes "</tbody><tfoot><tr><th scope=\"row\">Together</th><td></td><td></td><td></td><td>" ⋅ decimal cost
+    ⋅ codes "</td><td></td></tr></tfoot></table></div>\n"
+
+-- the table of the resources
+unfoldable pub choice_table : Report → List ℕ
+choice_table report =
+    (codes "<h2>What to have</h2>\n<div class=\"wide\"><table>\n<thead><tr><th>Resource</th><th>Units</th>"
+    ⋅ codes "<th>Owned</th><th>Price</th><th>Cost</th><th>Busy</th></tr></thead>\n<tbody>\n")
+    ⋅ flat_map choice_row report.choices.items ⋅ total_row report.cost
+
+-- all times of a plan
+abbrev pub whole : Report → Span
+whole report = record { first = 0; last = report.deadline }
+
+-- the charts of the tasks and of the resources
+unfoldable pub charts : Report → List ℕ
+charts report =
+    (codes "<h2>When each task runs</h2>\n<p class=\"key\"><i class=\"critical\"></i>on the critical "
+    ⋅ codes "chain<i class=\"bar\"></i>other tasks<i class=\"slack\"></i>slack<i class=\"deadline\"></i>"
+    ⋅ codes "deadline</p>\n")
+    ⋅ task_blocks (whole report) (length report.tasks.items) 0 report.tasks.items
+    ⋅ codes "<h2>How much of each resource is used</h2>\n"
+    ⋅ flat_map (panel_element (whole report)) report.choices.items
+
+-- the beginning of the row of a task
+unfoldable pub task_row_begin : Task → List ℕ
+task_row_begin task =
+    codes "<tr class=\"" ⋅ shape_class task.is_critical ⋅ codes "\"><td class=\"left\">" ⋅ decimal task.job
+    ⋅ codes "</td><th scope=\"row\">"
+
+-- whether a task is on the critical chain
+abbrev pub yes_text : Bool → List ℕ
+yes_text critical = if critical then codes "yes" else []
+
+-- its times: how long it takes, when it starts and ends, and its slack
+unfoldable pub task_times : Task → List ℕ
+task_times task =
+    codes "</th><td>" ⋅ decimal task.duration ⋅ codes "</td><td>" ⋅ decimal task.start ⋅ codes "</td><td>"
+    ⋅ decimal (task.start + task.duration) ⋅ codes "</td><td>" ⋅ decimal (task.latest - task.start)
+    ⋅ codes "</td><td class=\"left\">"
+
+-- these, and whether it is on the critical chain
+unfoldable pub task_cells : Task → List ℕ
+task_cells task = task_times task ⋅ yes_text task.is_critical ⋅ codes "</td><td class=\"left\">"
+
+-- the row of a task: its number, its name, how long it takes, when it starts and ends, its slack, whether it is on the
+-- critical chain, and what comes right before it
+unfoldable pub task_row : Task → List ℕ
+task_row task =
+    task_row_begin task ⋅ name_text (option_map (λ name. name.now) task.name) (codes "task") task.job
+    ⋅ task_cells task ⋅ number_list 0 task.predecessors.items ⋅ codes "</td></tr>\n"
+
+-- the table of the tasks
+unfoldable pub task_table : Report → List ℕ
+task_table report =
+    (codes "<h2>The tasks</h2>\n<div class=\"wide\"><table>\n<thead><tr><th>No.</th><th class=\"left\">"
+    ⋅ codes "Task</th><th>Duration</th><th>Start</th><th>End</th><th>Slack</th><th class=\"left\">"
+    ⋅ codes "Critical</th><th class=\"left\">After</th></tr></thead>\n<tbody>\n")
+    ⋅ flat_map task_row report.tasks.items ⋅ codes "</tbody></table></div>\n"
+
+-- the deadline and the cost of a step
+unfoldable pub cost_cells : Step → List ℕ
+cost_cells step =
+    codes "<tr><td class=\"left\">" ⋅ decimal step.deadline ⋅ codes "</td><td>" ⋅ decimal step.cost
+    ⋅ codes "</td><td>"
+
+-- a number of units
+unfoldable pub unit_text : ℕ → List ℕ
+unit_text count =
+    codes " " ⋅ decimal count
+
+-- the row of a step
+unfoldable pub cost_row : Step → List ℕ
+cost_row step =
+    cost_cells step ⋅ flat_map unit_text step.capacities.items ⋅ codes "</td></tr>\n"
+
+-- what deadlines cost, from the steps of a curve
+unfoldable pub cost_table : ℕ → List Step → List ℕ
+cost_table deadline costs =
+    codes "<h2>What each deadline costs</h2>\n" ⋅ cost_drawing costs deadline
+    ⋅ (codes "<div class=\"wide\"><table>\n<thead><tr><th>From deadline</th><th>Cost</th><th>Units of each "
+    ⋅ codes "resource</th></tr></thead>\n<tbody>\n")
+    ⋅ flat_map cost_row costs ⋅ codes "</tbody></table></div>\n"
+
+-- nothing is said of it without steps
+abbrev pub cost_section : ℕ → List Step → List ℕ
+cost_section deadline [] = []
+cost_section deadline (step ∷ steps) = cost_table deadline (step ∷ steps)
+
+-- all of a page that stands behind its style
+unfoldable pub body_of : Report → List ℕ
+body_of report =
+    heading_element report.cost report.deadline report.critical (length report.tasks.items) ⋅ choice_table report
+    ⋅ charts report ⋅ task_table report ⋅ cost_section report.deadline report.costs.items ⋅ checking_element
+
+-- a page of a report: its beginning, some style, and its body
+abbrev pub IsPage : Report → String Global → Type 0
+IsPage report text = (style : List ℕ) ×
+    (string_bytes text ≡ opening_element report.cost report.deadline ⋅ style ⋅ body_of report)

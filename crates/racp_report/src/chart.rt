@@ -1,0 +1,96 @@
+//! The chart of the tasks.
+
+ghost use Rattle.std.specs.Prelude.{◌≡◌, ◌<◌, ◌^◌, ◌++◌, OnOk, length, string_bytes};
+ghost use Rattle.racp_report.specs.Drawings.{block_begin, block_end, frame, task_block, task_blocks};
+
+use crate::axis::{Span, push_above, push_axis, push_deadline, push_deadline_label, push_drawing};
+use crate::row::push_row;
+use crate::task::Task;
+use std::alloc::{AllocError, Global};
+
+/// How many tasks a drawing has at most, so that it fits half a printed page.
+const MOST_ROWS: usize = 30;
+
+/// Where the rows of a drawing begin, from above.
+const TOP: u128 = 40;
+
+/// Adds the drawings of the tasks, a row for each.
+pub(crate) fn push_chart(
+    alloc: Global,
+    text: &mut String,
+    tasks: &[Task<'_>],
+    span: Span,
+) -> Result<(), AllocError>
+    ensures { OnOk result
+        (string_bytes text.new ≡ string_bytes text.old ++ task_blocks span (length tasks.now) 0 tasks.now) }
+{
+    for (place, task) in tasks.iter().enumerate() {
+        push_block(alloc, text, task, span, place, tasks.len())?;
+    }
+    Ok(())
+}
+
+/// Adds the row of the task at this place of so many, with the beginning of a drawing before the first of it, and its
+/// end behind the last.
+fn push_block(
+    alloc: Global,
+    text: &mut String,
+    task: &Task<'_>,
+    span: Span,
+    place: usize,
+    count: usize,
+) -> Result<(), AllocError>
+    ensures { OnOk result
+        (string_bytes text.new ≡ string_bytes text.old ++ task_block span count place task.now) }
+{
+    push_block_begin(text, span, place, count)?;
+    push_row(
+        alloc,
+        text,
+        task,
+        span,
+        TOP + (place % MOST_ROWS) as u128 * 20,
+    )?;
+    push_block_end(text, place, count)?;
+    Ok(())
+}
+
+/// Adds the beginning of a drawing before its first row.
+fn push_block_begin(
+    text: &mut String,
+    span: Span,
+    place: usize,
+    count: usize,
+) -> Result<(), AllocError>
+    ensures { OnOk result (string_bytes text.new ≡ string_bytes text.old ++ block_begin span count place) }
+{
+    if !place.is_multiple_of(MOST_ROWS) {
+        return Ok(());
+    }
+    let bottom = TOP + count.saturating_sub(place).min(MOST_ROWS) as u128 * 20;
+    push_frame(text, span, bottom)
+}
+
+/// Adds the beginning of a drawing that goes down to here, with its axis and the line of the deadline.
+fn push_frame(text: &mut String, span: Span, bottom: u128) -> Result<(), AllocError>
+    requires { bottom < 2 ^ 72 }
+    ensures { OnOk result (string_bytes text.new ≡ string_bytes text.old ++ frame span bottom) }
+{
+    push_drawing(text, "The tasks over time", bottom + 24)?;
+    push_above(text, span, 34)?;
+    push_axis(text, span, TOP, bottom)?;
+    push_deadline_label(text, span.last)?;
+    push_deadline(text, TOP, bottom)?;
+    Ok(())
+}
+
+/// Adds the end of a drawing behind its last row.
+fn push_block_end(text: &mut String, place: usize, count: usize) -> Result<(), AllocError>
+    ensures { OnOk result (string_bytes text.new ≡ string_bytes text.old ++ block_end count place) }
+{
+    if place % MOST_ROWS == MOST_ROWS - 1 || count.saturating_sub(place) == 1 {
+        text.push_str("</svg></figure>\n")
+    } else {
+        Ok(())
+    }
+}

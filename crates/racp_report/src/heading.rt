@@ -1,0 +1,98 @@
+//! The beginning of a page, and what it says before its tables and charts.
+
+ghost use Rattle.std.specs.Prelude.{◌≡◌, ◌++◌, OnOk, string_bytes};
+ghost use Rattle.racp_report.specs.Pages.{checking_element, claim_element, heading_element, lengths_element, opening_element, times_element, title_element};
+
+use std::alloc::AllocError;
+
+/// Adds the beginning of a page, up to its style.
+#[tactic(auto, unfolding(crate::specs::Pages::opening_element))]
+pub(crate) fn push_opening(text: &mut String, cost: u64, deadline: u32) -> Result<(), AllocError>
+    ensures { OnOk result (string_bytes text.new ≡ string_bytes text.old ++ opening_element cost deadline) }
+{
+    write!(
+        text,
+        "<!DOCTYPE html>\n<html lang=\"en\">\n<head>\n<meta charset=\"utf-8\">\n\
+         <meta name=\"viewport\" content=\"width=device-width, initial-scale=1\">\n\
+         <title>Plan of cost {cost} by deadline {deadline}</title>\n"
+    )
+}
+
+/// Adds the heading of a page: what the plan costs, and what is proved of it.
+pub(crate) fn push_heading(
+    text: &mut String,
+    cost: u64,
+    deadline: u32,
+    critical: u64,
+    tasks: usize,
+) -> Result<(), AllocError>
+    ensures { OnOk result
+        (string_bytes text.new ≡ string_bytes text.old ++ heading_element cost deadline critical tasks) }
+{
+    push_title(text, cost, deadline)?;
+    push_times(text, cost, deadline)?;
+    push_lengths(text, critical, tasks)?;
+    push_claim(text)?;
+    Ok(())
+}
+
+/// Adds the title of a page.
+#[tactic(auto, unfolding(crate::specs::Pages::title_element))]
+fn push_title(text: &mut String, cost: u64, deadline: u32) -> Result<(), AllocError>
+    ensures { OnOk result (string_bytes text.new ≡ string_bytes text.old ++ title_element cost deadline) }
+{
+    write!(
+        text,
+        "</head>\n<body>\n<main>\n<h1>Plan of cost {cost} by deadline {deadline}</h1>\n"
+    )
+}
+
+/// Adds the cost and the deadline.
+#[tactic(auto, unfolding(crate::specs::Pages::times_element))]
+fn push_times(text: &mut String, cost: u64, deadline: u32) -> Result<(), AllocError>
+    ensures { OnOk result (string_bytes text.new ≡ string_bytes text.old ++ times_element cost deadline) }
+{
+    write!(
+        text,
+        "<dl><div><dt>Cost</dt><dd>{cost}</dd></div><div><dt>Deadline</dt><dd>{deadline}</dd></div>"
+    )
+}
+
+/// Adds the critical length and the number of tasks.
+#[tactic(auto, unfolding(crate::specs::Pages::lengths_element))]
+fn push_lengths(text: &mut String, critical: u64, tasks: usize) -> Result<(), AllocError>
+    ensures { OnOk result (string_bytes text.new ≡ string_bytes text.old ++ lengths_element critical tasks) }
+{
+    write!(
+        text,
+        "<div><dt>Critical length</dt><dd>{critical}</dd></div><div><dt>Tasks</dt><dd>{tasks}</dd></div></dl>\n"
+    )
+}
+
+/// Adds what is proved of the plan.
+#[tactic(auto, unfolding(crate::specs::Pages::claim_element))]
+fn push_claim(text: &mut String) -> Result<(), AllocError>
+    ensures { OnOk result (string_bytes text.new ≡ string_bytes text.old ++ claim_element) }
+{
+    text.push_str(
+        "<p>The plan was checked when this page was made: each task comes after those that it waits for and ends in \
+         time, no resource is used beyond its units, and the cost is right. However many units there are, it takes at \
+         least the critical length. That no cheaper choice keeps the deadline is proved by a certificate; how to make \
+         and check one stands at the end.</p>\n",
+    )
+}
+
+/// Adds how the plan is checked, and the end of the page.
+#[tactic(auto, unfolding(crate::specs::Pages::checking_element))]
+pub(crate) fn push_checking(text: &mut String) -> Result<(), AllocError>
+    ensures { OnOk result (string_bytes text.new ≡ string_bytes text.old ++ checking_element) }
+{
+    text.push_str(
+        "<h2>How to check it</h2>\n\
+         <p>NET, ORDER and PLAN are the files that this page was made of. The first command says whether the plan \
+         keeps the order; it prints <code>ok</code>. The other two make a certificate and check it: \
+         <code>verified</code> says that no cheaper choice keeps the deadline.</p>\n\
+         <pre>racp check NET ORDER PLAN\nracp prove NET ORDER &gt; PROOF\nracp verify NET ORDER PLAN PROOF</pre>\n\
+         </main>\n</body>\n</html>\n",
+    )
+}

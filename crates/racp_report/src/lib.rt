@@ -1,0 +1,50 @@
+//! Makes a report of a plan: one page in HTML, to be read on a screen or a phone and to be printed.
+//!
+//! Jobs and resources are numbered from 1; their places in lists count from 0. Times are whole time units from 0 on.
+//! On the page a job is called a task.
+//!
+//! `report_of` gathers what the page says in a `Report`, and `report_text` only writes it down: the cost, the deadline
+//! and the critical length; what there is to be of each resource; a chart of the tasks, and one of the use of each
+//! resource; the tasks as a table; what other deadlines cost, if the lines of a curve are given; and the commands that
+//! check it. The page needs nothing from elsewhere: its charts are drawings in SVG, and it has no script.
+//!
+//! ```text
+//! <tr><td>2</td><th scope="row">Foundations</th><td>6</td><td>4</td><td>10</td><td>7</td><td></td><td>1</td></tr>
+//! ```
+//!
+//! The slack of a task is how much later it could start, with all that comes after it moved, if only precedence and
+//! the due times counted: its late start less its start. A task is on the critical chain if it has no such room once
+//! the project has to end by its critical length: its early start is its late start.
+//!
+//! A chart is 1,000 wide, whatever its deadline is: the times up to the deadline are drawn from 270 to 970. It is cut
+//! after 30 tasks, so that it breaks well over printed pages. So the page grows with the jobs, the pairs, the resources
+//! and the lines of the curve, and neither it nor the work grow with the deadline.
+//!
+//! Proved: each number and each name of a report is that of the network, the order, the plan, the names or the curve;
+//! the late starts, the critical chain and the predecessors are those of the network; and `report_text` gives exactly
+//! the page of a report: each row of each table, each bar, mark and stair, and each name with no character that means
+//! something else in HTML. Of the colours and the layout of the page no clause speaks: they stand in one text between
+//! the head and the body of the page. Whether a plan is right is not looked at here: racp_check does.
+#![tactic(auto)]
+
+mod axis;
+mod chart;
+mod choice;
+mod choice_table;
+mod cost_chart;
+mod cost_table;
+mod heading;
+mod latest;
+mod names;
+mod page;
+mod panels;
+mod report;
+mod row;
+mod style;
+mod task;
+mod task_table;
+
+pub use choice::Choice;
+pub use page::report_text;
+pub use report::{Report, report_of};
+pub use task::Task;

@@ -1,0 +1,104 @@
+//! A report as a page.
+
+ghost use Rattle.std.specs.Prelude.{◌≡◌, ◌++◌, IfOk, OnOk, length, string_bytes};
+ghost use Rattle.racp_report.specs.Pages.{IsPage, body_of, charts, choice_table, task_table};
+
+use crate::axis::Span;
+use crate::chart::push_chart;
+use crate::choice_table::{push_choices, push_total};
+use crate::cost_table::push_curve;
+use crate::heading::{push_checking, push_heading, push_opening};
+use crate::panels::push_panels;
+use crate::report::Report;
+use crate::style::STYLE;
+use crate::task_table::push_tasks;
+use std::alloc::{AllocError, Global};
+
+/// A report as a page in HTML, in UTF-8, which needs nothing from elsewhere. No name stands in it with a character that
+/// means something else in HTML. Its length grows with the jobs, the pairs, the resources and the lines of a curve, and
+/// not with the deadline.
+///
+/// # Errors
+///
+/// Memory was refused.
+pub fn report_text(alloc: Global, report: &Report<'_>) -> Result<String, AllocError>
+    ensures { IfOk result (λ text. IsPage report.now text) }
+{
+    let mut text = String::new(alloc);
+    push_opening(&mut text, report.cost, report.deadline)?;
+    text.push_str(STYLE)?;
+    push_body(alloc, &mut text, report)?;
+    Ok(text)
+}
+
+/// Adds all of a page that stands behind its style.
+fn push_body(alloc: Global, text: &mut String, report: &Report<'_>) -> Result<(), AllocError>
+    ensures { OnOk result (string_bytes text.new ≡ string_bytes text.old ++ body_of report.now) }
+{
+    let deadline = report.deadline;
+    push_heading(
+        text,
+        report.cost,
+        deadline,
+        report.critical,
+        task_count(report),
+    )?;
+    push_choice_table(text, report)?;
+    push_charts(alloc, text, report)?;
+    push_task_table(text, report)?;
+    push_curve(text, report.costs.as_slice(), deadline)?;
+    push_checking(text)?;
+    Ok(())
+}
+
+/// How many tasks a report has.
+fn task_count(report: &Report<'_>) -> usize
+    ensures { result ≡ length report.now.tasks.items }
+{
+    report.tasks.len()
+}
+
+/// Adds the table of the resources.
+fn push_choice_table(text: &mut String, report: &Report<'_>) -> Result<(), AllocError>
+    ensures { OnOk result (string_bytes text.new ≡ string_bytes text.old ++ choice_table report.now) }
+{
+    text.push_str(
+        "<h2>What to have</h2>\n<div class=\"wide\"><table>\n<thead><tr><th>Resource</th><th>Units</th><th>Owned</th>\
+         <th>Price</th><th>Cost</th><th>Busy</th></tr></thead>\n<tbody>\n",
+    )?;
+    push_choices(text, report.choices.as_slice())?;
+    push_total(text, report.cost)?;
+    Ok(())
+}
+
+/// Adds the charts of the tasks and of the resources.
+fn push_charts(alloc: Global, text: &mut String, report: &Report<'_>) -> Result<(), AllocError>
+    ensures { OnOk result (string_bytes text.new ≡ string_bytes text.old ++ charts report.now) }
+{
+    let span = Span {
+        first: 0,
+        last: report.deadline,
+    };
+    text.push_str(
+        "<h2>When each task runs</h2>\n<p class=\"key\"><i class=\"critical\"></i>on the critical chain\
+         <i class=\"bar\"></i>other tasks<i class=\"slack\"></i>slack<i class=\"deadline\"></i>deadline</p>\n",
+    )?;
+    push_chart(alloc, text, report.tasks.as_slice(), span)?;
+    text.push_str("<h2>How much of each resource is used</h2>\n")?;
+    push_panels(alloc, text, report.choices.as_slice(), span)?;
+    Ok(())
+}
+
+/// Adds the table of the tasks.
+fn push_task_table(text: &mut String, report: &Report<'_>) -> Result<(), AllocError>
+    ensures { OnOk result (string_bytes text.new ≡ string_bytes text.old ++ task_table report.now) }
+{
+    text.push_str(
+        "<h2>The tasks</h2>\n<div class=\"wide\"><table>\n<thead><tr><th>No.</th><th class=\"left\">Task</th>\
+         <th>Duration</th><th>Start</th><th>End</th><th>Slack</th><th class=\"left\">Critical</th>\
+         <th class=\"left\">After</th></tr></thead>\n<tbody>\n",
+    )?;
+    push_tasks(text, report.tasks.as_slice())?;
+    text.push_str("</tbody></table></div>\n")?;
+    Ok(())
+}
