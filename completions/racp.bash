@@ -2,7 +2,7 @@
 
 _racp() {
     local word=${COMP_WORDS[COMP_CWORD]} before=${COMP_WORDS[COMP_CWORD - 1]} command=${COMP_WORDS[1]}
-    local commands="cpm plan prove check verify show curve order import explain help"
+    local commands="cpm plan prove check verify show report curve order import explain help"
     local options=""
     if [ "$COMP_CWORD" -eq 1 ]; then
         mapfile -t COMPREPLY < <(compgen -W "$commands --help --version" -- "$word")
@@ -15,6 +15,7 @@ _racp() {
         check) options="--json --explain --quiet" ;;
         verify) options="--time-limit --json --explain --quiet" ;;
         show) options="--names --width --ascii --svg --json --csv --explain --quiet" ;;
+        report) options="--names --curve --explain --quiet" ;;
         curve) options="--workers --turns --memory --time-limit --svg --json --explain --quiet" ;;
         order) options="--factor --deadline --prices --owned --ceiling --json --explain --quiet" ;;
         import) options="--out --from --prices --factor --deadline --owned --ceiling --quiet" ;;

@@ -1,6 +1,6 @@
 # Completions of racp for fish: put this file into ~/.config/fish/completions.
 
-set -l commands cpm plan prove check verify show curve order import explain help
+set -l commands cpm plan prove check verify show report curve order import explain help
 set -l none "not __fish_seen_subcommand_from $commands"
 complete -c racp -n "$none" -a cpm -d "the critical length and the early starts of a network"
 complete -c racp -n "$none" -a plan -d "the cheapest capacities that meet an order, with the least starts"
@@ -8,6 +8,7 @@ complete -c racp -n "$none" -a prove -d "a certificate that no cheaper capacitie
 complete -c racp -n "$none" -a check -d "whether a plan is right"
 complete -c racp -n "$none" -a verify -d "whether a certificate shows that no cheaper capacities would do"
 complete -c racp -n "$none" -a show -d "a chart of a plan"
+complete -c racp -n "$none" -a report -d "a page about a plan"
 complete -c racp -n "$none" -a curve -d "what each deadline costs"
 complete -c racp -n "$none" -a order -d "the text of an order"
 complete -c racp -n "$none" -a import -d "a network of a table of tasks"
@@ -32,6 +33,10 @@ complete -c racp -n "__fish_seen_subcommand_from show" -l ascii -d "plain charac
 complete -c racp -n "__fish_seen_subcommand_from show" -l svg -d "a picture"
 complete -c racp -n "__fish_seen_subcommand_from show" -l json -d JSON
 complete -c racp -n "__fish_seen_subcommand_from show" -l csv -d CSV
+complete -c racp -n "__fish_seen_subcommand_from report" -l names -r -d "names of jobs and resources"
+complete -c racp -n "__fish_seen_subcommand_from report" -l curve -r -d "what each deadline costs"
+complete -c racp -n "__fish_seen_subcommand_from report" -l explain -d "say what is wrong"
+complete -c racp -n "__fish_seen_subcommand_from report" -l quiet -d "say nothing of what is wrong"
 complete -c racp -n "__fish_seen_subcommand_from curve" -l workers -x -d "how many workers"
 complete -c racp -n "__fish_seen_subcommand_from curve" -l turns -x -d "how many turns"
 complete -c racp -n "__fish_seen_subcommand_from curve" -l memory -x -d "mebibytes for records"

@@ -7,6 +7,7 @@
 //! - `racp check NET ORDER PLAN` says whether a plan is right, whoever made it.
 //! - `racp verify NET ORDER PLAN PROOF` says whether a text is such a certificate, whoever made it.
 //! - `racp show NET ORDER PLAN` draws a plan.
+//! - `racp report NET ORDER PLAN` writes a page about a plan.
 //! - `racp curve NET ORDER` says what each deadline costs.
 //! - `racp order NET` writes an order.
 //! - `racp import FILE --out PROJECT` makes a network of a table of tasks.
@@ -62,6 +63,7 @@ mod planning;
 mod pricing;
 mod progress;
 mod proving;
+mod reporting;
 mod run;
 mod seconds;
 mod shown;

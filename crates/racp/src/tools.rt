@@ -8,6 +8,7 @@ use crate::costing::{Costing, curve};
 use crate::failure::{Failure, OptionFault};
 use crate::importing::import;
 use crate::ordering::order;
+use crate::reporting::report;
 use crate::seconds::time_limit;
 use crate::telling::Manner;
 use crate::terms::asked_order;
@@ -31,6 +32,7 @@ pub(crate) fn tool<R: Clock + Files + Print + Eprint + AllocGlobal + Threads + W
 {
     match tool {
         Tool::Show(files, look) => show(rt, files, look, manner),
+        Tool::Report(files, options) => report(rt, files, options, manner),
         Tool::Curve(files, memory, workers, is_drawn) => {
             let limit = time_limit(word_of(workers))?;
             let costing = Costing {

@@ -12,4 +12,5 @@ pub mod Responses
 pub mod Laws
 pub mod OrderAnswers
 pub mod CurveAnswers
+pub mod ReportAnswers
 pub mod ShowAnswers

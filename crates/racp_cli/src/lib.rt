@@ -14,6 +14,7 @@
 //! - `verify_over` reads these and a certificate, and writes whether it shows that no cheaper capacities would do; or, if
 //!   it is one by clauses, that the plan is the plan of the order.
 //! - `show_over` reads a network, an order and a plan, and writes a picture of the plan.
+//! - `report_over` reads the same, and writes a page about the plan.
 //! - `curve_over` reads a network and an order, and writes what each deadline costs; `curve_crowd_over` is for workers.
 //! - `order_over` reads a network, and writes an order.
 //!
@@ -44,7 +45,7 @@
 //!
 //! In `specs/`, an answer is a value, with the text and the status that stand for it. `IsCpmAnswer`, `IsPlanAnswer`,
 //! `IsCrowdAnswer`, `IsProofAnswer`, `IsClauseProofAnswer`, `IsCheckAnswer`, `IsVerifyAnswer`, `IsVerifyAnswerUntil`,
-//! `IsShowAnswer`, `IsCurveAnswer`, `IsCurveCrowdAnswer` and `IsOrderAnswer` say when text and status are right for the
+//! `IsShowAnswer`, `IsReportAnswer`, `IsCurveAnswer`, `IsCurveCrowdAnswer` and `IsOrderAnswer` say when text and status are right for the
 //! bytes of one to four inputs, and `IsRun` ties answers to what the readers had and what the writer holds, for all
 //! commands.
 //!
@@ -72,6 +73,7 @@ mod plan;
 mod prove;
 mod prove_by_clauses;
 mod refusal;
+mod report;
 mod respond;
 mod show;
 mod status;
@@ -91,6 +93,7 @@ pub use order::{Asked, Time, order_over};
 pub use plan::{run_over, run_over_within};
 pub use prove::prove_over;
 pub use prove_by_clauses::prove_by_clauses_over;
+pub use report::report_over;
 pub use show::{Look, show_over};
 pub use status::{CHECK_FAILED, DONE, IMPOSSIBLE, OUT_OF_MEMORY, REFUSED, STOPPED, STREAM_FAILED};
 pub use verify::{verify_over, verify_over_until};

@@ -1,4 +1,4 @@
--- What the commands `show`, `curve`, `order`, `import` and `explain` ask for.
+-- What the commands `show`, `report`, `curve`, `order`, `import` and `explain` ask for.
 use Rattle.std.specs.Prelude.{◌≡◌, ◌≢◌, ◌||◌, Bool, List, Option, Some, None, codes, false, true}
 use Rattle.std.specs.Prelude.{is_some, option_map}
 use Rattle.clap.specs.Words.{App, Row, Text, first_of, new_app, new_rule, with_rule}
@@ -10,7 +10,7 @@ use Rattle.racp_words.specs.declared.request.TableWords.{TableWords}
 use Rattle.racp_words.specs.declared.request.Terms.{Terms}
 use Rattle.racp_words.specs.declared.request.Tool.{Tool}
 use Rattle.racp_words.specs.declared.request.Workers.{Workers}
-use Rattle.racp_words.specs.declared.request.Tool.TheVariants.{Show, Curve, Order, Import, Explain}
+use Rattle.racp_words.specs.declared.request.Tool.TheVariants.{Show, Report, Curve, Order, Import, Explain}
 
 -- `show NET ORDER PLAN [--names FILE] [--width N]`
 abbrev pub show_named : App
@@ -23,6 +23,10 @@ show_in_letters = with_rule (with_rule show_named (flag_rule (codes "ascii"))) (
 -- `show NET ORDER PLAN [--names FILE] [--width N] [--ascii] [--svg] [--json] [--csv] [--explain] [--quiet]`
 abbrev pub show : App
 show = telling (with_rule (with_rule show_in_letters (flag_rule (codes "json"))) (flag_rule (codes "csv")))
+
+-- `report NET ORDER PLAN [--names FILE] [--curve FILE] [--explain] [--quiet]`
+abbrev pub report : App
+report = telling (with_rule (with_rule (of_plan (codes "report")) (text_rule (codes "names"))) (text_rule (codes "curve")))
 
 -- `curve NET ORDER [-j N | --workers N] [--turns N] [--memory MIB] [--time-limit S]`
 abbrev pub curve_timed : App
@@ -123,6 +127,10 @@ AreWorkers words (Some workers) = (has_workers_option words ≡ true) ×
 abbrev pub IsToolOf : Text × List Row → Tool → Type 0
 IsToolOf command (Show files look) =
     (command.0 ≡ codes "show") × ArePlanFiles command.1 files × IsLook command.1 look
+IsToolOf command (Report files options) =
+    (command.0 ≡ codes "report") × ArePlanFiles command.1 files ×
+    (option_map (λ word. word.now) options.names ≡ first_of (codes "names") command.1) ×
+    (option_map (λ word. word.now) options.curve ≡ first_of (codes "curve") command.1)
 IsToolOf command (Curve files memory workers is_drawn) =
     (command.0 ≡ codes "curve") × AreOrderFiles command.1 files ×
     IsNumberOf 1048576 1024 (first_of (codes "memory") command.1) memory.mebibytes ×
@@ -137,6 +145,7 @@ IsToolOf command (Explain format fault) =
 -- a command of another name
 pub record IsNoTool (name : Text) : Type 0 where
   pub no_show : name ≢ codes "show"
+  pub no_report : name ≢ codes "report"
   pub no_curve : name ≢ codes "curve"
   pub no_order : name ≢ codes "order"
   pub no_import : name ≢ codes "import"

@@ -11,8 +11,8 @@ use crate::commands::command;
 use crate::most::MOST_WIDTH;
 use crate::options::{crew_of, is_set, memory_of, number_of, path_of, text_of, workers_of};
 use crate::request::{
-    Look, OrderFiles, PlanFiles, ProofFiles, Request, Source, TableWords, Task, Telling, Terms,
-    Tool,
+    Look, OrderFiles, PlanFiles, ProofFiles, ReportWords, Request, Source, TableWords, Task,
+    Telling, Terms, Tool,
 };
 use clap::{ArgMatches, Error};
 use racp_show::Form;
@@ -134,6 +134,12 @@ fn tool_named<'a>(name: &str, words: &ArgMatches<'a>) -> Option<Tool<'a>>
 {
     if name == "show" {
         Some(Tool::Show(plan_files(words), look_of(words)))
+    } else if name == "report" {
+        let options = ReportWords {
+            names: text_of(words, "names"),
+            curve: text_of(words, "curve"),
+        };
+        Some(Tool::Report(plan_files(words), options))
     } else if name == "curve" {
         let files = order_files(words);
         let workers = workers_of(words);

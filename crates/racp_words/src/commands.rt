@@ -26,6 +26,7 @@ Examples:
   racp order net.sm --factor 1.2 --prices 3,5 > order.toml
   racp plan net.sm order.toml > net.plan   the cheapest capacities, with the least starts
   racp show net.sm order.toml net.plan     a chart of the plan
+  racp report net.sm order.toml net.plan > plan.html
   racp curve net.sm order.toml             what each deadline costs
   racp check net.sm order.toml net.plan    whether a plan is right
   racp prove net.sm order.toml > net.proof

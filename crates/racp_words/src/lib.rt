@@ -17,6 +17,7 @@
 //! racp verify a.sm a4.toml p q             Verify with the paths a.sm, a4.toml, p and q, and None: no limit of time
 //! racp verify a.sm a4.toml p q --time-limit 5  the same, and the word 5 for the limit
 //! racp show a.sm a4.toml p --svg           Tool, Show with these paths, no names, 80 columns and the form Svg
+//! racp report a.sm a4.toml p --names n     Tool, Report with these paths, the names n and no curve
 //! racp curve b.sm b3.toml                  Tool, Curve with these paths, 1,024 MiB, one thread, and no picture
 //! racp curve b.sm b3.toml --workers 4      the same, and 4 Workers
 //! racp order a.sm --factor 1.2 --prices 3  Tool, Order with the path a.sm, the factor 1.2 and the prices 3, as words
@@ -37,7 +38,7 @@
 //! of each command that reads a file say; and whether the answer is written as JSON, which the flag `--json` says.
 //!
 //! The commands stand in `specs/` a second time, as values of the library's definitions: `racp`, `cpm`, `plan`,
-//! `of_order`, `of_plan`, `check`, `verify`, `show`, `curve`, `order`, `import_table` and `explain`. What `clap` is proved to do with
+//! `of_order`, `of_plan`, `check`, `verify`, `show`, `report`, `curve`, `order`, `import_table` and `explain`. What `clap` is proved to do with
 //! them says what any words ask for.
 //!
 //! Proved: without words, with `cpm`, and with `cpm` and a word that does not begin with a hyphen or is a hyphen alone,
@@ -47,7 +48,7 @@
 //! cases only memory can fail. A path here is a word that is not empty and does not begin with a hyphen. For any other
 //! words `asked` answers what `clap` is proved to find, or refuses with the kind of error that it is proved to give:
 //! `plan` asks for a crew exactly if `clap` finds one of the six options, and a number that it finds and that is in
-//! range is that of the crew or of the memory; `show`, `curve`, `order`, `import` and `explain` ask for what their
+//! range is that of the crew or of the memory; `show`, `report`, `curve`, `order`, `import` and `explain` ask for what their
 //! words and flags say (`IsToolOf`); nothing is told of faults exactly if it finds `--quiet`, and else all exactly if it
 //! finds `--explain`; JSON is asked for exactly if it finds `--json`. No crew has more than 64
 //! workers or 1,000,000,000,000 turns, and no more than 1,048,576 MiB are asked for. Tested alone, over the built
@@ -64,6 +65,6 @@ mod table_words;
 
 pub use command_line::asked;
 pub use request::{
-    CrewOptions, Look, Memory, OrderFiles, PlanFiles, ProofFiles, Request, Source, TableWords,
-    Task, Telling, Terms, Tool, Workers,
+    CrewOptions, Look, Memory, OrderFiles, PlanFiles, ProofFiles, ReportWords, Request, Source,
+    TableWords, Task, Telling, Terms, Tool, Workers,
 };

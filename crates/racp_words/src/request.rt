@@ -47,6 +47,8 @@ pub enum Request<'a> {
 pub enum Tool<'a> {
     /// A picture of a plan of a network on the terms of an order.
     Show(PlanFiles<'a>, Look<'a>),
+    /// A page about a plan of a network on the terms of an order.
+    Report(PlanFiles<'a>, ReportWords<'a>),
     /// What each deadline up to that of an order costs, with so much memory for records: on one thread, or by workers
     /// if an option is given; as a picture if that is said.
     Curve(OrderFiles<'a>, Memory, Option<Workers<'a>>, bool),
@@ -68,6 +70,15 @@ pub struct Look<'a> {
     /// What is written.
     pub form: Form,
     pub ghost width_few: { width ≤ 1000 },
+}
+
+/// The words for a page about a plan.
+#[derive(Drop)]
+pub struct ReportWords<'a> {
+    /// The path of the names of jobs and resources, if there is one.
+    pub names: Option<&'a str>,
+    /// The path of what each deadline costs, if there is one.
+    pub curve: Option<&'a str>,
 }
 
 /// The words for the terms of an order.

@@ -188,6 +188,27 @@ pub(crate) const COMMANDS: &[Line] = &[
         ],
     },
     Line {
+        name: "report",
+        about: "Writes a page about a plan that is right, in HTML: to be read and to be printed",
+        words: &[
+            NET,
+            ORDER,
+            PLAN,
+            Word::Text(
+                "names",
+                "FILE",
+                "Names of the jobs and then of the resources, one a line",
+            ),
+            Word::Text(
+                "curve",
+                "FILE",
+                "What each deadline costs, as curve prints it",
+            ),
+            EXPLAIN,
+            QUIET,
+        ],
+    },
+    Line {
         name: "curve",
         about: "Prints what each deadline costs, from the critical length to the order's",
         words: &[

@@ -1,0 +1,177 @@
+//! `report`: a page about a plan.
+
+ghost use Rattle.std.specs.Prelude.{◌≡◌, IfOk, length, option_map};
+ghost use Rattle.racp_model.specs.Terms.{AreTermsOf};
+ghost use Rattle.racp_check.specs.PlanFaults.{IsFitting};
+ghost use Rattle.racp_cli.specs.ReportAnswers.{IsCountedReport, IsCurved, IsNamedReport, IsPageOf, IsReportAnswer, IsReportRun, IsStepped, step_count};
+
+use crate::check::{Checked, read_checked};
+use crate::fault::StreamFault;
+use crate::respond::respond;
+use crate::status::{DONE, REFUSED};
+use crate::streams::read_whole;
+use racp_json::rows_of;
+use racp_report::{report_of, report_text};
+use racp_show::Names;
+use std::alloc::{AllocError, Global};
+use std::io::{Read, Write};
+
+/// Reads a network text, an order text, a plan text and names, all of each before the next, and writes to `out` a page
+/// in HTML about the plan, with the steps of a curve if there is one; or, if something is wrong with the plan, what
+/// `check_over` writes. The names are those of the jobs and then of the resources, one a line; there may be none.
+/// Returns the status that belongs to what was written: 0 for a page, 5 if the names are refused as by `show_over`, or
+/// the curve is not UTF-8 or has no line that begins with `deadline`, else that of `check_over`.
+///
+/// # Errors
+///
+/// After these nothing was written: `Read`, a read failed; `TooLong`, a reader has more than 16,777,216 bytes;
+/// `Memory`, memory for an input was refused. After `Write`, a write failed or took no byte, and what is out is a
+/// beginning of the text.
+pub fn report_over<N: Read, O: Read, P: Read, M: Read, W: Write>(
+    alloc: Global,
+    net: &mut N,
+    order: &mut O,
+    plan: &mut P,
+    names: &mut M,
+    curve: Option<&[u8]>,
+    out: &mut W,
+) -> Result<u8, StreamFault>
+    ensures { IsReportRun (option_map (λ curve. curve.now) curve.entry)
+        (record { unread = N.remaining net.old; left = N.remaining net.new })
+        (record { unread = O.remaining order.old; left = O.remaining order.new })
+        (record { unread = P.remaining plan.old; left = P.remaining plan.new })
+        (record { unread = M.remaining names.old; left = M.remaining names.new }) (W.contents out.old)
+        (W.contents out.new) result }
+{
+    let net = read_whole(alloc, net)?;
+    let order = read_whole(alloc, order)?;
+    let plan = read_whole(alloc, plan)?;
+    let names = read_whole(alloc, names)?;
+    respond(answer(alloc, &net, &order, &plan, &names, curve), out)
+}
+
+/// The status and the text of the answer to the texts of a network, an order, a plan, names and perhaps a curve.
+fn answer(
+    alloc: Global,
+    net: &[u8],
+    order: &[u8],
+    plan: &[u8],
+    names: &[u8],
+    curve: Option<&[u8]>,
+) -> Result<(u8, Vec<u8>), AllocError>
+    ensures { IfOk result (λ answer. IsReportAnswer (option_map (λ curve. curve.now) curve.entry) net.now order.now
+        plan.now names.now answer.0 answer.1.items) }
+{
+    match read_checked(alloc, net, order, plan) {
+        Ok(found) => named(alloc, &found, names, curve),
+        Err(fault) => {
+            let line = fault.line(alloc)?;
+            Ok((fault.status(), line))
+        }
+    }
+}
+
+/// The status and the text if nothing is wrong with a plan.
+fn named(
+    alloc: Global,
+    found: &Checked,
+    names: &[u8],
+    curve: Option<&[u8]>,
+) -> Result<(u8, Vec<u8>), AllocError>
+    requires terms { AreTermsOf found.now.net found.now.order }
+    requires capacities { length found.now.plan.capacities ≡ found.now.net.resources }
+    requires fitting { IsFitting found.now.net found.now.order found.now.plan }
+    ensures { IfOk result (λ answer. IsNamedReport (option_map (λ curve. curve.now) curve.entry) found.now.net
+        found.now.order found.now.plan names.now answer.0 answer.1.items) }
+{
+    match Names::read(alloc, names)? {
+        Some(names) => counted(alloc, found, &names, curve),
+        None => Ok((REFUSED, b"refused names 1 NotUtf8\n".to_vec(alloc)?)),
+    }
+}
+
+/// The status and the text if nothing is wrong with a plan, for these names.
+#[tactic(auto, unfolding(racp_plan::specs::Texts::line))]
+fn counted(
+    alloc: Global,
+    found: &Checked,
+    names: &Names,
+    curve: Option<&[u8]>,
+) -> Result<(u8, Vec<u8>), AllocError>
+    requires terms { AreTermsOf found.now.net found.now.order }
+    requires capacities { length found.now.plan.capacities ≡ found.now.net.resources }
+    requires fitting { IsFitting found.now.net found.now.order found.now.plan }
+    ensures { IfOk result (λ answer. IsCountedReport (option_map (λ curve. curve.now) curve.entry) found.now.net
+        found.now.order found.now.plan names.now answer.0 answer.1.items) }
+{
+    if !names.are_for(found.net.job_count() + found.net.resource_count()) {
+        return Ok((REFUSED, b"refused names 2 Count\n".to_vec(alloc)?));
+    }
+    curved(alloc, found, names, curve)
+}
+
+/// The status and the text for names that are right.
+#[tactic(auto, unfolding(racp_plan::specs::Texts::line))]
+fn curved(
+    alloc: Global,
+    found: &Checked,
+    names: &Names,
+    curve: Option<&[u8]>,
+) -> Result<(u8, Vec<u8>), AllocError>
+    requires terms { AreTermsOf found.now.net found.now.order }
+    requires capacities { length found.now.plan.capacities ≡ found.now.net.resources }
+    requires fitting { IsFitting found.now.net found.now.order found.now.plan }
+    ensures { IfOk result (λ answer. IsCurved (option_map (λ curve. curve.now) curve.entry) found.now.net
+        found.now.order found.now.plan names.now answer.0 answer.1.items) }
+{
+    let Some(bytes) = curve else {
+        let text = page(alloc, found, names, "")?;
+        return Ok((DONE, text));
+    };
+    match std::str::from_utf8(bytes) {
+        Ok(text) => stepped(alloc, found, names, text),
+        Err(_) => Ok((REFUSED, b"refused curve 1 NotUtf8\n".to_vec(alloc)?)),
+    }
+}
+
+/// The status and the text for the text of a curve.
+#[tactic(auto, unfolding(racp_plan::specs::Texts::line))]
+fn stepped(
+    alloc: Global,
+    found: &Checked,
+    names: &Names,
+    curve: &str,
+) -> Result<(u8, Vec<u8>), AllocError>
+    requires terms { AreTermsOf found.now.net found.now.order }
+    requires capacities { length found.now.plan.capacities ≡ found.now.net.resources }
+    requires fitting { IsFitting found.now.net found.now.order found.now.plan }
+    ensures { IfOk result (λ answer. IsStepped curve.now found.now.net found.now.order found.now.plan names.now answer.0
+        answer.1.items) }
+{
+    if step_count(alloc, curve)? == 0 {
+        return Ok((REFUSED, b"refused curve 2 NoSteps\n".to_vec(alloc)?));
+    }
+    let text = page(alloc, found, names, curve)?;
+    Ok((DONE, text))
+}
+
+/// How many lines of a text begin with `deadline`.
+fn step_count(alloc: Global, text: &str) -> Result<usize, AllocError>
+    ensures { IfOk result (λ count. count ≡ step_count text.now) }
+{
+    let rows = rows_of(alloc, text, "deadline")?;
+    Ok(rows.len())
+}
+
+/// The page about a plan, with the steps of a curve.
+fn page(alloc: Global, found: &Checked, names: &Names, curve: &str) -> Result<Vec<u8>, AllocError>
+    requires terms { AreTermsOf found.now.net found.now.order }
+    requires capacities { length found.now.plan.capacities ≡ found.now.net.resources }
+    requires fitting { IsFitting found.now.net found.now.order found.now.plan }
+    ensures { IfOk result (λ text. IsPageOf curve.now found.now.net found.now.order found.now.plan names.now
+        text.items) }
+{
+    let report = report_of(alloc, &found.net, &found.order, &found.plan, names, curve)?;
+    let text = report_text(alloc, &report)?;
+    Ok(text.into_bytes())
+}
