@@ -8,10 +8,11 @@ ghost use Rattle.racp_desk.specs.Closing.{IsRunClosed};
 ghost use Rattle.racp_askers.specs.Crowds.{MayStop};
 ghost use Rattle.racp_curve.specs.Curves.{IsCurveAnswer, IsCurveStop};
 
+use crate::dated::Dated;
 use crate::following::{curve, out_of_memory};
 use crate::ground::Ground;
 use crate::step::{CurveAnswer, CurveStop};
-use racp_askers::{Crowd, OfTurns, Unheard};
+use racp_askers::{Crowd, Observer, OfTurns, Pricing};
 use racp_candidates::AnySeries;
 use racp_cutset::MemoryLimit;
 use racp_desk::{Closed, DeskFault, Gate, Records, RunLimits};
@@ -22,28 +23,36 @@ use racp_search::Stop;
 use std::alloc::Global;
 use std::marker::Brand;
 use std::sync::Wait;
+use std::sync::atomic::AtomicU32;
 use std::thread::Threads;
 
 /// The curve of an order, made by such workers, which take this many turns over all its plans: the same as that of
-/// `curve_alone`.
+/// `curve_alone`. Their observer is told for which deadline a plan is made, whenever it is told more of it.
 ///
 /// # Errors
 ///
 /// No turn is left, or the stop was asked for; memory was refused; or a worker could not be started. The steps so far
 /// come back.
-pub fn curve_crowd<G: Gate + Sync, P: Stop + Sync, R: Threads + Wait + Sync>(
+pub fn curve_crowd<G: Gate + Sync, P: Stop + Sync, O: Observer, R: Threads + Wait + Sync>(
     rt: &R,
     alloc: Global,
     net: &Network,
     order: &Order,
-    crew: Crew<'_, G, P, Unheard>,
+    crew: Crew<'_, G, P, O>,
 ) -> Result<CurveAnswer, CurveStop>
     requires terms { AreTermsOf net.now order.now }
     ensures curve { IfOk result (IsCurveAnswer net.now order.now) }
     ensures stop { IfErr result (λ end. IsCurveStop net.now order.now (MayStop net.now P.QUIET crew.entry.turns) ⊤
         end.steps.items end.stop) }
 {
-    curve_by::<Brand, Brand, G, P, R>(rt, &Ground { alloc, net, order }, crew)
+    let at = AtomicU32::new(order.deadline);
+    let ground = Ground {
+        alloc,
+        net,
+        order,
+        at: &at,
+    };
+    curve_by::<Brand, Brand, G, P, O, R>(rt, &ground, crew)
 }
 
 /// The curve of an order, made by these workers, for the network that `N` names, with the turns that `M` names.
@@ -52,15 +61,21 @@ fn curve_by<
     M: OfTurns,
     G: Gate + Sync,
     P: Stop + Sync,
+    O: Observer,
     R: Threads + Wait + Sync,
->(rt: &R, ground: &Ground, crew: Crew<'_, G, P, Unheard>) -> Result<CurveAnswer, CurveStop>
+>(rt: &R, ground: &Ground, crew: Crew<'_, G, P, O>) -> Result<CurveAnswer, CurveStop>
     requires named { ground.now.net.now ≡ N.network }
     requires named_turns { crew.turns ≡ M.turns }
     ensures curve { IfOk result (IsCurveAnswer ground.now.net.now ground.now.order.now) }
     ensures stop { IfErr result (λ end. IsCurveStop ground.now.net.now ground.now.order.now
         (MayStop ground.now.net.now P.QUIET M.turns) ⊤ end.steps.items end.stop) }
 {
-    let Ground { alloc, net, order } = *ground;
+    let Ground {
+        alloc,
+        net,
+        order,
+        at,
+    } = *ground;
     let leeway = crew.leeway();
     let Crew {
         workers,
@@ -68,7 +83,7 @@ fn curve_by<
         memory,
         gate,
         stop,
-        observer: _,
+        observer,
     } = crew;
     let limit = MemoryLimit {
         mebibytes: memory,
@@ -78,15 +93,16 @@ fn curve_by<
         Ok(records) => records,
         Err(_) => return Err(out_of_memory(alloc)),
     };
-    let crowd: Crowd<'_, N, M, P, Unheard, _> = Crowd::new(
+    let dated = Dated::new(at, Pricing::new(net, order, observer));
+    let crowd: Crowd<'_, N, M, P, Dated<'_, Pricing<'_, O>>, _> = Crowd::new(
         workers,
         turns,
-        Unheard,
+        dated,
         |series: AnySeries, limits: RunLimits| -> Result<Closed, DeskFault>
             requires { (net.now ≡ N.network) × AreFormed net.now (any_questions series) }
             ensures { IfOk result (IsRunClosed net.entry.now (any_questions series) limits.turns P.QUIET) }
         { records.run(rt, alloc, net, series, limits, gate, stop) },
     );
     let mut crowd = crowd.with_search(leeway, stop);
-    curve(alloc, net, order, &mut crowd)
+    curve(alloc, net, order, at, &mut crowd)
 }

@@ -16,6 +16,7 @@ use racp_plan::Plan;
 use racp_prices::Order;
 use racp_questions::Asker;
 use std::alloc::{AllocError, Global};
+use std::sync::atomic::Ordering;
 
 /// The order with another deadline, in time units; nothing else changes.
 fn with_deadline(alloc: Global, order: &Order, deadline: u32) -> Result<Order, AllocError>
@@ -78,6 +79,7 @@ pub(crate) fn plan_by<N: OfProblem, A: Asker<AnySeries>>(
         (A.may_stop asker.new) (A.may_want_thread asker.new)) }
 {
     prove!(1 <= ground.net.job_count());
+    ground.at.store(deadline, Ordering::SeqCst);
     let other = with_deadline(ground.alloc, ground.order, deadline)?;
     if let Some(facts) = facts {
         if let Some(plan) = facts.known_plan(ground, &other, asker)? {

@@ -29,11 +29,12 @@ use racp_prices::Order;
 use racp_questions::Asker;
 use std::alloc::{AllocError, Global};
 use std::marker::Brand;
+use std::sync::atomic::AtomicU32;
 
 /// The curve of an order: the plan's capacities, and what they cost, for each deadline up to the order's; or why there
 /// is no plan for that. Questions go to the asker, which is about this network. The order has an entry for each
 /// resource and each job of the network. The asker is told floors, what capacities that are enough cost at least, and
-/// plans that may not be the cheapest, for one deadline after another.
+/// plans that may not be the cheapest, for one deadline after another; `at` is told which deadline that is.
 ///
 /// # Errors
 ///
@@ -42,6 +43,7 @@ pub fn curve<A: Asker<AnySeries>>(
     alloc: Global,
     net: &Network,
     order: &Order,
+    at: &AtomicU32,
     asker: &mut A,
 ) -> Result<CurveAnswer, CurveStop>
     requires named { A.about asker.old net.now }
@@ -54,7 +56,12 @@ pub fn curve<A: Asker<AnySeries>>(
     ensures stop { IfErr result (λ end. IsCurveStop net.now order.now (A.may_stop asker.new)
         (A.may_want_thread asker.new) end.steps.items end.stop) }
 {
-    let ground = Ground { alloc, net, order };
+    let ground = Ground {
+        alloc,
+        net,
+        order,
+        at,
+    };
     match opening_of(alloc, net, order) {
         Ok(
             Opening::Root {
@@ -82,7 +89,12 @@ fn curve_within<A: Asker<AnySeries>>(
     ensures stop { IfErr result (λ end. IsCurveStop ground.now.net.now ground.now.order.now (A.may_stop asker.new)
         (A.may_want_thread asker.new) end.steps.items end.stop) }
 {
-    let Ground { alloc, net, order } = *ground;
+    let Ground {
+        alloc,
+        net,
+        order,
+        ..
+    } = *ground;
     match root_bounds(alloc, net, order, window) {
         Ok(Some(root)) if !root.is_small && asker.leeway().conflicts > 0 => {
             let whole = Task {
@@ -176,7 +188,12 @@ fn first_plan<N: OfProblem, A: Asker<AnySeries>>(
     ensures stop { IfErr result (IsPlanStop (AreNotAfterEnough ground.now.net.now ground.now.order.now
         (ground.now.order.now.deadline + 1)) (A.may_stop asker.new) (A.may_want_thread asker.new)) }
 {
-    let Ground { alloc, net, order } = *ground;
+    let Ground {
+        alloc,
+        net,
+        order,
+        ..
+    } = *ground;
     if let Some(facts) = facts {
         if let Some(Some(plan)) = facts.known_plan(ground, order, asker)? {
             return Ok(Ok(plan));
@@ -342,7 +359,14 @@ pub fn curve_alone(
     ensures steps { IfErr result (λ end. AreSteps net.now order.now end.steps.items) }
     ensures stop { IfErr result (λ end. end.stop ≡ Memory) }
 {
-    curve_named::<Brand>(&Ground { alloc, net, order }, mebibytes)
+    let at = AtomicU32::new(order.deadline);
+    let ground = Ground {
+        alloc,
+        net,
+        order,
+        at: &at,
+    };
+    curve_named::<Brand>(&ground, mebibytes)
 }
 
 /// The curve of an order, made on the calling thread, for the network that `N` names.
@@ -357,7 +381,13 @@ fn curve_named<N: OfNetwork>(ground: &Ground, mebibytes: usize) -> Result<CurveA
         Ok(alone) => alone,
         Err(_) => return Err(out_of_memory(ground.alloc)),
     };
-    curve(ground.alloc, ground.net, ground.order, &mut alone)
+    curve(
+        ground.alloc,
+        ground.net,
+        ground.order,
+        ground.at,
+        &mut alone,
+    )
 }
 
 /// That memory was refused before there were steps.

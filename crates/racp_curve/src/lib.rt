@@ -23,14 +23,16 @@
 //! Then the plan for the deadline before it is made, and so on, down to a deadline for which there is none. So there is
 //! one plan for each step, and the work does not grow with the deadline.
 //!
-//! Where there are more than 64 vectors and the asker leaves room for a search, one search that learns (racp_optimum) finds
-//! the plans and the ends: a clause that holds for a deadline holds for each earlier one, and with lower ceilings, so what
-//! is learned of one serves the next. Capacities are enough for a deadline if the order with that deadline has a plan with
-//! these capacities as its ceilings. All other questions go to one `Asker`, whose records serve the later ones too.
+//! Where there are more than 64 vectors and the asker leaves room for a search, one search that learns (racp_optimum)
+//! finds the plans and the ends: a clause that holds for a deadline holds for each earlier one, and with lower
+//! ceilings, so what is learned of one serves the next. Capacities are enough for a deadline if the order with that
+//! deadline has a plan with these capacities as its ceilings. All other questions go to one `Asker`, whose records
+//! serve the later ones too.
 //!
 //! `curve_alone(alloc, &net, &order, 1024)` does it on the calling thread, `curve_crowd(rt, alloc, &net, &order, crew)`
-//! has workers make the plans over one board of records, and counts the turns of all plans together. `curve_text(alloc,
-//! &steps)` gives the lines above, and `step_lines(alloc, &steps)` the lines of some steps.
+//! has workers make the plans over one board of records, counts the turns of all plans together, and tells an observer
+//! for which deadline a plan is made and how far that has come. `curve_text(alloc, &steps)` gives the lines above, and
+//! `step_lines(alloc, &steps)` the lines of some steps.
 //!
 //! Proved: what `curve` answers is the curve (`IsCurve`): for each deadline from that of a step to before that of the
 //! next one, and up to the order's for the last, the capacities of the step are those of the plan, and its cost is
@@ -46,6 +48,7 @@
 #![tactic(auto)]
 
 mod crowd;
+mod dated;
 mod deadline;
 mod ending;
 mod facts;
