@@ -16,7 +16,7 @@ _racp() {
         verify) options="--time-limit --json --explain --quiet" ;;
         show) options="--names --width --ascii --svg --json --csv --explain --quiet" ;;
         report) options="--names --curve --explain --quiet" ;;
-        curve) options="--workers --turns --memory --time-limit --svg --json --explain --quiet" ;;
+        curve) options="--workers --turns --memory --time-limit --progress --svg --json --explain --quiet" ;;
         order) options="--factor --deadline --prices --owned --ceiling --json --explain --quiet" ;;
         import) options="--out --from --prices --factor --deadline --owned --ceiling --quiet" ;;
         explain)

@@ -61,6 +61,7 @@ complete -c racp -n "__fish_seen_subcommand_from curve" -l quiet -d "say nothing
 complete -c racp -n "__fish_seen_subcommand_from order" -l quiet -d "say nothing of what is wrong"
 complete -c racp -n "__fish_seen_subcommand_from plan" -l best -r -d "file of the best plan known"
 complete -c racp -n "__fish_seen_subcommand_from curve" -l time-limit -x -d seconds
+complete -c racp -n "__fish_seen_subcommand_from curve" -l progress -d "tell how far it is"
 complete -c racp -n "__fish_seen_subcommand_from cpm" -l json -d JSON
 complete -c racp -n "__fish_seen_subcommand_from plan" -l json -d JSON
 complete -c racp -n "__fish_seen_subcommand_from check" -l json -d JSON

@@ -3,7 +3,7 @@
 use std::rt::{Env, Files};
 use std::{env, fs};
 
-/// The variable of the environment that names a file: planning is to stop as soon as there is such a file.
+/// The variable of the environment that names a file: a command is to stop as soon as there is such a file.
 const VARIABLE: &str = "RACP_STOP";
 
 /// A file by which the user asks for a stop.

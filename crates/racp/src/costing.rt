@@ -3,43 +3,41 @@
 ghost use Rattle.std.specs.Prelude.{IfOk};
 ghost use Rattle.racp.specs.Statuses.{IsStatusOfTool};
 
+use crate::asks::Asks;
 use crate::begun::Begun;
 use crate::failure::Failure;
 use crate::inputs::{opened, text, whole};
 use crate::limit::Limit;
+use crate::listener::{Kept, Listener};
+use crate::making::{Making, crew_of, progress_of, worker_count};
+use crate::progress::Progress;
 use crate::telling::{Manner, end};
-use racp_askers::Unheard;
 use racp_cli::{StreamFault, curve_crowd_over, curve_over};
 use racp_desk::Open;
 use racp_explain::{Input as Text, order_cause};
 use racp_json::{Command, FileNames, Told, Work};
 use racp_lexfix::Crew;
-use racp_words::{Memory, OrderFiles, Workers};
-use std::alloc::Global;
+use racp_words::{CrewOptions, OrderFiles};
+use std::alloc::{AllocError, Global};
+use std::cell::Cell;
 use std::io;
 use std::io::{Read, Write};
-use std::rt::Files;
+use std::rt::{Env, Files};
 use std::sync::Wait;
 use std::thread::Threads;
-use std::time::{Clock, Duration};
+use std::time::Clock;
 
-/// How a curve is made, and how it is told what is wrong.
+/// How a curve is made.
 #[derive(Clone, Copy)]
 pub(crate) struct Costing<'a> {
-    /// How much memory records take.
-    pub(crate) memory: Memory,
-    /// The workers; one thread alone if there are none.
-    pub(crate) workers: Option<Workers<'a>>,
-    /// After what time the plans are no longer made, if that is said.
-    pub(crate) limit: Option<Duration>,
+    /// How its plans are made.
+    pub(crate) making: Making<'a>,
     /// Whether it is written as a picture.
     pub(crate) is_drawn: bool,
-    /// How it is told what is wrong.
-    pub(crate) manner: Manner,
 }
 
 /// Writes what each deadline up to that of the order in these files costs.
-pub(crate) fn curve<R: Clock + Files + Print + Eprint + AllocGlobal + Threads + Wait + Sync>(
+pub(crate) fn curve<R: Clock + Env + Files + Print + Eprint + AllocGlobal + Threads + Wait + Sync>(
     rt: &R,
     files: OrderFiles<'_>,
     costing: Costing<'_>,
@@ -52,7 +50,10 @@ pub(crate) fn curve<R: Clock + Files + Print + Eprint + AllocGlobal + Threads + 
 }
 
 /// Writes the curve of these open files, each read whole before the next, and what is wrong with them.
-fn curve_read<R: Clock + Files + Print + Eprint + AllocGlobal + Threads + Wait + Sync, F: Read>(
+fn curve_read<
+    R: Clock + Env + Files + Print + Eprint + AllocGlobal + Threads + Wait + Sync,
+    F: Read,
+>(
     rt: &R,
     files: OrderFiles<'_>,
     net: &mut F,
@@ -68,7 +69,7 @@ fn curve_read<R: Clock + Files + Print + Eprint + AllocGlobal + Threads + Wait +
 }
 
 /// Writes the curve of these texts, and what is wrong with them.
-fn curve_told<R: Clock + Files + Print + Eprint + AllocGlobal + Threads + Wait + Sync>(
+fn curve_told<R: Clock + Env + Files + Print + Eprint + AllocGlobal + Threads + Wait + Sync>(
     rt: &R,
     net: &Text<'_>,
     order: &Text<'_>,
@@ -76,7 +77,7 @@ fn curve_told<R: Clock + Files + Print + Eprint + AllocGlobal + Threads + Wait +
 ) -> Result<u8, Failure>
     ensures { IfOk result IsStatusOfTool }
 {
-    let manner = costing.manner;
+    let manner = costing.making.manner;
     let begun = Begun::now(rt);
     let mut text = Vec::new(rt.alloc());
     let status = curve_written(rt, net.bytes, order.bytes, costing, &mut text)?;
@@ -108,7 +109,7 @@ fn curve_told<R: Clock + Files + Print + Eprint + AllocGlobal + Threads + Wait +
 }
 
 /// Writes the curve of these texts; to `text`, if it is to be JSON.
-fn curve_written<R: Clock + Files + Print + Eprint + AllocGlobal + Threads + Wait + Sync>(
+fn curve_written<R: Clock + Env + Files + Print + Eprint + AllocGlobal + Threads + Wait + Sync>(
     rt: &R,
     net: &[u8],
     order: &[u8],
@@ -117,27 +118,30 @@ fn curve_written<R: Clock + Files + Print + Eprint + AllocGlobal + Threads + Wai
 ) -> Result<u8, StreamFault>
     ensures { IfOk result IsStatusOfTool }
 {
-    let (mut network, mut terms) = (net, order);
-    if costing.manner.is_json {
-        curve_of(rt, &mut network, &mut terms, costing, text)
+    if costing.making.manner.is_json {
+        curve_of(rt, net, order, costing, text)
     } else {
-        curve_of(rt, &mut network, &mut terms, costing, &mut io::writer(rt))
+        curve_of(rt, net, order, costing, &mut io::writer(rt))
     }
 }
 
-/// Writes what each deadline up to that of the order that is read there costs, by plans that workers make, if there are some,
-/// and else one thread.
-fn curve_of<
-    R: Clock + Files + Eprint + AllocGlobal + Threads + Wait + Sync,
-    N: Read,
-    O: Read,
-    W: Write,
->(rt: &R, net: &mut N, order: &mut O, costing: Costing<'_>, out: &mut W) -> Result<u8, StreamFault>
+/// Writes what each deadline up to that of the order of these texts costs, by plans that workers make, if there is a
+/// crew, and else one thread.
+fn curve_of<R: Clock + Env + Files + Eprint + AllocGlobal + Threads + Wait + Sync, W: Write>(
+    rt: &R,
+    net: &[u8],
+    order: &[u8],
+    costing: Costing<'_>,
+    out: &mut W,
+) -> Result<u8, StreamFault>
     ensures { IfOk result IsStatusOfTool }
 {
-    match costing.workers {
-        Some(workers) => curve_by(rt, net, order, workers, costing, out),
-        None => curve_alone(rt.alloc(), net, order, costing, out),
+    match crew_of(rt, costing.making.crew, false) {
+        Some(crew) => curve_by(rt, net, order, crew, costing, out),
+        None => {
+            let (mut network, mut terms) = (net, order);
+            curve_alone(rt.alloc(), &mut network, &mut terms, costing, out)
+        }
     }
 }
 
@@ -155,39 +159,71 @@ fn curve_alone<N: Read, O: Read, W: Write>(
         alloc,
         net,
         order,
-        costing.memory.mebibytes,
+        costing.making.memory.mebibytes,
         costing.is_drawn,
         out,
     )
 }
 
-/// Writes what each deadline up to that of the order that is read there costs, by plans that workers make.
-fn curve_by<
-    R: Clock + Files + Eprint + AllocGlobal + Threads + Wait + Sync,
-    N: Read,
-    O: Read,
-    W: Write,
->(
+/// Writes what each deadline up to that of the order of these texts costs, by plans that the workers of a crew make. If
+/// that is asked for, it goes to standard error how far they have come.
+fn curve_by<R: Clock + Env + Files + Eprint + AllocGlobal + Threads + Wait + Sync, W: Write>(
     rt: &R,
-    net: &mut N,
-    order: &mut O,
-    workers: Workers<'_>,
+    net: &[u8],
+    order: &[u8],
+    crew: CrewOptions<'_>,
     costing: Costing<'_>,
     out: &mut W,
 ) -> Result<u8, StreamFault>
     ensures { IfOk result IsStatusOfTool }
 {
-    let limit = Limit::of(rt, costing.limit, None, None);
-    let crew = Crew {
-        workers: workers.count,
-        turns: workers.turns,
-        memory: costing.memory.mebibytes,
+    let making = costing.making;
+    let Ok(progress) = told_progress(rt.alloc(), crew.progress, making.manner) else {
+        return Err(StreamFault::Memory);
+    };
+    let best = Cell::new(Vec::new(rt.alloc()));
+    let limit = Limit::of(rt, making.limit, progress, Asks::of(rt));
+    let kept = Kept::nowhere(net, order);
+    let listener = Listener::of(
+        rt,
+        limit.known(),
+        limit.progress(),
+        limit.asks(),
+        kept,
+        &best,
+    );
+    let workers = Crew {
+        workers: worker_count(rt, crew.workers),
+        turns: crew.turns,
+        memory: making.memory.mebibytes,
         gate: &Open,
         stop: &limit,
-        observer: &Unheard,
+        observer: &listener,
     };
-    let status = curve_crowd_over(rt, rt.alloc(), crew, net, order, costing.is_drawn, out);
+    let (mut network, mut terms) = (net, order);
+    let status = curve_crowd_over(
+        rt,
+        rt.alloc(),
+        workers,
+        &mut network,
+        &mut terms,
+        costing.is_drawn,
+        out,
+    );
     // Dropped here once, not at each way out.
     drop(limit);
     status
+}
+
+/// What tells how far the plans of a curve have come, if that is asked for.
+fn told_progress(
+    alloc: Global,
+    is_asked: bool,
+    manner: Manner,
+) -> Result<Option<Progress>, AllocError> {
+    if is_asked {
+        progress_of(alloc, true, manner)
+    } else {
+        Ok(None)
+    }
 }

@@ -7,15 +7,13 @@ use crate::asks::Asks;
 use crate::best::keep;
 use crate::limit::Limit;
 use crate::listener::{Kept, Listener};
-use crate::making::Making;
-use crate::progress::{Pace, Progress};
-use crate::telling::Manner;
+use crate::making::{Making, progress_of, worker_count};
 use racp_askers::Effort;
 use racp_cli::{DONE, STOPPED, StreamFault, crowd_over_by};
 use racp_desk::Open;
 use racp_json::Work;
 use racp_words::CrewOptions;
-use std::alloc::{AllocError, Global};
+use std::alloc::Global;
 use std::cell::Cell;
 use std::io;
 use std::io::Write;
@@ -135,7 +133,7 @@ fn plan_by<
         &best,
     );
     let workers = racp_lexfix::Crew {
-        workers: crew.workers,
+        workers: worker_count(rt, crew.workers),
         turns: crew.turns,
         memory: making.memory.mebibytes,
         gate: &Open,
@@ -186,31 +184,5 @@ fn with_effort(work: Work, effort: Option<Effort>) -> Work {
             ..work
         },
         None => work,
-    }
-}
-
-/// What counts and tells how far planning has come, if that is asked for, or counts it alone for JSON.
-fn progress_of(
-    alloc: Global,
-    is_asked: bool,
-    manner: Manner,
-) -> Result<Option<Progress>, AllocError> {
-    if is_asked || manner.is_json {
-        Ok(Some(Progress::new(alloc, pace_of(is_asked, manner))?))
-    } else {
-        Ok(None)
-    }
-}
-
-/// How it is told how far planning has come.
-fn pace_of(is_asked: bool, manner: Manner) -> Pace {
-    if !is_asked {
-        Pace::Silent
-    } else if manner.is_json {
-        Pace::Json
-    } else if manner.on_terminal {
-        Pace::InPlace
-    } else {
-        Pace::Lines
     }
 }

@@ -4,13 +4,14 @@ use std::fmt;
 use std::fmt::{Display, Formatter};
 use std::sync::atomic::{AtomicBool, AtomicU64, Ordering};
 
-/// What stands for the cost of the best plan while none is known.
+/// What stands for a deadline or a cost while none is known.
 const NONE: u64 = u64::MAX;
 
-/// What is known of a plan while it is made: what the cheapest costs that is known, what each costs at least, and whether the
-/// user has asked for a stop.
+/// What is known of a plan while it is made: its deadline, what the cheapest costs that is known, what each costs at
+/// least, and whether the user has asked for a stop.
 #[derive(Drop)]
 pub(crate) struct Known {
+    deadline: AtomicU64,
     best: AtomicU64,
     bound: AtomicU64,
     is_asked: AtomicBool,
@@ -20,10 +21,23 @@ impl Known {
     /// No plan is known, and it may cost nothing.
     pub(crate) fn new() -> Self {
         Known {
+            deadline: AtomicU64::new(NONE),
             best: AtomicU64::new(NONE),
             bound: AtomicU64::new(0),
             is_asked: AtomicBool::new(false),
         }
+    }
+
+    /// Notes that a plan for this deadline is made, and says whether it is another than before: then nothing is known
+    /// of it.
+    pub(crate) fn note_deadline(&self, deadline: u32) -> bool {
+        let deadline = deadline as u64;
+        if self.deadline.swap(deadline, Ordering::SeqCst) == deadline {
+            return false;
+        }
+        self.best.store(NONE, Ordering::SeqCst);
+        self.bound.store(0, Ordering::SeqCst);
+        true
     }
 
     /// Notes a plan of this cost that is known, and says whether it is the cheapest so far.

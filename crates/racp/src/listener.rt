@@ -23,6 +23,18 @@ pub(crate) struct Kept<'a> {
     pub(crate) in_memory: bool,
 }
 
+impl<'k> Kept<'k> {
+    /// None is kept of the plans for these texts.
+    pub(crate) fn nowhere(net: &'k [u8], order: &'k [u8]) -> Self {
+        Kept {
+            net,
+            order,
+            path: None,
+            in_memory: false,
+        }
+    }
+}
+
 /// Hears how far planning has come, and notes it; the best plan that is known it keeps in a file, if that is wanted. Each time
 /// it looks whether the user has asked for a stop.
 #[derive(Drop)]
@@ -80,8 +92,11 @@ impl<'a, 'b, 'k, R: Files + Eprint + AllocGlobal + Drop> Listener<'a, 'b, 'k, R>
 
 impl<'a, 'b, 'k, R: Files + Eprint + AllocGlobal + Drop> Observer for Listener<'a, 'b, 'k, R> {
     fn hear_deadline(&self, deadline: u32) {
+        let is_other = self.known.note_deadline(deadline);
         if let Some(progress) = self.progress {
-            progress.note_deadline(deadline);
+            if is_other {
+                progress.note_deadline(deadline);
+            }
         }
     }
 

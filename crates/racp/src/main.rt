@@ -70,6 +70,7 @@ mod shown;
 mod telling;
 mod terms;
 mod tools;
+mod until;
 mod verifying;
 
 use std::io::IsTerminal;

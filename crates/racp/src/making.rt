@@ -1,17 +1,26 @@
-//! How a plan is made.
+//! How plans are made.
+
+ghost use Rattle.std.specs.Prelude.{◌≤◌};
 
 use crate::asks::Asks;
 use crate::failure::OptionFault;
+use crate::progress::{Pace, Progress};
 use crate::seconds::time_limit;
 use crate::telling::Manner;
 use racp_words::{CrewOptions, Memory};
+use std::alloc::{AllocError, Global};
 use std::rt::Env;
+use std::thread;
+use std::thread::Threads;
 use std::time::Duration;
+
+/// The most workers that there are.
+const MOST_WORKERS: usize = 64;
 
 /// The most turns that workers take.
 const MOST_TURNS: u64 = 1_000_000_000_000;
 
-/// How a plan is made, and how that is told.
+/// How a plan is made, or the plans of a curve, and how that is told.
 #[derive(Clone, Copy)]
 pub(crate) struct Making<'a> {
     /// How much memory records take.
@@ -48,8 +57,8 @@ impl<'a> Making<'a> {
     }
 }
 
-/// The workers that are asked for; or one, if the work is told, which is counted for workers alone, or if the user may ask
-/// for a stop, which one thread alone does not hear.
+/// The workers that are asked for; or one, if the work is told, which is counted for workers alone, or if the user may
+/// ask for a stop, which one thread alone does not hear.
 pub(crate) fn crew_of<'a, R: Env + AllocGlobal>(
     rt: &R,
     crew: Option<CrewOptions<'a>>,
@@ -66,4 +75,46 @@ pub(crate) fn crew_of<'a, R: Env + AllocGlobal>(
         progress: false,
         best: None,
     })
+}
+
+/// How many workers there are: as many as are asked for, or with 0 as many as there are processors, 64 at most; 1 if
+/// the system does not tell that.
+pub(crate) fn worker_count<R: Threads>(rt: &R, asked: usize) -> usize
+    requires { asked ≤ 64 }
+    ensures some { 1 ≤ result }
+    ensures few { result ≤ 64 }
+{
+    if asked > 0 {
+        return asked;
+    }
+    match thread::available_parallelism(rt) {
+        Ok(count) => count.get().clamp(1, MOST_WORKERS),
+        Err(_) => 1,
+    }
+}
+
+/// What counts and tells how far planning has come, if that is asked for, or counts it alone for JSON.
+pub(crate) fn progress_of(
+    alloc: Global,
+    is_asked: bool,
+    manner: Manner,
+) -> Result<Option<Progress>, AllocError> {
+    if is_asked || manner.is_json {
+        Ok(Some(Progress::new(alloc, pace_of(is_asked, manner))?))
+    } else {
+        Ok(None)
+    }
+}
+
+/// How it is told how far planning has come.
+fn pace_of(is_asked: bool, manner: Manner) -> Pace {
+    if !is_asked {
+        Pace::Silent
+    } else if manner.is_json {
+        Pace::Json
+    } else if manner.on_terminal {
+        Pace::InPlace
+    } else {
+        Pace::Lines
+    }
 }

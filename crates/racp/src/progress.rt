@@ -201,9 +201,10 @@ impl Progress {
 }
 
 impl Progress {
-    /// Notes the deadline.
+    /// Notes that a plan for another deadline is made, of whose cost nothing is known.
     pub(crate) fn note_deadline(&self, deadline: u32) {
         self.told.deadline.store(deadline as u64, Ordering::SeqCst);
+        self.told.cost.store(0, Ordering::SeqCst);
     }
 
     /// Notes the floors that planning has come to.

@@ -156,7 +156,7 @@ fn answered<R: Clock + Env + Files + Input + Print + Eprint + AllocGlobal + Thre
 }
 
 /// Writes the answer to what a command that goes with plans asks for.
-fn answer_of_tool<R: Clock + Files + Print + Eprint + AllocGlobal + Threads + Wait + Sync>(
+fn answer_of_tool<R: Clock + Env + Files + Print + Eprint + AllocGlobal + Threads + Wait + Sync>(
     rt: &R,
     asked: Tool<'_>,
     manner: Manner,

@@ -7,23 +7,23 @@ use crate::charting::show;
 use crate::costing::{Costing, curve};
 use crate::failure::{Failure, OptionFault};
 use crate::importing::import;
+use crate::making::Making;
 use crate::ordering::order;
 use crate::reporting::report;
-use crate::seconds::time_limit;
 use crate::telling::Manner;
 use crate::terms::asked_order;
 use racp_cli::{DONE, StreamFault};
 use racp_explain::{explanation, subject_list};
-use racp_words::{Tool, Workers};
+use racp_words::Tool;
 use std::alloc::Global;
-use std::rt::Files;
+use std::rt::{Env, Files};
 use std::sync::Wait;
 use std::thread::Threads;
 use std::time::Clock;
 
 /// Writes the answer to what a command that goes with plans asks for. What is wrong with the inputs is told in this
 /// manner.
-pub(crate) fn tool<R: Clock + Files + Print + Eprint + AllocGlobal + Threads + Wait + Sync>(
+pub(crate) fn tool<R: Clock + Env + Files + Print + Eprint + AllocGlobal + Threads + Wait + Sync>(
     rt: &R,
     tool: Tool<'_>,
     manner: Manner,
@@ -33,28 +33,16 @@ pub(crate) fn tool<R: Clock + Files + Print + Eprint + AllocGlobal + Threads + W
     match tool {
         Tool::Show(files, look) => show(rt, files, look, manner),
         Tool::Report(files, options) => report(rt, files, options, manner),
-        Tool::Curve(files, memory, workers, is_drawn) => {
-            let limit = time_limit(word_of(workers))?;
+        Tool::Curve(files, memory, crew, is_drawn) => {
             let costing = Costing {
-                memory,
-                workers,
-                limit,
+                making: Making::of(memory, crew, manner)?,
                 is_drawn: is_drawn && !manner.is_json,
-                manner,
             };
             curve(rt, files, costing)
         }
         Tool::Order(net, terms) => order(rt, net, asked_order(rt.alloc(), &terms)?, manner),
         Tool::Import(words) => import(rt, &words),
         Tool::Explain(format, fault) => explain(rt, format, fault),
-    }
-}
-
-/// The word for the time after which the plans of a curve are no longer made.
-fn word_of(workers: Option<Workers<'_>>) -> Option<&str> {
-    match workers {
-        Some(workers) => workers.time_limit,
-        None => None,
     }
 }
 

@@ -3,17 +3,18 @@
 ghost use Rattle.std.specs.Prelude.{IfOk};
 ghost use Rattle.racp.specs.Statuses.{IsStatusOfAnswer};
 
+use crate::asks::Asks;
 use crate::failure::Failure;
 use crate::inputs::{opened, text, whole};
-use crate::limit::Limit;
 use crate::telling::{Manner, end};
+use crate::until::Until;
 use racp_cli::{StreamFault, verify_over_until};
 use racp_explain::{Input as Text, proof_cause};
 use racp_json::{Command, FileNames, Told, Work};
 use racp_words::ProofFiles;
 use std::io;
 use std::io::{Read, Write};
-use std::rt::Files;
+use std::rt::{Env, Files};
 use std::time::{Clock, Duration};
 
 /// Which certificate is looked at, and after what time that stops, if it does.
@@ -28,7 +29,7 @@ pub(crate) struct Verifying<'a> {
 }
 
 /// Whether the plan in these files is right, and the certificate proves it.
-pub(crate) fn verify<R: Clock + Files + Print + Eprint + AllocGlobal>(
+pub(crate) fn verify<R: Clock + Env + Files + Print + Eprint + AllocGlobal>(
     rt: &R,
     asked: Verifying<'_>,
 ) -> Result<u8, Failure>
@@ -41,7 +42,7 @@ pub(crate) fn verify<R: Clock + Files + Print + Eprint + AllocGlobal>(
 
 /// Writes whether a plan is right and its certificate proves it, for the open files of the network and of the order;
 /// the files of the plan and of the certificate are opened here.
-fn verify_for<R: Clock + Files + Print + Eprint + AllocGlobal, F: Read>(
+fn verify_for<R: Clock + Env + Files + Print + Eprint + AllocGlobal, F: Read>(
     rt: &R,
     asked: Verifying<'_>,
     net: &mut F,
@@ -56,7 +57,7 @@ fn verify_for<R: Clock + Files + Print + Eprint + AllocGlobal, F: Read>(
 
 /// Writes whether the plan in these open files is right and the certificate proves it; the network and the order are
 /// read whole first.
-fn verify_read<R: Clock + Files + Print + Eprint + AllocGlobal, F: Read, C: Read>(
+fn verify_read<R: Clock + Env + Files + Print + Eprint + AllocGlobal, F: Read, C: Read>(
     rt: &R,
     asked: Verifying<'_>,
     net: &mut F,
@@ -74,7 +75,7 @@ fn verify_read<R: Clock + Files + Print + Eprint + AllocGlobal, F: Read, C: Read
 
 /// Writes whether the plan and the certificate in two open files, which are read whole, are right for the texts of a
 /// network and an order.
-fn verify_beside<R: Clock + Files + Print + Eprint + AllocGlobal, C: Read>(
+fn verify_beside<R: Clock + Env + Files + Print + Eprint + AllocGlobal, C: Read>(
     rt: &R,
     asked: Verifying<'_>,
     net: &Text<'_>,
@@ -93,8 +94,9 @@ fn verify_beside<R: Clock + Files + Print + Eprint + AllocGlobal, C: Read>(
     verify_told(rt, net, order, &plan, &proof, &asked)
 }
 
-/// Whether the plan in these texts is right, and the certificate proves it; it stops after so much time, if that is asked.
-fn verify_told<R: Clock + Files + Print + Eprint + AllocGlobal>(
+/// Whether the plan in these texts is right, and the certificate proves it; it stops after so much time, if that is
+/// asked, or when the user asks for it.
+fn verify_told<R: Clock + Env + Files + Print + Eprint + AllocGlobal>(
     rt: &R,
     net: &Text<'_>,
     order: &Text<'_>,
@@ -132,7 +134,7 @@ fn verify_told<R: Clock + Files + Print + Eprint + AllocGlobal>(
 }
 
 /// Writes whether the plan in these texts is right, and the certificate proves it; to `text`, if it is to be JSON.
-fn verify_written<R: Clock + Files + Print + Eprint + AllocGlobal>(
+fn verify_written<R: Clock + Env + Files + Print + Eprint + AllocGlobal>(
     rt: &R,
     net: &Text<'_>,
     order: &Text<'_>,
@@ -169,8 +171,15 @@ fn verify_written<R: Clock + Files + Print + Eprint + AllocGlobal>(
 }
 
 /// Writes whether the plan that is read there is right, and the certificate shows that no capacities before its own are
-/// enough; or that it was stopped after so much time.
-fn verify_of<R: Clock + Files + Eprint + AllocGlobal, N: Read, O: Read, P: Read, C: Read, W: Write>(
+/// enough; or that it was stopped, after so much time or by the user.
+fn verify_of<
+    R: Clock + Env + Files + Eprint + AllocGlobal,
+    N: Read,
+    O: Read,
+    P: Read,
+    C: Read,
+    W: Write,
+>(
     rt: &R,
     net: &mut N,
     order: &mut O,
@@ -181,9 +190,9 @@ fn verify_of<R: Clock + Files + Eprint + AllocGlobal, N: Read, O: Read, P: Read,
 ) -> Result<u8, StreamFault>
     ensures { IfOk result IsStatusOfAnswer }
 {
-    let limit = Limit::of(rt, limit, None, None);
-    let status = verify_over_until(rt.alloc(), net, order, plan, proof, out, &limit);
+    let until = Until::of(rt, limit, Asks::of(rt));
+    let status = verify_over_until(rt.alloc(), net, order, plan, proof, out, &until);
     // Dropped here once, not at each way out.
-    drop(limit);
+    drop(until);
     status
 }

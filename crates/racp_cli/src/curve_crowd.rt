@@ -14,7 +14,7 @@ use crate::respond::respond;
 use crate::status::{STOPPED, STREAM_FAILED};
 use crate::streams::read_whole;
 use crate::texts::read_texts;
-use racp_askers::Unheard;
+use racp_askers::Observer;
 use racp_curve::{CurveAnswer, CurveStop, Step, curve_crowd, step_lines};
 use racp_desk::Gate;
 use racp_lexfix::{Crew, PlanStop};
@@ -26,10 +26,10 @@ use std::sync::Wait;
 use std::thread::Threads;
 
 /// Reads a network text and an order text, all of each before the next, has such workers make the plans, and writes to
-/// `out` what `curve_over` writes. If they are stopped, it writes the lines of the steps so far, or nothing in place of
-/// a picture, and a line that tells capacities before which none are enough for a deadline before these steps; if no
-/// thread could be started, a line alone. Returns the status that belongs to what was written: that of `curve_over`, 4
-/// if they were stopped, 7 if a worker could not be started.
+/// `out` what `curve_over` writes. Their observer is told how far that has come. If they are stopped, it writes the
+/// lines of the steps so far, or nothing in place of a picture, and a line that tells capacities before which none are
+/// enough for a deadline before these steps; if no thread could be started, a line alone. Returns the status that
+/// belongs to what was written: that of `curve_over`, 4 if they were stopped, 7 if a worker could not be started.
 ///
 /// # Errors
 ///
@@ -40,13 +40,14 @@ pub fn curve_crowd_over<
     R: Threads + Wait + Sync,
     G: Gate + Sync,
     P: Stop + Sync,
+    B: Observer,
     N: Read,
     O: Read,
     W: Write,
 >(
     rt: &R,
     alloc: Global,
-    crew: Crew<'_, G, P, Unheard>,
+    crew: Crew<'_, G, P, B>,
     net: &mut N,
     order: &mut O,
     is_drawn: bool,
@@ -65,13 +66,13 @@ pub fn curve_crowd_over<
 }
 
 /// The status and the text of the answer to the texts of a network and an order.
-fn answer<G: Gate + Sync, P: Stop + Sync, R: Threads + Wait + Sync>(
+fn answer<G: Gate + Sync, P: Stop + Sync, B: Observer, R: Threads + Wait + Sync>(
     rt: &R,
     alloc: Global,
     net: &[u8],
     order: &[u8],
     is_drawn: bool,
-    crew: Crew<'_, G, P, Unheard>,
+    crew: Crew<'_, G, P, B>,
 ) -> Result<(u8, Vec<u8>), AllocError>
     requires workers { crew.workers ≤ 64 }
     requires turns { crew.turns ≤ 1000000000000 }

@@ -8,8 +8,8 @@ use Rattle.clap.proofs.ValueTestLemmas.{Accepts-accepts}
 use Rattle.clap.specs.declared.builder.value_parser.ValueParser.TheVariants.{Unsigned}
 use Rattle.clap.specs.Words.{IsUnsignedIn, Row, Text, fault_of, first_of, subcommand_of}
 use Rattle.clap.proofs.OnLiterals.{clap_on_literals}
-use Rattle.racp_words.specs.CommandLine.{IsCpmLine, AsksForCpm, IsPlanLine, AsksForPlan, IsWorkersLine, AsksForWorkers, IsOfWorkers, IsProveLine, AsksForProve, IsCheckLine, AsksForCheck, IsVerifyLine, AsksForVerify, IsCrew, IsPlain, IsRequested, has_crew_option, racp}
-use Rattle.racp_words.specs.Rules.{IsNumberOf, number_in, is_set, path_at}
+use Rattle.racp_words.specs.CommandLine.{IsCpmLine, AsksForCpm, IsPlanLine, AsksForPlan, IsWorkersLine, AsksForWorkers, IsOfWorkers, IsProveLine, AsksForProve, IsCheckLine, AsksForCheck, IsVerifyLine, AsksForVerify, IsPlain, IsRequested, racp}
+use Rattle.racp_words.specs.Rules.{IsCrew, IsNumberOf, IsWorkerCount, has_crew_option, number_in, is_set, path_at}
 use Rattle.racp_words.specs.Tools.{IsToolOf}
 use Rattle.clap.specs.Kinds.{Kinds, or_else}
 use Rattle.clap.specs.ValueTests.{is_unsigned_in}
@@ -181,7 +181,7 @@ fault_of_value : Bool → Kinds
 fault_of_value passes = or_else (or_else (or_else (if passes then [] else ValueValidation ∷ []) []) []) []
 
 workers_fault : (name : Text) (a b d : ℕ) (net order digits : Text) → (a == 45) ≡ false → (b == 45) ≡ false → (d == 45) ≡ false →
-    fault_of racp (name ∷ codes "plan" ∷ (a ∷ net) ∷ (b ∷ order) ∷ codes "--workers" ∷ (d ∷ digits) ∷ []) ≡ fault_of_value (is_unsigned_in 1 64 (d ∷ digits))
+    fault_of racp (name ∷ codes "plan" ∷ (a ∷ net) ∷ (b ∷ order) ∷ codes "--workers" ∷ (d ∷ digits) ∷ []) ≡ fault_of_value (is_unsigned_in 0 64 (d ∷ digits))
 unfolding racp clap_on_literals fault_of_value
 workers_fault name a b d net order digits p q r = rw (p, p, q, q, r, r) refl
 
@@ -221,7 +221,7 @@ plan_asked (Some command) net order (Verify files limit) e asked =
 plan_asked (Some command) net order (Tool tool) e asked = absurd (no_tool_plan command tool (ap (λ c. c.0) (same_Some _ _ e)) asked)
 
 -- a number begins with no hyphen
-no_hyphen : (d : ℕ) (digits : Text) → IsUnsignedIn 1 64 (d ∷ digits) → (d == 45) ≡ false
+no_hyphen : (d : ℕ) (digits : Text) → IsUnsignedIn 0 64 (d ∷ digits) → (d == 45) ≡ false
 no_hyphen d digits in_range = by_sign (d == 43) refl
   where
     by_sign : (b : Bool) → (d == 43) ≡ b → (d == 45) ≡ false
@@ -231,17 +231,17 @@ no_hyphen d digits in_range = by_sign (d == 43) refl
         let digit = digit_from_value d all.0 in ne_eqb d 45 (λ e. absurd (omega (arith, digit.0, e)))
 
 -- a number is not empty
-some_number : IsUnsignedIn 1 64 [] → ⊥
+some_number : IsUnsignedIn 0 64 [] → ⊥
 some_number in_range = omega (arith, in_range.0.0)
 
 -- where `--workers` alone is given, so many workers are asked for
 workers_crew : (words : List Row) (crew : Option CrewOptions) (number : Text) → first_of (codes "workers") words ≡ Some number → first_of (codes "turns") words ≡ None →
-    first_of (codes "time-limit") words ≡ None → is_set (codes "stats") words ≡ false → is_set (codes "progress") words ≡ false → first_of (codes "best") words ≡ None → IsUnsignedIn 1 64 number → IsCrew words crew → IsOfWorkers (number_in number) crew
+    first_of (codes "time-limit") words ≡ None → is_set (codes "stats") words ≡ false → is_set (codes "progress") words ≡ false → first_of (codes "best") words ≡ None → IsUnsignedIn 0 64 number → IsCrew words crew → IsOfWorkers (number_in number) crew
 workers_crew words None number workers turns limit stats progress best in_range asked =
     let given : has_crew_option words ≡ true = ap (λ (w : Option Text). is_some w || (is_some (first_of (codes "turns") words) || (is_set (codes "stats") words || (is_some (first_of (codes "time-limit") words) || (is_set (codes "progress") words || is_some (first_of (codes "best") words)))))) workers in
     absurd (search (rules, given, asked))
 workers_crew words (Some crew) number workers turns limit stats progress best in_range asked = (
-  subst (λ (w : Option Text). IsNumberOf 64 1 w crew.workers) workers asked.1 in_range,
+  subst (λ (w : Option Text). IsWorkerCount w crew.workers) workers asked.1 in_range,
   subst (λ (w : Option Text). IsNumberOf 1000000000000 1000000000000 w crew.turns) turns asked.2,
   asked.3 ∙ limit,
   asked.4 ∙ stats,
@@ -250,7 +250,7 @@ workers_crew words (Some crew) number workers turns limit stats progress best in
 )
 
 -- `plan` asks for the files with these paths, and for so many workers
-workers_asked : (command : Option (Text × List Row)) (net order number : Text) (request : Request) → IsUnsignedIn 1 64 number →
+workers_asked : (command : Option (Text × List Row)) (net order number : Text) (request : Request) → IsUnsignedIn 0 64 number →
     with_crew command ≡ Some (codes "plan", (net, (order, (None, (Some number, (None, (None, (false, (false, None))))))))) → IsRequested command request → AsksForWorkers net order (number_in number) request
 unfolding with_crew
 workers_asked None net order number request in_range e asked = absurd (search rules)
@@ -403,7 +403,7 @@ workers_line words (a ∷ net) (b ∷ order) (d ∷ digits) (name, first, second
     let p : (a == 45) ≡ false = ne_eqb a 45 first in
     let q : (b == 45) ≡ false = ne_eqb b 45 second in
     let r : (d == 45) ≡ false = no_hyphen d digits in_range in
-    let passes : is_unsigned_in 1 64 (d ∷ digits) ≡ true = Accepts-accepts false (Unsigned 1 64) (d ∷ digits) in_range in (
+    let passes : is_unsigned_in 0 64 (d ∷ digits) ≡ true = Accepts-accepts false (Unsigned 0 64) (d ∷ digits) in_range in (
       ap (λ (ws : List Text). fault_of racp ws) is ∙ (workers_fault name a b d net order digits p q r ∙ ap fault_of_value passes),
       λ request. workers_asked (subcommand_of racp words) (a ∷ net) (b ∷ order) (d ∷ digits) request in_range
           (ap (λ (ws : List Text). with_crew (subcommand_of racp ws)) is ∙ workers_words name a b d net order digits p q r),

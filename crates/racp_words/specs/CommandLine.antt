@@ -1,9 +1,9 @@
 -- The words that the program takes, and what they ask for.
-use Rattle.std.specs.Prelude.{◌≡◌, ◌≢◌, ◌⊎◌, ◌||◌, Bool, ℕ, List, [], ◌∷◌, Option, Some, None, codes, false, true}
-use Rattle.std.specs.Prelude.{if◌then◌else◌, is_some, option_map}
+use Rattle.std.specs.Prelude.{◌≡◌, ◌≢◌, ◌⊎◌, Bool, ℕ, List, [], ◌∷◌, Option, Some, None, codes, false, true}
+use Rattle.std.specs.Prelude.{if◌then◌else◌, option_map}
 use Rattle.clap.specs.Words.{App, IsUnsignedIn, Row, Text, first_of, new_app, new_rule, subcommand_of, with_rule}
 use Rattle.clap.specs.Words.{with_subcommand}
-use Rattle.racp_words.specs.Rules.{AreOrderFiles, ArePlanFiles, AreProofFiles, IsNumberOf, answering, file_rule, flag_rule, is_set, number_rule, of_order, of_plan, of_workers, telling, text_rule}
+use Rattle.racp_words.specs.Rules.{AreOrderFiles, ArePlanFiles, AreProofFiles, IsCrew, IsNumberOf, answering, file_rule, flag_rule, is_set, number_rule, of_order, of_plan, of_workers, telling, text_rule}
 use Rattle.racp_words.specs.Tools.{IsNoTool, IsToolOf, curve, explain, import_table, report, show, order as order_app}
 use Rattle.racp_words.specs.declared.request.CrewOptions.{CrewOptions}
 use Rattle.racp_words.specs.declared.request.Request.{Request}
@@ -74,25 +74,6 @@ racp = with_subcommand (with_subcommand racp_charting import_table.top) explain.
 abbrev pub IsSource : Option Text → Source → Type 0
 IsSource word StandardInput = (word ≡ None) ⊎ (word ≡ Some (codes "-"))
 IsSource word (File path) = (word ≡ Some path.now) × (path.now ≢ codes "-")
-
--- an option that is about workers is given
-abbrev pub has_crew_option : List Row → Bool
-has_crew_option words =
-    is_some (first_of (codes "workers") words) ||
-    (is_some (first_of (codes "turns") words) ||
-    (is_set (codes "stats") words ||
-    (is_some (first_of (codes "time-limit") words) ||
-    (is_set (codes "progress") words || is_some (first_of (codes "best") words)))))
-
--- these workers are asked for; or none, and so one thread
-abbrev pub IsCrew : List Row → Option CrewOptions → Type 0
-IsCrew words None = has_crew_option words ≡ false
-IsCrew words (Some crew) = (has_crew_option words ≡ true) ×
-    IsNumberOf 64 1 (first_of (codes "workers") words) crew.workers ×
-    IsNumberOf 1000000000000 1000000000000 (first_of (codes "turns") words) crew.turns ×
-    (option_map (λ word. word.now) crew.time_limit ≡ first_of (codes "time-limit") words) ×
-    (crew.stats ≡ is_set (codes "stats") words) × (crew.progress ≡ is_set (codes "progress") words) ×
-    (option_map (λ word. word.now) crew.best ≡ first_of (codes "best") words)
 
 -- the command that is named, with its words, asks for this; without a command, `cpm` of standard input is asked for
 abbrev pub IsRequested : Option (Text × List Row) → Request → Type 0
@@ -180,9 +161,9 @@ AsksForPlan net order (Check files) = ⊥
 AsksForPlan net order (Verify files limit) = ⊥
 AsksForPlan net order (Tool tool) = ⊥
 
--- After the program's name come `plan`, these two paths, `--workers` and this number from 1 to 64.
+-- After the program's name come `plan`, these two paths, `--workers` and this number from 0 to 64.
 abbrev pub IsWorkersLine : List Text → Text → Text → Text → Type 0
-IsWorkersLine words net order number = (name : Text) × IsPath net × IsPath order × IsUnsignedIn 1 64 number ×
+IsWorkersLine words net order number = (name : Text) × IsPath net × IsPath order × IsUnsignedIn 0 64 number ×
     (words ≡ name ∷ codes "plan" ∷ net ∷ order ∷ codes "--workers" ∷ number ∷ [])
 
 -- this many workers, as many turns as there may be, no limit of time, nothing is told of them, and no best plan is kept

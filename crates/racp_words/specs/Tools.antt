@@ -1,15 +1,14 @@
 -- What the commands `show`, `report`, `curve`, `order`, `import` and `explain` ask for.
-use Rattle.std.specs.Prelude.{◌≡◌, ◌≢◌, ◌||◌, Bool, List, Option, Some, None, codes, false, true}
-use Rattle.std.specs.Prelude.{is_some, option_map}
+use Rattle.std.specs.Prelude.{◌≡◌, ◌≢◌, List, codes, false, true, Some}
+use Rattle.std.specs.Prelude.{option_map}
 use Rattle.clap.specs.Words.{App, Row, Text, first_of, new_app, new_rule, with_rule}
-use Rattle.racp_words.specs.Rules.{AreOrderFiles, ArePlanFiles, IsNumberOf, answering, file_rule, flag_rule, is_set, number_rule, of_plan, of_workers, path_at, telling, text_rule}
+use Rattle.racp_words.specs.Rules.{AreOrderFiles, ArePlanFiles, IsCrew, IsNumberOf, answering, file_rule, flag_rule, is_set, number_rule, of_plan, of_workers, path_at, telling, text_rule}
 use Rattle.racp_show.specs.declared.form.Form.{Form}
 use Rattle.racp_show.specs.declared.form.Form.TheVariants.{Text as Blocks, Ascii, Svg, Json, Csv}
 use Rattle.racp_words.specs.declared.request.Look.{Look}
 use Rattle.racp_words.specs.declared.request.TableWords.{TableWords}
 use Rattle.racp_words.specs.declared.request.Terms.{Terms}
 use Rattle.racp_words.specs.declared.request.Tool.{Tool}
-use Rattle.racp_words.specs.declared.request.Workers.{Workers}
 use Rattle.racp_words.specs.declared.request.Tool.TheVariants.{Show, Report, Curve, Order, Import, Explain}
 
 -- `show NET ORDER PLAN [--names FILE] [--width N]`
@@ -33,9 +32,10 @@ abbrev pub curve_timed : App
 curve_timed = with_rule (with_rule (of_workers (codes "curve")) (number_rule (codes "memory") 1048576))
     (text_rule (codes "time-limit"))
 
--- `curve NET ORDER [-j N | --workers N] [--turns N] [--memory MIB] [--time-limit S] [--svg] [--json] [--explain] [--quiet]`
+-- `curve NET ORDER [-j N | --workers N] [--turns N] [--memory MIB] [--time-limit S] [--progress] [--svg] [--json] [--explain]
+-- [--quiet]`
 abbrev pub curve : App
-curve = answering (with_rule curve_timed (flag_rule (codes "svg")))
+curve = answering (with_rule (with_rule curve_timed (flag_rule (codes "progress"))) (flag_rule (codes "svg")))
 
 -- `order NET [--factor F]`
 abbrev pub order_scaled : App
@@ -109,20 +109,6 @@ pub record AreTableWords (words : List Row) (table : TableWords) : Type 0 where
   pub owned : option_map (λ word. word.now) table.owned ≡ first_of (codes "owned") words
   pub ceiling : option_map (λ word. word.now) table.ceiling ≡ first_of (codes "ceiling") words
 
--- an option about the workers of a curve is given
-abbrev pub has_workers_option : List Row → Bool
-has_workers_option words =
-    is_some (first_of (codes "workers") words) ||
-    (is_some (first_of (codes "turns") words) || is_some (first_of (codes "time-limit") words))
-
--- this many workers are asked for; or none, and so one thread
-abbrev pub AreWorkers : List Row → Option Workers → Type 0
-AreWorkers words None = has_workers_option words ≡ false
-AreWorkers words (Some workers) = (has_workers_option words ≡ true) ×
-    IsNumberOf 64 1 (first_of (codes "workers") words) workers.count ×
-    IsNumberOf 1000000000000 1000000000000 (first_of (codes "turns") words) workers.turns ×
-    (option_map (λ word. word.now) workers.time_limit ≡ first_of (codes "time-limit") words)
-
 -- the command with these words asks for this
 abbrev pub IsToolOf : Text × List Row → Tool → Type 0
 IsToolOf command (Show files look) =
@@ -131,10 +117,10 @@ IsToolOf command (Report files options) =
     (command.0 ≡ codes "report") × ArePlanFiles command.1 files ×
     (option_map (λ word. word.now) options.names ≡ first_of (codes "names") command.1) ×
     (option_map (λ word. word.now) options.curve ≡ first_of (codes "curve") command.1)
-IsToolOf command (Curve files memory workers is_drawn) =
+IsToolOf command (Curve files memory crew is_drawn) =
     (command.0 ≡ codes "curve") × AreOrderFiles command.1 files ×
     IsNumberOf 1048576 1024 (first_of (codes "memory") command.1) memory.mebibytes ×
-    AreWorkers command.1 workers × (is_drawn ≡ is_set (codes "svg") command.1)
+    IsCrew command.1 crew × (is_drawn ≡ is_set (codes "svg") command.1)
 IsToolOf command (Order net terms) =
     (command.0 ≡ codes "order") × (net.now ≡ path_at (codes "NET") command.1) × AreTerms command.1 terms
 IsToolOf command (Import table) = (command.0 ≡ codes "import") × AreTableWords command.1 table

@@ -9,7 +9,7 @@ ghost use Rattle.racp_words.specs.Tools.{AreTableWords, AreTerms, IsForm, IsLook
 
 use crate::commands::command;
 use crate::most::MOST_WIDTH;
-use crate::options::{crew_of, is_set, memory_of, number_of, path_of, text_of, workers_of};
+use crate::options::{crew_of, is_set, memory_of, number_of, path_of, text_of};
 use crate::request::{
     Look, OrderFiles, PlanFiles, ProofFiles, ReportWords, Request, Source, TableWords, Task,
     Telling, Terms, Tool,
@@ -33,7 +33,7 @@ pub fn asked<'a>(alloc: Global, words: &'a [String]) -> Result<Task<'a>, Error>
     // With `plan` and two paths, too.
     ensures plan { (net order : List ℕ) → IsPlanLine (map string_bytes words.entry.now) net order
         → MatchResult result (λ task. AsksForPlan net order task.request) (λ error. kind_of error ≡ OutOfMemory) }
-    // With `--workers` and a number from 1 to 64 after these, too.
+    // With `--workers` and a number from 0 to 64 after these, too.
     ensures workers { (net order number : List ℕ) → IsWorkersLine (map string_bytes words.entry.now) net order number
         → MatchResult result (λ task. AsksForWorkers net order (number_in number) task.request) (λ error. kind_of error ≡ OutOfMemory) }
     // With `prove` and two paths, too.
@@ -142,8 +142,8 @@ fn tool_named<'a>(name: &str, words: &ArgMatches<'a>) -> Option<Tool<'a>>
         Some(Tool::Report(plan_files(words), options))
     } else if name == "curve" {
         let files = order_files(words);
-        let workers = workers_of(words);
-        Some(Tool::Curve(files, memory_of(words), workers, is_set(words, "svg")))
+        let crew = crew_of(words);
+        Some(Tool::Curve(files, memory_of(words), crew, is_set(words, "svg")))
     } else if name == "order" {
         Some(Tool::Order(path_of(words, "NET"), terms_of(words)))
     } else if name == "import" {

@@ -4,7 +4,7 @@ ghost use Rattle.std.specs.Prelude.{◌≡◌, IfOk, codes, false};
 ghost use Rattle.clap.specs.Words.{App, app_of, new_app, rule_of, with_rule, with_subcommand};
 ghost use Rattle.racp_words.specs.CommandLine.{racp, with_version};
 ghost use Rattle.racp_words.specs.Commands.{IsCommandOf, app_of_line, rule_of_word, with_lines};
-ghost use Rattle.racp_words.specs.Rules.{flag_rule, lettered, number_rule, text_rule};
+ghost use Rattle.racp_words.specs.Rules.{flag_rule, lettered, ranged_rule, text_rule};
 
 use crate::table::{COMMANDS, Line, Word};
 use clap::builder::ValueParser;
@@ -118,8 +118,8 @@ fn argument_of<'a>(alloc: Global, word: &Word<'a>) -> Arg<'a>
     match *word {
         Word::File(id, help) => Arg::new(alloc, id).required(true).help(help),
         Word::Optional(id, help) => Arg::new(alloc, id).help(help),
-        Word::Number(id, name, most, help) => number_option(alloc, id, name, most).help(help),
-        Word::Lettered(letter, id, name, most, help) => number_option(alloc, id, name, most)
+        Word::Number(id, name, most, help) => number_option(alloc, id, name, 1, most).help(help),
+        Word::Lettered(letter, id, name, most, help) => number_option(alloc, id, name, 0, most)
             .short(letter)
             .help(help),
         Word::Text(id, name, help) => text_option(alloc, id, name).help(help),
@@ -128,12 +128,12 @@ fn argument_of<'a>(alloc: Global, word: &Word<'a>) -> Arg<'a>
     }
 }
 
-/// An option whose word is a number from 1 to `most`; help shows it by this name.
-fn number_option<'a>(alloc: Global, id: &'a str, name: &'a str, most: u64) -> Arg<'a>
-    ensures rule { rule_of result ≡ number_rule id.entry.now most }
+/// An option whose word is a number from `least` to `most`; help shows it by this name.
+fn number_option<'a>(alloc: Global, id: &'a str, name: &'a str, least: u64, most: u64) -> Arg<'a>
+    ensures rule { rule_of result ≡ ranged_rule id.entry.now least most }
     ensures own { result.global ≡ false }
 {
-    let parser = ValueParser::unsigned(1, most);
+    let parser = ValueParser::unsigned(least, most);
     text_option(alloc, id, name).value_parser(parser)
 }
 

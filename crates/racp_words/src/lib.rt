@@ -19,20 +19,21 @@
 //! racp show a.sm a4.toml p --svg           Tool, Show with these paths, no names, 80 columns and the form Svg
 //! racp report a.sm a4.toml p --names n     Tool, Report with these paths, the names n and no curve
 //! racp curve b.sm b3.toml                  Tool, Curve with these paths, 1,024 MiB, one thread, and no picture
-//! racp curve b.sm b3.toml --workers 4      the same, and 4 Workers
+//! racp curve b.sm b3.toml --workers 4      the same, and a CrewOptions of 4 workers
 //! racp order a.sm --factor 1.2 --prices 3  Tool, Order with the path a.sm, the factor 1.2 and the prices 3, as words
 //! racp import t.csv --out t                Tool, Import with the path t.csv and the word t for the files
 //! racp explain sm 12                       Tool, Explain with the words sm and 12
-//! racp plan b.sm b3.toml --workers 65      an error: this is no number from 1 to 64
+//! racp plan b.sm b3.toml --workers 65      an error: this is no number from 0 to 64
 //! racp plan b.sm                           an error: a word is missing
 //! racp --help                              an error of the kind DisplayHelp
 //! ```
 //!
 //! Each of the options `--workers N` (or `-j N`), `--turns N`, `--stats`, `--time-limit S`, `--progress` and `--best FILE`
 //! asks for a crew: 1 worker, 1,000,000,000,000 turns, no limit of time, nothing told and no file of the best plan, unless
-//! the others say otherwise. `--memory MIB`
-//! says how much memory the records of a search take at most, with or without a crew. `curve` takes the first two,
-//! `--time-limit` and `--memory`, `verify` takes `--time-limit`. A limit of time is a word here; the program reads it.
+//! the others say otherwise. With `--workers 0` there are to be as many workers as there are processors, which the
+//! program counts. `--memory MIB` says how much memory the records of a search take at most, with or without a crew.
+//! `curve` takes all of these but `--stats` and `--best`, `verify` takes `--time-limit`. A limit of time is a word here;
+//! the program reads it.
 //!
 //! What is asked for is a `Task`: a request; how much is told of what is wrong, which the flags `--quiet` and `--explain`
 //! of each command that reads a file say; and whether the answer is written as JSON, which the flag `--json` says.
@@ -44,7 +45,7 @@
 //! Proved: without words, with `cpm`, and with `cpm` and a word that does not begin with a hyphen or is a hyphen alone,
 //! `cpm` is asked for, of standard input or of the file with that path; with `plan` or `prove` and two paths, `check`
 //! and three, and `verify` and four, that command of these files, `plan` on one thread and `verify` without a limit;
-//! with `--workers` and a number from 1 to 64 after the two paths, `plan` by a crew of that many workers. In these
+//! with `--workers` and a number from 0 to 64 after the two paths, `plan` by a crew of that many workers. In these
 //! cases only memory can fail. A path here is a word that is not empty and does not begin with a hyphen. For any other
 //! words `asked` answers what `clap` is proved to find, or refuses with the kind of error that it is proved to give:
 //! `plan` asks for a crew exactly if `clap` finds one of the six options, and a number that it finds and that is in
@@ -66,5 +67,5 @@ mod table_words;
 pub use command_line::asked;
 pub use request::{
     CrewOptions, Look, Memory, OrderFiles, PlanFiles, ProofFiles, ReportWords, Request, Source,
-    TableWords, Task, Telling, Terms, Tool, Workers,
+    TableWords, Task, Telling, Terms, Tool,
 };

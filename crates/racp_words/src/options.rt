@@ -2,12 +2,10 @@
 
 ghost use Rattle.std.specs.Prelude.{◌≡◌, ◌≤◌, option_map, codes};
 ghost use Rattle.clap.specs.Words.{first_of, found_of, rows_of};
-ghost use Rattle.racp_words.specs.CommandLine.{IsCrew};
-ghost use Rattle.racp_words.specs.Rules.{IsNumberOf, is_set, path_at};
-ghost use Rattle.racp_words.specs.Tools.{AreWorkers};
+ghost use Rattle.racp_words.specs.Rules.{IsCrew, IsNumberOf, IsWorkerCount, is_set, path_at};
 
 use crate::most::{MOST_MEBIBYTES, MOST_TURNS, MOST_WORKERS};
-use crate::request::{CrewOptions, Memory, Workers};
+use crate::request::{CrewOptions, Memory};
 use clap::ArgMatches;
 
 /// How many mebibytes records are given if no option says so.
@@ -33,7 +31,7 @@ pub(crate) fn memory_of(words: &ArgMatches<'_>) -> Memory
     }
 }
 
-/// How workers are to make the plan, if an option says so.
+/// How workers are to make the plan, or the plans of a curve, if an option says so.
 pub(crate) fn crew_of<'a>(words: &ArgMatches<'a>) -> Option<CrewOptions<'a>>
     ensures { IsCrew (rows_of (found_of words.now)) result }
 {
@@ -48,7 +46,7 @@ pub(crate) fn crew_of<'a>(words: &ArgMatches<'a>) -> Option<CrewOptions<'a>>
         return None;
     }
     Some(CrewOptions {
-        workers: number_of(workers, MOST_WORKERS, 1) as usize,
+        workers: worker_count(workers),
         turns: number_of(turns, MOST_TURNS, MOST_TURNS),
         time_limit: limit,
         stats,
@@ -57,21 +55,16 @@ pub(crate) fn crew_of<'a>(words: &ArgMatches<'a>) -> Option<CrewOptions<'a>>
     })
 }
 
-/// How many workers are to make the plans of a curve, if an option says so.
-pub(crate) fn workers_of<'a>(words: &ArgMatches<'a>) -> Option<Workers<'a>>
-    ensures { AreWorkers (rows_of (found_of words.now)) result }
+/// How many workers the word of their option asks for; 0 stands for as many as there are processors. The option's rule
+/// refuses words that are no numbers from 0 to 64.
+fn worker_count(word: Option<&str>) -> usize
+    ensures number { IsWorkerCount (option_map (λ word. word.now) word.entry) result }
+    ensures few { result ≤ 64 }
 {
-    let count = text_of(words, "workers");
-    let turns = text_of(words, "turns");
-    let time_limit = text_of(words, "time-limit");
-    if count.is_none() && turns.is_none() && time_limit.is_none() {
-        return None;
+    match word {
+        Some(word) => word.parse().unwrap_or(1u64).min(MOST_WORKERS) as usize,
+        None => 1,
     }
-    Some(Workers {
-        count: number_of(count, MOST_WORKERS, 1) as usize,
-        turns: number_of(turns, MOST_TURNS, MOST_TURNS),
-        time_limit,
-    })
 }
 
 /// The word of an option.

@@ -51,7 +51,7 @@ pub enum Tool<'a> {
     Report(PlanFiles<'a>, ReportWords<'a>),
     /// What each deadline up to that of an order costs, with so much memory for records: on one thread, or by workers
     /// if an option is given; as a picture if that is said.
-    Curve(OrderFiles<'a>, Memory, Option<Workers<'a>>, bool),
+    Curve(OrderFiles<'a>, Memory, Option<CrewOptions<'a>>, bool),
     /// The text of an order for a network with this path.
     Order(&'a str, Terms<'a>),
     /// A network, and perhaps an order, of a table of tasks.
@@ -134,10 +134,10 @@ pub struct Memory {
     pub ghost mebibytes_few: { mebibytes ≤ 1048576 },
 }
 
-/// How workers make a plan.
+/// How workers make a plan, or the plans of a curve.
 #[derive(Clone, Copy)]
 pub struct CrewOptions<'a> {
-    /// How many workers there are, 1 to 64; 1 if no option says so.
+    /// How many workers there are, 1 to 64, or 0 for as many as there are processors; 1 if no option says so.
     pub workers: usize,
     /// How many turns they take at most, 1 to 1,000,000,000,000; the most if no option says so.
     pub turns: u64,
@@ -149,22 +149,7 @@ pub struct CrewOptions<'a> {
     pub progress: bool,
     /// The path of the file that keeps the best plan that is known, if there is to be one.
     pub best: Option<&'a str>,
-    pub ghost workers_some: { 1 ≤ workers },
     pub ghost workers_few: { workers ≤ 64 },
-    pub ghost turns_few: { turns ≤ 1000000000000 },
-}
-
-/// How many workers make the plans of a curve.
-#[derive(Clone, Copy)]
-pub struct Workers<'a> {
-    /// How many workers there are, 1 to 64; 1 if no option says so.
-    pub count: usize,
-    /// How many turns they take at most, 1 to 1,000,000,000,000; the most if no option says so.
-    pub turns: u64,
-    /// The word for the seconds after which planning stops, if an option says so.
-    pub time_limit: Option<&'a str>,
-    pub ghost count_some: { 1 ≤ count },
-    pub ghost count_few: { count ≤ 64 },
     pub ghost turns_few: { turns ≤ 1000000000000 },
 }
 

@@ -12,7 +12,7 @@ pub(crate) enum Word<'a> {
     Optional(&'a str, &'a str),
     /// An option whose word is a number from 1 to the one given; help shows it by the second name.
     Number(&'a str, &'a str, u64, &'a str),
-    /// An option as `Number`, which a letter names too.
+    /// An option whose word is a number from 0 to the one given, and which a letter names too.
     Lettered(char, &'a str, &'a str, u64, &'a str),
     /// An option whose word is any text; help shows it by the second name.
     Text(&'a str, &'a str, &'a str),
@@ -44,7 +44,7 @@ const WORKERS: Word = Word::Lettered(
     "workers",
     "N",
     MOST_WORKERS,
-    "How many workers make the plan, 1 to 64; else 1",
+    "How many workers make the plan, 1 to 64, or 0 for one for each processor; else 1",
 );
 
 /// How many turns workers take.
@@ -68,6 +68,12 @@ const TIME_LIMIT: Word = Word::Text(
     "time-limit",
     "S",
     "After how many seconds it stops, up to 1,000,000,000: 60 or 0.5",
+);
+
+/// Whether it is told how far planning has come.
+const PROGRESS: Word = Word::Flag(
+    "progress",
+    "Tells on standard error, every two seconds, how far planning has come",
 );
 
 /// Whether a certificate is one by clauses.
@@ -123,10 +129,7 @@ pub(crate) const COMMANDS: &[Line] = &[
             ),
             MEMORY,
             TIME_LIMIT,
-            Word::Flag(
-                "progress",
-                "Tells on standard error, every two seconds, how far planning has come",
-            ),
+            PROGRESS,
             Word::Text(
                 "best",
                 "FILE",
@@ -219,11 +222,12 @@ pub(crate) const COMMANDS: &[Line] = &[
                 "workers",
                 "N",
                 MOST_WORKERS,
-                "How many workers make the plans, 1 to 64; else 1",
+                "How many workers make the plans, 1 to 64, or 0 for one for each processor; else 1",
             ),
             TURNS,
             MEMORY,
             TIME_LIMIT,
+            PROGRESS,
             SVG,
             JSON,
             EXPLAIN,

@@ -1,0 +1,80 @@
+//! When a command of one thread is stopped by the clock or by the user.
+
+use crate::asks::Asks;
+use crate::begun::Begun;
+use racp_search::Stop;
+use std::rt::Files;
+use std::sync::atomic::{AtomicBool, AtomicU64, Ordering};
+use std::time::{Clock, Duration};
+
+/// How many milliseconds lie between two looks whether the user has asked for a stop, at least.
+const PERIOD: u64 = 100;
+
+/// Stops a command of one thread when so much time has passed since it was made, or when the user asks so. If there is
+/// a limit and the clock cannot be read, it stops at once.
+#[derive(Drop)]
+pub(crate) struct Until<R: Clock + Files + Drop> {
+    host: R,
+    limit: Option<Duration>,
+    begun: Begun,
+    asks: Option<Asks>,
+    due: AtomicU64,
+    is_asked: AtomicBool,
+}
+
+impl<R: Clock + Files + Drop> Until<R> {
+    /// This time from now on, if there is a limit, and with the file by which the user asks for a stop, if there is
+    /// one.
+    pub(crate) fn of(host: R, limit: Option<Duration>, asks: Option<Asks>) -> Self {
+        let begun = Begun::now(&host);
+        Until {
+            host,
+            limit,
+            begun,
+            asks,
+            due: AtomicU64::new(0),
+            is_asked: AtomicBool::new(false),
+        }
+    }
+
+    /// Whether the limit is over when so much time has passed.
+    fn is_over(&self, passed: Option<Duration>) -> bool {
+        match (self.limit, passed) {
+            (None, _) => false,
+            (Some(limit), Some(passed)) => limit <= passed,
+            (Some(_), None) => true,
+        }
+    }
+
+    /// Looks whether the user has asked for a stop, if that is due when so much time has passed.
+    fn look(&self, passed: Option<Duration>) {
+        let (Some(asks), Some(passed)) = (&self.asks, passed) else {
+            return;
+        };
+        let now = u64::try_from(passed.as_millis()).unwrap_or(u64::MAX);
+        if now < self.due.load(Ordering::SeqCst) {
+            return;
+        }
+        self.due.store(now.saturating_add(PERIOD), Ordering::SeqCst);
+        if asks.are_made(&self.host) {
+            self.is_asked.store(true, Ordering::SeqCst);
+        }
+    }
+}
+
+impl<R: Clock + Files + Drop> Stop for Until<R> {
+    ghost use Rattle.std.specs.Prelude.{false};
+
+    ghost QUIET = { false };
+
+    const QUIET: bool = false;
+
+    fn asked(&self) -> bool {
+        if self.limit.is_none() && self.asks.is_none() {
+            return false;
+        }
+        let passed = self.begun.passed(&self.host);
+        self.look(passed);
+        self.is_asked.load(Ordering::SeqCst) || self.is_over(passed)
+    }
+}
