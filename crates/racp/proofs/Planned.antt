@@ -1,6 +1,8 @@
 -- The status of a plan, and that of a certificate, is that of an answer.
 use Rattle.std.proofs.Common.{ℕ, Bool, true, false, List, [], ◌∷◌, Option, Ok, Err, IfOk, inl, inr}
 use Rattle.std.specs.Prelude.{Result}
+use Rattle.racp_askers.specs.declared.crowd.Effort.{Effort}
+use Rattle.racp_cli.specs.Crowds.{IsCrowdAnswer, IsCrowdRun}
 use Rattle.racp_cli.specs.Plans.{IsPlanAnswer}
 use Rattle.racp_cli.specs.Proofs.{IsProofAnswer, IsProofRun}
 use Rattle.racp_cli.specs.ClauseProofs.{IsClauseProofAnswer, IsClauseProofRun}
@@ -9,6 +11,7 @@ use Rattle.racp_cli.specs.Streams.{Reader, ToOne, ToTwo, ToFour, IsPlanRun, IsVe
 use Rattle.racp_cli.specs.declared.fault.StreamFault.{StreamFault}
 use Rattle.racp_cli.specs.CurveAnswers.{IsCurveAnswer, IsCurveCrowdAnswer, IsCurveCrowdRun, IsCurveRun}
 use Rattle.racp_cli.specs.OrderAnswers.{IsOrderAnswer, IsOrderRun}
+use Rattle.racp_cli.specs.ReportAnswers.{IsReportAnswer, IsReportRun}
 use Rattle.racp_cli.specs.ShowAnswers.{IsShowAnswer, IsShowRun}
 use Rattle.racp_cli.specs.declared.order.Asked.{Asked}
 use Rattle.racp_cli.specs.declared.show.Look.{Look}
@@ -24,6 +27,17 @@ on_one_thread (net ∷ (order ∷ (other ∷ inputs))) status text answer = absu
 pub planned_alone : (net order : Reader) (old new : Option (List ℕ)) (result : Result ℕ StreamFault) → IsPlanRun net order old new result → IfOk result IsStatusOfAnswer
 planned_alone net order old new (Ok status) run = on_one_thread run.0 status run.2.0 run.2.1
 planned_alone net order old new (Err fault) run = tt
+
+-- what workers answer
+of_crowd : (turns : ℕ) (quiet : Bool) (inputs : List (List ℕ)) (status : ℕ) (text : List ℕ) → ToTwo (IsCrowdAnswer turns quiet) inputs status text → IsStatusOfAnswer status
+of_crowd turns quiet [] status text answer = absurd answer
+of_crowd turns quiet (net ∷ []) status text answer = absurd answer
+of_crowd turns quiet (net ∷ (order ∷ [])) status text answer = inr (inl (turns, quiet, net, order, text, answer))
+of_crowd turns quiet (net ∷ (order ∷ (other ∷ inputs))) status text answer = absurd answer
+
+pub planned_by : (turns : ℕ) (quiet : Bool) (net order : Reader) (old new : Option (List ℕ)) (result : Result (ℕ × Option Effort) StreamFault) → IsCrowdRun turns quiet net order old new result → IfOk result (λ done. IsStatusOfAnswer done.0)
+planned_by turns quiet net order old new (Ok done) run = of_crowd turns quiet run.0 done.0 run.2.0 run.2.1
+planned_by turns quiet net order old new (Err fault) run = tt
 
 -- what is answered with a certificate, or where there is none
 with_certificate : (inputs : List (List ℕ)) (status : ℕ) (text : List ℕ) → ToTwo IsProofAnswer inputs status text → IsStatusOfAnswer status
@@ -72,6 +86,19 @@ of_picture look (net ∷ (order ∷ (plan ∷ (names ∷ (other ∷ inputs))))) 
 pub shown : (look : Look) (net order plan names : Reader) (old new : Option (List ℕ)) (result : Result ℕ StreamFault) → IsShowRun look net order plan names old new result → IfOk result IsStatusOfTool
 shown look net order plan names old new (Ok status) run = of_picture look run.0 status run.2.0 run.2.1
 shown look net order plan names old new (Err fault) run = tt
+
+-- what is reported of a plan
+of_report : (curve : Option (List ℕ)) (inputs : List (List ℕ)) (status : ℕ) (text : List ℕ) → ToFour (IsReportAnswer curve) inputs status text → IsStatusOfTool status
+of_report curve [] status text answer = absurd answer
+of_report curve (net ∷ []) status text answer = absurd answer
+of_report curve (net ∷ (order ∷ [])) status text answer = absurd answer
+of_report curve (net ∷ (order ∷ (plan ∷ []))) status text answer = absurd answer
+of_report curve (net ∷ (order ∷ (plan ∷ (names ∷ [])))) status text answer = inr (inr (inr (inl (curve, net, order, plan, names, text, answer))))
+of_report curve (net ∷ (order ∷ (plan ∷ (names ∷ (other ∷ inputs))))) status text answer = absurd answer
+
+pub reported : (curve : Option (List ℕ)) (net order plan names : Reader) (old new : Option (List ℕ)) (result : Result ℕ StreamFault) → IsReportRun curve net order plan names old new result → IfOk result IsStatusOfTool
+reported curve net order plan names old new (Ok status) run = of_report curve run.0 status run.2.0 run.2.1
+reported curve net order plan names old new (Err fault) run = tt
 
 -- what one thread tells of deadlines is what workers may tell
 told_alone : (is_drawn : Bool) (net order : List ℕ) (status : ℕ) (text : List ℕ) → IsCurveAnswer is_drawn net order status text → IsCurveCrowdAnswer is_drawn net order status text

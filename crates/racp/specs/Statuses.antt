@@ -1,5 +1,5 @@
 -- The status that tells why no answer is written.
-use Rattle.std.specs.Prelude.{◌≡◌, ◌⊎◌, ℕ, Bool, false, List}
+use Rattle.std.specs.Prelude.{◌≡◌, ◌⊎◌, ℕ, Bool, false, List, Option}
 use Rattle.clap.specs.Words.{kind_of}
 use Rattle.clap.specs.declared.error.kind.ErrorKind.{ErrorKind}
 use Rattle.clap.specs.declared.error.kind.ErrorKind.TheVariants.{DisplayHelp, DisplayVersion, OutOfMemory}
@@ -8,6 +8,7 @@ use Rattle.racp_cli.specs.Crowds.{IsCrowdAnswer}
 use Rattle.racp_cli.specs.Checks.{IsCheckAnswer}
 use Rattle.racp_cli.specs.CurveAnswers.{IsCurveCrowdAnswer}
 use Rattle.racp_cli.specs.OrderAnswers.{IsOrderAnswer}
+use Rattle.racp_cli.specs.ReportAnswers.{IsReportAnswer}
 use Rattle.racp_cli.specs.ShowAnswers.{IsShowAnswer}
 use Rattle.racp_cli.specs.declared.order.Asked.{Asked}
 use Rattle.racp_cli.specs.declared.show.Look.{Look}
@@ -42,6 +43,8 @@ IsStatusOfTool status =
     ((net order plan names : List ℕ) × (look : Look) × (text : List ℕ) × IsShowAnswer look net order plan names status text) ⊎
     ((is_drawn : Bool) × (net order : List ℕ) × (text : List ℕ) × IsCurveCrowdAnswer is_drawn net order status text) ⊎
     ((asked : Asked) × (net : List ℕ) × (text : List ℕ) × IsOrderAnswer asked net status text) ⊎
+    ((curve : Option (List ℕ)) × (net order plan names : List ℕ) × (text : List ℕ) ×
+    IsReportAnswer curve net order plan names status text) ⊎
     (status ≡ 0)
 
 -- some answer to some texts has this status; nothing is said of which
