@@ -14,7 +14,7 @@ _racp() {
         prove) options="--facts --explain --quiet" ;;
         check) options="--json --explain --quiet" ;;
         verify) options="--time-limit --json --explain --quiet" ;;
-        show) options="--names --width --ascii --svg --json --csv --explain --quiet" ;;
+        show) options="--names --width --ascii --svg --links --json --csv --explain --quiet" ;;
         report) options="--names --curve --explain --quiet" ;;
         curve) options="--workers --turns --memory --time-limit --progress --svg --json --explain --quiet" ;;
         order) options="--factor --deadline --prices --owned --ceiling --json --explain --quiet" ;;

@@ -31,6 +31,7 @@ complete -c racp -n "__fish_seen_subcommand_from show" -l names -r -d "names of 
 complete -c racp -n "__fish_seen_subcommand_from show" -l width -x -d "columns of a line"
 complete -c racp -n "__fish_seen_subcommand_from show" -l ascii -d "plain characters"
 complete -c racp -n "__fish_seen_subcommand_from show" -l svg -d "a picture"
+complete -c racp -n "__fish_seen_subcommand_from show" -l links -d "arrows in a picture"
 complete -c racp -n "__fish_seen_subcommand_from show" -l json -d JSON
 complete -c racp -n "__fish_seen_subcommand_from show" -l csv -d CSV
 complete -c racp -n "__fish_seen_subcommand_from report" -l names -r -d "names of jobs and resources"

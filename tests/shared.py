@@ -22,6 +22,9 @@ START = pathlib.Path(NAMED).resolve() if NAMED else ROOT / "racp"
 PROGRAM = START if NAMED else ROOT / "out" / "racp"
 RUNS_AT_ONCE = 4
 
+# Charts are as wide as this variable says; here they have the width that counts without it.
+os.environ.pop("COLUMNS", None)
+
 # The commands that tell on standard error what is wrong with the files that they read.
 TELLING = ["cpm", "plan", "prove", "check", "verify", "show", "curve", "order"]
 

@@ -149,7 +149,7 @@ class Trial:
 
     def shown(self, texts):
         """One drawing or table of a plan."""
-        option = self.chance.choice([[], ["--ascii"], ["--json"], ["--csv"], ["--svg"]])
+        option = self.chance.choice([[], ["--ascii"], ["--json"], ["--csv"], ["--svg"], ["--svg", "--links"]])
         got = self.run(texts, "show", *option)
         network = network_of(texts[0])
         plan = bounded.plan_of(network, texts[2])
@@ -160,9 +160,9 @@ class Trial:
             return
         text = got.output.decode()
         wrong = {"--json": lambda: wrong_json(text, network, order, plan, {}),
-                 "--csv": lambda: wrong_csv(text, network, plan, {}),
-                 "--svg": lambda: wrong_svg(got, network, plan, {}),
-                 }.get("".join(option), lambda: wrong_chart(text, network, plan, {}, WIDTH, bool(option)))()
+                 "--csv": lambda: wrong_csv(text, network, order, plan, {}),
+                 "--svg": lambda: wrong_svg(got, network, order, plan, {}, len(option) == 2),
+                 }.get("".join(option[:1]), lambda: wrong_chart(text, network, plan, {}, WIDTH, bool(option)))()
         if wrong is not None:
             raise Differs(f"show {option}: {wrong}", ["show", 0, 1, 2, *option], texts)
 

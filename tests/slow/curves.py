@@ -5,11 +5,13 @@ import re
 
 from shared import Run, difference
 from slow.orders import cost_of
+from slow.drawing import LEFT, RIGHT
 from slow.pictures import elements, lines_drawn, round_numbers
 
-# The least width and height of what a picture shows, and how far the base of a number is below its middle.
+# The least height of what a picture shows, how far the base of a number is below its middle, and how much room a cost has.
 LEAST_FRAME = 100
 HALF_DIGIT = 4
+LABEL_WIDTH, LABEL_HEIGHT = 48, 14
 
 
 def with_deadline(text, deadline):
@@ -48,39 +50,51 @@ def curve_of(plan_by, order_text):
 def wrong_drawing(picture, steps, last):
     """What is wrong with the picture of these steps, each a deadline and a cost, or nothing.
 
-    The grid shows the frame. Deadlines go from that of the first step, at the left, to that of the order, at the right; costs
-    from 0, at the base, to the greatest, at the top; both in one scale, rounded down. Each step is a point with a tooltip, and
-    the points are the corners of a stair. Axes have round numbers."""
-    grid = elements(picture, "path", fill=None)
+    Deadlines go from that of the first step to that of the order, as `show` draws times; costs from 0, at the base, to the
+    greatest, at the top; both in one scale, rounded down. Each step is a point with a tooltip, and the points are the corners of
+    a stair, which goes on behind the last deadline. Axes have round numbers."""
+    grid = elements(picture, "path", **{"class": "line"})
     level, upright = lines_drawn(grid, "H"), lines_drawn(grid, "V")
-    frames = {(left, right, top, base) for left, _, right in level for _, top, base in upright}
-    left, right, top, base = next(iter(frames), (0, 0, 0, 0))
-    if len(frames) != 1 or len(grid) != len(level) + len(upright) or min(right - left, base - top) < LEAST_FRAME:
-        return f"frames: {frames}"
+    dots = elements(picture, "circle")
     first, most = steps[0][0], max(cost for _, cost in steps)
+    base, end = max(y for _, y, _ in level), max(right for _, _, right in level)
+    top = min(int(it.get("cy")) for it in dots) if most else min(y for _, y, _ in level)
+    if end <= RIGHT or base - top < LEAST_FRAME:
+        return f"frame: {top} {base} {end}"
 
     def across(deadline):
-        return left + (deadline - first) * (right - left) // max(1, last - first)
+        return LEFT + (deadline - first) * (RIGHT - LEFT) // max(1, last - first)
 
     def down(cost):
         return base - cost * (base - top) // max(1, most)
 
     points = [(across(deadline), down(cost)) for deadline, cost in steps]
-    stair = "H".join(f"{x}V{y}" for x, y in points).replace("V", " ", 1)
+    stair = "".join(f"H{x}V{y}" for x, y in points)
     deadlines, costs = round_numbers(first, last), round_numbers(0, max(1, most))
-    drawn_deadlines = [it for it in elements(picture, "text", text_anchor="middle") if it.text != "deadline"]
-    drawn_costs = [it for it in elements(picture, "text", text_anchor="end") if it.text != "cost"]
-    dots = elements(picture, "circle")
+    drawn_costs = [it for it in elements(picture, "text", **{"class": "end"}) if it.text not in ["cost", "deadline"]]
+    labels = [it.text for kind in [None, "cost"] for it in elements(picture, "text", **{"class": kind})]
     compared = [
         ("points", points, [(int(it.get("cx")), int(it.get("cy"))) for it in dots]),
-        ("tooltips", [[f"deadline {deadline}: {cost}"] for deadline, cost in steps],
+        ("tooltips", [[f"from {deadline}: {cost}"] for deadline, cost in steps],
          [[title.text for title in elements(it, "title")] for it in dots]),
-        ("stair", [f"M{stair}H{right}"], [it.get("d") for it in elements(picture, "path", fill="none")]),
-        ("deadlines", [(str(it), across(it)) for it in deadlines], [(it.text, int(it.get("x"))) for it in drawn_deadlines]),
+        ("stair", [f"M{LEFT} {base}{stair}H{end}V{base}Z"], [it.get("d") for it in elements(picture, "path", **{"class": "used"})]),
+        ("deadlines", [(str(it), across(it)) for it in deadlines],
+         [(it.text, int(it.get("x"))) for it in elements(picture, "text", **{"class": "mark"})]),
         ("lines at deadlines", [across(it) for it in deadlines], [x for x, _, _ in upright]),
         ("costs", [(str(it), down(it) + HALF_DIGIT) for it in costs], [(it.text, int(it.get("y"))) for it in drawn_costs]),
-        ("lines at costs", [down(it) for it in costs], [y for _, y, _ in level])]
+        ("lines at costs", [down(it) for it in costs], [y for _, y, _ in level]),
+        ("costs of points", [str(cost) for _, cost in labelled(steps, points)], labels)]
     return next((f"{name}: wanted {wanted}\n  drawn {drawn}" for name, wanted, drawn in compared if wanted != drawn), None)
+
+
+def labelled(steps, points):
+    """The steps whose costs are written, from the left to the right: not those that would stand on the one before."""
+    kept, last = [], None
+    for step, (x, y) in zip(steps, points):
+        if last is None or x >= last[0] + LABEL_WIDTH or y >= last[1] + LABEL_HEIGHT:
+            kept.append(step)
+            last = x, y
+    return kept
 
 
 def step_of(line):

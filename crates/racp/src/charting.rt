@@ -9,9 +9,15 @@ use crate::telling::{Manner, tell};
 use racp_cli::{Look, StreamFault, show_over};
 use racp_explain::{Input as Text, shown_cause};
 use racp_words::PlanFiles;
-use std::io;
 use std::io::Read;
-use std::rt::Files;
+use std::rt::{Env, Files};
+use std::{env, io};
+
+/// The variable of the environment that says how wide the terminal is.
+const VARIABLE: &str = "COLUMNS";
+
+/// How many columns a line has if nothing says so.
+const DEFAULT_WIDTH: usize = 80;
 
 /// Which plan is shown, and how.
 #[derive(Drop)]
@@ -26,8 +32,19 @@ struct Showing<'a> {
     manner: Manner,
 }
 
+/// How many columns a line has at most: as an option says, or else the variable of the terminal's width, or 80.
+fn width_of<R: Env + AllocGlobal>(rt: &R, asked: Option<u64>) -> usize {
+    match asked {
+        Some(width) => width as usize,
+        None => match env::var(rt, VARIABLE) {
+            Ok(text) => text.parse().unwrap_or(DEFAULT_WIDTH),
+            Err(_) => DEFAULT_WIDTH,
+        },
+    }
+}
+
 /// Writes a picture of the plan in these files.
-pub(crate) fn show<'a, R: Files + Print + Eprint + AllocGlobal>(
+pub(crate) fn show<'a, R: Env + Files + Print + Eprint + AllocGlobal>(
     rt: &R,
     files: PlanFiles<'a>,
     look: racp_words::Look<'a>,
@@ -39,8 +56,9 @@ pub(crate) fn show<'a, R: Files + Print + Eprint + AllocGlobal>(
         files,
         names: look.names.unwrap_or(""),
         look: Look {
-            width: look.width as usize,
+            width: width_of(rt, look.width),
             form: look.form,
+            has_links: look.has_links,
         },
         manner,
     };

@@ -41,6 +41,9 @@ pub(crate) enum OptionFault {
     /// There are words for an order, and no prices.
     #[error("an order has to have --prices, and one of --factor and --deadline")]
     NoPrices,
+    /// A table has release or due times, and there are no words for an order.
+    #[error("a table with a column 'earliest' or 'due' makes an order too, which has to have --prices, and one of --factor and --deadline")]
+    Times,
     /// Prices by name name another thing than each resource once.
     #[error("--prices has to name each resource once, as in Masons=9,Cranes=30, or none")]
     PriceNames,

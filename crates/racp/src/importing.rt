@@ -7,11 +7,14 @@ use crate::failure::{Failure, OptionFault};
 use crate::files::{Output, write_files};
 use crate::inputs::{opened, shown, whole};
 use crate::pricing::order_of;
+use crate::terms::Times;
 use racp_cli::{DONE, StreamFault};
 use racp_model::NetFault;
 use racp_tables::{Format, Table, TableFault, names_text, network_text, read_table};
 use racp_words::TableWords;
 use std::alloc::{AllocError, Global};
+use std::io;
+use std::io::Write;
 use std::rt::Files;
 
 /// The texts of a table's network, names and perhaps order.
@@ -61,6 +64,8 @@ fn texts_of(
         resources,
         jobs,
         pairs,
+        earliest,
+        due,
     } = match read_table(alloc, bytes, format) {
         Ok(table) => table,
         Err(fault) => return Err(table_failure(alloc, words.file, fault)),
@@ -70,7 +75,11 @@ fn texts_of(
         Ok(network) => network,
         Err(fault) => return Err(network_failure(alloc, words.file, fault)),
     };
-    let order = order_of(alloc, words, network.as_bytes(), &resources)?;
+    let times = Times {
+        release: earliest,
+        due,
+    };
+    let order = order_of(alloc, words, network.as_bytes(), &resources, times)?;
     Ok(Texts {
         names: names_text(alloc, &names, &resources)?,
         network,
@@ -89,9 +98,26 @@ fn table_failure(alloc: Global, path: &str, fault: TableFault) -> Failure {
         TableFault::Memory => return Failure::Stream(StreamFault::Memory),
     };
     match words {
+        Ok(words) => refused(alloc, words.as_str()),
+        Err(_) => Failure::Stream(StreamFault::Memory),
+    }
+}
+
+/// The failure that is told so, in one line: a cell may have line feeds.
+fn refused(alloc: Global, words: &str) -> Failure {
+    match in_one_line(alloc, words) {
         Ok(words) => Failure::Refused(words),
         Err(_) => Failure::Stream(StreamFault::Memory),
     }
+}
+
+/// A text with blanks in place of its line feeds.
+fn in_one_line(alloc: Global, words: &str) -> Result<String, AllocError> {
+    let mut line = String::new(alloc);
+    for letter in words.chars() {
+        line.push(if letter == '\n' { ' ' } else { letter })?;
+    }
+    Ok(line)
 }
 
 /// The failure of a table with this path that is no network.
@@ -114,7 +140,7 @@ fn write_texts<R: Files + Print + AllocGlobal>(
     let told = told_of(rt.alloc(), out, &texts)?;
     let outputs = outputs_of(rt.alloc(), out, texts)?;
     write_files(rt, &outputs)?;
-    match rt.print(&told) {
+    match io::writer(rt).write_all(told.as_bytes()) {
         Ok(()) => Ok(()),
         Err(_) => Err(Failure::Stream(StreamFault::Write)),
     }

@@ -3,21 +3,23 @@
 use crate::failure::{Failure, OptionFault};
 use crate::inputs::text;
 use crate::ordering::numbers_of;
-use crate::terms::asked_order;
-use racp_cli::{Asked, DONE, order_over};
+use crate::terms::{Times, asked_order};
+use racp_cli::{Asked, DONE, REFUSED, StreamFault, order_over};
 use racp_explain::{asked_cause, one_line};
 use racp_words::{TableWords, Terms};
 use std::alloc::Global;
 
-/// The text of the order that the words ask for, for the text of a network with these resources, if they ask for one.
+/// The text of the order that the words ask for, for the text of a network with these resources, and with these times, if
+/// they ask for one.
 pub(crate) fn order_of(
     alloc: Global,
     words: &TableWords<'_>,
     network: &[u8],
     resources: &[String],
+    times: Times,
 ) -> Result<Option<Vec<u8>>, Failure> {
     let Some(prices) = words.prices else {
-        return no_order(words);
+        return no_order(words, &times);
     };
     let prices = prices_of(alloc, prices, resources)?;
     let terms = Terms {
@@ -27,15 +29,18 @@ pub(crate) fn order_of(
         owned: words.owned,
         ceiling: words.ceiling,
     };
-    let asked = asked_order(alloc, &terms)?;
+    let asked = asked_order(alloc, &terms, times)?;
     Ok(Some(order_text(alloc, words.file, network, asked)?))
 }
 
-/// No order, if the words for a table ask for none, which has no prices.
-fn no_order(words: &TableWords<'_>) -> Result<Option<Vec<u8>>, Failure> {
+/// No order, if the words for a table ask for none, which has no prices, and the table says nothing that stands in one.
+fn no_order(words: &TableWords<'_>, times: &Times) -> Result<Option<Vec<u8>>, Failure> {
     let is_timed = words.factor.is_some() || words.deadline.is_some();
     if is_timed || words.owned.is_some() || words.ceiling.is_some() {
         return Err(Failure::Option(OptionFault::NoPrices));
+    }
+    if times.are_said() {
+        return Err(Failure::Option(OptionFault::Times));
     }
     Ok(None)
 }
@@ -44,12 +49,30 @@ fn no_order(words: &TableWords<'_>) -> Result<Option<Vec<u8>>, Failure> {
 fn order_text(alloc: Global, path: &str, network: &[u8], asked: Asked) -> Result<Vec<u8>, Failure> {
     let numbers = numbers_of(&asked);
     let mut order = Vec::new(alloc);
-    let mut rest = network;
-    if order_over(alloc, &mut rest, asked, &mut order)? == DONE {
-        return Ok(order);
+    match order_written(alloc, network, asked, &mut order)? {
+        DONE => Ok(order),
+        REFUSED => {
+            let cause = asked_cause(alloc, &text(path, network), numbers, true)?;
+            Err(Failure::Refused(one_line(alloc, &cause)?))
+        }
+        // The network is read, so memory ran out.
+        _ => Err(Failure::Stream(StreamFault::Memory)),
     }
-    let cause = asked_cause(alloc, &text(path, network), numbers, true)?;
-    Err(Failure::Refused(one_line(alloc, &cause)?))
+}
+
+/// Writes the order that is asked for, for the text of a network, and tells with which status. A text in memory takes what is
+/// written, unless that is refused.
+fn order_written(
+    alloc: Global,
+    network: &[u8],
+    asked: Asked,
+    order: &mut Vec<u8>,
+) -> Result<u8, StreamFault> {
+    let mut rest = network;
+    match order_over(alloc, &mut rest, asked, order) {
+        Err(StreamFault::Write) => Err(StreamFault::Memory),
+        status => status,
+    }
 }
 
 /// The prices between commas, of a word that has them so, or that names the resource of each.

@@ -7,7 +7,7 @@ use crate::failure::Failure;
 use crate::inputs::{opened, text, whole};
 use crate::telling::{Manner, tell};
 use racp_cli::{StreamFault, report_over};
-use racp_explain::{Input as Text, shown_cause};
+use racp_explain::{curve_cause, shown_cause};
 use racp_words::{PlanFiles, ReportWords};
 use std::alloc::{AllocError, Global};
 use std::io;
@@ -121,26 +121,4 @@ fn cause(alloc: Global, paths: &Paths<'_>, inputs: &Inputs) -> Result<String, Al
         }
         _ => Ok(cause),
     }
-}
-
-/// What is wrong with the text of a curve that is refused.
-fn curve_cause(alloc: Global, curve: &Text<'_>) -> Result<String, AllocError> {
-    let name = curve.name;
-    let (fault, says, there) = match std::str::from_utf8(curve.bytes) {
-        Ok(_) => (
-            "2 NoSteps",
-            "no line tells what a deadline costs",
-            "no such line",
-        ),
-        Err(_) => (
-            "1 NotUtf8",
-            "the curve is not UTF-8",
-            "bytes that are not UTF-8",
-        ),
-    };
-    format!(in alloc;
-        "racp: {name}: curve {fault}: {says}\n\
-         racp: wanted: lines that begin with deadline, as racp curve prints them\n\
-         racp: there:  {there}\n"
-    )
 }

@@ -6,17 +6,48 @@ use racp_prices::{Factor, numbers_of};
 use racp_words::Terms;
 use std::alloc::Global;
 
-/// What an order is to say, by the words for its terms.
-pub(crate) fn asked_order(alloc: Global, terms: &Terms<'_>) -> Result<Asked, Failure> {
+/// The times from which and by which jobs run, by place from 0, as far as they are said.
+#[derive(Drop)]
+pub(crate) struct Times {
+    /// The time from which each job may start.
+    pub(crate) release: Option<Vec<u32>>,
+    /// The time by which each job has to end.
+    pub(crate) due: Option<Vec<u32>>,
+}
+
+impl Times {
+    /// None are said.
+    pub(crate) fn none() -> Times {
+        Times {
+            release: None,
+            due: None,
+        }
+    }
+
+    /// Whether some are said.
+    pub(crate) fn are_said(&self) -> bool {
+        self.release.is_some() || self.due.is_some()
+    }
+}
+
+/// What an order is to say, by the words for its terms, and with these times.
+pub(crate) fn asked_order(
+    alloc: Global,
+    terms: &Terms<'_>,
+    times: Times,
+) -> Result<Asked, Failure> {
     let time = time_of(terms.factor, terms.deadline)?;
     let prices = listed(alloc, terms.prices)?;
     let owned = optional_list(alloc, terms.owned)?;
     let ceilings = optional_list(alloc, terms.ceiling)?;
+    let Times { release, due } = times;
     Ok(Asked {
         time,
         prices,
         owned,
         ceilings,
+        release,
+        due,
     })
 }
 

@@ -11,7 +11,7 @@ use crate::making::Making;
 use crate::ordering::order;
 use crate::reporting::report;
 use crate::telling::Manner;
-use crate::terms::asked_order;
+use crate::terms::{Times, asked_order};
 use racp_cli::{DONE, StreamFault};
 use racp_explain::{explanation, subject_list};
 use racp_words::Tool;
@@ -40,7 +40,10 @@ pub(crate) fn tool<R: Clock + Env + Files + Print + Eprint + AllocGlobal + Threa
             };
             curve(rt, files, costing)
         }
-        Tool::Order(net, terms) => order(rt, net, asked_order(rt.alloc(), &terms)?, manner),
+        Tool::Order(net, terms) => {
+            let asked = asked_order(rt.alloc(), &terms, Times::none())?;
+            order(rt, net, asked, manner)
+        }
         Tool::Import(words) => import(rt, &words),
         Tool::Explain(format, fault) => explain(rt, format, fault),
     }

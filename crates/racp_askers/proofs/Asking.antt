@@ -16,7 +16,7 @@ use Rattle.racp_core.specs.declared.replies.Outcome.{Outcome}
 use Rattle.racp_core.specs.declared.replies.Outcome.TheVariants.{First as FirstOutcome, NoYes, Open}
 use Rattle.racp_desk.specs.declared.log.Cause.{Cause}
 use Rattle.racp_desk.specs.declared.log.Entry.{Entry}
-use Rattle.racp_desk.specs.declared.state.Closed.{Closed}
+use Rattle.racp_desk.specs.declared.closed.Closed.{Closed}
 use Rattle.racp_desk.specs.Log.{tally}
 use Rattle.racp_desk.specs.Closing.{IsRunClosed, IsOpenFor, IsEnding}
 use Rattle.racp_desk.proofs.lemmas.Legal.{HasCause, IsWithin, legal_within}

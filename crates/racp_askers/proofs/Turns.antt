@@ -3,7 +3,7 @@ use Rattle.std.proofs.Common.{◌≡◌, ℕ, ◌+◌, Bool, List, ◌∷◌, re
 use Rattle.std.proofs.Math.Logic.{∥∥₁_map}
 use Rattle.racp_model.specs.Project.{Project}
 use Rattle.racp_model.specs.declared.question.Question.{Question}
-use Rattle.racp_desk.specs.declared.state.Closed.{Closed}
+use Rattle.racp_desk.specs.declared.closed.Closed.{Closed}
 use Rattle.racp_desk.specs.Closing.{IsRunClosed}
 use Rattle.racp_askers.specs.Crowds.{TookIn, HaveTaken}
 

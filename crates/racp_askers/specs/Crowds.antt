@@ -17,8 +17,8 @@ use Rattle.racp_desk.specs.declared.limits.RunLimits.{RunLimits}
 use Rattle.racp_desk.specs.declared.log.Cause.TheVariants.{Stop}
 use Rattle.racp_desk.specs.declared.log.Entry.{Entry}
 use Rattle.racp_desk.specs.declared.log.Entry.TheVariants.{Halted}
-use Rattle.racp_desk.specs.declared.running.DeskFault.{DeskFault}
-use Rattle.racp_desk.specs.declared.state.Closed.{Closed}
+use Rattle.racp_desk.specs.declared.fault.DeskFault.{DeskFault}
+use Rattle.racp_desk.specs.declared.closed.Closed.{Closed}
 use Rattle.racp_desk.specs.Closing.{IsRunClosed}
 
 -- a call runs desks about a project, with such a stop: it may be called with each series of questions of the project's

@@ -10,8 +10,8 @@ use Rattle.racp_lexfix.specs.declared.answer.Answer.{Answer}
 use Rattle.racp_curve.specs.Curves.{first_deadline, AreSteps, AreNotAfterEnough, IsCurve}
 use Rattle.racp_curve.specs.Texts.{curve_text, step_lines}
 use Rattle.racp_curve.specs.declared.step.Step.{Step}
-use Rattle.racp_show.specs.CostPictures.{cost_picture}
-use Rattle.racp_show.specs.declared.costs.Corner.{Corner}
+use Rattle.racp_charts.specs.Pictures.{IsCostPicture}
+use Rattle.racp_charts.specs.declared.costs.Corner.{Corner}
 use Rattle.racp_cli.specs.Texts.{stopped_line}
 use Rattle.racp_cli.specs.Crowds.{IsNoThreadLine}
 use Rattle.racp_cli.specs.Plans.{IsNetworkLine, IsOrderLine, IsMemoryLine}
@@ -22,10 +22,10 @@ use Rattle.racp_cli.specs.declared.fault.StreamFault.{StreamFault}
 abbrev pub corner_of : Step → Corner
 corner_of step = record { deadline = step.deadline; cost = step.cost }
 
--- the lines of a curve, or the picture of a corner for each step, up to a last deadline
+-- the lines of a curve, or a picture of a corner for each step, up to a last deadline
 abbrev pub IsCurveText : Bool → ℕ → List Step → List ℕ → Type 0
 IsCurveText false last steps text = text ≡ curve_text steps
-IsCurveText true last steps text = text ≡ cost_picture (map corner_of steps) last
+IsCurveText true last steps text = IsCostPicture (map corner_of steps) last text
 
 -- the curve of an order, as lines or as a picture
 pub record IsTextOfCurve (is_drawn : Bool) (network : Project) (terms : Terms) (status : ℕ) (text : List ℕ) : Type 0 where

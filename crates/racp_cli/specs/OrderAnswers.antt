@@ -1,6 +1,7 @@
 -- What `order` answers to the text of a network: an order that says what is asked for.
-use Rattle.std.specs.Prelude.{◌≡◌, ◌⊎◌, ℕ, List, [], ◌∷◌, length, Option, Some, None, Result, Ok, Err, option_map}
+use Rattle.std.specs.Prelude.{◌≡◌, ◌≤◌, ◌⊎◌, ℕ, List, [], ◌∷◌, All, length, replicate, slice_index, Option, Some, None, Result, Ok, Err, option_map}
 use Rattle.racp_model.specs.Project.{Project}
+use Rattle.racp_model.specs.Limits.{latest_time, most_bound}
 use Rattle.racp_model.specs.Path.{IsCriticalLength}
 use Rattle.racp_model.specs.Terms.{Terms}
 use Rattle.racp_sm.specs.Reading.{IsReading}
@@ -17,11 +18,27 @@ use Rattle.racp_cli.specs.declared.order.Asked.{Asked}
 use Rattle.racp_cli.specs.declared.order.Time.{Time}
 use Rattle.racp_cli.specs.declared.order.Time.TheVariants.{Deadline, Factor}
 
--- the deadline that is asked for: it itself, or this many times the critical length if a deadline may be as late
-abbrev pub IsAskedDeadline : Project → Time → Option ℕ → Type 0
-IsAskedDeadline network (Deadline time) found = found ≡ Some time
-IsAskedDeadline network (Factor factor) found =
-    (critical : ℕ) × IsCriticalLength network (λ _. 0) critical × (found ≡ deadline_by factor critical)
+-- there is a time for each job, and none is later than a time may be
+abbrev pub AreTimesFor : Project → List ℕ → Type 0
+AreTimesFor network times = (length times ≡ length network.jobs) × All (λ time. time ≤ latest_time) times
+
+-- there is a lower bound for each job
+abbrev pub AreBounds : Project → List ℕ → Type 0
+AreBounds network times = (length times ≡ length network.jobs) × All (λ time. time ≤ most_bound) times
+
+-- the time from which each job may start: those that are asked for, if they are times for the jobs, and else 0
+abbrev pub IsReleaseAsked : Project → Option (List ℕ) → List ℕ → Type 0
+IsReleaseAsked network None release = release ≡ replicate (length network.jobs) 0
+IsReleaseAsked network (Some times) release = (AreTimesFor network times × (release ≡ times)) ⊎
+    ((AreTimesFor network times → ⊥) × (release ≡ replicate (length network.jobs) 0))
+
+-- the deadline that is asked for, with these release times if they are: it itself, or this many times the critical length
+-- from the release times on, if a deadline may be as late
+abbrev pub IsAskedDeadline : Project → Time → Option (List ℕ) → Option ℕ → Type 0
+IsAskedDeadline network (Deadline time) wanted found = found ≡ Some time
+IsAskedDeadline network (Factor factor) wanted found = (release : List ℕ) × (critical : ℕ) ×
+    IsReleaseAsked network wanted release × IsCriticalLength network (slice_index release) critical ×
+    (found ≡ deadline_by factor critical)
 
 -- what an order with this deadline is to say
 abbrev pub wish_of : Asked → ℕ → Wish
@@ -30,6 +47,8 @@ wish_of asked deadline = record {
   prices = asked.prices.items;
   owned = option_map (λ o. o.items) asked.owned;
   ceilings = option_map (λ c. c.items) asked.ceilings;
+  release = option_map (λ r. r.items) asked.release;
+  due = option_map (λ d. d.items) asked.due;
 }
 
 -- the text itself if it is read as an order, else how it is refused
@@ -53,7 +72,8 @@ IsOrderBy asked network None status text = (status ≡ 5) × (text ≡ order_ref
 -- what is right for a network
 abbrev pub IsOrderFor : Asked → Project → ℕ → List ℕ → Type 0
 IsOrderFor asked network status text =
-    (deadline : Option ℕ) × IsAskedDeadline network asked.time deadline × IsOrderBy asked network deadline status text
+    (deadline : Option ℕ) × IsAskedDeadline network asked.time (option_map (λ r. r.items) asked.release) deadline ×
+    IsOrderBy asked network deadline status text
 
 -- what is right for the text of a network; memory may run out at any text
 abbrev pub IsOrderAnswer : Asked → List ℕ → ℕ → List ℕ → Type 0

@@ -1,38 +1,50 @@
 -- What `show` answers to the texts of a network, an order, a plan and names.
-use Rattle.std.specs.Prelude.{◌≡◌, ◌⊎◌, ◌+◌, ℕ, List, [], ◌∷◌, ⊤, IsUtf8, Option, Result, Ok, Err, codes, false, length, true}
+use Rattle.std.specs.Prelude.{◌≡◌, ◌⊎◌, ◌+◌, ℕ, Bool, List, [], ◌∷◌, ⊤, IsUtf8, Option, Result, Ok, Err, codes, false, length, true}
 use Rattle.racp_model.specs.Project.{Project}
 use Rattle.racp_model.specs.Terms.{Terms}
 use Rattle.racp_plan.specs.declared.plan.Plan.{Plan}
 use Rattle.racp_plan.specs.Texts.{line}
 use Rattle.racp_check.specs.PlanFaults.{IsChecked}
 use Rattle.racp_show.specs.Called.{are_names_for, names_of}
-use Rattle.racp_show.specs.PlanPictures.{picture}
+use Rattle.racp_charts.specs.Pictures.{IsPlanPicture}
+use Rattle.racp_charts.specs.Choices.{IsDrawing}
+use Rattle.racp_charts.specs.declared.drawing.Drawing.{Drawing}
 use Rattle.racp_show.specs.Sheets.{IsSheet}
 use Rattle.racp_show.specs.Tables.{table_text}
+use Rattle.racp_show.specs.declared.sheet.Sheet.{Sheet}
 use Rattle.racp_cli.specs.Checks.{AreRead, HasRightHead, IsCheck, check_status, check_text}
 use Rattle.racp_cli.specs.Streams.{Reader, IsRun, ToFour}
 use Rattle.racp_cli.specs.declared.check_fault.CheckFault.{CheckFault}
 use Rattle.racp_cli.specs.declared.fault.StreamFault.{StreamFault}
-use Rattle.racp_show.specs.declared.sheet.Sheet.{Sheet}
 use Rattle.racp_show.specs.declared.form.Form.{Form}
 use Rattle.racp_show.specs.declared.form.Form.TheVariants.{Text, Ascii, Svg, Json, Csv}
 use Rattle.racp_cli.specs.declared.show.Look.{Look}
 
--- the picture of a plan's sheet
-pub record IsSheetPicture (network : Project) (terms : Terms) (plan : Plan) (names : List (List ℕ))
+-- a picture of what is drawn of a plan
+pub record IsDrawn (has_links : Bool) (network : Project) (terms : Terms) (plan : Plan) (names : List (List ℕ))
+    (text : List ℕ) : Type 0 where
+  pub drawing : Drawing
+  pub right : IsDrawing network terms plan names drawing
+  pub drawn : IsPlanPicture has_links drawing text
+
+-- the table of a plan's sheet
+pub record IsSheetTable (network : Project) (terms : Terms) (plan : Plan) (names : List (List ℕ))
     (text : List ℕ) : Type 0 where
   pub sheet : Sheet
   pub right : IsSheet network terms plan names sheet
-  pub drawn : text ≡ picture sheet
+  pub written : text ≡ table_text sheet
 
--- what is written of a plan: as SVG the picture of its sheet, as CSV its table; nothing is said here of the other forms, whose
+-- what is written of a plan: as SVG a picture, as CSV its table; nothing is said here of the other forms, whose
 -- values racp_show speaks of
-abbrev pub IsPicture : Form → Project → Terms → Plan → List (List ℕ) → List ℕ → Type 0
-IsPicture Text network terms plan names text = ⊤
-IsPicture Ascii network terms plan names text = ⊤
-IsPicture Svg network terms plan names text = IsSheetPicture network terms plan names text
-IsPicture Json network terms plan names text = ⊤
-IsPicture Csv network terms plan names text = text ≡ table_text network plan.starts names
+abbrev pub IsInForm : Form → Bool → Project → Terms → Plan → List (List ℕ) → List ℕ → Type 0
+IsInForm Text has_links network terms plan names text = ⊤
+IsInForm Ascii has_links network terms plan names text = ⊤
+IsInForm Svg has_links network terms plan names text = IsDrawn has_links network terms plan names text
+IsInForm Json has_links network terms plan names text = ⊤
+IsInForm Csv has_links network terms plan names text = IsSheetTable network terms plan names text
+
+abbrev pub IsPicture : Look → Project → Terms → Plan → List (List ℕ) → List ℕ → Type 0
+IsPicture look network terms plan names text = IsInForm look.form look.has_links network terms plan names text
 
 -- the line if names are not UTF-8
 abbrev pub names_line : List ℕ
@@ -46,7 +58,7 @@ count_line = line (codes "refused names 2 Count")
 abbrev pub IsCounted : Look → Project → Terms → Plan → List (List ℕ) → ℕ → List ℕ → Type 0
 IsCounted look network terms plan names status text =
     ((are_names_for names (length network.jobs + network.resources) ≡ true) × (status ≡ 0) ×
-    IsPicture look.form network terms plan names text) ⊎
+    IsPicture look network terms plan names text) ⊎
     ((are_names_for names (length network.jobs + network.resources) ≡ false) × (status ≡ 5) × (text ≡ count_line))
 
 -- the plan with these names, or that they are none

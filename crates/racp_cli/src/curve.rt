@@ -5,18 +5,18 @@ ghost use Rattle.racp_model.specs.Project.{Project};
 ghost use Rattle.racp_model.specs.Terms.{AreTermsOf};
 ghost use Rattle.racp_curve.specs.Curves.{IsCurveAnswer as IsAnswerOfCurve};
 ghost use Rattle.racp_cli.specs.CurveAnswers.{IsCurveAnswer, IsCurveRun, IsCurveText, IsToldCurve, corner_of};
-ghost use Rattle.racp_show.specs.CostPictures.{cost_picture};
+ghost use Rattle.racp_charts.specs.Pictures.{IsCostPicture};
 
 use crate::fault::StreamFault;
 use crate::respond::respond;
 use crate::status::{DONE, IMPOSSIBLE};
 use crate::streams::read_whole;
 use crate::texts::read_texts;
+use racp_charts::{Corner, costs_svg};
 use racp_curve::{CurveAnswer, Step, curve_alone, curve_text};
 use racp_lexfix::answer_lines;
 use racp_model::Network;
 use racp_prices::Order;
-use racp_show::{Corner, costs_svg};
 use std::alloc::{AllocError, Global};
 use std::io::{Read, Write};
 
@@ -119,7 +119,7 @@ fn text_of(alloc: Global, steps: &[Step], last: u32, is_drawn: bool) -> Result<V
 
 /// The picture of a curve up to a last deadline.
 fn picture(alloc: Global, steps: &[Step], last: u32) -> Result<Vec<u8>, AllocError>
-    ensures { IfOk result (λ text. text.items ≡ cost_picture (map corner_of steps.now) last) }
+    ensures { IfOk result (λ text. IsCostPicture (map corner_of steps.now) last text.items) }
 {
     let corners = corners_of(alloc, steps)?;
     let picture = costs_svg(alloc, &corners, last)?;
@@ -133,7 +133,7 @@ fn corners_of(alloc: Global, steps: &[Step]) -> Result<Vec<Corner>, AllocError>
     let mut corners = Vec::new(alloc);
     for step in steps {
         corners.push(Corner {
-            deadline: step.deadline,
+            deadline: step.deadline as u64,
             cost: step.cost,
         })?;
     }

@@ -3,17 +3,18 @@
 ghost use Rattle.std.specs.Prelude.{◌≡◌, IfOk, length};
 ghost use Rattle.racp_model.specs.Terms.{AreTermsOf};
 ghost use Rattle.racp_check.specs.PlanFaults.{IsFitting};
-ghost use Rattle.racp_cli.specs.ShowAnswers.{IsCounted, IsNamed, IsPicture, IsSheetPicture, IsShowAnswer, IsShowRun};
+ghost use Rattle.racp_cli.specs.ShowAnswers.{IsCounted, IsDrawn, IsNamed, IsPicture, IsSheetTable, IsShowAnswer, IsShowRun};
 
 use crate::check::{Checked, read_checked};
 use crate::fault::StreamFault;
 use crate::respond::respond;
 use crate::status::{DONE, REFUSED};
 use crate::streams::read_whole;
+use racp_charts::{drawing_of, plan_svg};
 use racp_model::Network;
 use racp_plan::Plan;
 use racp_prices::Order;
-use racp_show::{Form, Names, chart_text, csv_text, json_text, sheet_of, svg_text};
+use racp_show::{Form, Names, chart_text, csv_text, json_text, sheet_of};
 use std::alloc::{AllocError, Global};
 use std::io::{Read, Write};
 
@@ -24,6 +25,8 @@ pub struct Look {
     pub width: usize,
     /// What is written.
     pub form: Form,
+    /// Whether a picture has an arrow from each task to each that comes right after it.
+    pub has_links: bool,
 }
 
 /// Reads a network text, an order text, a plan text and names, all of each before the next, and writes to `out` the
@@ -128,20 +131,39 @@ fn picture(
     requires terms { AreTermsOf net.now order.now }
     requires capacities { length plan.now.capacities ≡ net.now.resources }
     requires fitting { IsFitting net.now order.now plan.now }
-    ensures { IfOk result (λ text. IsPicture look.form net.now order.now plan.now names.now text.items) }
+    ensures { IfOk result (λ text. IsPicture look net.now order.now plan.now names.now text.items) }
 {
     let text = match look.form {
         Form::Text => chart_text(alloc, net, order, plan, names, look.width, false)?,
         Form::Ascii => chart_text(alloc, net, order, plan, names, look.width, true)?,
-        Form::Svg => return sheet_picture(alloc, net, order, plan, names),
+        Form::Svg => return drawn(alloc, net, order, plan, names, look.has_links),
         Form::Json => json_text(alloc, &sheet_of(alloc, net, order, plan, names)?)?,
-        Form::Csv => return csv_text(alloc, net, order, plan, names),
+        Form::Csv => return sheet_table(alloc, net, order, plan, names),
     };
     Ok(text.into_bytes())
 }
 
 /// The picture of a plan.
-fn sheet_picture(
+fn drawn(
+    alloc: Global,
+    net: &Network,
+    order: &Order,
+    plan: &Plan,
+    names: &Names,
+    has_links: bool,
+) -> Result<Vec<u8>, AllocError>
+    requires terms { AreTermsOf net.now order.now }
+    requires capacities { length plan.now.capacities ≡ net.now.resources }
+    requires fitting { IsFitting net.now order.now plan.now }
+    ensures { IfOk result (λ text. IsDrawn has_links net.now order.now plan.now names.now text.items) }
+{
+    let drawing = drawing_of(alloc, net, order, plan, names)?;
+    let picture = plan_svg(alloc, &drawing, has_links)?;
+    Ok(picture.into_bytes())
+}
+
+/// The table of a plan.
+fn sheet_table(
     alloc: Global,
     net: &Network,
     order: &Order,
@@ -151,9 +173,8 @@ fn sheet_picture(
     requires terms { AreTermsOf net.now order.now }
     requires capacities { length plan.now.capacities ≡ net.now.resources }
     requires fitting { IsFitting net.now order.now plan.now }
-    ensures { IfOk result (λ text. IsSheetPicture net.now order.now plan.now names.now text.items) }
+    ensures { IfOk result (λ text. IsSheetTable net.now order.now plan.now names.now text.items) }
 {
     let sheet = sheet_of(alloc, net, order, plan, names)?;
-    let picture = svg_text(alloc, &sheet)?;
-    Ok(picture.into_bytes())
+    csv_text(alloc, &sheet)
 }

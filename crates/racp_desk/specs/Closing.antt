@@ -10,7 +10,7 @@ use Rattle.racp_core.specs.declared.replies.Outcome.TheVariants.{First, NoYes, O
 use Rattle.racp_desk.specs.declared.log.Cause.{Cause}
 use Rattle.racp_desk.specs.declared.log.Cause.TheVariants.{Stop, Turns}
 use Rattle.racp_desk.specs.Log.{Tally, tally, stands_before, IsLegal}
-use Rattle.racp_desk.specs.declared.state.Closed.{Closed}
+use Rattle.racp_desk.specs.declared.closed.Closed.{Closed}
 
 -- nothing of a question is open or out
 abbrev pub IsQuietAt : Tally → ℕ → Type 0

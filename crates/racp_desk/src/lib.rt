@@ -72,12 +72,19 @@
 #![tactic(auto)]
 
 mod book;
+mod closed;
+mod fault;
 mod gate;
 pub mod laws;
 mod limits;
 mod log;
+mod names;
+mod noted;
+mod reading;
 mod records;
 mod running;
+mod signatures;
+mod starting;
 mod state;
 mod stock;
 mod turn;
@@ -85,9 +92,12 @@ mod watch;
 mod worker;
 
 pub use book::{Book, Rules};
+pub use closed::Closed;
+pub use fault::DeskFault;
 pub use gate::{Gate, Open};
 pub use limits::RunLimits;
 pub use log::{Cause, Entry};
+pub use names::RunNames;
 pub use records::Records;
-pub use running::{DeskFault, run};
-pub use state::{Closed, RunNames, State};
+pub use signatures::run;
+pub use state::State;

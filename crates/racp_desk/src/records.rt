@@ -5,10 +5,10 @@ ghost use Rattle.racp_cutset.specs.Kept.{AreShares};
 ghost use Rattle.racp_model.specs.Formed.{AreFormed};
 ghost use Rattle.racp_desk.specs.Closing.{IsRunClosed};
 
+use crate::closed::Closed;
+use crate::fault::DeskFault;
 use crate::gate::Gate;
 use crate::limits::RunLimits;
-use crate::running::DeskFault;
-use crate::state::Closed;
 use crate::worker::RunSetup;
 use racp_cutset::{Board, Local, MemoryLimit};
 use racp_model::{Network, OfNetwork};

@@ -4,114 +4,33 @@ ghost use Rattle.std.specs.Prelude.{◌≡◌, ◌+◌, ◌<◌, ◌≤◌, leng
 ghost use Rattle.racp_model.specs.Formed.{AreFormed};
 ghost use Rattle.racp_desk.specs.Closing.{IsRunClosed, IsEnding};
 
+use crate::closed::Closed;
+use crate::fault::DeskFault;
 use crate::gate::Gate;
-use crate::limits::RunLimits;
 use crate::log::Cause;
-use crate::state::{Closed, RunNames, State};
+use crate::names::RunNames;
+use crate::starting::{Started, start};
+use crate::state::State;
 use crate::stock::Stock;
 use crate::watch::Hint;
-use crate::worker::{RunSetup, Shared, Worker, work};
-use racp_cutset::{Board, Local};
-use racp_model::{Network, OfNetwork};
+use crate::worker::{RunSetup, Shared};
+use racp_cutset::Local;
+use racp_model::OfNetwork;
 use racp_questions::Series;
 use racp_search::Stop;
-use std::alloc::{AllocError, Global};
+use std::alloc::AllocError;
 use std::marker::Brand;
 use std::mem::replace;
 use std::sync::ledger::{Blank, Share};
 use std::sync::{Condvar, Mutex, Wait};
 use std::thread;
-use std::thread::{JoinHandle, Scope, Threads};
-use thiserror::Error;
-
-/// Why a run gave no answer.
-#[derive(Debug, Drop, Error)]
-pub enum DeskFault {
-    /// Memory was refused.
-    #[error("out of memory")]
-    Memory,
-    /// A worker could not be started.
-    #[error("no thread could be started")]
-    NoThread,
-}
-
-/// Workers that were started, and what is left beside what they have.
-#[derive(Drop)]
-struct Started<N: OfNetwork, M: RunNames> {
-    handles: Vec<JoinHandle<Worker<N, M>>>,
-    stock: Stock<N, M>,
-}
+use std::thread::Threads;
 
 /// What all workers had, and whether one could not be started.
 #[derive(Drop)]
 struct Joined<N: OfNetwork, M: RunNames> {
     stock: Stock<N, M>,
     refused: bool,
-}
-
-/// Halts the desk, since a worker could not be started, and tells all that wait.
-fn refuse<'a, N: OfNetwork, M: RunNames, S: Series, G: Gate, P: Stop, R: Wait>(
-    rt: &R,
-    shared: &Shared<'a, N, M, S, G, P>,
-    mine: &mut Share<M>,
-)
-    requires { 0 < mine.old.parts }
-    ensures { mine.new.parts ≡ mine.old.parts }
-{
-    shared.desk.lock(rt).halt(Cause::Fault, mine);
-    shared.idle.notify_all();
-}
-
-/// Starts the workers but the first, each on a thread of its own, and does the work of the first on the calling thread.
-/// Where one cannot be started, the desk is halted, no further one is started, and the work that it would have done ends
-/// at once on the calling thread.
-///
-/// # Errors
-///
-/// Memory was refused.
-fn start<
-    's,
-    E,
-    N: OfNetwork + Send + Sync + 's,
-    M: RunNames + Send + Sync + 's,
-    S: Series + Send + 's,
-    G: Gate + Sync + 's,
-    P: Stop + Sync + 's,
-    R: Threads + Wait + Sync + 's,
->(
-    scope: &'s Scope<'s, E>,
-    rt: &'s R,
-    shared: &'s Shared<'s, N, M, S, G, P>,
-    all: Stock<N, M>,
-) -> Result<Started<N, M>, AllocError>
-    requires { all.share.parts ≡ shared.now.setup.limits.workers + 1 }
-    ensures { IfOk result (λ started.
-        started.stock.share.parts + length started.handles.items ≡ shared.now.setup.limits.workers + 1) }
-{
-    let RunSetup {
-        alloc,
-        board,
-        limits,
-        ..
-    } = &shared.setup;
-    let workers = limits.workers;
-    let mut stock = all;
-    let mut handles = Vec::with_capacity(*alloc, workers)?;
-    for seat in 1..workers {
-        let worker = stock.hire(*alloc, board, seat);
-        let job = move || -> Worker<N, M> { work(rt, shared, worker) };
-        match scope.spawn(job) {
-            Ok(handle) => handles.push_reserved(handle),
-            Err(error) => {
-                refuse(rt, shared, &mut stock.share);
-                stock.take_back((error.value)());
-                break;
-            }
-        }
-    }
-    let worker = stock.hire(*alloc, board, 0);
-    stock.take_back(work(rt, shared, worker));
-    Ok(Started { handles, stock })
 }
 
 /// Joins those of so many workers that were started.
@@ -261,56 +180,4 @@ impl<N: OfNetwork + Send + Sync, G: Gate + Sync, P: Stop + Sync> RunSetup<'_, N,
         *locals = stock.locals;
         end(shared.desk.into_inner(), stock.share, refused)
     }
-}
-
-/// Lets so many workers, 1 to 64, answer a series of questions about a network: the first yes, or that there is none, or,
-/// where they were stopped or no turn is left, before which question each is a no. A turn is a piece that is taken, at most
-/// 1,000,000,000,000; a piece is searched over at most `quantum` nodes, 1 to 1,000,000.
-///
-/// # Errors
-///
-/// Memory was refused, or a worker could not be started, and the answer is not known.
-pub fn run<
-    N: OfNetwork + Send + Sync,
-    S: Series + Send,
-    G: Gate + Sync,
-    P: Stop + Sync,
-    R: Threads + Wait + Sync,
->(
-    rt: &R,
-    alloc: Global,
-    net: &Network,
-    series: S,
-    workers: usize,
-    quantum: u64,
-    turns: u64,
-    board: &Board<N>,
-    gate: &G,
-    stop: &P,
-) -> Result<Closed, DeskFault>
-    requires named { net.now ≡ N.network }
-    requires formed { AreFormed net.now (S.questions series) }
-    requires some_workers { 1 ≤ workers }
-    requires workers { workers ≤ 64 }
-    requires some_nodes { 1 ≤ quantum }
-    requires quantum { quantum ≤ 1000000 }
-    requires turns { turns ≤ 1000000000000 }
-    ensures { IfOk result (IsRunClosed net.now (S.questions series) turns P.QUIET) }
-{
-    let setup = RunSetup {
-        alloc,
-        net,
-        limits: RunLimits {
-            workers,
-            quantum,
-            turns,
-        },
-        board,
-        gate,
-        stop,
-    };
-    let mut locals = Vec::new(alloc);
-    let closed = setup.run(rt, series, &mut locals);
-    drop(locals);
-    closed
 }

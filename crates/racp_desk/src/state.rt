@@ -1,8 +1,8 @@
 //! What lies under the lock: the collector, the log of what happened to it, and how many entries all shares count.
 
-ghost use Rattle.std.specs.Prelude.{◌≡◌, ◌↔◌, ◌+◌, ◌<◌, ◌≤◌, ◌++◌, [], None, is_some, length, IsTrue, IfOk, IfErr};
+ghost use Rattle.std.specs.Prelude.{◌≡◌, ◌+◌, ◌<◌, ◌≤◌, ◌++◌, [], None, length, IfOk, IfErr};
 ghost use Rattle.racp_model.specs.Formed.{AreFormed};
-ghost use Rattle.racp_core.specs.Machine.{fresh, undecided_count, IsAsking, IsSettled};
+ghost use Rattle.racp_core.specs.Machine.{fresh};
 ghost use Rattle.racp_core.specs.Replies.{IsOutcome, IsFormedReply, reached_by};
 ghost use Rattle.racp_core.specs.Runs.{Step, Ask, Take, Hand, GiveBack, Halt};
 ghost use Rattle.racp_core.specs.Steps.{listed};
@@ -14,41 +14,29 @@ ghost use Rattle.racp_desk.specs.Desk.{
   handed_entries,
   given_back_entries,
   halted_entries,
-  windows_left,
 };
 ghost use Rattle.racp_desk.specs.Closing.{IsClosed};
 
-use crate::book::{Book, Rules};
-use crate::log::{Cause, Entry};
-use racp_core::{Asked, Core, Merged, Outcome, Reply};
-use racp_model::{Capacities, Network, OfNetwork};
+use crate::book::Book;
+use crate::closed::Closed;
+use crate::log::Cause;
+use crate::names::RunNames;
+use crate::noted::{is_found, windows_left};
+use racp_core::{Asked, Core, Merged, Reply};
+use racp_model::{Network, OfNetwork};
 use racp_questions::Series;
-use racp_search::{Finding, Piece, Rest};
+use racp_search::{Finding, Piece};
 use std::alloc::{AllocError, Global};
-use std::marker::{Brand, Model, PhantomData};
+use std::marker::{Model, PhantomData};
 use std::sync::ledger;
-use std::sync::ledger::{Ledger, Share};
-
-/// What a desk is about: the turns, whether the stop is quiet, a ledger, and the questions. Each run picks it.
-pub trait RunNames: Rules + Ledger {
-    ghost use Rattle.std.specs.Prelude.{List};
-    ghost use Rattle.racp_model.specs.declared.question.Question.{Question};
-
-    ghost series: { List Question };
-}
-
-impl RunNames for Brand {
-    ghost use Rattle.std.specs.Prelude.{[]};
-
-    ghost series = { [] };
-}
+use std::sync::ledger::Share;
 
 /// A collector of the questions that `M` names, about the network that `N` names, with the log of what happened to it
 /// and the total of a ledger: how many entries all shares count. Contracts see a `Desk`.
 #[derive(Drop)]
 pub struct State<N: OfNetwork, M: RunNames, S: Series> {
-    book: Book<M>,
-    core: Core<N, S>,
+    pub(crate) book: Book<M>,
+    pub(crate) core: Core<N, S>,
     total: ledger::Book<M>,
 }
 
@@ -62,22 +50,6 @@ impl<N: OfNetwork, M: RunNames, S: Series> Model for State<N, M, S> {
 
     ghost invariant = { λ s.
         (length s.book.entries ≡ s.total.total) × IsDesk M.series s.core s.book.entries };
-}
-
-/// How a run ended.
-#[derive(Drop)]
-pub struct Closed {
-    /// What is known of the series.
-    pub outcome: Outcome,
-    /// Where the answer is open, the capacities that were reached, if any.
-    pub reached: Option<Capacities>,
-    /// What happened.
-    pub log: Vec<Entry>,
-    /// How many pieces were taken.
-    pub pieces: u64,
-    /// How many nodes were searched.
-    pub nodes: u64,
-    made: PhantomData<()>,
 }
 
 impl<N: OfNetwork, M: RunNames, S: Series> State<N, M, S> {
@@ -236,43 +208,6 @@ impl<N: OfNetwork, M: RunNames, S: Series> State<N, M, S> {
         }
     }
 
-    /// How many pieces were taken.
-    pub fn pieces(&self) -> u64
-        ensures pieces { result ≡ self.now.core.taken }
-        ensures counted { result ≡ length (tally self.now.log).taken }
-        ensures most { result ≤ M.turns }
-    {
-        self.book.pieces()
-    }
-
-    /// How many asked questions are not decided.
-    pub fn undecided(&self) -> usize
-        ensures { result ≡ undecided_count self.now.core }
-    {
-        self.core.undecided()
-    }
-
-    /// Why the desk was halted, if it was.
-    pub fn cause(&self) -> Option<Cause>
-        ensures { result ≡ (tally self.now.log).halt }
-    {
-        self.book.halt()
-    }
-
-    /// Whether a question can be asked: the desk was not halted, knows no yes, and its series has not ended.
-    pub fn may_ask(&self) -> bool
-        ensures { IsTrue result ↔ IsAsking self.now.core }
-    {
-        self.core.may_ask()
-    }
-
-    /// Whether the answer is known.
-    pub fn is_settled(&self) -> bool
-        ensures { IsTrue result ↔ IsSettled self.now.core }
-    {
-        self.core.is_settled()
-    }
-
     /// A share of all parts counts as many entries as the log has. Changes nothing.
     pub fn audit(&mut self, all: &mut Share<M>)
         requires { all.old.parts ≡ M.parts }
@@ -304,25 +239,5 @@ impl<N: OfNetwork, M: RunNames, S: Series> State<N, M, S> {
             nodes,
             made: PhantomData,
         }
-    }
-}
-
-/// How many windows a rest has.
-fn windows_left(rest: &Rest) -> usize
-    ensures { result ≡ windows_left rest.now }
-{
-    match rest {
-        Rest::Whole => 1,
-        Rest::Windows(windows) => windows.len(),
-    }
-}
-
-/// Whether starts were found.
-fn is_found<N: OfNetwork>(finding: &Finding<N>) -> bool
-    ensures { result ≡ is_some finding.now.found }
-{
-    match finding.found() {
-        Some(_) => true,
-        None => false,
     }
 }

@@ -2,7 +2,7 @@
 
 ghost use Rattle.std.specs.Prelude.{◌≡◌, ◌+◌, ◌≤◌};
 
-use crate::state::RunNames;
+use crate::names::RunNames;
 use crate::worker::Worker;
 use racp_cutset::{Board, Local};
 use racp_model::OfNetwork;

@@ -6,7 +6,8 @@ ghost use Rattle.racp_desk.specs.Turns.{IsFormedNext};
 
 use crate::limits::RunLimits;
 use crate::log::Cause;
-use crate::state::{RunNames, State};
+use crate::names::RunNames;
+use crate::state::State;
 use racp_core::{Merged, Reply};
 use racp_model::OfNetwork;
 use racp_questions::Series;

@@ -6,7 +6,8 @@ ghost use Rattle.racp_search.specs.Truth.{IsExplored};
 
 use crate::gate::Gate;
 use crate::limits::RunLimits;
-use crate::state::{RunNames, State};
+use crate::names::RunNames;
+use crate::state::State;
 use crate::turn::{Next, next_of, take_in};
 use crate::watch::{Hint, UserOrHint, Watch};
 use racp_cutset::{Board, Local};

@@ -1,6 +1,7 @@
-//! What is wrong with the texts of a plan that is shown.
+//! What is wrong with the texts of a plan that is shown, and with the text of a curve.
 
 use crate::cause::plan_cause;
+use crate::explain::push_title;
 use crate::finding::{push_more, push_short};
 use crate::input::Input;
 use crate::subject::Subject;
@@ -77,4 +78,40 @@ fn push_count(
         "as many lines as {jobs} jobs and {resources} resources need: {wanted}{THERE}so many lines: {lines}"
     )?;
     push_more(text, Subject::NamesCount)
+}
+
+/// What is wrong with the text of a curve that is refused for a page, in lines that begin with `racp: `.
+///
+/// # Errors
+///
+/// Memory was refused.
+pub fn curve_cause(alloc: Global, curve: &Input<'_>) -> Result<String, AllocError> {
+    let mut text = String::new(alloc);
+    match std::str::from_utf8(curve.bytes) {
+        Ok(_) => push_curve(&mut text, curve.name, Subject::CurveSteps, "no such line")?,
+        Err(_) => push_curve(
+            &mut text,
+            curve.name,
+            Subject::Curve,
+            "bytes that are not UTF-8",
+        )?,
+    }
+    Ok(text)
+}
+
+/// Adds what is wrong with a curve.
+fn push_curve(
+    text: &mut String,
+    name: &str,
+    subject: Subject,
+    there: &str,
+) -> Result<(), AllocError> {
+    write!(text, "racp: {name}: ")?;
+    push_title(text, subject)?;
+    push_short(text, subject)?;
+    write!(
+        text,
+        "lines that begin with deadline, as racp curve prints them{THERE}{there}"
+    )?;
+    push_more(text, subject)
 }

@@ -21,6 +21,10 @@ pub enum Subject {
     Names,
     /// Names of another number than there are jobs and resources.
     NamesCount,
+    /// A curve that is not UTF-8.
+    Curve,
+    /// A curve without a line for a deadline.
+    CurveSteps,
     /// A line without a number.
     Line(Line),
 }
@@ -126,6 +130,7 @@ impl Subject {
             Subject::Order(_) => "order",
             Subject::Plan(_) => "plan",
             Subject::Names | Subject::NamesCount => "names",
+            Subject::Curve | Subject::CurveSteps => "curve",
             Subject::Line(line) => line.first(),
         }
     }
@@ -140,6 +145,8 @@ impl Subject {
             Subject::Plan(kind) => Some(kind as u8),
             Subject::Names => Some(1),
             Subject::NamesCount => Some(2),
+            Subject::Curve => Some(1),
+            Subject::CurveSteps => Some(2),
             Subject::Line(_) => None,
         }
     }
@@ -155,6 +162,8 @@ impl Subject {
             Subject::Plan(kind) => kind.name(),
             Subject::Names => "NotUtf8",
             Subject::NamesCount => "Count",
+            Subject::Curve => "NotUtf8",
+            Subject::CurveSteps => "NoSteps",
             Subject::Line(line) => line.second(),
         }
     }

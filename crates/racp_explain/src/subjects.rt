@@ -12,7 +12,7 @@ use racp_sm::SmFaultKind;
 use std::alloc::{AllocError, Global};
 
 /// All subjects: those of each format by their numbers, and then the lines without a number.
-pub const SUBJECTS: [Subject; 45] = [
+pub const SUBJECTS: [Subject; 47] = [
     Subject::Sm(SmFaultKind::NoJobs),
     Subject::Sm(SmFaultKind::NoRenewable),
     Subject::Sm(SmFaultKind::ManyProjects),
@@ -41,6 +41,8 @@ pub const SUBJECTS: [Subject; 45] = [
     Subject::Plan(TextFaultKind::Memory),
     Subject::Names,
     Subject::NamesCount,
+    Subject::Curve,
+    Subject::CurveSteps,
     Subject::Line(Line::TooLate),
     Subject::Line(Line::Due),
     Subject::Line(Line::NoRoom),

@@ -38,6 +38,24 @@ const NAMES_COUNT: Topic = Topic {
     cure: "Give one name a line: first the jobs, in the order of their numbers, then the resources. A line may be empty.",
 };
 
+/// What is said of a curve that is not UTF-8.
+const CURVE: Topic = Topic {
+    short: "the curve is not UTF-8",
+    meaning: "The file of --curve is not UTF-8.",
+    command: "printf '\\377' | racp report examples/a.sm examples/a4.toml examples/a4.plan --curve /dev/stdin",
+    file: "",
+    cure: "Give the file that racp curve has written.",
+};
+
+/// What is said of a curve without a line for a deadline.
+const CURVE_STEPS: Topic = Topic {
+    short: "no line tells what a deadline costs",
+    meaning: "No line of the file of --curve begins with deadline.",
+    command: "printf 'end\\n' | racp report examples/a.sm examples/a4.toml examples/a4.plan --curve -",
+    file: "",
+    cure: "Give the file that racp curve has written, as text and not as a picture.",
+};
+
 /// What is said of a subject.
 pub fn topic_of(subject: Subject) -> &'static Topic {
     match subject {
@@ -46,6 +64,8 @@ pub fn topic_of(subject: Subject) -> &'static Topic {
         Subject::Plan(kind) => plan_topic(kind),
         Subject::Names => &NAMES,
         Subject::NamesCount => &NAMES_COUNT,
+        Subject::Curve => &CURVE,
+        Subject::CurveSteps => &CURVE_STEPS,
         Subject::Line(line) => line_topic(line),
     }
 }

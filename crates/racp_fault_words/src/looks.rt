@@ -10,9 +10,13 @@ pub(crate) fn look_of(body: &[u8]) -> Option<&'static str> {
     }
     let first = body.split(is_line_feed).find(has_words)?;
     if is_of_columns(first) {
-        Some("what looks like a table of tasks; docs/TUTORIAL.md shows how it becomes a network")
+        Some(
+            "what looks like a table of tasks; racp import FILE --out PROJECT makes a network of it",
+        )
     } else if is_of_numbers(first) {
-        Some("what looks like Patterson's format; a network is a text as those of PSPLIB (.sm)")
+        Some(
+            "what looks like Patterson's format; racp import FILE --out PROJECT makes a network of it",
+        )
     } else {
         None
     }

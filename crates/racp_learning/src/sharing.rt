@@ -26,12 +26,6 @@ impl<N: OfProblem> Search<N> {
         mem::replace(&mut self.short, Vec::new(alloc))
     }
 
-    /// What is known of the cost: it is at least so much.
-    pub fn least_cost(&self) -> u64 {
-        let bounds = self.ground.bounds();
-        bounds.lower_at((self.engine.problem.root.len() / 2).saturating_sub(1))
-    }
-
     /// Keeps the clause that was learned last for others, if it is short.
     pub(crate) fn keep_short(&mut self) -> Result<(), AllocError> {
         let alloc = *self.short.allocator();

@@ -6,7 +6,7 @@ use Rattle.racp_model.specs.Window.{IsRootWindow}
 use Rattle.racp_lexfix.specs.Answers.{IsPlanStop}
 use Rattle.racp_lexfix.specs.Stages.{AreSharpFloorsAndRoofs, IsStoppedInBox}
 use Rattle.racp_lexfix.specs.declared.answer.PlanStop.{PlanStop}
-use Rattle.racp_lexfix.specs.declared.planning.VectorBox.{VectorBox}
+use Rattle.racp_lexfix.specs.declared.vectors.VectorBox.{VectorBox}
 
 -- the terms of an order for a network, its root window, sharpened floors with the pairs that they refute, and roofs
 pub record IsVectorBox (b : VectorBox) : Type 0 where

@@ -101,11 +101,11 @@ fn show_plan(task: &Task) -> Result<Printed, AllocError>
 {
     match opening_of(task.alloc, task.net, task.order)? {
         Opening::Root { critical, window } => show_within(task, critical, &window),
-        Opening::TooLong { critical } => print_none(
+        Opening::TooLong { critical } => answer_none(
             task,
             &Answer::Impossible { longest: critical },
         ),
-        Opening::TooLate { job } => print_none(task, &Answer::Due { job }),
+        Opening::TooLate { job } => answer_none(task, &Answer::Due { job }),
     }
 }
 
@@ -126,9 +126,9 @@ fn show_within(task: &Task, critical: u64, window: &Window) -> Result<Printed, A
     match optimum {
         Optimum::Plan(capacities, starts) => {
             let plan = plan_of(task, critical, capacities, starts);
-            print_shown(task, &root, &plan, &derivations)
+            answer_shown(task, &root, &plan, &derivations)
         }
-        Optimum::NoneEnough => print_none(task, &Answer::Ceiling),
+        Optimum::NoneEnough => answer_none(task, &Answer::Ceiling),
         Optimum::Open => unproved(task),
     }
 }
@@ -171,7 +171,7 @@ fn plan_of(task: &Task, critical: u64, capacities: Capacities, starts: Starts) -
 }
 
 /// A certificate for the plan, or that none was made.
-fn print_shown(
+fn answer_shown(
     task: &Task,
     root: &Domain,
     plan: &Plan,
@@ -192,7 +192,7 @@ fn print_shown(
 }
 
 /// Why there is no plan.
-fn print_none(task: &Task, answer: &Answer) -> Result<Printed, AllocError>
+fn answer_none(task: &Task, answer: &Answer) -> Result<Printed, AllocError>
     requires answer { IsAnswer task.now.net.now task.now.order.now answer.now }
     requires none { (plan : Plan) → answer.now ≡ ThePlan plan → ⊥ }
     ensures { IfOk result (λ printed. IsAnswerShown task.now.net.now task.now.order.now printed.text.items printed.status) }

@@ -12,9 +12,9 @@ ghost use Rattle.racp_lexfix.specs.Printing.{IsAnswerPrinted, IsCrowdPrinting, I
 use crate::answer::{Answer, PlanStop};
 use crate::planning::Task;
 use crate::printed::{Printed, Refusal, answer_printed};
-use racp_askers::{Crowd, Effort, Observer, OfTurns, Pricing, Unheard};
+use racp_askers::{Crowd, Effort, Observer, OfTurns, Pricing};
 use racp_candidates::AnySeries;
-use racp_cutset::{DEFAULT_MEMORY, MemoryLimit};
+use racp_cutset::MemoryLimit;
 use racp_desk::{Closed, DeskFault, Gate, Records, RunLimits};
 use racp_model::{Network, OfNetwork};
 use racp_prices::read_order;
@@ -28,42 +28,6 @@ use std::thread::Threads;
 
 /// So many turns are no bound.
 const MOST_TURNS: u64 = 1000000000000;
-
-/// The answer to the texts of a network and an order, made by 1 to 64 workers on threads of their own with so many
-/// turns, at most 1,000,000,000,000: the same text as that of `plan_alone`, and how much work was done. A turn is a
-/// piece that a worker takes. It enters the gate before it searches the piece, and leaves it where the stop is asked
-/// for.
-///
-/// # Errors
-///
-/// A text is refused, the network's first; no turn is left, or the stop was asked for; memory was refused; or a worker
-/// could not be started.
-pub fn plan_crowd<G: Gate + Sync, P: Stop + Sync, R: Threads + Wait + Sync>(
-    rt: &R,
-    alloc: Global,
-    net_bytes: &[u8],
-    order_text: &[u8],
-    workers: usize,
-    turns: u64,
-    gate: &G,
-    stop: &P,
-) -> Result<(Printed, Effort), Refusal>
-    requires some_workers { 1 ≤ workers }
-    requires workers { workers ≤ 64 }
-    requires turns { turns ≤ 1000000000000 }
-    ensures { IsCrowdPrinting turns P.QUIET net_bytes.now order_text.now result }
-{
-    let memory = DEFAULT_MEMORY;
-    let crew = Crew {
-        workers,
-        turns,
-        memory,
-        gate,
-        stop,
-        observer: &Unheard,
-    };
-    plan_crowd_by(rt, alloc, net_bytes, order_text, crew)
-}
 
 /// How a plan is made by workers.
 #[derive(Drop)]

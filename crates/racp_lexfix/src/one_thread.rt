@@ -11,24 +11,11 @@ use crate::answer::{Answer, PlanStop};
 use crate::planning::{Task, plan};
 use crate::printed::{Printed, Refusal, answer_printed};
 use racp_askers::Alone;
-use racp_cutset::DEFAULT_MEMORY;
 use racp_model::{Network, OfNetwork};
 use racp_prices::read_order;
 use racp_sm::read_sm;
 use std::alloc::Global;
 use std::marker::Brand;
-
-/// The answer to the texts of a network and an order, made on the calling thread: the text of the plan, or the line
-/// that says why there is none.
-///
-/// # Errors
-///
-/// A text is refused, the network's first; or memory was refused. It neither stops nor wants a thread.
-pub fn plan_alone(alloc: Global, net_bytes: &[u8], order_text: &[u8]) -> Result<Printed, Refusal>
-    ensures { IsPrinting net_bytes.now order_text.now result }
-{
-    plan_alone_within(alloc, net_bytes, order_text, DEFAULT_MEMORY)
-}
 
 /// The answer to the texts of a network and an order, as `plan_alone` gives it. The clauses of the search that learns, and
 /// after it the records of refuted nodes, take at most about so many mebibytes, up to 1,048,576; those of `plan_alone` take

@@ -74,7 +74,7 @@ fn prove_and_keep(task: &Task, sharp: &mut Option<Sharp>) -> Result<Printed, Pla
     ensures stop { IfErr result (λ stop. stop ≡ Memory) }
 {
     let answer = plan_with_floors::<Brand>(task, sharp)?;
-    print_proof(task, &answer, sharp)
+    answer_proof(task, &answer, sharp)
 }
 
 /// The plan of an order, or why there is none; the sharpened floors are kept where they were asked for. The network is
@@ -97,7 +97,7 @@ fn plan_with_floors<N: OfNetwork>(
 }
 
 /// The text and the status for an answer: a certificate for the plan, or why there is no plan.
-fn print_proof(task: &Task, answer: &Answer, sharp: &Option<Sharp>) -> Result<Printed, PlanStop>
+fn answer_proof(task: &Task, answer: &Answer, sharp: &Option<Sharp>) -> Result<Printed, PlanStop>
     requires terms { AreTermsOf task.now.net.now task.now.order.now }
     requires answer { IsAnswer task.now.net.now task.now.order.now answer.now }
     ensures proof { IfOk result (λ printed. IsProofOf task.now.net.now task.now.order.now answer.now printed.text.items
@@ -105,7 +105,7 @@ fn print_proof(task: &Task, answer: &Answer, sharp: &Option<Sharp>) -> Result<Pr
     ensures stop { IfErr result (λ stop. stop ≡ Memory) }
 {
     match answer {
-        Answer::Plan(plan) => Ok(print_certificate(task, plan, sharp)?),
+        Answer::Plan(plan) => Ok(answer_certificate(task, plan, sharp)?),
         _ => {
             let printed = answer_printed(task.alloc, task.order, answer)?;
             Ok(printed)
@@ -114,7 +114,11 @@ fn print_proof(task: &Task, answer: &Answer, sharp: &Option<Sharp>) -> Result<Pr
 }
 
 /// A certificate for a plan, or that none was made, with its status.
-fn print_certificate(task: &Task, plan: &Plan, sharp: &Option<Sharp>) -> Result<Printed, AllocError>
+fn answer_certificate(
+    task: &Task,
+    plan: &Plan,
+    sharp: &Option<Sharp>,
+) -> Result<Printed, AllocError>
     requires terms { AreTermsOf task.now.net.now task.now.order.now }
     requires plan { IsAnswer task.now.net.now task.now.order.now (ThePlan plan.now) }
     ensures { IfOk result (λ printed. IsProofOf task.now.net.now task.now.order.now (ThePlan plan.now) printed.text.items

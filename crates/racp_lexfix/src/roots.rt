@@ -7,7 +7,8 @@ ghost use Rattle.racp_model.specs.Plan.{NoneIsEnough};
 ghost use Rattle.racp_lexfix.specs.Stages.{AreRootBounds};
 
 use crate::bounds::{is_below, lowest_units};
-use crate::planning::{Task, is_small};
+use crate::planning::Task;
+use crate::vectors::is_small;
 use racp_facts::{Domain, root_of};
 use racp_model::{Capacities, Network, Window};
 use racp_prices::{Order, most_units};

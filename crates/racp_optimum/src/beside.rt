@@ -19,7 +19,7 @@ use std::thread;
 use std::thread::{JoinHandle, Scope, Threads};
 
 /// So many conflicts a search may meet before others are started beside it.
-const ALONE: u64 = 1_000;
+const ALONE: u64 = 300;
 
 /// Searches on a thread of its own.
 fn help<N: OfProblem, R: Wait>(

@@ -5,6 +5,7 @@ ghost use Rattle.racp_facts.specs.Roots.{IsOpen};
 ghost use Rattle.racp_optimum.specs.Optima.{AreTasksOf, IsOptimum, IsTaskOf, MayBeTold};
 
 use crate::asking::Heard;
+use crate::by_resource::{Aim, Parts};
 use crate::hearer::Hearer;
 use crate::optimum::Optimum;
 use crate::places::{place_in_turn, value_of, variable_count};
@@ -27,8 +28,8 @@ pub(crate) struct Descent<P: OfProblem> {
     pub(crate) left: u64,
     /// For how many variables nothing less is left.
     settled: usize,
-    /// Whether the cost is asked for from its least on.
-    pub(crate) rises: bool,
+    /// How questions are parted by resources, if they are.
+    pub(crate) parts: Option<Parts>,
 }
 
 impl<P: OfProblem> Descent<P> {
@@ -56,7 +57,7 @@ impl<P: OfProblem> Descent<P> {
             clauses: Vec::new(alloc),
             left: conflicts,
             settled: 0,
-            rises: false,
+            parts: None,
         })
     }
 
@@ -83,6 +84,9 @@ impl<P: OfProblem> Descent<P> {
         for turn in self.settled..variable_count(net) {
             if turn == resources + 1 {
                 self.take_serial(tasks.part)?;
+            }
+            if turn < 2 && !self.go_by_parts(search, tasks, hearer, aim_of(turn))? {
+                break;
             }
             if !self.settle(search, tasks, hearer, place_in_turn(net, turn))? {
                 break;
@@ -134,11 +138,7 @@ impl<P: OfProblem> Descent<P> {
             if value <= least {
                 break;
             }
-            let most = if self.rises && x == task.net.job_count() + task.net.resource_count() {
-                least.max(search.least_cost()).min(value - 1)
-            } else {
-                below(least, value, is_halved(task, x, turn))
-            };
+            let most = below(least, value, is_halved(task, x, turn));
             match self.ask(search, tasks, hearer, x, most)? {
                 Heard::Less => {}
                 Heard::None(clause) => {
@@ -174,7 +174,7 @@ impl<P: OfProblem> Descent<P> {
     }
 
     /// The value of the variable at a place in the best draft; where there is none, one more than it can be.
-    fn value(&self, task: Task<'_>, x: usize) -> u64 {
+    pub(crate) fn value(&self, task: Task<'_>, x: usize) -> u64 {
         match &self.best {
             Some(draft) => value_of(task.net, draft, x),
             None => task.root.upper_at(x).saturating_add(1),
@@ -217,6 +217,11 @@ fn without_draft<P: OfProblem>(clauses: &[Clause<P>]) -> Optimum
         Some(clause) if leaves_none(clause) => Optimum::NoneEnough,
         _ => Optimum::Open,
     }
+}
+
+/// What the parts of a question ask for before its turn.
+fn aim_of(turn: usize) -> Aim {
+    if turn == 0 { Aim::Cost } else { Aim::Units }
 }
 
 /// Whether a question halves what is left, after so many about the variable at a place.

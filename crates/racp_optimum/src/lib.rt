@@ -27,8 +27,10 @@
 //! lower bounds on the cost as they are found, and may stop the search.
 //!
 //! `optimum_beside` answers the same by several searches on threads of their own, with other seeds. They show each other short
-//! clauses and the best draft, and the first one that finishes ends the others. With four or more, one asks for the cost from
-//! its least on, so that its lower bound rises.
+//! clauses and the best draft, and the first one that finishes ends the others. What costs less than the best draft has less
+//! of some resource, so each search asks for less cost with less of one resource, then of the next, and begins with another
+//! one. In the end the whole question has a short answer, by clauses that name one resource. With four or more, one asks for
+//! the units of a resource from their least on.
 //!
 //! `optimum_recorded` answers the same, with the derivations of the clauses, for a certificate.
 //!
@@ -44,6 +46,7 @@
 mod any;
 mod asking;
 mod beside;
+mod by_resource;
 mod common;
 mod descent;
 mod feasible;

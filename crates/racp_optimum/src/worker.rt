@@ -2,6 +2,7 @@
 
 ghost use Rattle.racp_optimum.specs.Optima.{MayBeTold};
 
+use crate::by_resource::Parts;
 use crate::common::Common;
 use crate::descent::Descent;
 use crate::hearer::Hearer;
@@ -16,7 +17,7 @@ use std::sync::Wait;
 /// Searches tell each other what they have learned once in so many conflicts.
 const SLICE: u64 = 250;
 
-/// The search in this seat, the fourth one, asks for the cost from its least on.
+/// The search in this seat, the fourth one, asks for the units of a resource from their least on.
 const RISING: usize = 3;
 
 /// A search among others.
@@ -53,7 +54,9 @@ impl<N: OfProblem> Worker<N> {
         let mut search = Search::new(alloc, net, order, root, seed, bytes)?;
         search.share();
         let mut descent = Descent::new(common.task, conflicts, draft)?;
-        descent.rises = seat == RISING;
+        let mut parts = Parts::new(alloc, seat, net.resource_count())?;
+        parts.rises = seat == RISING;
+        descent.parts = Some(parts);
         Ok(Worker {
             search,
             descent,

@@ -18,6 +18,8 @@ pub(crate) fn table_of(alloc: Global, wanted: &Wanted) -> Result<Table, AllocErr
     let table = plain_table(alloc, wanted.deadline, &wanted.prices)?;
     let table = with_optional(alloc, table, "owned", wanted.owned.as_ref())?;
     let table = with_optional(alloc, table, "ceiling", wanted.ceilings.as_ref())?;
+    let table = with_optional(alloc, table, "release", wanted.release.as_ref())?;
+    let table = with_optional(alloc, table, "due", wanted.due.as_ref())?;
     with_version(alloc, table, wanted.needs_version())
 }
 

@@ -1,3 +1,1 @@
 mod Pieces
-mod Rows
-mod Criticals

@@ -1,141 +1,24 @@
--- The drawings of a page. Places are from the left and from above; a drawing is 1,000 wide.
-use Rattle.std.specs.Prelude.{ℕ, ◌+◌, ◌-◌, ◌*◌, ◌/◌, ◌==◌, ◌||◌, max, min, nat_le, List, [], ◌∷◌, ◌++◌, codes, flat_map, fold, option_map, if◌then◌else◌}
-use Rattle.std.specs.Prelude.{◌%◌}
+-- The drawings of a page, each of which is a figure. Places are from the left and from above; a drawing is 1,000 wide.
+use Rattle.std.specs.Prelude.{ℕ, ◌+◌, ◌-◌, ◌*◌, ◌==◌, ◌||◌, ◌%◌, min, List, [], ◌∷◌, ◌++◌, codes, map, if◌then◌else◌}
 use Rattle.std.specs.Fmt.{decimal}
-use Rattle.std.specs.Int.{div_ceil}
-use Rattle.racp_json.specs.declared.curve.Step.{Step as CurveStep}
-use Rattle.racp_show.specs.declared.usage.Step.{Step}
-use Rattle.racp_show.specs.Pictures.{◌⋅◌, mark_of, texts_before}
-use Rattle.racp_report.specs.declared.axis.Span.{Span}
-use Rattle.racp_report.specs.declared.choice.Choice.{Choice}
-use Rattle.racp_report.specs.declared.task.Task.{Task}
-use Rattle.racp_report.specs.Elements.{name_text, number_list, shape_class, short_text}
-
--- where a time is drawn: the first at 270 and the last at 970, and times before and after them there too
-abbrev pub across : Span → ℕ → ℕ
-across span time = if (span.last - span.first) == 0 then 270
-    else 270 + min (time - span.first) (span.last - span.first) * 700 / (span.last - span.first)
-
--- the time of the number at a place of an axis
-abbrev pub axis_time : Span → ℕ → ℕ
-axis_time span place =
-    let mark = mark_of (span.last - span.first) in
-    (div_ceil span.first mark + place) * mark
+use Rattle.racp_json.specs.declared.curve.Step.{Step}
+use Rattle.racp_charts.specs.Texts.{◌⋅◌}
+use Rattle.racp_charts.specs.CostDrawings.{costs_element}
+use Rattle.racp_charts.specs.Drawings.{frame_element, panel_element, row_element}
+use Rattle.racp_charts.specs.Pictures.{key_element}
+use Rattle.racp_charts.specs.declared.axis.Span.{Span}
+use Rattle.racp_charts.specs.declared.choice.Choice.{Choice}
+use Rattle.racp_charts.specs.declared.costs.Corner.{Corner}
+use Rattle.racp_show.specs.declared.task.Task.{Task}
 
 -- the beginning of a drawing of this height
 unfoldable pub drawing_begin : List ℕ → ℕ → List ℕ
 drawing_begin label height = codes "<figure><svg viewBox=\"0 0 1000 " ⋅ decimal height
     ⋅ codes "\" role=\"img\" aria-label=\"" ⋅ label ⋅ codes "\">\n"
 
--- a line from `top` to `bottom`
-unfoldable pub mark_line : ℕ → ℕ → ℕ → List ℕ
-mark_line x top bottom = codes "<path class=\"line\" d=\"M" ⋅ decimal x ⋅ codes " " ⋅ decimal top ⋅ codes "V"
-    ⋅ decimal bottom ⋅ codes "\"/>"
-
--- the number of a time at a place
-unfoldable pub mark_number : ℕ → ℕ → ℕ → List ℕ
-mark_number number x y = codes "<text class=\"mark\" x=\"" ⋅ decimal x ⋅ codes "\" y=\"" ⋅ decimal y ⋅ codes "\">"
-    ⋅ decimal number ⋅ codes "</text>\n"
-
--- the line of a time from `top` to `bottom`, and its number below
-unfoldable pub mark_element : ℕ → ℕ → ℕ → ℕ → List ℕ
-mark_element number x top bottom = mark_line x top bottom ⋅ mark_number number x (bottom + 15)
-
--- a number of the axis below, and its line, if it is no later than the last time
-abbrev pub time_below : Span → ℕ → ℕ → ℕ → List ℕ
-time_below span top bottom place =
-    let time = axis_time span place in
-    if nat_le time span.last then mark_element time (across span time) top bottom else []
-
--- the axis of times below a chart from `top` to `bottom`
-abbrev pub axis : Span → ℕ → ℕ → List ℕ
-axis span top bottom = texts_before (time_below span top bottom) 13
-
--- a number of the axis above
-abbrev pub time_above : Span → ℕ → ℕ → List ℕ
-time_above span y place =
-    let time = axis_time span place in
-    if nat_le time span.last then mark_number time (across span time) y else []
-
--- the numbers of the axis above a chart
-abbrev pub numbers_above : Span → ℕ → List ℕ
-numbers_above span y = texts_before (time_above span y) 13
-
--- the line of the deadline
-unfoldable pub deadline_line : ℕ → ℕ → List ℕ
-deadline_line top bottom = codes "<path class=\"deadline\" d=\"M970 " ⋅ decimal top ⋅ codes "V" ⋅ decimal bottom
-    ⋅ codes "\"/>\n"
-
--- its number
-unfoldable pub deadline_label : ℕ → List ℕ
-deadline_label deadline = codes "<text class=\"end\" x=\"990\" y=\"18\">deadline " ⋅ decimal deadline
-    ⋅ codes "</text>\n"
-
--- the greatest number of a chart at the height `top`, and 0 at `bottom`
-unfoldable pub scale_element : ℕ → ℕ → ℕ → List ℕ
-scale_element most top bottom = codes "<text class=\"end\" x=\"264\" y=\"" ⋅ decimal top ⋅ codes "\">" ⋅ decimal most
-    ⋅ codes "</text><text class=\"end\" x=\"264\" y=\"" ⋅ decimal bottom ⋅ codes "\">0</text>\n"
-
--- where a stair begins, and a step of it
-unfoldable pub place_text : ℕ → ℕ → List ℕ
-place_text x y = codes "M" ⋅ decimal x ⋅ codes " " ⋅ decimal y
-
-unfoldable pub step_text : ℕ → ℕ → List ℕ
-step_text x y = codes "H" ⋅ decimal x ⋅ codes "V" ⋅ decimal y
-
--- the times of a tooltip
-unfoldable pub tip_times : Task → List ℕ
-tip_times task = codes "\ntask " ⋅ decimal task.job ⋅ codes ", from " ⋅ decimal task.start ⋅ codes " to "
-    ⋅ decimal (task.start + task.duration) ⋅ codes ", slack " ⋅ decimal (task.latest - task.start)
-
--- what comes before a task, if anything does
-abbrev pub tip_before : List ℕ → List ℕ
-tip_before [] = []
-tip_before (number ∷ numbers) = codes ", after " ⋅ number_list 0 (number ∷ numbers)
-
--- the tooltip of a task
-unfoldable pub tip_element : Task → List ℕ
-tip_element task =
-    codes "<g><title>" ⋅ name_text (option_map (λ name. name.now) task.name) (codes "task") task.job ⋅ tip_times task
-    ⋅ tip_before task.predecessors.items ⋅ codes "</title>"
-
--- the stripe of a row, and the beginning of its name
-unfoldable pub row_middle : ℕ → List ℕ
-row_middle top = codes "<rect class=\"stripe" ⋅ decimal (top / 20 % 2) ⋅ codes "\" x=\"0\" y=\"" ⋅ decimal top
-    ⋅ codes "\" width=\"1000\" height=\"20\"/><text x=\"8\" y=\"" ⋅ decimal (top + 14) ⋅ codes "\">"
-
--- the line of a task's slack
-unfoldable pub slack_element : Span → Task → ℕ → List ℕ
-slack_element span task y = codes "<path class=\"slack\" d=\"M" ⋅ decimal (across span (task.start + task.duration))
-    ⋅ codes " " ⋅ decimal y ⋅ codes "H" ⋅ decimal (across span (task.latest + task.duration)) ⋅ codes "\"/>"
-
--- a bar, and a diamond
-unfoldable pub bar_element : List ℕ → ℕ → ℕ → ℕ → List ℕ
-bar_element class x width y = codes "<rect class=\"" ⋅ class ⋅ codes "\" x=\"" ⋅ decimal x ⋅ codes "\" y=\"" ⋅ decimal y
-    ⋅ codes "\" width=\"" ⋅ decimal width ⋅ codes "\" height=\"12\" rx=\"2\"/></g>\n"
-
-unfoldable pub diamond_element : List ℕ → ℕ → ℕ → List ℕ
-diamond_element class x y = codes "<path class=\"" ⋅ class ⋅ codes "\" d=\"M" ⋅ decimal x ⋅ codes " " ⋅ decimal y
-    ⋅ codes "l6 6l-6 6l-6 -6z\"/></g>\n"
-
--- the shape of a task: a bar from its start to its end, at least 1 wide, or a diamond if it takes no time
-abbrev pub shape_element : Span → Task → ℕ → List ℕ
-shape_element span task top =
-    let x = across span task.start in
-    if task.duration == 0 then diamond_element (shape_class task.is_critical) x top
-    else bar_element (shape_class task.is_critical) x (max (across span (task.start + task.duration) - x) 1) top
-
--- the row of a task at the height `top`
-unfoldable pub row_element : Span → Task → ℕ → List ℕ
-row_element span task top =
-    tip_element task ⋅ row_middle top ⋅ short_text (option_map (λ name. name.now) task.name) (codes "task") task.job
-    ⋅ codes "</text>" ⋅ slack_element span task (top + 10) ⋅ shape_element span task (top + 4)
-
 -- the beginning of a drawing of tasks that goes down to `bottom`
 unfoldable pub frame : Span → ℕ → List ℕ
-frame span bottom =
-    drawing_begin (codes "The tasks over time") (bottom + 24) ⋅ numbers_above span 34 ⋅ axis span 40 bottom
-    ⋅ deadline_label span.last ⋅ deadline_line 40 bottom
+frame span bottom = drawing_begin (codes "The tasks over time") (bottom + 24) ⋅ frame_element span bottom
 
 -- a drawing has 30 tasks: it begins before the first of them, and ends behind the last
 abbrev pub block_begin : Span → ℕ → ℕ → List ℕ
@@ -155,80 +38,25 @@ task_blocks span count place [] = []
 task_blocks span count place (task ∷ tasks) =
     task_block span count place task ++ task_blocks span count (place + 1) tasks
 
--- how high a usage is drawn: all units are 60 high
-abbrev pub height_of : ℕ → ℕ → ℕ
-height_of units used = if units == 0 then 0 else used * 60 / units
-
--- the steps of a usage
-abbrev pub stair_steps : Span → ℕ → List Step → List ℕ
-stair_steps span units usage =
-    flat_map (λ step. step_text (across span step.from) (80 - height_of units step.units)) usage
-
--- the stair of a resource's usage
-unfoldable pub stair_element : Span → Choice → List ℕ
-stair_element span choice = codes "<path class=\"used\" d=\"" ⋅ place_text 270 80
-    ⋅ stair_steps span choice.units choice.usage.items ⋅ codes "H970V80Z\"/>"
-
--- the units of a resource and how busy they are
-unfoldable pub panel_numbers : Choice → List ℕ
-panel_numbers choice = codes "</text><text x=\"8\" y=\"50\">units " ⋅ decimal choice.units ⋅ codes ", "
-    ⋅ decimal choice.busy ⋅ codes "% busy</text>\n"
-
--- the name of a resource, and these
-unfoldable pub panel_title : Choice → List ℕ
-panel_title choice = codes "<text class=\"head\" x=\"8\" y=\"32\">"
-    ⋅ short_text (option_map (λ name. name.now) choice.name) (codes "resource") choice.resource ⋅ panel_numbers choice
-
--- the line of all units, and the axis of units
-unfoldable pub limit_element : ℕ → List ℕ
-limit_element units = codes "<path class=\"limit\" d=\"M270 20H970\"/>" ⋅ scale_element units 24 84
-
 -- the drawing of a resource
-unfoldable pub panel_element : Span → Choice → List ℕ
-panel_element span choice =
-    drawing_begin (codes "The use of a resource over time") 106 ⋅ panel_title choice ⋅ axis span 10 80
-    ⋅ stair_element span choice ⋅ limit_element choice.units ⋅ deadline_line 10 80 ⋅ codes "</svg></figure>\n"
+unfoldable pub panel_figure : Span → Choice → List ℕ
+panel_figure span choice =
+    drawing_begin (codes "The use of a resource over time") 106 ⋅ panel_element span choice
+    ⋅ codes "</svg></figure>\n"
 
--- the deadline of the first step of a curve, or this one if that is sooner or there is none
-abbrev pub first_deadline : List CurveStep → ℕ → ℕ
-first_deadline [] deadline = deadline
-first_deadline (step ∷ steps) deadline = min step.deadline deadline
+-- the corner of a step of a curve
+abbrev pub corner_of : Step → Corner
+corner_of step = record { deadline = step.deadline; cost = step.cost }
 
--- the greatest cost, and at least 1
-abbrev pub most_cost : List CurveStep → ℕ
-most_cost costs = fold (λ most step. max most step.cost) 1 costs
+-- the drawing of what deadlines cost, from the first corner up to a last deadline
+unfoldable pub corner_figure : List Corner → ℕ → List ℕ
+corner_figure corners last =
+    drawing_begin (codes "What each deadline costs") 290 ⋅ costs_element corners last ⋅ codes "</svg></figure>\n"
 
--- where a cost is drawn: the costs are drawn from 140 up to 20
-abbrev pub cost_down : ℕ → ℕ → ℕ
-cost_down most cost = 140 - cost * 120 / most
+-- that of the steps of a curve, up to the plan's deadline
+abbrev pub cost_figure : List Step → ℕ → List ℕ
+cost_figure costs deadline = corner_figure (map corner_of costs) deadline
 
--- the steps of the stair of costs
-abbrev pub cost_steps : Span → ℕ → List CurveStep → List ℕ
-cost_steps span most costs = flat_map (λ step. step_text (across span step.deadline) (cost_down most step.cost)) costs
-
--- the stair of costs
-unfoldable pub cost_stair : Span → ℕ → List CurveStep → List ℕ
-cost_stair span most costs =
-    codes "<path class=\"used\" d=\"" ⋅ place_text 270 140 ⋅ cost_steps span most costs ⋅ codes "H970V140Z\"/>\n"
-
--- a corner of it, whose tooltip has its deadline and its cost
-unfoldable pub corner_element : ℕ → ℕ → CurveStep → List ℕ
-corner_element x y step = codes "<circle class=\"critical\" cx=\"" ⋅ decimal x ⋅ codes "\" cy=\"" ⋅ decimal y
-    ⋅ codes "\" r=\"4\"><title>from " ⋅ decimal step.deadline ⋅ codes ": " ⋅ decimal step.cost
-    ⋅ codes "</title></circle>\n"
-
--- its corners
-abbrev pub cost_corners : Span → ℕ → List CurveStep → List ℕ
-cost_corners span most costs =
-    flat_map (λ step. corner_element (across span step.deadline) (cost_down most step.cost) step) costs
-
--- the drawing of what deadlines cost in a span, up to the greatest cost
-unfoldable pub drawing_in : Span → ℕ → List CurveStep → List ℕ
-drawing_in span most costs =
-    drawing_begin (codes "What each deadline costs") 166 ⋅ axis span 10 140 ⋅ cost_stair span most costs
-    ⋅ cost_corners span most costs ⋅ scale_element most 24 144 ⋅ codes "</svg></figure>\n"
-
--- from the first deadline up to the plan's
-abbrev pub cost_drawing : List CurveStep → ℕ → List ℕ
-cost_drawing costs deadline =
-    drawing_in (record { first = first_deadline costs deadline; last = deadline }) (most_cost costs) costs
+-- what the shapes of the drawings of tasks and resources mean
+unfoldable pub key_figure : List ℕ
+key_figure = drawing_begin (codes "What the shapes mean") 16 ⋅ key_element ⋅ codes "</svg></figure>\n"

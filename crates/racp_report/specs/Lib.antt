@@ -1,4 +1,3 @@
 pub mod Reports
-pub mod Elements
 pub mod Drawings
 pub mod Pages

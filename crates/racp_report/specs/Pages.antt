@@ -3,13 +3,13 @@ use Rattle.std.specs.Prelude.{◌≡◌, ℕ, ◌+◌, ◌-◌, ◌*◌, Bool, L
 use Rattle.std.specs.Fmt.{decimal}
 use Rattle.std.specs.Global.{Global}
 use Rattle.racp_json.specs.declared.curve.Step.{Step}
-use Rattle.racp_show.specs.Pictures.{◌⋅◌}
-use Rattle.racp_report.specs.declared.axis.Span.{Span}
-use Rattle.racp_report.specs.declared.choice.Choice.{Choice}
+use Rattle.racp_charts.specs.Texts.{◌⋅◌}
+use Rattle.racp_charts.specs.declared.choice.Choice.{Choice}
 use Rattle.racp_report.specs.declared.report.Report.{Report}
-use Rattle.racp_report.specs.declared.task.Task.{Task}
-use Rattle.racp_report.specs.Drawings.{cost_drawing, panel_element, task_blocks}
-use Rattle.racp_report.specs.Elements.{name_text, number_list, shape_class}
+use Rattle.racp_show.specs.declared.task.Task.{Task}
+use Rattle.racp_charts.specs.Pictures.{whole}
+use Rattle.racp_report.specs.Drawings.{cost_figure, key_figure, panel_figure, task_blocks}
+use Rattle.racp_charts.specs.Elements.{name_text, number_list, shape_class}
 
 -- the beginning of a page, up to its style
 unfoldable pub opening_element : ℕ → ℕ → List ℕ
@@ -40,8 +40,9 @@ unfoldable pub claim_element : List ℕ
 claim_element =
     codes "<p>The plan was checked when this page was made: each task comes after those that it waits for "
     ⋅ codes "and ends in time, no resource is used beyond its units, and the cost is right. However many "
-    ⋅ codes "units there are, it takes at least the critical length. That no cheaper choice keeps the "
-    ⋅ codes "deadline is proved by a certificate; how to make and check one stands at the end.</p>\n"
+    ⋅ codes "units there are, it takes at least the critical length. Whether a cheaper choice keeps the "
+    ⋅ codes "deadline was not looked at: a certificate proves that none does, and how to make and check one "
+    ⋅ codes "stands at the end.</p>\n"
 
 -- the heading
 unfoldable pub heading_element : ℕ → ℕ → ℕ → ℕ → List ℕ
@@ -81,21 +82,15 @@ unfoldable pub choice_table : Report → List ℕ
 choice_table report =
     (codes "<h2>What to have</h2>\n<div class=\"wide\"><table>\n<thead><tr><th>Resource</th><th>Units</th>"
     ⋅ codes "<th>Owned</th><th>Price</th><th>Cost</th><th>Busy</th></tr></thead>\n<tbody>\n")
-    ⋅ flat_map choice_row report.choices.items ⋅ total_row report.cost
-
--- all times of a plan
-abbrev pub whole : Report → Span
-whole report = record { first = 0; last = report.deadline }
+    ⋅ flat_map choice_row report.plan.choices.items ⋅ total_row report.plan.cost
 
 -- the charts of the tasks and of the resources
 unfoldable pub charts : Report → List ℕ
 charts report =
-    (codes "<h2>When each task runs</h2>\n<p class=\"key\"><i class=\"critical\"></i>on the critical "
-    ⋅ codes "chain<i class=\"bar\"></i>other tasks<i class=\"slack\"></i>slack<i class=\"deadline\"></i>"
-    ⋅ codes "deadline</p>\n")
-    ⋅ task_blocks (whole report) (length report.tasks.items) 0 report.tasks.items
+    codes "<h2>When each task runs</h2>\n" ⋅ key_figure
+    ⋅ task_blocks (whole report.plan) (length report.plan.tasks.items) 0 report.plan.tasks.items
     ⋅ codes "<h2>How much of each resource is used</h2>\n"
-    ⋅ flat_map (panel_element (whole report)) report.choices.items
+    ⋅ flat_map (panel_figure (whole report.plan)) report.plan.choices.items
 
 -- the beginning of the row of a task
 unfoldable pub task_row_begin : Task → List ℕ
@@ -131,7 +126,7 @@ task_table report =
     (codes "<h2>The tasks</h2>\n<div class=\"wide\"><table>\n<thead><tr><th>No.</th><th class=\"left\">"
     ⋅ codes "Task</th><th>Duration</th><th>Start</th><th>End</th><th>Slack</th><th class=\"left\">"
     ⋅ codes "Critical</th><th class=\"left\">After</th></tr></thead>\n<tbody>\n")
-    ⋅ flat_map task_row report.tasks.items ⋅ codes "</tbody></table></div>\n"
+    ⋅ flat_map task_row report.plan.tasks.items ⋅ codes "</tbody></table></div>\n"
 
 -- the deadline and the cost of a step
 unfoldable pub cost_cells : Step → List ℕ
@@ -152,7 +147,7 @@ cost_row step =
 -- what deadlines cost, from the steps of a curve
 unfoldable pub cost_table : ℕ → List Step → List ℕ
 cost_table deadline costs =
-    codes "<h2>What each deadline costs</h2>\n" ⋅ cost_drawing costs deadline
+    codes "<h2>What each deadline costs</h2>\n" ⋅ cost_figure costs deadline
     ⋅ (codes "<div class=\"wide\"><table>\n<thead><tr><th>From deadline</th><th>Cost</th><th>Units of each "
     ⋅ codes "resource</th></tr></thead>\n<tbody>\n")
     ⋅ flat_map cost_row costs ⋅ codes "</tbody></table></div>\n"
@@ -165,10 +160,10 @@ cost_section deadline (step ∷ steps) = cost_table deadline (step ∷ steps)
 -- all of a page that stands behind its style
 unfoldable pub body_of : Report → List ℕ
 body_of report =
-    heading_element report.cost report.deadline report.critical (length report.tasks.items) ⋅ choice_table report
-    ⋅ charts report ⋅ task_table report ⋅ cost_section report.deadline report.costs.items ⋅ checking_element
+    heading_element report.plan.cost report.plan.deadline report.plan.critical (length report.plan.tasks.items)
+    ⋅ choice_table report ⋅ charts report ⋅ task_table report ⋅ cost_section report.plan.deadline report.costs.items ⋅ checking_element
 
 -- a page of a report: its beginning, some style, and its body
 abbrev pub IsPage : Report → String Global → Type 0
 IsPage report text = (style : List ℕ) ×
-    (string_bytes text ≡ opening_element report.cost report.deadline ⋅ style ⋅ body_of report)
+    (string_bytes text ≡ opening_element report.plan.cost report.plan.deadline ⋅ style ⋅ body_of report)

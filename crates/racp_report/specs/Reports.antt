@@ -1,81 +1,14 @@
 -- What a report says of a plan.
-use Rattle.std.specs.Prelude.{◌≡◌, ℕ, ◌+◌, ◌*◌, ◌<◌, ◌==◌, List, length, slice_index, slice_index_or, option_map, flat_map, [], ◌∷◌, if◌then◌else◌}
-use Rattle.racp_model.specs.Project.{Project, number, duration}
-use Rattle.racp_model.specs.Path.{IsEarly, IsLate, IsCriticalLength}
-use Rattle.racp_model.specs.Schedule.{energy}
-use Rattle.racp_model.specs.Terms.{Terms, due_of, release_of}
+use Rattle.std.specs.Prelude.{ℕ, List}
+use Rattle.racp_model.specs.Project.{Project}
+use Rattle.racp_model.specs.Terms.{Terms}
 use Rattle.racp_plan.specs.declared.plan.Plan.{Plan}
 use Rattle.racp_json.specs.Curves.{AreStepsIn}
-use Rattle.racp_show.specs.Called.{name_at}
-use Rattle.racp_show.specs.Uses.{AreSteps, percent}
-use Rattle.racp_report.specs.declared.choice.Choice.{Choice}
-use Rattle.racp_report.specs.declared.latest.Room.{Room}
+use Rattle.racp_charts.specs.Choices.{IsDrawing}
 use Rattle.racp_report.specs.declared.report.Report.{Report}
-use Rattle.racp_report.specs.declared.task.Task.{Task}
 
--- late starts by the critical length
-pub record IsLateByCritical (p : Project) (terms : Terms) (late : List ℕ) : Type 0 where
-  pub critical : ℕ
-  pub length : IsCriticalLength p (release_of terms) critical
-  pub is_late : IsLate p (λ _. critical) late
-
--- how much room the jobs have: the late starts by the due times and the deadline, the early starts, and the late starts
--- by the critical length
-pub record IsRoom (p : Project) (terms : Terms) (room : Room) : Type 0 where
-  pub latest : IsLate p (due_of terms) room.latest
-  pub early : IsEarly p (release_of terms) room.early
-  pub late : IsLateByCritical p terms room.late
-
--- the numbers of the jobs that come right before the job at place i, in the pairs of a network
-abbrev pub precedent : ℕ → ℕ × ℕ → List ℕ
-precedent i arc = if arc.1 == number i then arc.0 ∷ [] else []
-
-abbrev pub precedents : ℕ → List (ℕ × ℕ) → List ℕ
-precedents i arcs = flat_map (precedent i) arcs
-
--- what is said of the job at place i. It is on the critical chain exactly if its early start is its late start by the
--- critical length
-pub record IsTask (p : Project) (starts : List ℕ) (room : Room) (names : List (List ℕ)) (i : ℕ) (task : Task) :
-    Type 0 where
-  pub numbered : task.job ≡ number i
-  pub called : option_map (λ name. name.now) task.name ≡ name_at names i
-  pub runs : task.duration ≡ duration p i
-  pub begins : task.start ≡ slice_index starts i
-  pub latest_is : task.latest ≡ slice_index room.latest i
-  pub critical_is : task.is_critical ≡ (slice_index room.early i == slice_index room.late i)
-  pub after : task.predecessors.items ≡ precedents i p.arcs
-
--- what is said of each job
-pub record AreTasks (p : Project) (terms : Terms) (starts : List ℕ) (names : List (List ℕ)) (tasks : List Task) :
-    Type 0 where
-  pub room : Room
-  pub right : IsRoom p terms room
-  pub places : length tasks ≡ length p.jobs
-  pub each : (i : ℕ) (d : Task) → i < length p.jobs → IsTask p starts room names i (slice_index_or tasks i d)
-
--- what is said of the resource at place k
-pub record IsChoice (p : Project) (terms : Terms) (plan : Plan) (names : List (List ℕ)) (k : ℕ) (choice : Choice) :
-    Type 0 where
-  pub numbered : choice.resource ≡ number k
-  pub called : option_map (λ name. name.now) choice.name ≡ name_at names (length p.jobs + k)
-  pub units_are : choice.units ≡ slice_index plan.capacities k
-  pub priced : choice.price ≡ slice_index terms.prices k
-  pub owned_is : choice.owned ≡ slice_index terms.owned k
-  pub busy_is : choice.busy ≡ percent (energy p k) (slice_index plan.capacities k * terms.deadline)
-  pub used : AreSteps p plan.starts k choice.usage.items
-
--- what is said of each resource
-pub record AreChoices (p : Project) (terms : Terms) (plan : Plan) (names : List (List ℕ)) (choices : List Choice) :
-    Type 0 where
-  pub places : length choices ≡ p.resources
-  pub each : (k : ℕ) (d : Choice) → k < p.resources → IsChoice p terms plan names k (slice_index_or choices k d)
-
--- what a page says of a plan, for the text of a curve
+-- what a page says of a plan, for the text of a curve: what is drawn of it, and the steps of the curve
 pub record IsReport (p : Project) (terms : Terms) (plan : Plan) (names : List (List ℕ)) (curve : List ℕ)
     (report : Report) : Type 0 where
-  pub deadline_is : report.deadline ≡ terms.deadline
-  pub critical_is : report.critical ≡ plan.critical
-  pub cost_is : report.cost ≡ plan.cost
-  pub all_tasks : AreTasks p terms plan.starts names report.tasks.items
-  pub all_choices : AreChoices p terms plan names report.choices.items
+  pub right : IsDrawing p terms plan names report.plan
   pub all_costs : AreStepsIn curve report.costs.items

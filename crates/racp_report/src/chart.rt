@@ -3,9 +3,9 @@
 ghost use Rattle.std.specs.Prelude.{◌≡◌, ◌<◌, ◌^◌, ◌++◌, OnOk, length, string_bytes};
 ghost use Rattle.racp_report.specs.Drawings.{block_begin, block_end, frame, task_block, task_blocks};
 
-use crate::axis::{Span, push_above, push_axis, push_deadline, push_deadline_label, push_drawing};
-use crate::row::push_row;
-use crate::task::Task;
+use crate::figure::push_drawing;
+use racp_charts::{Span, push_row};
+use racp_show::Task;
 use std::alloc::{AllocError, Global};
 
 /// How many tasks a drawing has at most, so that it fits half a printed page.
@@ -71,16 +71,13 @@ fn push_block_begin(
     push_frame(text, span, bottom)
 }
 
-/// Adds the beginning of a drawing that goes down to here, with its axis and the line of the deadline.
+/// Adds the beginning of a drawing that goes down to here, with what stands around its rows.
 fn push_frame(text: &mut String, span: Span, bottom: u128) -> Result<(), AllocError>
     requires { bottom < 2 ^ 72 }
     ensures { OnOk result (string_bytes text.new ≡ string_bytes text.old ++ frame span bottom) }
 {
     push_drawing(text, "The tasks over time", bottom + 24)?;
-    push_above(text, span, 34)?;
-    push_axis(text, span, TOP, bottom)?;
-    push_deadline_label(text, span.last)?;
-    push_deadline(text, TOP, bottom)?;
+    racp_charts::push_frame(text, span, bottom)?;
     Ok(())
 }
 

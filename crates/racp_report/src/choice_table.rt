@@ -3,8 +3,7 @@
 ghost use Rattle.std.specs.Prelude.{◌≡◌, ◌++◌, OnOk, flat_map, option_map, string_bytes};
 ghost use Rattle.racp_report.specs.Pages.{choice_cells, choice_row, total_row};
 
-use crate::choice::Choice;
-use crate::names::push_name;
+use racp_charts::{Choice, push_name};
 use std::alloc::AllocError;
 
 /// Adds a row for each resource.

@@ -3,26 +3,36 @@
 ghost use Rattle.std.specs.Prelude.{◌≡◌, ◌++◌, OnOk, flat_map, string_bytes};
 ghost use Rattle.racp_report.specs.Pages.{cost_cells, cost_row, cost_section, cost_table, unit_text};
 
-use crate::cost_chart::push_costs;
+use crate::cost_chart::push_cost_figure;
 use racp_json::Step;
-use std::alloc::AllocError;
+use std::alloc::{AllocError, Global};
 
 /// Adds what deadlines cost, if anything is known of it.
-pub(crate) fn push_curve(text: &mut String, costs: &[Step], deadline: u32) -> Result<(), AllocError>
+pub(crate) fn push_curve(
+    alloc: Global,
+    text: &mut String,
+    costs: &[Step],
+    deadline: u32,
+) -> Result<(), AllocError>
     ensures { OnOk result (string_bytes text.new ≡ string_bytes text.old ++ cost_section deadline costs.now) }
 {
     if costs.is_empty() {
         return Ok(());
     }
-    push_cost_table(text, costs, deadline)
+    push_cost_table(alloc, text, costs, deadline)
 }
 
 /// Adds what deadlines cost.
-fn push_cost_table(text: &mut String, costs: &[Step], deadline: u32) -> Result<(), AllocError>
+fn push_cost_table(
+    alloc: Global,
+    text: &mut String,
+    costs: &[Step],
+    deadline: u32,
+) -> Result<(), AllocError>
     ensures { OnOk result (string_bytes text.new ≡ string_bytes text.old ++ cost_table deadline costs.now) }
 {
     text.push_str("<h2>What each deadline costs</h2>\n")?;
-    push_costs(text, costs, deadline)?;
+    push_cost_figure(alloc, text, costs, deadline)?;
     text.push_str(
         "<div class=\"wide\"><table>\n<thead><tr><th>From deadline</th><th>Cost</th><th>Units of each resource</th>\
          </tr></thead>\n<tbody>\n",

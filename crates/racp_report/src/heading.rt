@@ -77,8 +77,8 @@ fn push_claim(text: &mut String) -> Result<(), AllocError>
     text.push_str(
         "<p>The plan was checked when this page was made: each task comes after those that it waits for and ends in \
          time, no resource is used beyond its units, and the cost is right. However many units there are, it takes at \
-         least the critical length. That no cheaper choice keeps the deadline is proved by a certificate; how to make \
-         and check one stands at the end.</p>\n",
+         least the critical length. Whether a cheaper choice keeps the deadline was not looked at: a certificate proves \
+         that none does, and how to make and check one stands at the end.</p>\n",
     )
 }
 

@@ -12,13 +12,10 @@
 //! <tr><td>2</td><th scope="row">Foundations</th><td>6</td><td>4</td><td>10</td><td>7</td><td></td><td>1</td></tr>
 //! ```
 //!
-//! The slack of a task is how much later it could start, with all that comes after it moved, if only precedence and
-//! the due times counted: its late start less its start. A task is on the critical chain if it has no such room once
-//! the project has to end by its critical length: its early start is its late start.
-//!
-//! A chart is 1,000 wide, whatever its deadline is: the times up to the deadline are drawn from 270 to 970. It is cut
-//! after 30 tasks, so that it breaks well over printed pages. So the page grows with the jobs, the pairs, the resources
-//! and the lines of the curve, and neither it nor the work grow with the deadline.
+//! The charts are the drawings of racp_charts, which says what slack and the critical chain are, and how times are
+//! drawn. The chart of the tasks is cut after 30 of them, so that it breaks well over printed pages. So the page grows
+//! with the jobs, the pairs, the resources and the lines of the curve, and neither it nor the work grow with the
+//! deadline.
 //!
 //! Proved: each number and each name of a report is that of the network, the order, the plan, the names or the curve;
 //! the late starts, the critical chain and the predecessors are those of the network; and `report_text` gives exactly
@@ -27,24 +24,18 @@
 //! the head and the body of the page. Whether a plan is right is not looked at here: racp_check does.
 #![tactic(auto)]
 
-mod axis;
 mod chart;
-mod choice;
 mod choice_table;
 mod cost_chart;
 mod cost_table;
+mod figure;
 mod heading;
-mod latest;
-mod names;
+mod key;
 mod page;
 mod panels;
 mod report;
-mod row;
 mod style;
-mod task;
 mod task_table;
 
-pub use choice::Choice;
 pub use page::report_text;
 pub use report::{Report, report_of};
-pub use task::Task;

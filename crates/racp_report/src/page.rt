@@ -3,15 +3,16 @@
 ghost use Rattle.std.specs.Prelude.{◌≡◌, ◌++◌, IfOk, OnOk, length, string_bytes};
 ghost use Rattle.racp_report.specs.Pages.{IsPage, body_of, charts, choice_table, task_table};
 
-use crate::axis::Span;
 use crate::chart::push_chart;
 use crate::choice_table::{push_choices, push_total};
 use crate::cost_table::push_curve;
 use crate::heading::{push_checking, push_heading, push_opening};
+use crate::key::push_key_figure;
 use crate::panels::push_panels;
 use crate::report::Report;
-use crate::style::STYLE;
+use crate::style::PAGE_STYLE;
 use crate::task_table::push_tasks;
+use racp_charts::{STYLE, Span};
 use std::alloc::{AllocError, Global};
 
 /// A report as a page in HTML, in UTF-8, which needs nothing from elsewhere. No name stands in it with a character that
@@ -25,8 +26,9 @@ pub fn report_text(alloc: Global, report: &Report<'_>) -> Result<String, AllocEr
     ensures { IfOk result (λ text. IsPage report.now text) }
 {
     let mut text = String::new(alloc);
-    push_opening(&mut text, report.cost, report.deadline)?;
+    push_opening(&mut text, report.plan.cost, report.plan.deadline)?;
     text.push_str(STYLE)?;
+    text.push_str(PAGE_STYLE)?;
     push_body(alloc, &mut text, report)?;
     Ok(text)
 }
@@ -35,27 +37,27 @@ pub fn report_text(alloc: Global, report: &Report<'_>) -> Result<String, AllocEr
 fn push_body(alloc: Global, text: &mut String, report: &Report<'_>) -> Result<(), AllocError>
     ensures { OnOk result (string_bytes text.new ≡ string_bytes text.old ++ body_of report.now) }
 {
-    let deadline = report.deadline;
+    let deadline = report.plan.deadline;
     push_heading(
         text,
-        report.cost,
+        report.plan.cost,
         deadline,
-        report.critical,
+        report.plan.critical,
         task_count(report),
     )?;
     push_choice_table(text, report)?;
     push_charts(alloc, text, report)?;
     push_task_table(text, report)?;
-    push_curve(text, report.costs.as_slice(), deadline)?;
+    push_curve(alloc, text, report.costs.as_slice(), deadline)?;
     push_checking(text)?;
     Ok(())
 }
 
 /// How many tasks a report has.
 fn task_count(report: &Report<'_>) -> usize
-    ensures { result ≡ length report.now.tasks.items }
+    ensures { result ≡ length report.now.plan.tasks.items }
 {
-    report.tasks.len()
+    report.plan.tasks.len()
 }
 
 /// Adds the table of the resources.
@@ -66,8 +68,8 @@ fn push_choice_table(text: &mut String, report: &Report<'_>) -> Result<(), Alloc
         "<h2>What to have</h2>\n<div class=\"wide\"><table>\n<thead><tr><th>Resource</th><th>Units</th><th>Owned</th>\
          <th>Price</th><th>Cost</th><th>Busy</th></tr></thead>\n<tbody>\n",
     )?;
-    push_choices(text, report.choices.as_slice())?;
-    push_total(text, report.cost)?;
+    push_choices(text, report.plan.choices.as_slice())?;
+    push_total(text, report.plan.cost)?;
     Ok(())
 }
 
@@ -77,15 +79,13 @@ fn push_charts(alloc: Global, text: &mut String, report: &Report<'_>) -> Result<
 {
     let span = Span {
         first: 0,
-        last: report.deadline,
+        last: report.plan.deadline,
     };
-    text.push_str(
-        "<h2>When each task runs</h2>\n<p class=\"key\"><i class=\"critical\"></i>on the critical chain\
-         <i class=\"bar\"></i>other tasks<i class=\"slack\"></i>slack<i class=\"deadline\"></i>deadline</p>\n",
-    )?;
-    push_chart(alloc, text, report.tasks.as_slice(), span)?;
+    text.push_str("<h2>When each task runs</h2>\n")?;
+    push_key_figure(text)?;
+    push_chart(alloc, text, report.plan.tasks.as_slice(), span)?;
     text.push_str("<h2>How much of each resource is used</h2>\n")?;
-    push_panels(alloc, text, report.choices.as_slice(), span)?;
+    push_panels(alloc, text, report.plan.choices.as_slice(), span)?;
     Ok(())
 }
 
@@ -98,7 +98,7 @@ fn push_task_table(text: &mut String, report: &Report<'_>) -> Result<(), AllocEr
          <th>Duration</th><th>Start</th><th>End</th><th>Slack</th><th class=\"left\">Critical</th>\
          <th class=\"left\">After</th></tr></thead>\n<tbody>\n",
     )?;
-    push_tasks(text, report.tasks.as_slice())?;
+    push_tasks(text, report.plan.tasks.as_slice())?;
     text.push_str("</tbody></table></div>\n")?;
     Ok(())
 }

@@ -5,8 +5,7 @@ ghost use Rattle.racp_model.specs.Terms.{AreTermsOf};
 ghost use Rattle.racp_model.specs.Plan.{FitsTerms};
 ghost use Rattle.racp_report.specs.Reports.{IsReport};
 
-use crate::choice::{Choice, choices_of};
-use crate::task::{Task, tasks_of};
+use racp_charts::{Drawing, drawing_of};
 use racp_json::{Step, steps_of};
 use racp_model::Network;
 use racp_plan::Plan;
@@ -17,16 +16,8 @@ use std::alloc::{AllocError, Global};
 /// What a page says of a plan.
 #[derive(Drop)]
 pub struct Report<'a> {
-    /// The deadline of the order, in time units.
-    pub deadline: u32,
-    /// The critical length that the plan says, in time units.
-    pub critical: u64,
-    /// What the capacities cost, as the plan says.
-    pub cost: u64,
-    /// The jobs, by place from 0.
-    pub tasks: Vec<Task<'a>>,
-    /// The resources, by place from 0.
-    pub choices: Vec<Choice<'a>>,
+    /// What is drawn of the plan, and said in tables too.
+    pub plan: Drawing<'a>,
     /// The steps of a curve; none if there is no curve.
     pub costs: Vec<Step>,
 }
@@ -50,14 +41,6 @@ pub fn report_of<'a>(
     ensures { IfOk result (IsReport net.now order.now plan.now names.now curve.now) }
 {
     let costs = steps_of(alloc, curve)?;
-    let tasks = tasks_of(alloc, net, order, plan, names)?;
-    let choices = choices_of(alloc, net, order, plan, names)?;
-    Ok(Report {
-        deadline: order.deadline,
-        critical: plan.critical,
-        cost: plan.cost,
-        tasks,
-        choices,
-        costs,
-    })
+    let plan = drawing_of(alloc, net, order, plan, names)?;
+    Ok(Report { plan, costs })
 }

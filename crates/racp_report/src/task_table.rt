@@ -1,12 +1,10 @@
 //! The tasks as a table.
 
 ghost use Rattle.std.specs.Prelude.{◌≡◌, ◌++◌, OnOk, flat_map, option_map, string_bytes};
-ghost use Rattle.racp_report.specs.Elements.{listed_number, number_list};
 ghost use Rattle.racp_report.specs.Pages.{task_cells, task_row, task_row_begin, task_times, yes_text};
 
-use crate::names::push_name;
-use crate::row::class_of;
-use crate::task::Task;
+use racp_charts::{class_of, push_name, push_numbers};
+use racp_show::Task;
 use std::alloc::AllocError;
 
 /// Adds a row for each task.
@@ -73,25 +71,4 @@ fn yes_of(task: &Task<'_>) -> &'static str
     ensures { result.now ≡ yes_text task.now.is_critical }
 {
     if task.is_critical { "yes" } else { "" }
-}
-
-/// Adds numbers, with a comma between two of them.
-pub(crate) fn push_numbers(text: &mut String, numbers: &[u32]) -> Result<(), AllocError>
-    ensures { OnOk result (string_bytes text.new ≡ string_bytes text.old ++ number_list 0 numbers.now) }
-{
-    for (place, number) in numbers.iter().enumerate() {
-        push_number(text, place, *number)?;
-    }
-    Ok(())
-}
-
-/// Adds the number at this place of some, with a comma before it unless it is the first.
-fn push_number(text: &mut String, place: usize, number: u32) -> Result<(), AllocError>
-    ensures { OnOk result (string_bytes text.new ≡ string_bytes text.old ++ listed_number place number) }
-{
-    if place == 0 {
-        write!(text, "{number}")
-    } else {
-        write!(text, ", {number}")
-    }
 }

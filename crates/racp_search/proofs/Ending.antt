@@ -8,8 +8,8 @@ use Rattle.racp_search.specs.Truth.{IsFoundOrLeft}
 use Rattle.racp_search.specs.DepthFirst.{SearchFrame}
 use Rattle.racp_search.specs.Ends.{IsEnd, IsEndOf, IsFinished, IsHalt, IsHaltOf}
 use Rattle.racp_search.specs.declared.ended.Ended.{Ended}
-use Rattle.racp_search.specs.declared.depth_first.Halt.{Halt}
-use Rattle.racp_search.specs.declared.depth_first.Halt.TheVariants.{Found, Nothing, Left}
+use Rattle.racp_search.specs.declared.halt.Halt.{Halt}
+use Rattle.racp_search.specs.declared.halt.Halt.TheVariants.{Found, Nothing, Left}
 use Rattle.racp_search.proofs.Entering.{end_nothing}
 
 module _ (p : Project) (capacities : List ℕ) (window : Bounds) (quantum : Option ℕ) (nodes : ℕ) (quiet : Bool) (stack : List SearchFrame) where

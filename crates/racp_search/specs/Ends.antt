@@ -6,9 +6,9 @@ use Rattle.racp_model.specs.Window.{Bounds, Answers}
 use Rattle.racp_search.specs.Truth.{SearchPiece, SearchFinding, IsFoundOrLeft}
 use Rattle.racp_search.specs.DepthFirst.{SearchFrame, IsHigher, IsSearching, IsSearchingNext}
 use Rattle.racp_search.specs.Steps.{IsLeft}
-use Rattle.racp_search.specs.declared.depth_first.Next.{Next}
-use Rattle.racp_search.specs.declared.depth_first.Halt.{Halt}
-use Rattle.racp_search.specs.declared.depth_first.Halt.TheVariants.{Found, Nothing, Left}
+use Rattle.racp_search.specs.declared.halt.Next.{Next}
+use Rattle.racp_search.specs.declared.halt.Halt.{Halt}
+use Rattle.racp_search.specs.declared.halt.Halt.TheVariants.{Found, Nothing, Left}
 use Rattle.racp_search.specs.declared.finding.Rest.TheVariants.{Whole, Windows}
 use Rattle.racp_search.specs.declared.ended.Ended.{Ended}
 

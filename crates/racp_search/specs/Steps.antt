@@ -5,9 +5,9 @@ use Rattle.racp_model.specs.Window.{Bounds, Answers}
 use Rattle.racp_cutset.specs.Covering.{SearchNode}
 use Rattle.racp_cutset.specs.Kept.{Kept, IsKeptOrDropped}
 use Rattle.racp_search.specs.Truth.{IsRestOf}
-use Rattle.racp_search.specs.declared.depth_first.Next.{Next}
-use Rattle.racp_search.specs.declared.depth_first.Step.{Step}
-use Rattle.racp_search.specs.declared.depth_first.Step.TheVariants.{Further, Found, Nothing}
+use Rattle.racp_search.specs.declared.halt.Next.{Next}
+use Rattle.racp_search.specs.declared.halt.Step.{Step}
+use Rattle.racp_search.specs.declared.halt.Step.TheVariants.{Further, Found, Nothing}
 use Rattle.racp_search.specs.DepthFirst.{SearchFrame, open_parts, IsHigher, IsRestOfFrame, IsSearching, IsSearchingNext, IsTaken, IsUsedUp, weights}
 use Rattle.racp_search.specs.DepthFirst.Part.{all_of}
 

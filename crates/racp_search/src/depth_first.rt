@@ -1,14 +1,15 @@
-ghost use Rattle.std.specs.Prelude.{◌≡◌, ◌<◌, ◌≤◌, [], ◌∷◌, ◌++◌, IsTrue, IsFalse, IfOk, OnOk, IfSome, length};
-ghost use Rattle.racp_search.specs.declared.depth_first.Halt.TheVariants.{Left};
+ghost use Rattle.std.specs.Prelude.{◌≡◌, ◌≤◌, [], IsTrue, IsFalse, IfOk, IfSome};
 ghost use Rattle.racp_model.specs.Window.{IsNo};
 ghost use Rattle.racp_cutset.specs.Kept.{StayKept, front};
 ghost use Rattle.racp_search.specs.DepthFirst.{IsSearching, IsSearchingNext};
-ghost use Rattle.racp_search.specs.Ends.{IsEnd, IsEndOf, IsFinished, IsHalt, IsHaltOf, IsSpent};
-ghost use Rattle.racp_search.specs.Steps.{HasFirst, IsEntered, IsFirstLeft, IsFrontWindow, IsLeft, IsNextAnswer, IsKeptSomeOrDropped, IsStep};
+ghost use Rattle.racp_search.specs.Ends.{IsEnd, IsFinished, IsHalt, IsHaltOf};
+ghost use Rattle.racp_search.specs.Steps.{IsEntered, IsNextAnswer, IsKeptSomeOrDropped, IsStep};
 
 use crate::ended::Ended;
-use crate::frame::{Frame, expand};
+use crate::expanding::expand;
+use crate::frame::Frame;
 use crate::glance::{Glance, look_at};
+use crate::halt::{Halt, Next, Step, is_spent};
 use crate::subject::Subject;
 use crate::workspace::{Spare, Workspace};
 use racp_cutset::{Local, Nogood};
@@ -16,10 +17,6 @@ use racp_delay::Stop;
 use racp_model::{Network, OfNetwork, Starts, Window};
 use racp_timetable::{Tightened, tighten};
 use std::alloc::{AllocError, Global};
-
-/// How many windows a search leaves where it can, beside the one in which it is gone on with: enough for other threads
-/// to have one each, and few, as a search that goes by depth through all of them keeps better records.
-const ENOUGH_WINDOWS: usize = 8;
 
 /// Searches a question's window by depth, until starts are found, nothing is left, as many nodes were entered as the
 /// quantum allows, or the search is stopped. Counts the nodes.
@@ -49,51 +46,12 @@ pub(crate) fn search<N: OfNetwork, S: Stop>(
     ended
 }
 
-/// Whether as many nodes were entered as the quantum allows.
-fn is_spent(quantum: Option<u64>, nodes: u64) -> bool
-    ensures { IsSpent quantum nodes result }
-{
-    match quantum {
-        Some(most) => most <= nodes,
-        None => false,
-    }
-}
-
-/// A window to be searched next, and a time before which its early starts keep the capacities.
-#[derive(Drop)]
-struct Next {
-    window: Window,
-    from: u32,
-}
-
-/// What one step of a search comes to.
-#[derive(Drop)]
-enum Step {
-    /// This window is searched next.
-    Further(Next),
-    /// These starts answer.
-    Found(Starts),
-    /// Nothing is left.
-    Nothing,
-}
-
-/// Where a search comes to a halt.
-#[derive(Drop)]
-enum Halt {
-    /// These starts answer.
-    Found(Starts),
-    /// Nothing is left.
-    Nothing,
-    /// Before this window: since it was stopped, or since the quantum is spent.
-    Left(Next, bool),
-}
-
 /// The frames on the way to the window that is searched next, the first node first, and the memory that is used again
 /// from node to node.
 #[derive(Drop)]
-struct Stack<N: OfNetwork> {
-    frames: Vec<Frame<N>>,
-    workspace: Workspace,
+pub(crate) struct Stack<N: OfNetwork> {
+    pub(crate) frames: Vec<Frame<N>>,
+    pub(crate) workspace: Workspace,
 }
 
 impl<N: OfNetwork> Stack<N> {
@@ -264,60 +222,6 @@ impl<N: OfNetwork> Stack<N> {
         }
         Ok(None)
     }
-
-    /// Leaves a search: answers the windows that are left of the first frames, of as many as make enough, and the window of
-    /// the frame behind those, or the one that is searched next.
-    fn leave(
-        &mut self,
-        alloc: Global,
-        subject: &Subject<N>,
-        next: Next,
-        stopped: bool,
-    ) -> Result<Ended, AllocError>
-        requires { IsSearchingNext N.network subject.now.capacities subject.now.window
-            self.old.frames.items next.window next.from }
-        ensures { IfOk result (IsEndOf N.network subject.now.capacities subject.now.window (Left next stopped)) }
-    {
-        let rest = self.gather(alloc, subject, &next)?;
-        Ok(Ended::left(rest, stopped))
-    }
-
-    /// The windows that are left. The frames of which some are left are taken out.
-    fn gather(
-        &mut self,
-        alloc: Global,
-        subject: &Subject<N>,
-        next: &Next,
-    ) -> Result<Vec<Window>, AllocError>
-        requires { IsSearchingNext N.network subject.now.capacities subject.now.window
-            self.old.frames.items next.now.window next.now.from }
-        ensures { IfOk result (λ rest.
-            IsLeft N.network subject.now.capacities subject.now.window next.now.window rest.items) }
-    {
-        let mut rest: Vec<Window> = Vec::new(alloc);
-        while rest.len() < ENOUGH_WINDOWS && !self.frames.is_empty() {
-            self.leave_first(alloc, subject, &mut rest)?;
-        }
-        let window = front_window(&self.frames, next)?;
-        rest.push(window)?;
-        Ok(rest)
-    }
-
-    /// Takes the first frame out, and puts the windows that are left of it behind others.
-    fn leave_first(
-        &mut self,
-        alloc: Global,
-        subject: &Subject<N>,
-        rest: &mut Vec<Window>,
-    ) -> Result<(), AllocError>
-        requires { HasFirst subject.now.capacities self.old.frames.items }
-        ensures { IfOk result (λ _. IsFirstLeft N.network subject.now.capacities
-            self.old.frames.items self.new.frames.items rest.old.items rest.new.items) }
-    {
-        let frame = take_first(&mut self.frames);
-        let more = frame.into_rest(alloc, &mut self.workspace, subject)?;
-        append(rest, more)
-    }
 }
 
 /// Keeps the node of a frame, which is refuted, as a record; the first `count` records stay.
@@ -338,32 +242,4 @@ fn record_frame<N: OfNetwork>(
     spare.give_row(lower.into_vec());
     spare.give_row(early.into_vec());
     spare.give_row(ends);
-}
-
-/// Puts windows behind others.
-fn append(rest: &mut Vec<Window>, more: Vec<Window>) -> Result<(), AllocError>
-    ensures { OnOk result (rest.new.items ≡ rest.old.items ++ more.items) }
-{
-    for window in more {
-        rest.push(window)?;
-    }
-    Ok(())
-}
-
-/// Takes the first frame out.
-fn take_first<N: OfNetwork>(frames: &mut Vec<Frame<N>>) -> Frame<N>
-    requires { 0 < length frames.old.items }
-    ensures { frames.old.items ≡ result ∷ frames.new.items }
-{
-    frames.remove(0)
-}
-
-/// The window of the first frame, or, where there is none, the one that is searched next.
-fn front_window<N: OfNetwork>(frames: &Vec<Frame<N>>, next: &Next) -> Result<Window, AllocError>
-    ensures { IfOk result (IsFrontWindow frames.now.items next.now.window) }
-{
-    match frames.first() {
-        Some(frame) => frame.window().copy(),
-        None => next.window.copy(),
-    }
 }

@@ -6,14 +6,14 @@ ghost use Rattle.racp_search.specs.DepthFirst.{HasActive, IsEachAlone, IsFrameOf
 ghost use Rattle.racp_search.specs.Glances.{HasConflict, IsExpanded};
 ghost use Rattle.racp_search.specs.Steps.{IsTakenAnswer};
 
-use crate::child::{Child, child_of, free_of, insert, windows_of};
+use crate::child::{Child, child_of, free_of, insert};
 use crate::subject::Subject;
 use crate::workspace::{Spare, Workspace};
-use racp_cutset::{Local, Node};
-use racp_delay::{Clash, Steps, Unfound, laws};
-use racp_model::{Capacities, JobSet, OfNetwork, Question, Starts, Window};
+use racp_cutset::Node;
+use racp_delay::{Steps, Unfound, laws};
+use racp_model::{JobSet, OfNetwork, Window};
 use smallvec::SmallVec;
-use std::alloc::{AllocError, Global};
+use std::alloc::AllocError;
 use std::marker::Model;
 
 /// How many child windows are made at a time, those with the most slack to be searched first.
@@ -23,19 +23,16 @@ const MOST_CHILDREN: usize = 64;
 /// 512 jobs are fewer.
 const MOST_STEPS: u32 = 50_000;
 
-/// Up to this number of active jobs all alternatives are listed at once: they are 70 at the most.
-const FEW_ACTIVE: usize = 8;
-
 /// A node on the way to the window that is searched next, with child windows that are still to be searched, those with
 /// more slack behind. Child windows of alternatives behind the last that was looked at are made when they are wanted.
 /// Contracts see a `SearchFrame`.
 #[derive(Drop)]
 pub(crate) struct Frame<N: OfNetwork> {
-    node: Node<N>,
-    active: JobSet,
-    children: Vec<Child>,
+    pub(crate) node: Node<N>,
+    pub(crate) active: JobSet,
+    pub(crate) children: Vec<Child>,
     last: Vec<u32>,
-    more: bool,
+    pub(crate) more: bool,
 }
 
 impl<N: OfNetwork> Model for Frame<N> {
@@ -100,7 +97,7 @@ impl<N: OfNetwork> Frame<N> {
     }
 
     /// The child windows that were made and not taken.
-    fn into_children(self) -> Vec<Child>
+    pub(crate) fn into_children(self) -> Vec<Child>
         ensures windows { child_windows result.items ≡ self.windows }
     {
         self.children
@@ -134,7 +131,7 @@ impl<N: OfNetwork> Frame<N> {
     }
 
     /// Makes child windows until there are enough or none is left. That takes a bounded number of steps.
-    fn find_children(
+    pub(crate) fn find_children(
         &mut self,
         workspace: &mut Workspace,
         subject: &Subject<N>,
@@ -222,7 +219,7 @@ impl<N: OfNetwork> Frame<N> {
     }
 
     /// Takes up all alternatives, which are these.
-    fn take_all(
+    pub(crate) fn take_all(
         &mut self,
         spare: &mut Spare,
         subject: &Subject<N>,
@@ -241,149 +238,4 @@ impl<N: OfNetwork> Frame<N> {
         self.more = false;
         Ok(())
     }
-
-    /// The windows that are left: its child windows, where those still to be made are fewer than the jobs; else, for
-    /// each active job, the window in which this job alone is put off behind the first end of the others.
-    pub(crate) fn into_rest(
-        mut self,
-        alloc: Global,
-        workspace: &mut Workspace,
-        subject: &Subject<N>,
-    ) -> Result<Vec<Window>, AllocError>
-        requires { self.node.capacities ≡ subject.now.capacities }
-        ensures { IfOk result (λ rest. IsRestOfFrame N.network subject.now.capacities self rest.items) }
-    {
-        let jobs = subject.network().job_count();
-        let enough = self.children.len().saturating_add(jobs);
-        if let Err(error) = self.find_children(workspace, subject, enough) {
-            // Dropped here once, not at each way out.
-            drop(self);
-            return Err(error);
-        }
-        if self.more {
-            let rest = self.put_off_each(&mut workspace.spare, subject);
-            // Dropped here once, not at each way out.
-            drop(self);
-            return windows_of(alloc, rest?);
-        }
-        windows_of(alloc, self.into_children())
-    }
-
-    /// For each active job the child window in which it alone is put off, where something may lie in it.
-    fn put_off_each(
-        &self,
-        spare: &mut Spare,
-        subject: &Subject<N>,
-    ) -> Result<Vec<Child>, AllocError>
-        requires { self.now.node.capacities ≡ subject.now.capacities }
-        ensures { IfOk result (λ rest. IsEachAlone N.network subject.now.capacities self.now rest.items) }
-    {
-        laws::each_job_alone_covers();
-        laws::each_has_child();
-        laws::child_is_inside();
-        laws::subsets_go();
-        let mut rest = spare.list();
-        for job in self.active.iter() {
-            let gone = [job];
-            if let Some(child) = child_of(spare, subject, &self.node, &self.active, &gone)? {
-                rest.push(child)?;
-            }
-        }
-        Ok(rest)
-    }
-}
-
-/// The frame of a window's node at the first conflict of its early starts; or `None` where a record covers the node, so
-/// that nothing in the window answers.
-pub(crate) fn expand<N: OfNetwork>(
-    workspace: &mut Workspace,
-    subject: &Subject<N>,
-    window: Window,
-    starts: Starts,
-    conflict: Clash,
-    local: &mut Local<N>,
-) -> Result<Option<Frame<N>>, AllocError>
-    requires bounds { HasBounds N.network window }
-    requires conflict { HasConflict N.network subject.now.capacities window starts conflict }
-    ensures expanded { IfOk result (IsExpanded N.network subject.now.capacities window) }
-    ensures kept { local.new ≡ local.old }
-{
-    let spare = &mut workspace.spare;
-    let node: Node<N> = node_of(spare, subject, window, starts, conflict.time)?;
-    if local.find(subject.board(), &node).is_some() {
-        spare.give_node(node);
-        return Ok(None);
-    }
-    prove!(node.question().window.lower().len() == subject.network().job_count());
-    Ok(Some(first_frame(workspace, subject, node, conflict)?))
-}
-
-/// The node of a window, its early starts and a time.
-fn node_of<N: OfNetwork>(
-    spare: &mut Spare,
-    subject: &Subject<N>,
-    window: Window,
-    starts: Starts,
-    time: u32,
-) -> Result<Node<N>, AllocError>
-    requires bounds { HasBounds N.network window }
-    requires early { IsEarly N.network (slice_index window.lower) starts }
-    ensures capacities { IfOk result (λ node. node.capacities ≡ subject.now.capacities) }
-    ensures window { IfOk result (λ node. node.window ≡ window) }
-    ensures early { IfOk result (λ node. node.early ≡ starts) }
-    ensures time { IfOk result (λ node. node.time ≡ time) }
-{
-    let capacities = spare.row_of(subject.capacities().as_slice())?;
-    let question = Question {
-        capacities: Capacities::new(capacities),
-        window,
-    };
-    let rows = (spare.row(), spare.row());
-    Node::reusing(subject.network(), question, starts, rows, time)
-}
-
-/// The frame of a node at its conflict. Its child windows are made at once where few jobs are active.
-fn first_frame<N: OfNetwork>(
-    workspace: &mut Workspace,
-    subject: &Subject<N>,
-    node: Node<N>,
-    conflict: Clash,
-) -> Result<Frame<N>, AllocError>
-    requires active { HasActive N.network node conflict.active }
-    requires same { node.capacities ≡ subject.now.capacities }
-    ensures { IfOk result (IsFrameOf N.network subject.now.capacities node.window) }
-{
-    laws::branching_loses_nothing();
-    laws::some_job_goes();
-    if !are_few(&conflict.active) {
-        return Ok(bare_frame(&mut workspace.spare, node, conflict.active));
-    }
-    let (net, capacities) = (subject.network(), subject.capacities());
-    if let Err(error) = workspace.all.find(net, capacities, &conflict) {
-        // Dropped here once, not at each way out.
-        drop(node);
-        return Err(error);
-    }
-    let mut frame = bare_frame(&mut workspace.spare, node, conflict.active);
-    if let Err(error) = frame.take_all(&mut workspace.spare, subject, workspace.all.lists()) {
-        // Dropped here once, not at each way out.
-        drop(frame);
-        return Err(error);
-    }
-    Ok(frame)
-}
-
-/// The frame of a node and the active jobs of its conflict, without child windows.
-fn bare_frame<N: OfNetwork>(spare: &mut Spare, node: Node<N>, active: JobSet) -> Frame<N>
-    requires { HasActive N.network node active }
-    ensures { result ≡ record { node = node; active = active; windows = []; last = []; more = true } }
-{
-    let children = spare.list();
-    let last = spare.empty_row();
-    Frame::new(node, active, children, last)
-}
-
-/// Whether the alternatives of these active jobs are so few that they are listed at once.
-fn are_few(active: &JobSet) -> bool {
-    active.iter().count() <= FEW_ACTIVE
 }

@@ -4,8 +4,6 @@ mod Adding
 mod Rows
 mod Fitting
 mod Drawn
-mod Listing
 mod Naming
-mod Pieces
-mod Marks
 mod Cutting
+mod Criticals

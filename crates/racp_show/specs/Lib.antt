@@ -8,6 +8,4 @@ pub mod Tables
 pub mod Laws
 pub mod Labels
 pub mod Levels
-pub mod Pictures
-pub mod PlanPictures
-pub mod CostPictures
+pub mod Tasks

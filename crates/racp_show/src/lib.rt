@@ -1,4 +1,4 @@
-//! Shows a plan as a chart in text, as a picture, as JSON, or as a table of comma-separated values.
+//! Shows a plan as a chart in text, as JSON, or as a table of comma-separated values.
 //!
 //! Jobs and resources are numbered from 1; their places in lists count from 0. Times are whole time units from 0 on.
 //!
@@ -29,54 +29,44 @@
 //! with the deadline.
 //!
 //! `chart_of` makes the values that are drawn, and `chart_text` only writes them down. In the same way `sheet_of` makes
-//! the numbers of `json_text` and `svg_text`. `Names` holds what the jobs and resources are called; whatever has no
-//! name goes by its number, as `job 3`. `costs_svg` draws what deadlines cost, as a stair.
+//! the numbers of `json_text` and `csv_text`. `tasks_of` says of each job how much room it has. `Names` holds what the jobs
+//! and resources are called; whatever has no name goes by its number, as `job 3`.
 //!
 //! Proved: a scale has the least span; the bar of each row is its start and end in that scale, and these are the
 //! plan's; the usage in a column is the greatest at its times; how busy a resource is, is exact and rounded down; the
 //! steps of a usage are exact at all times; each number and each name of a sheet is the plan's, the order's or the one
-//! that was given; the names of a text are its lines without their control characters, at most one for each job and
-//! resource that there may be; `csv_text` gives exactly the table of the plan, `svg_text` exactly the picture of a
-//! sheet, with a bar for each job and a stair for each resource, and `costs_svg` exactly that of its corners. In
-//! `laws`: a job is drawn in exactly the columns in whose times it runs, and in no column that is not there. All of
-//! them return. Tested alone: how charts in text are laid out, and the text of the JSON, which rests on what `serde`
-//! derives. Whether a plan is right is not looked at here: racp_check does.
+//! that was given, and slack is by the late starts; the names of a text are its lines without their control characters,
+//! at most one for each job and resource that there may be; and `csv_text` gives exactly the table of a sheet. In `laws`: a job
+//! is drawn in exactly the columns in whose times it runs, and in no column that is not there. All of them return. Tested
+//! alone: how charts in text are laid out, and the text of the JSON, which rests on what `serde` derives. Whether a plan is
+//! right is not looked at here: racp_check does.
 #![tactic(auto)]
 
-mod axis;
-mod bars;
 mod cells;
 mod chart;
-mod costs;
-mod escape;
 mod form;
 mod json;
 mod label;
+mod latest;
 pub mod laws;
 mod names;
 mod order;
-mod page;
-mod range;
 mod scale;
 mod sheet;
-mod stairs;
-mod svg;
 mod table;
+mod task;
 mod text;
 mod times;
 mod usage;
 
 pub use chart::{Chart, JobRow, ResourceRow, chart_of};
-pub use costs::{Corner, costs_svg};
-pub use escape::push_escaped;
 pub use form::Form;
 pub use json::json_text;
 pub use label::label_within;
 pub use names::Names;
-pub use page::{MOST_MARKS, mark_of};
 pub use scale::{Bar, Scale};
 pub use sheet::{JobEntry, ResourceEntry, Sheet, sheet_of};
-pub use svg::svg_text;
 pub use table::csv_text;
+pub use task::{Task, tasks_of};
 pub use text::{LEAST_WIDTH, MOST_WIDTH, chart_text};
 pub use usage::{Step, busy_percent, greatest_usage, usage_steps};

@@ -5,8 +5,10 @@ ghost use Rattle.racp_model.specs.Plan.{FitsTerms};
 ghost use Rattle.racp_model.specs.Terms.{AreTermsOf};
 ghost use Rattle.racp_show.specs.Sheets.{AreJobEntries, AreResourceEntries, IsJobEntry, IsResourceEntry, IsSheet};
 
+use crate::latest::{Room, room_of};
 use crate::names::Names;
 use crate::order::{deadline_of, owned_of, price_of};
+use crate::task::{Task, task_of};
 use crate::times::Times;
 use crate::usage::{Step, usage_steps};
 use racp_model::Network;
@@ -26,6 +28,14 @@ pub struct JobEntry<'a> {
     pub start: u32,
     /// When it has ended, in time units.
     pub end: u32,
+    /// How many time units it runs.
+    pub duration: u32,
+    /// How much later it could start, in time units, if only precedence, the due times and the deadline counted.
+    pub slack: u32,
+    /// The numbers of the jobs that come right before it, in rising order.
+    pub predecessors: Vec<u32>,
+    /// How many units it needs of each resource.
+    pub requests: Vec<u32>,
 }
 
 /// What a sheet says of a resource.
@@ -83,7 +93,8 @@ pub fn sheet_of<'a>(
         starts: plan.starts.as_slice(),
         deadline,
     };
-    let jobs = job_entries(alloc, &times, names)?;
+    let room = room_of(alloc, net, order, plan)?;
+    let jobs = job_entries(alloc, &times, &room, names)?;
     let resources = resource_entries(alloc, net, order, plan, names)?;
     Ok(Sheet {
         deadline,
@@ -98,29 +109,59 @@ pub fn sheet_of<'a>(
 fn job_entries<'a>(
     alloc: Global,
     times: &Times,
+    room: &Room,
     names: &'a Names,
 ) -> Result<Vec<JobEntry<'a>>, AllocError>
-    ensures { IfOk result (λ entries. AreJobEntries times.now.net.now times.now.starts.now names.now entries.items) }
+    requires latest { length room.now.latest ≡ length times.now.net.now.jobs }
+    requires early { length room.now.early ≡ length times.now.net.now.jobs }
+    requires late { length room.now.late ≡ length times.now.net.now.jobs }
+    ensures { IfOk result (λ entries.
+        AreJobEntries times.now.net.now times.now.starts.now room.now.latest names.now entries.items) }
 {
     let mut entries = Vec::new(alloc);
     for i in 0..times.net.job_count() {
-        entries.push(job_entry(times, names, i))?;
+        entries.push(job_entry(alloc, times, room, names, i)?)?;
     }
     Ok(entries)
 }
 
 /// The entry of the job at place `i`.
-fn job_entry<'a>(times: &Times, names: &'a Names, i: usize) -> JobEntry<'a>
-    requires { i < length times.now.net.now.jobs }
-    ensures { IsJobEntry times.now.net.now times.now.starts.now names.now i result }
+fn job_entry<'a>(
+    alloc: Global,
+    times: &Times,
+    room: &Room,
+    names: &'a Names,
+    i: usize,
+) -> Result<JobEntry<'a>, AllocError>
+    requires job { i < length times.now.net.now.jobs }
+    requires latest { length room.now.latest ≡ length times.now.net.now.jobs }
+    requires early { length room.now.early ≡ length times.now.net.now.jobs }
+    requires late { length room.now.late ≡ length times.now.net.now.jobs }
+    ensures { IfOk result (IsJobEntry times.now.net.now times.now.starts.now room.now.latest names.now i) }
 {
     prove!(i < times.net.job_count());
-    JobEntry {
-        job: i + 1,
-        name: names.job(i),
-        start: times.start(i),
-        end: times.end(i),
-    }
+    let requests = times.net.requests(i).to_vec(alloc)?;
+    let end = times.end(i);
+    let task = task_of(alloc, times, room, names, i)?;
+    let Task {
+        job,
+        name,
+        duration,
+        start,
+        latest,
+        is_critical: _,
+        predecessors,
+    } = task;
+    Ok(JobEntry {
+        job,
+        name,
+        start,
+        end,
+        duration,
+        slack: latest.saturating_sub(start),
+        predecessors,
+        requests,
+    })
 }
 
 /// An entry for each resource.

@@ -26,6 +26,10 @@ pub(crate) struct Columns {
     pub(crate) duration: Option<usize>,
     /// After which tasks they come.
     pub(crate) predecessors: Option<usize>,
+    /// From which time on they may start.
+    pub(crate) earliest: Option<usize>,
+    /// By which time they have to end.
+    pub(crate) due: Option<usize>,
     /// How many units they need of each resource.
     pub(crate) resources: Vec<Column>,
     /// How many columns there are.
@@ -39,7 +43,8 @@ enum Title {
     Name,
     Duration,
     Predecessors,
-    Times,
+    Earliest,
+    Due,
     Nothing,
     Resource,
 }
@@ -51,6 +56,8 @@ pub(crate) fn columns_of(alloc: Global, head: &StringRecord) -> Result<Columns, 
         name: None,
         duration: None,
         predecessors: None,
+        earliest: None,
+        due: None,
         resources: Vec::new(alloc),
         count: head.len(),
     };
@@ -74,8 +81,9 @@ fn note(
         Title::Name => note_once(&mut columns.name, place),
         Title::Duration => note_once(&mut columns.duration, place),
         Title::Predecessors => note_once(&mut columns.predecessors, place),
+        Title::Earliest => note_once(&mut columns.earliest, place),
+        Title::Due => note_once(&mut columns.due, place),
         Title::Nothing => true,
-        Title::Times => return Err(no_times(alloc, line_of(head), title)),
         Title::Resource => note_resource(alloc, &mut columns.resources, title, place)?,
     };
     if is_first {
@@ -83,14 +91,6 @@ fn note(
     }
     let words = format!(in alloc; "two columns are called '{title}'");
     Err(TableFault::at(line_of(head), words))
-}
-
-/// What is wrong with a column of release or due times.
-fn no_times(alloc: Global, line: u64, title: &str) -> TableFault {
-    TableFault::at(
-        line,
-        format!(in alloc; "column '{title}' is not taken; release and due times stand in an order"),
-    )
 }
 
 /// Notes the place of a column that may stand once; false if one is noted already.
@@ -136,8 +136,10 @@ fn title_of(title: &str) -> Title {
         Title::Duration
     } else if title.eq_ignore_ascii_case("predecessors") {
         Title::Predecessors
-    } else if title.eq_ignore_ascii_case("earliest") || title.eq_ignore_ascii_case("due") {
-        Title::Times
+    } else if title.eq_ignore_ascii_case("earliest") {
+        Title::Earliest
+    } else if title.eq_ignore_ascii_case("due") {
+        Title::Due
     } else if title.is_empty() {
         Title::Nothing
     } else {

@@ -132,6 +132,8 @@ fn moved(
     rows: Vec<Row>,
     pairs: Vec<(u32, u32)>,
 ) -> Result<Table, AllocError> {
+    let earliest = earliest_of(alloc, &columns, &rows)?;
+    let due = due_of(alloc, &columns, &rows)?;
     let mut names = Vec::new(alloc);
     let mut jobs = Vec::new(alloc);
     for row in rows {
@@ -147,5 +149,27 @@ fn moved(
         resources,
         jobs,
         pairs,
+        earliest,
+        due,
     })
+}
+
+/// The times from which tasks may start, if a column says them.
+fn earliest_of(
+    alloc: Global,
+    columns: &Columns,
+    rows: &[Row],
+) -> Result<Option<Vec<u32>>, AllocError> {
+    match columns.earliest {
+        Some(_) => Ok(Some(rows.iter().map(|row| row.earliest).collect(alloc)?)),
+        None => Ok(None),
+    }
+}
+
+/// The times by which tasks have to end, if a column says them.
+fn due_of(alloc: Global, columns: &Columns, rows: &[Row]) -> Result<Option<Vec<u32>>, AllocError> {
+    match columns.due {
+        Some(_) => Ok(Some(rows.iter().map(|row| row.due).collect(alloc)?)),
+        None => Ok(None),
+    }
 }

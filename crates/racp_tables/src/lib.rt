@@ -12,7 +12,8 @@
 //!
 //! `read_table` makes of this text a `Table` of the jobs 4 (2 1), 6 (4 1) and 4 (3 1) and the pairs 1 2 and 2 3, with
 //! the names of three tasks and two resources. `network_text` makes of that the text of a network as those of PSPLIB, and
-//! `names_text` a line for each name.
+//! `names_text` a line for each name. The columns `earliest` and `due`, from and by which times tasks run, become lists of the
+//! table, for an order.
 //!
 //! The library `csv` takes the rows apart. Which column is which is told by the first row. All rows are read before
 //! predecessors are looked up, since a task may come after one that stands further down. A network text is guessed and

@@ -40,6 +40,8 @@ fn table_of(
         resources: numbered(alloc, "R", resources)?,
         jobs,
         pairs,
+        earliest: None,
+        due: None,
     })
 }
 

@@ -5,7 +5,7 @@ use crate::columns::{Column, Columns};
 use crate::fault::TableFault;
 use csv::StringRecord;
 use racp_model::Job;
-use racp_model::limits::{MOST_DURATION, MOST_REQUEST};
+use racp_model::limits::{LATEST_TIME, MOST_DURATION, MOST_REQUEST};
 use std::alloc::{AllocError, Global};
 
 /// A row, whose predecessors are not looked up yet.
@@ -21,6 +21,10 @@ pub(crate) struct Row {
     pub(crate) predecessors: String,
     /// How long it takes, and what it needs.
     pub(crate) job: Job,
+    /// From which time on it may start.
+    pub(crate) earliest: u32,
+    /// By which time it has to end.
+    pub(crate) due: u32,
 }
 
 /// The row of the task with this number.
@@ -39,12 +43,16 @@ pub(crate) fn row_of(
     let job = job_of(alloc, columns, record)?;
     let predecessors = String::from_str(alloc, optional_cell(record, columns.predecessors))?;
     let id = id_of(alloc, columns, record, number)?;
+    let earliest = time_of(alloc, record, columns.earliest, "earliest", 0)?;
+    let due = time_of(alloc, record, columns.due, "due", LATEST_TIME)?;
     Ok(Row {
         line,
         id,
         name,
         predecessors,
         job,
+        earliest,
+        due,
     })
 }
 
@@ -77,6 +85,22 @@ fn job_of(alloc: Global, columns: &Columns, record: &StringRecord) -> Result<Job
     let duration = number_in(alloc, line, "duration", cell, MOST_DURATION)?;
     let requests = requests_of(alloc, &columns.resources, record)?;
     Ok(Job::new(duration, requests))
+}
+
+/// The time that the cell of a column says, which is called so; another where there is no such column, or the cell is
+/// empty.
+fn time_of(
+    alloc: Global,
+    record: &StringRecord,
+    place: Option<usize>,
+    called: &str,
+    other: u32,
+) -> Result<u32, TableFault> {
+    let cell = optional_cell(record, place);
+    if cell.is_empty() {
+        return Ok(other);
+    }
+    number_in(alloc, line_of(record), called, cell, LATEST_TIME)
 }
 
 /// What the task of a row needs of each resource; nothing where the cell is empty.

@@ -13,4 +13,8 @@ pub struct Table {
     pub jobs: Vec<Job>,
     /// The numbers of two tasks, of which the second comes after the first.
     pub pairs: Vec<(u32, u32)>,
+    /// The time from which each task may start, if the table says that of tasks; 0 if it does not of this one.
+    pub earliest: Option<Vec<u32>>,
+    /// The time by which each task has to end, if the table says that of tasks; `LATEST_TIME` if it does not of this one.
+    pub due: Option<Vec<u32>>,
 }

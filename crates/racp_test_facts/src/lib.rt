@@ -1,9 +1,11 @@
 //! Tests of facts: rules beside slow ones, clauses beside all solutions, plans that follow from clauses, searches beside
-//! all schedules, and optima beside plans by definition.
+//! all schedules, optima beside plans by definition, and certificates by clauses of what a search has recorded.
 #![tactic(auto)]
 
 #[cfg(test)]
 mod asking;
+#[cfg(test)]
+mod certificates;
 #[cfg(test)]
 mod clauses;
 #[cfg(test)]

@@ -38,7 +38,7 @@ const ROWS: &[Row] = &[
         command: Command::Plan,
         status: 0,
         text: PLAN,
-        object: "{\"status\":\"optimal\",\"deadline\":4,\"critical\":3,\"cost\":15,\"jobs\":[{\"job\":1,\"name\":null,\"start\":0,\"end\":2},{\"job\":2,\"name\":null,\"start\":2,\"end\":3}],\"resources\":[{\"resource\":1,\"name\":null,\"price\":5,\"owned\":0,\"capacity\":3,\"usage\":[{\"from\":0,\"units\":1},{\"from\":2,\"units\":3},{\"from\":3,\"units\":0}]}],\"nodes\":7}",
+        object: "{\"status\":\"optimal\",\"deadline\":4,\"critical\":3,\"cost\":15,\"jobs\":[{\"job\":1,\"name\":null,\"start\":0,\"end\":2,\"duration\":2,\"slack\":1,\"predecessors\":[],\"requests\":[1]},{\"job\":2,\"name\":null,\"start\":2,\"end\":3,\"duration\":1,\"slack\":1,\"predecessors\":[1],\"requests\":[3]}],\"resources\":[{\"resource\":1,\"name\":null,\"price\":5,\"owned\":0,\"capacity\":3,\"usage\":[{\"from\":0,\"units\":1},{\"from\":2,\"units\":3},{\"from\":3,\"units\":0}]}],\"nodes\":7}",
     },
     Row {
         command: Command::Plan,

@@ -1,4 +1,4 @@
-//! Tests of the readers of networks, orders and plans, of the check of plans, of the commands over any streams, and of answers as JSON.
+//! Tests of the readers of networks, orders, plans and tables of tasks, of the check of plans, of the commands over any streams, and of answers as JSON.
 #![tactic(auto)]
 
 #[cfg(test)]
@@ -15,3 +15,7 @@ mod networks;
 mod orders;
 #[cfg(test)]
 mod plans;
+#[cfg(test)]
+mod sayings;
+#[cfg(test)]
+mod tables;

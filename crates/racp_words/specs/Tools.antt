@@ -1,8 +1,8 @@
 -- What the commands `show`, `report`, `curve`, `order`, `import` and `explain` ask for.
-use Rattle.std.specs.Prelude.{◌≡◌, ◌≢◌, List, codes, false, true, Some}
+use Rattle.std.specs.Prelude.{◌≡◌, ◌≢◌, ℕ, List, Option, None, codes, false, true, Some}
 use Rattle.std.specs.Prelude.{option_map}
-use Rattle.clap.specs.Words.{App, Row, Text, first_of, new_app, new_rule, with_rule}
-use Rattle.racp_words.specs.Rules.{AreOrderFiles, ArePlanFiles, IsCrew, IsNumberOf, answering, file_rule, flag_rule, is_set, number_rule, of_plan, of_workers, path_at, telling, text_rule}
+use Rattle.clap.specs.Words.{App, IsUnsignedIn, Row, Text, first_of, new_app, new_rule, with_rule}
+use Rattle.racp_words.specs.Rules.{AreOrderFiles, ArePlanFiles, IsCrew, IsNumberOf, answering, file_rule, flag_rule, is_set, number_in, number_rule, of_plan, of_workers, path_at, telling, text_rule}
 use Rattle.racp_show.specs.declared.form.Form.{Form}
 use Rattle.racp_show.specs.declared.form.Form.TheVariants.{Text as Blocks, Ascii, Svg, Json, Csv}
 use Rattle.racp_words.specs.declared.request.Look.{Look}
@@ -19,9 +19,10 @@ show_named = with_rule (with_rule (of_plan (codes "show")) (text_rule (codes "na
 abbrev pub show_in_letters : App
 show_in_letters = with_rule (with_rule show_named (flag_rule (codes "ascii"))) (flag_rule (codes "svg"))
 
--- `show NET ORDER PLAN [--names FILE] [--width N] [--ascii] [--svg] [--json] [--csv] [--explain] [--quiet]`
+-- `show NET ORDER PLAN [--names FILE] [--width N] [--ascii] [--svg] [--links] [--json] [--csv] [--explain] [--quiet]`
 abbrev pub show : App
-show = telling (with_rule (with_rule show_in_letters (flag_rule (codes "json"))) (flag_rule (codes "csv")))
+show = telling (with_rule (with_rule (with_rule show_in_letters (flag_rule (codes "links"))) (flag_rule (codes "json")))
+    (flag_rule (codes "csv")))
 
 -- `report NET ORDER PLAN [--names FILE] [--curve FILE] [--explain] [--quiet]`
 abbrev pub report : App
@@ -84,11 +85,17 @@ IsForm words Blocks =
     (is_set (codes "svg") words ≡ false) × (is_set (codes "json") words ≡ false) × (is_set (codes "csv") words ≡ false) ×
     (is_set (codes "ascii") words ≡ false)
 
+-- no number of columns without a word, and else that of the word
+abbrev pub IsWidth : Option Text → Option ℕ → Type 0
+IsWidth None width = width ≡ None
+IsWidth (Some word) width = IsUnsignedIn 1 1000 word → width ≡ Some (number_in word)
+
 -- the words say that a plan is shown in this way
 pub record IsLook (words : List Row) (look : Look) : Type 0 where
   pub names : option_map (λ word. word.now) look.names ≡ first_of (codes "names") words
-  pub width : IsNumberOf 1000 80 (first_of (codes "width") words) look.width
+  pub width : IsWidth (first_of (codes "width") words) look.width
   pub form : IsForm words look.form
+  pub links : look.has_links ≡ is_set (codes "links") words
 
 -- the words for the terms of an order
 pub record AreTerms (words : List Row) (terms : Terms) : Type 0 where

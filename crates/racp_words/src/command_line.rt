@@ -5,7 +5,7 @@ ghost use Rattle.clap.specs.Words.{FailsBy, fault_of, first_of, first_value, fou
 ghost use Rattle.clap.specs.declared.error.kind.ErrorKind.TheVariants.{OutOfMemory};
 ghost use Rattle.racp_words.specs.CommandLine.{AskFor, IsTask, IsCheckLine, AsksForCheck, IsProveLine, AsksForProve, IsVerifyLine, AsksForVerify, IsCpmLine, AsksForCpm, IsPlanLine, AsksForPlan, IsWorkersLine, AsksForWorkers, IsRequested, IsSource, is_json_of, racp, telling_by, telling_of};
 ghost use Rattle.racp_words.specs.Rules.{AreOrderFiles, ArePlanFiles, AreProofFiles, number_in};
-ghost use Rattle.racp_words.specs.Tools.{AreTableWords, AreTerms, IsForm, IsLook, IsNoTool, IsToolOf};
+ghost use Rattle.racp_words.specs.Tools.{AreTableWords, AreTerms, IsForm, IsLook, IsNoTool, IsToolOf, IsWidth};
 
 use crate::commands::command;
 use crate::most::MOST_WIDTH;
@@ -17,9 +17,6 @@ use crate::request::{
 use clap::{ArgMatches, Error};
 use racp_show::Form;
 use std::alloc::Global;
-
-/// How many columns a line has if no option says so.
-const DEFAULT_WIDTH: u64 = 80;
 
 /// What the words ask for. The first of them is the program's name.
 ///
@@ -192,12 +189,22 @@ fn proof_files<'a>(words: &ArgMatches<'a>) -> ProofFiles<'a>
 fn look_of<'a>(words: &ArgMatches<'a>) -> Look<'a>
     ensures { IsLook (rows_of (found_of words.now)) result }
 {
-    let width = number_of(text_of(words, "width"), MOST_WIDTH, DEFAULT_WIDTH);
+    let width = width_of(words);
     Look {
         names: text_of(words, "names"),
         width,
         form: form_of(words),
+        has_links: is_set(words, "links"),
     }
+}
+
+/// How many columns a line has at most, if an option says so.
+fn width_of(words: &ArgMatches<'_>) -> Option<u64>
+    ensures width { IsWidth (first_of (codes "width") (rows_of (found_of words.now))) result }
+    ensures few { IfSome result (λ width. width ≤ 1000) }
+{
+    let word = text_of(words, "width")?;
+    Some(number_of(Some(word), MOST_WIDTH, MOST_WIDTH))
 }
 
 /// What is to be written of a plan that is shown.

@@ -16,7 +16,7 @@
 //! racp check a.sm a4.toml p                Check with the paths a.sm, a4.toml and p
 //! racp verify a.sm a4.toml p q             Verify with the paths a.sm, a4.toml, p and q, and None: no limit of time
 //! racp verify a.sm a4.toml p q --time-limit 5  the same, and the word 5 for the limit
-//! racp show a.sm a4.toml p --svg           Tool, Show with these paths, no names, 80 columns and the form Svg
+//! racp show a.sm a4.toml p --svg           Tool, Show with these paths, no names, no width and the form Svg
 //! racp report a.sm a4.toml p --names n     Tool, Report with these paths, the names n and no curve
 //! racp curve b.sm b3.toml                  Tool, Curve with these paths, 1,024 MiB, one thread, and no picture
 //! racp curve b.sm b3.toml --workers 4      the same, and a CrewOptions of 4 workers

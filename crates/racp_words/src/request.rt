@@ -1,6 +1,7 @@
 //! What the command line may ask for.
 
-ghost use Rattle.std.specs.Prelude.{◌≤◌};
+ghost use Rattle.std.specs.Prelude.{◌≤◌, IfSome};
+ghost use Rattle.std.proofs.Props.{props};
 
 use racp_show::Form;
 
@@ -65,11 +66,13 @@ pub enum Tool<'a> {
 pub struct Look<'a> {
     /// The path of the names of jobs and resources, if there is one.
     pub names: Option<&'a str>,
-    /// How many columns a line has at most, 1 to 1,000; 80 if no option says so.
-    pub width: u64,
+    /// How many columns a line has at most, 1 to 1,000, if an option says so.
+    pub width: Option<u64>,
     /// What is written.
     pub form: Form,
-    pub ghost width_few: { width ≤ 1000 },
+    /// Whether a picture has an arrow from each job to each that waits for it.
+    pub has_links: bool,
+    pub ghost width_few: { IfSome width (λ width. width ≤ 1000) } by { Prim.hlevel props },
 }
 
 /// The words for a page about a plan.

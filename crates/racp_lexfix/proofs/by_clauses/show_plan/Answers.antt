@@ -13,14 +13,14 @@ show_within-requires-clause-window c =
     let opening : IsOpening c.args.task.now.net.now c.args.task.now.order.now (Root c.in-Root.critical c.in-Root.window) = subst (IsOpening c.args.task.now.net.now c.args.task.now.order.now) c.in-Root.is c.in_ok-critical.ensures in
     opening.window_is
 
-pub print_none-requires-clause-answer : goal.print_none-requires-clause-answer
-print_none-requires-clause-answer c = subst (IsOpening c.args.task.now.net.now c.args.task.now.order.now) c.in-TooLong.is c.in_ok-critical.ensures
+pub answer_none-requires-clause-answer : goal.answer_none-requires-clause-answer
+answer_none-requires-clause-answer c = subst (IsOpening c.args.task.now.net.now c.args.task.now.order.now) c.in-TooLong.is c.in_ok-critical.ensures
 
-pub print_none-requires-clause-none : goal.print_none-requires-clause-none
-print_none-requires-clause-none c = λ plan is. absurd (cc is)
+pub answer_none-requires-clause-none : goal.answer_none-requires-clause-none
+answer_none-requires-clause-none c = λ plan is. absurd (cc is)
 
-pub print_none-requires-in-TooLate-clause-answer : goal.print_none-requires-in-TooLate-clause-answer
-print_none-requires-in-TooLate-clause-answer c = subst (IsOpening c.args.task.now.net.now c.args.task.now.order.now) c.in-TooLate.is c.in_ok-critical.ensures
+pub answer_none-requires-in-TooLate-clause-answer : goal.answer_none-requires-in-TooLate-clause-answer
+answer_none-requires-in-TooLate-clause-answer c = subst (IsOpening c.args.task.now.net.now c.args.task.now.order.now) c.in-TooLate.is c.in_ok-critical.ensures
 
-pub print_none-requires-in-TooLate-clause-none : goal.print_none-requires-in-TooLate-clause-none
-print_none-requires-in-TooLate-clause-none c = λ plan is. absurd (cc is)
+pub answer_none-requires-in-TooLate-clause-none : goal.answer_none-requires-in-TooLate-clause-none
+answer_none-requires-in-TooLate-clause-none c = λ plan is. absurd (cc is)

@@ -7,10 +7,10 @@ use Rattle.racp_lexfix.proofs.by_clauses.show_within.Goals as goal
 pub plan_of-plan-requires-clause-plan : goal.plan_of-plan-requires-clause-plan
 plan_of-plan-requires-clause-plan c = subst (IsOptimum c.args.task.now.net.now c.args.task.now.order.now) c.in-Plan.is c.in_ok-optimum.ensures
 
-pub print_none-requires-clause-answer : goal.print_none-requires-clause-answer
-print_none-requires-clause-answer c =
+pub answer_none-requires-clause-answer : goal.answer_none-requires-clause-answer
+answer_none-requires-clause-answer c =
     let none : NoneIsEnough c.args.task.now.net.now c.args.task.now.order.now = subst (IsOptimum c.args.task.now.net.now c.args.task.now.order.now) c.in-NoneEnough.is c.in_ok-optimum.ensures in
     over c.args.task.now.net.now c.args.task.now.order.now c.args.window.now c.requires.terms c.requires.window none
 
-pub print_none-requires-clause-none : goal.print_none-requires-clause-none
-print_none-requires-clause-none c = λ plan is. absurd (cc is)
+pub answer_none-requires-clause-none : goal.answer_none-requires-clause-none
+answer_none-requires-clause-none c = λ plan is. absurd (cc is)

@@ -1,5 +1,6 @@
 use Rattle.std.proofs.Common.{◌+◌, ◌*◌, ◌%◌, string_bytes}
-use Rattle.racp_report.specs.Drawings.{block_begin, block_end, row_element, task_block}
+use Rattle.racp_charts.specs.Drawings.{row_element}
+use Rattle.racp_report.specs.Drawings.{block_begin, block_end, task_block}
 use Rattle.racp_report.proofs.Pieces.{in_three}
 use Rattle.racp_report.proofs.chart.push_block.Goals as goal
 

@@ -1,5 +1,5 @@
 use Rattle.std.proofs.Common.{codes, option_map, string_bytes}
-use Rattle.racp_report.specs.Elements.{name_text}
+use Rattle.racp_charts.specs.Elements.{name_text}
 use Rattle.racp_report.specs.Pages.{choice_cells, choice_row}
 use Rattle.racp_report.proofs.Pieces.{in_three}
 use Rattle.racp_report.proofs.choice_table.push_choice.Goals as goal

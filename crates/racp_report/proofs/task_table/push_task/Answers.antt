@@ -1,5 +1,5 @@
 use Rattle.std.proofs.Common.{◌∙◌, ◌++◌, codes, option_map, string_bytes, List, ℕ, ap}
-use Rattle.racp_report.specs.Elements.{name_text, number_list}
+use Rattle.racp_charts.specs.Elements.{name_text, number_list}
 use Rattle.racp_report.specs.Pages.{task_cells, task_row, task_row_begin}
 use Rattle.racp_report.proofs.Pieces.{in_five}
 use Rattle.racp_report.proofs.task_table.push_task.Goals as goal

@@ -1,7 +1,7 @@
 use Rattle.std.proofs.Common.{◌≤◌, IfOk, subst, arith, Result}
 use Rattle.racp_candidates.specs.AnySeries.{any_questions}
-use Rattle.racp_desk.specs.declared.running.DeskFault.{DeskFault}
-use Rattle.racp_desk.specs.declared.state.Closed.{Closed}
+use Rattle.racp_desk.specs.declared.fault.DeskFault.{DeskFault}
+use Rattle.racp_desk.specs.declared.closed.Closed.{Closed}
 use Rattle.racp_desk.specs.Closing.{IsRunClosed}
 use Rattle.racp_askers.proofs.Asking.{pieces_few}
 use Rattle.racp_askers.proofs.Turns.{one_more}

@@ -1,8 +1,8 @@
 use Rattle.std.proofs.Common.{Result, IfOk, subst}
 use Rattle.std.specs.declared.alloc.AllocError.{AllocError}
 use Rattle.racp_search.specs.Ends.{IsHaltOf}
-use Rattle.racp_search.specs.declared.depth_first.Halt.{Halt}
-use Rattle.racp_search.specs.declared.depth_first.Halt.TheVariants.{Found, Nothing, Left}
+use Rattle.racp_search.specs.declared.halt.Halt.{Halt}
+use Rattle.racp_search.specs.declared.halt.Halt.TheVariants.{Found, Nothing, Left}
 use Rattle.racp_search.proofs.Ending.{finished_at, finished_there}
 use Rattle.racp_search.proofs.depth_first.Stack.finish.Goals as goal
 

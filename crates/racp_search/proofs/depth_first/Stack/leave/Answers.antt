@@ -1,6 +1,6 @@
 use Rattle.std.proofs.Common.{refl, sym, subst}
 use Rattle.racp_search.specs.declared.ended.Ended.{Ended}
-use Rattle.racp_search.specs.declared.depth_first.Halt.TheVariants.{Left}
+use Rattle.racp_search.specs.declared.halt.Halt.TheVariants.{Left}
 use Rattle.racp_search.specs.Ends.{IsEndOf}
 use Rattle.racp_search.proofs.depth_first.Stack.leave.Goals as goal
 

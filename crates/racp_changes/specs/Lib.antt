@@ -1,0 +1,4 @@
+pub mod Changes
+pub mod Outcomes
+pub mod Lines
+pub mod Values

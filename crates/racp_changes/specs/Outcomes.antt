@@ -1,0 +1,44 @@
+-- What becomes of an order and of its changes.
+use Rattle.std.specs.Prelude.{◌≡◌, ℕ, ◌≤◌, Bool, true, false, List, All, map}
+use Rattle.racp_model.specs.Project.{Project, number}
+use Rattle.racp_model.specs.Terms.{Terms, cost}
+use Rattle.racp_model.specs.Plan.{IsEnough, IsTooLong, IsTooLateAt, IsOverCeilings}
+use Rattle.racp_plan.specs.Plans.{IsPlanOf}
+use Rattle.racp_changes.specs.Changes.{changed, changes_of}
+use Rattle.racp_changes.specs.declared.change.Change.{Change}
+use Rattle.racp_changes.specs.declared.outcome.Outcome.{Outcome}
+use Rattle.racp_changes.specs.declared.outcome.Outcome.TheVariants.{Plan as ThePlan, TooLong, TooLate, NoneEnough, Open}
+use Rattle.racp_changes.specs.declared.outcome.Finding.{Finding}
+
+-- the plan of an order; or the first reason for which there is none; or, of a plan that is not known, what capacities that are enough cost
+-- at least
+abbrev pub IsOutcome : Project → Terms → Outcome → Type 0
+IsOutcome p terms (ThePlan plan) = IsPlanOf p terms plan
+IsOutcome p terms (TooLong critical) = IsTooLong p terms critical
+IsOutcome p terms (TooLate job) = (i : ℕ) × (number i ≡ job) × IsTooLateAt p terms i
+IsOutcome p terms NoneEnough = IsOverCeilings p terms
+IsOutcome p terms (Open least) = (enough : List ℕ) → IsEnough p terms enough → least ≤ cost terms enough
+
+-- what becomes of the order with the finding's change
+abbrev pub IsFinding : Project → Terms → Finding → Type 0
+IsFinding p terms finding = IsOutcome p (changed finding.change terms) finding.outcome
+
+-- the change of a finding
+abbrev pub change_of : Finding → Change
+change_of finding = finding.change
+
+-- a finding for each change that is asked about an order and capacities, in their order
+pub record AreFindings (p : Project) (terms : Terms) (capacities : List ℕ) (findings : List Finding) : Type 0 where
+  pub changes : map change_of findings ≡ changes_of terms capacities
+  pub right : All (IsFinding p terms) findings
+
+-- whether what becomes of the order is known: its plan, or that there is none
+abbrev pub is_settled : Outcome → Bool
+is_settled (ThePlan plan) = true
+is_settled (TooLong critical) = true
+is_settled (TooLate job) = true
+is_settled NoneEnough = true
+is_settled (Open least) = false
+
+abbrev pub is_known : Finding → Bool
+is_known finding = is_settled finding.outcome

@@ -1,0 +1,35 @@
+-- What is told of findings as values.
+use Rattle.std.specs.Prelude.{◌≡◌, ℕ, List, Option, Some, None, option_map}
+use Rattle.racp_changes.specs.declared.change.Change.{Change}
+use Rattle.racp_changes.specs.declared.change.Change.TheVariants.{Ceiling, Owned, Deadline}
+use Rattle.racp_changes.specs.declared.outcome.Outcome.{Outcome}
+use Rattle.racp_changes.specs.declared.outcome.Outcome.TheVariants.{Plan as ThePlan, TooLong, TooLate, NoneEnough, Open}
+use Rattle.racp_changes.specs.declared.outcome.Finding.{Finding}
+use Rattle.racp_changes.specs.declared.json.ToldFinding.{ToldFinding}
+
+-- the number to which a term is changed
+abbrev pub value_of : Change → ℕ
+value_of (Ceiling place units) = units
+value_of (Owned place units) = units
+value_of (Deadline deadline) = deadline
+
+-- the cost and the capacities of a plan, if there is one
+abbrev pub cost_in : Outcome → Option ℕ
+cost_in (ThePlan plan) = Some plan.cost
+cost_in _ = None
+
+abbrev pub capacities_in : Outcome → Option (List ℕ)
+capacities_in (ThePlan plan) = Some plan.capacities
+capacities_in _ = None
+
+-- what each plan costs at least, of a plan that is not known
+abbrev pub least_in : Outcome → Option ℕ
+least_in (Open least) = Some least
+least_in _ = None
+
+-- these are the numbers of a finding
+pub record TellsFinding (finding : Finding) (told : ToldFinding) : Type 0 where
+  pub value : told.value ≡ value_of finding.change
+  pub cost : told.cost ≡ cost_in finding.outcome
+  pub capacities : option_map (λ list. list.items) told.capacities ≡ capacities_in finding.outcome
+  pub least : told.least ≡ least_in finding.outcome

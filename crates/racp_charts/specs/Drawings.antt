@@ -1,0 +1,163 @@
+-- The drawings of a plan. Places are from the left and from above; a drawing is 1,000 wide.
+use Rattle.std.specs.Prelude.{ℕ, ◌+◌, ◌-◌, ◌*◌, ◌/◌, ◌%◌, ◌==◌, max, min, nat_le, List, [], ◌∷◌, codes, flat_map, option_map, if◌then◌else◌}
+use Rattle.std.specs.Fmt.{decimal}
+use Rattle.std.specs.Int.{div_ceil}
+use Rattle.racp_show.specs.declared.usage.Step.{Step}
+use Rattle.racp_charts.specs.Texts.{◌⋅◌, mark_of, texts_before}
+use Rattle.racp_charts.specs.declared.axis.Span.{Span}
+use Rattle.racp_charts.specs.declared.choice.Choice.{Choice}
+use Rattle.racp_show.specs.declared.task.Task.{Task}
+use Rattle.racp_charts.specs.Elements.{name_text, number_list, shape_class, short_text}
+
+-- where a time is drawn: the first at 270 and the last at 970, and times before and after them there too
+abbrev pub across : Span → ℕ → ℕ
+across span time = if (span.last - span.first) == 0 then 270
+    else 270 + min (time - span.first) (span.last - span.first) * 700 / (span.last - span.first)
+
+-- the time of the number at a place of an axis
+abbrev pub axis_time : Span → ℕ → ℕ
+axis_time span place =
+    let mark = mark_of (span.last - span.first) in
+    (div_ceil span.first mark + place) * mark
+
+-- a line from `top` to `bottom`
+unfoldable pub mark_line : ℕ → ℕ → ℕ → List ℕ
+mark_line x top bottom = codes "<path class=\"line\" d=\"M" ⋅ decimal x ⋅ codes " " ⋅ decimal top ⋅ codes "V"
+    ⋅ decimal bottom ⋅ codes "\"/>"
+
+-- the number of a time at a place
+unfoldable pub mark_number : ℕ → ℕ → ℕ → List ℕ
+mark_number number x y = codes "<text class=\"mark\" x=\"" ⋅ decimal x ⋅ codes "\" y=\"" ⋅ decimal y ⋅ codes "\">"
+    ⋅ decimal number ⋅ codes "</text>\n"
+
+-- the line of a time from `top` to `bottom`, and its number below
+unfoldable pub mark_element : ℕ → ℕ → ℕ → ℕ → List ℕ
+mark_element number x top bottom = mark_line x top bottom ⋅ mark_number number x (bottom + 15)
+
+-- a number of the axis below, and its line, if it is no later than the last time
+abbrev pub time_below : Span → ℕ → ℕ → ℕ → List ℕ
+time_below span top bottom place =
+    let time = axis_time span place in
+    if nat_le time span.last then mark_element time (across span time) top bottom else []
+
+-- the axis of times below a chart from `top` to `bottom`
+abbrev pub axis : Span → ℕ → ℕ → List ℕ
+axis span top bottom = texts_before (time_below span top bottom) 13
+
+-- a number of the axis above
+abbrev pub time_above : Span → ℕ → ℕ → List ℕ
+time_above span y place =
+    let time = axis_time span place in
+    if nat_le time span.last then mark_number time (across span time) y else []
+
+-- the numbers of the axis above a chart
+abbrev pub numbers_above : Span → ℕ → List ℕ
+numbers_above span y = texts_before (time_above span y) 13
+
+-- the line of the deadline
+unfoldable pub deadline_line : ℕ → ℕ → List ℕ
+deadline_line top bottom = codes "<path class=\"deadline\" d=\"M970 " ⋅ decimal top ⋅ codes "V" ⋅ decimal bottom
+    ⋅ codes "\"/>\n"
+
+-- its number
+unfoldable pub deadline_label : ℕ → List ℕ
+deadline_label deadline = codes "<text class=\"end\" x=\"990\" y=\"18\">deadline " ⋅ decimal deadline
+    ⋅ codes "</text>\n"
+
+-- the greatest number of a chart at the height `top`, and 0 at `bottom`
+unfoldable pub scale_element : ℕ → ℕ → ℕ → List ℕ
+scale_element most top bottom = codes "<text class=\"end\" x=\"264\" y=\"" ⋅ decimal top ⋅ codes "\">" ⋅ decimal most
+    ⋅ codes "</text><text class=\"end\" x=\"264\" y=\"" ⋅ decimal bottom ⋅ codes "\">0</text>\n"
+
+-- where a stair begins, and a step of it
+unfoldable pub place_text : ℕ → ℕ → List ℕ
+place_text x y = codes "M" ⋅ decimal x ⋅ codes " " ⋅ decimal y
+
+unfoldable pub step_text : ℕ → ℕ → List ℕ
+step_text x y = codes "H" ⋅ decimal x ⋅ codes "V" ⋅ decimal y
+
+-- the times of a tooltip
+unfoldable pub tip_times : Task → List ℕ
+tip_times task = codes "\ntask " ⋅ decimal task.job ⋅ codes ", from " ⋅ decimal task.start ⋅ codes " to "
+    ⋅ decimal (task.start + task.duration) ⋅ codes ", slack " ⋅ decimal (task.latest - task.start)
+
+-- what comes before a task, if anything does
+abbrev pub tip_before : List ℕ → List ℕ
+tip_before [] = []
+tip_before (number ∷ numbers) = codes ", after " ⋅ number_list 0 (number ∷ numbers)
+
+-- the tooltip of a task
+unfoldable pub tip_element : Task → List ℕ
+tip_element task =
+    codes "<g><title>" ⋅ name_text (option_map (λ name. name.now) task.name) (codes "task") task.job ⋅ tip_times task
+    ⋅ tip_before task.predecessors.items ⋅ codes "</title>"
+
+-- the stripe of a row, and the beginning of its name
+unfoldable pub row_middle : ℕ → List ℕ
+row_middle top = codes "<rect class=\"stripe" ⋅ decimal (top / 20 % 2) ⋅ codes "\" x=\"0\" y=\"" ⋅ decimal top
+    ⋅ codes "\" width=\"1000\" height=\"20\"/><text x=\"8\" y=\"" ⋅ decimal (top + 14) ⋅ codes "\">"
+
+-- the line of a task's slack
+unfoldable pub slack_element : Span → Task → ℕ → List ℕ
+slack_element span task y = codes "<path class=\"slack\" d=\"M" ⋅ decimal (across span (task.start + task.duration))
+    ⋅ codes " " ⋅ decimal y ⋅ codes "H" ⋅ decimal (across span (task.latest + task.duration)) ⋅ codes "\"/>"
+
+-- a bar, and a diamond
+unfoldable pub bar_element : List ℕ → ℕ → ℕ → ℕ → List ℕ
+bar_element class x width y = codes "<rect class=\"" ⋅ class ⋅ codes "\" x=\"" ⋅ decimal x ⋅ codes "\" y=\"" ⋅ decimal y
+    ⋅ codes "\" width=\"" ⋅ decimal width ⋅ codes "\" height=\"12\" rx=\"2\"/></g>\n"
+
+unfoldable pub diamond_element : List ℕ → ℕ → ℕ → List ℕ
+diamond_element class x y = codes "<path class=\"" ⋅ class ⋅ codes "\" d=\"M" ⋅ decimal x ⋅ codes " " ⋅ decimal y
+    ⋅ codes "l6 6l-6 6l-6 -6z\"/></g>\n"
+
+-- the shape of a task: a bar from its start to its end, at least 1 wide, or a diamond if it takes no time
+abbrev pub shape_element : Span → Task → ℕ → List ℕ
+shape_element span task top =
+    let x = across span task.start in
+    if task.duration == 0 then diamond_element (shape_class task.is_critical) x top
+    else bar_element (shape_class task.is_critical) x (max (across span (task.start + task.duration) - x) 1) top
+
+-- the row of a task at the height `top`
+unfoldable pub row_element : Span → Task → ℕ → List ℕ
+row_element span task top =
+    tip_element task ⋅ row_middle top ⋅ short_text (option_map (λ name. name.now) task.name) (codes "task") task.job
+    ⋅ codes "</text>" ⋅ slack_element span task (top + 10) ⋅ shape_element span task (top + 4)
+
+-- what stands around the rows of tasks that go down to `bottom`: both axes, and the line of the deadline
+unfoldable pub frame_element : Span → ℕ → List ℕ
+frame_element span bottom =
+    numbers_above span 34 ⋅ axis span 40 bottom ⋅ deadline_label span.last ⋅ deadline_line 40 bottom
+
+-- how high a usage is drawn: all units are 60 high
+abbrev pub height_of : ℕ → ℕ → ℕ
+height_of units used = if units == 0 then 0 else used * 60 / units
+
+-- the steps of a usage
+abbrev pub stair_steps : Span → ℕ → List Step → List ℕ
+stair_steps span units usage =
+    flat_map (λ step. step_text (across span step.from) (80 - height_of units step.units)) usage
+
+-- the stair of a resource's usage
+unfoldable pub stair_element : Span → Choice → List ℕ
+stair_element span choice = codes "<path class=\"used\" d=\"" ⋅ place_text 270 80
+    ⋅ stair_steps span choice.units choice.usage.items ⋅ codes "H970V80Z\"/>"
+
+-- the units of a resource and how busy they are
+unfoldable pub panel_numbers : Choice → List ℕ
+panel_numbers choice = codes "</text><text x=\"8\" y=\"50\">units " ⋅ decimal choice.units ⋅ codes ", "
+    ⋅ decimal choice.busy ⋅ codes "% busy</text>\n"
+
+-- the name of a resource, and these
+unfoldable pub panel_title : Choice → List ℕ
+panel_title choice = codes "<text class=\"head\" x=\"8\" y=\"32\">"
+    ⋅ short_text (option_map (λ name. name.now) choice.name) (codes "resource") choice.resource ⋅ panel_numbers choice
+
+-- the line of all units, and the axis of units
+unfoldable pub limit_element : ℕ → List ℕ
+limit_element units = codes "<path class=\"limit\" d=\"M270 20H970\"/>" ⋅ scale_element units 24 84
+
+-- what is drawn of a resource
+unfoldable pub panel_element : Span → Choice → List ℕ
+panel_element span choice =
+    panel_title choice ⋅ axis span 10 80 ⋅ stair_element span choice ⋅ limit_element choice.units ⋅ deadline_line 10 80

@@ -1,0 +1,191 @@
+//! The times of a chart, and the elements that charts share. Places are in units of the drawing, from the left and from
+//! above, and have 128 bits, so that no sum and no product is too great for them.
+
+ghost use Rattle.std.specs.Prelude.{◌≡◌, ◌<◌, ◌≤◌, ◌^◌, ◌++◌, OnOk, string_bytes};
+ghost use Rattle.racp_charts.specs.Drawings.{across, axis, axis_time, deadline_label, deadline_line, mark_element, mark_line, mark_number, numbers_above, place_text, scale_element, step_text, time_above, time_below};
+
+use crate::mark::{MOST_MARKS, mark_of};
+use std::alloc::AllocError;
+use std::cmp::min;
+
+/// The times that a chart has, in time units.
+#[derive(Clone, Copy)]
+pub struct Span {
+    /// The first time.
+    pub first: u32,
+    /// The last time.
+    pub last: u32,
+}
+
+impl Span {
+    /// Where a time is drawn, from the left: the first is drawn at 270 and the last at 970, and times before and after
+    /// them there too.
+    pub(crate) fn across(self, time: u128) -> u128
+        ensures place { result ≡ across self time }
+        ensures within { result ≤ 970 }
+    {
+        let all = self.last.saturating_sub(self.first) as u128;
+        if all == 0 {
+            return 270;
+        }
+        270 + min(time.saturating_sub(self.first as u128), all) * 700 / all
+    }
+
+    /// The time of the number at this place of an axis, from 0.
+    fn mark(self, place: u64) -> u128
+        requires { place < 2 ^ 32 }
+        ensures { result ≡ axis_time self place }
+    {
+        let mark = mark_of(self.last.saturating_sub(self.first) as u64);
+        ((self.first as u128).div_ceil(mark) + place as u128) * mark
+    }
+}
+
+/// Adds the axis of times below a chart that goes from `top` to `bottom`: numbers, and a line up at each.
+pub(crate) fn push_axis(
+    text: &mut String,
+    span: Span,
+    top: u128,
+    bottom: u128,
+) -> Result<(), AllocError>
+    requires { bottom < 2 ^ 72 }
+    ensures { OnOk result (string_bytes text.new ≡ string_bytes text.old ++ axis span top bottom) }
+{
+    for place in 0..MOST_MARKS + 1 {
+        push_below(text, span, top, bottom, place)?;
+    }
+    Ok(())
+}
+
+/// Adds the number at this place of the axis below, from 0, if it is no later than the last time.
+fn push_below(
+    text: &mut String,
+    span: Span,
+    top: u128,
+    bottom: u128,
+    place: u64,
+) -> Result<(), AllocError>
+    requires place { place < 2 ^ 32 }
+    requires bottom { bottom < 2 ^ 72 }
+    ensures { OnOk result (string_bytes text.new ≡ string_bytes text.old ++ time_below span top bottom place) }
+{
+    let time = span.mark(place);
+    if time <= span.last as u128 {
+        push_mark(text, time, span.across(time), top, bottom)
+    } else {
+        Ok(())
+    }
+}
+
+/// Adds the number of a time below a chart, and the line at it.
+fn push_mark(
+    text: &mut String,
+    number: u128,
+    x: u128,
+    top: u128,
+    bottom: u128,
+) -> Result<(), AllocError>
+    requires { bottom < 2 ^ 72 }
+    ensures { OnOk result (string_bytes text.new ≡ string_bytes text.old ++ mark_element number x top bottom) }
+{
+    push_line(text, x, top, bottom)?;
+    push_number(text, number, x, bottom + 15)?;
+    Ok(())
+}
+
+/// Adds the numbers of the axis of times at this height above a chart.
+pub(crate) fn push_above(text: &mut String, span: Span, y: u128) -> Result<(), AllocError>
+    ensures { OnOk result (string_bytes text.new ≡ string_bytes text.old ++ numbers_above span y) }
+{
+    for place in 0..MOST_MARKS + 1 {
+        push_time(text, span, y, place)?;
+    }
+    Ok(())
+}
+
+/// Adds the number at this place of the axis above, from 0, if it is no later than the last time.
+fn push_time(text: &mut String, span: Span, y: u128, place: u64) -> Result<(), AllocError>
+    requires { place < 2 ^ 32 }
+    ensures { OnOk result (string_bytes text.new ≡ string_bytes text.old ++ time_above span y place) }
+{
+    let time = span.mark(place);
+    if time <= span.last as u128 {
+        push_number(text, time, span.across(time), y)
+    } else {
+        Ok(())
+    }
+}
+
+/// Adds the line at `x` from `top` to `bottom`.
+#[tactic(auto, unfolding(crate::specs::Drawings::mark_line))]
+fn push_line(text: &mut String, x: u128, top: u128, bottom: u128) -> Result<(), AllocError>
+    ensures { OnOk result (string_bytes text.new ≡ string_bytes text.old ++ mark_line x top bottom) }
+{
+    write!(text, "<path class=\"line\" d=\"M{x} {top}V{bottom}\"/>")
+}
+
+/// Adds the number of a time at a place.
+#[tactic(auto, unfolding(crate::specs::Drawings::mark_number))]
+fn push_number(text: &mut String, number: u128, x: u128, y: u128) -> Result<(), AllocError>
+    ensures { OnOk result (string_bytes text.new ≡ string_bytes text.old ++ mark_number number x y) }
+{
+    write!(
+        text,
+        "<text class=\"mark\" x=\"{x}\" y=\"{y}\">{number}</text>\n"
+    )
+}
+
+/// Adds the line of the deadline, from `top` to `bottom`.
+#[tactic(auto, unfolding(crate::specs::Drawings::deadline_line))]
+pub(crate) fn push_deadline(text: &mut String, top: u128, bottom: u128) -> Result<(), AllocError>
+    ensures { OnOk result (string_bytes text.new ≡ string_bytes text.old ++ deadline_line top bottom) }
+{
+    write!(
+        text,
+        "<path class=\"deadline\" d=\"M970 {top}V{bottom}\"/>\n"
+    )
+}
+
+/// Adds the number of the deadline above its line.
+#[tactic(auto, unfolding(crate::specs::Drawings::deadline_label))]
+pub(crate) fn push_deadline_label(text: &mut String, deadline: u32) -> Result<(), AllocError>
+    ensures { OnOk result (string_bytes text.new ≡ string_bytes text.old ++ deadline_label deadline) }
+{
+    write!(
+        text,
+        "<text class=\"end\" x=\"990\" y=\"18\">deadline {deadline}</text>\n"
+    )
+}
+
+/// Adds the numbers at the left of a chart: the greatest at the height `top`, and 0 at `bottom`.
+#[tactic(auto, unfolding(crate::specs::Drawings::scale_element))]
+pub(crate) fn push_scale(
+    text: &mut String,
+    most: u64,
+    top: u128,
+    bottom: u128,
+) -> Result<(), AllocError>
+    ensures { OnOk result (string_bytes text.new ≡ string_bytes text.old ++ scale_element most top bottom) }
+{
+    write!(
+        text,
+        "<text class=\"end\" x=\"264\" y=\"{top}\">{most}</text>\
+         <text class=\"end\" x=\"264\" y=\"{bottom}\">0</text>\n"
+    )
+}
+
+/// Adds where a stair begins.
+#[tactic(auto, unfolding(crate::specs::Drawings::place_text))]
+pub(crate) fn push_place(text: &mut String, x: u128, y: u128) -> Result<(), AllocError>
+    ensures { OnOk result (string_bytes text.new ≡ string_bytes text.old ++ place_text x y) }
+{
+    write!(text, "M{x} {y}")
+}
+
+/// Adds a step of a stair: across to `x`, and up or down to `y`.
+#[tactic(auto, unfolding(crate::specs::Drawings::step_text))]
+pub(crate) fn push_step(text: &mut String, x: u128, y: u128) -> Result<(), AllocError>
+    ensures { OnOk result (string_bytes text.new ≡ string_bytes text.old ++ step_text x y) }
+{
+    write!(text, "H{x}V{y}")
+}

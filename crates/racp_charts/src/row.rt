@@ -1,0 +1,131 @@
+//! The row of a task in a chart.
+
+ghost use Rattle.std.specs.Prelude.{◌≡◌, ◌<◌, ◌^◌, ◌++◌, OnOk, option_map, string_bytes};
+ghost use Rattle.racp_charts.specs.Drawings.{bar_element, diamond_element, row_element, row_middle, shape_element, slack_element, tip_before, tip_element, tip_times};
+ghost use Rattle.racp_charts.specs.Elements.{shape_class};
+
+use crate::axis::Span;
+use crate::names::{push_name, push_numbers, push_short};
+use racp_show::Task;
+use std::alloc::{AllocError, Global};
+
+/// Adds the row of a task, which begins at the height `top`.
+pub fn push_row(
+    alloc: Global,
+    text: &mut String,
+    task: &Task<'_>,
+    span: Span,
+    top: u128,
+) -> Result<(), AllocError>
+    requires { top < 2 ^ 72 }
+    ensures { OnOk result (string_bytes text.new ≡ string_bytes text.old ++ row_element span task.now top) }
+{
+    push_tip(text, task)?;
+    push_middle(text, top)?;
+    push_short(alloc, text, task.name, "task", task.job)?;
+    text.push_str("</text>")?;
+    push_slack(text, task, span, top + 10)?;
+    push_shape(text, task, span, top + 4)?;
+    Ok(())
+}
+
+/// Adds the tooltip of a task: its name, when it starts and ends, its slack, and what comes before it.
+fn push_tip(text: &mut String, task: &Task<'_>) -> Result<(), AllocError>
+    ensures { OnOk result (string_bytes text.new ≡ string_bytes text.old ++ tip_element task.now) }
+{
+    text.push_str("<g><title>")?;
+    push_name(text, task.name, "task", task.job)?;
+    push_tip_times(text, task)?;
+    push_before(text, task.predecessors.as_slice())?;
+    text.push_str("</title>")?;
+    Ok(())
+}
+
+/// Adds the times of a tooltip.
+#[tactic(auto, unfolding(crate::specs::Drawings::tip_times))]
+fn push_tip_times(text: &mut String, task: &Task<'_>) -> Result<(), AllocError>
+    ensures { OnOk result (string_bytes text.new ≡ string_bytes text.old ++ tip_times task.now) }
+{
+    let (job, start) = (task.job, task.start);
+    let end = start as u64 + task.duration as u64;
+    let slack = task.latest.saturating_sub(start);
+    write!(text, "\ntask {job}, from {start} to {end}, slack {slack}")
+}
+
+/// Adds what comes before a task, if anything does.
+fn push_before(text: &mut String, numbers: &[u32]) -> Result<(), AllocError>
+    ensures { OnOk result (string_bytes text.new ≡ string_bytes text.old ++ tip_before numbers.now) }
+{
+    if numbers.is_empty() {
+        return Ok(());
+    }
+    text.push_str(", after ")?;
+    push_numbers(text, numbers)?;
+    Ok(())
+}
+
+/// Adds the stripe of a row, and the beginning of the name in it.
+#[tactic(auto, unfolding(crate::specs::Drawings::row_middle))]
+fn push_middle(text: &mut String, top: u128) -> Result<(), AllocError>
+    requires { top < 2 ^ 72 }
+    ensures { OnOk result (string_bytes text.new ≡ string_bytes text.old ++ row_middle top) }
+{
+    let stripe = top / 20 % 2;
+    let y = top + 14;
+    write!(
+        text,
+        "<rect class=\"stripe{stripe}\" x=\"0\" y=\"{top}\" width=\"1000\" height=\"20\"/><text x=\"8\" y=\"{y}\">"
+    )
+}
+
+/// Adds the thin line of a task's slack at this height.
+#[tactic(auto, unfolding(crate::specs::Drawings::slack_element))]
+fn push_slack(text: &mut String, task: &Task<'_>, span: Span, y: u128) -> Result<(), AllocError>
+    ensures { OnOk result (string_bytes text.new ≡ string_bytes text.old ++ slack_element span task.now y) }
+{
+    let from = span.across(task.start as u128 + task.duration as u128);
+    let to = span.across(task.latest as u128 + task.duration as u128);
+    write!(text, "<path class=\"slack\" d=\"M{from} {y}H{to}\"/>")
+}
+
+/// Adds the bar of a task at this height, or a diamond if it takes no time, and the end of the row.
+fn push_shape(text: &mut String, task: &Task<'_>, span: Span, top: u128) -> Result<(), AllocError>
+    ensures { OnOk result (string_bytes text.new ≡ string_bytes text.old ++ shape_element span task.now top) }
+{
+    let x = span.across(task.start as u128);
+    let class = class_of(task);
+    if task.duration == 0 {
+        return push_diamond(text, class, x, top);
+    }
+    let end = span.across(task.start as u128 + task.duration as u128);
+    push_bar(text, class, x, end.saturating_sub(x).max(1), top)
+}
+
+/// What a task's shape is called, by which it gets its colour.
+pub fn class_of(task: &Task<'_>) -> &'static str
+    ensures { result.now ≡ shape_class task.now.is_critical }
+{
+    if task.is_critical { "critical" } else { "bar" }
+}
+
+/// Adds a bar, and the end of the row.
+#[tactic(auto, unfolding(crate::specs::Drawings::bar_element))]
+fn push_bar(text: &mut String, class: &str, x: u128, width: u128, y: u128) -> Result<(), AllocError>
+    ensures { OnOk result (string_bytes text.new ≡ string_bytes text.old ++ bar_element class.now x width y) }
+{
+    write!(
+        text,
+        "<rect class=\"{class}\" x=\"{x}\" y=\"{y}\" width=\"{width}\" height=\"12\" rx=\"2\"/></g>\n"
+    )
+}
+
+/// Adds a diamond, and the end of the row.
+#[tactic(auto, unfolding(crate::specs::Drawings::diamond_element))]
+fn push_diamond(text: &mut String, class: &str, x: u128, y: u128) -> Result<(), AllocError>
+    ensures { OnOk result (string_bytes text.new ≡ string_bytes text.old ++ diamond_element class.now x y) }
+{
+    write!(
+        text,
+        "<path class=\"{class}\" d=\"M{x} {y}l6 6l-6 6l-6 -6z\"/></g>\n"
+    )
+}

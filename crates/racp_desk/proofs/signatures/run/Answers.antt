@@ -1,0 +1,7 @@
+use Rattle.std.proofs.Common.{IfOk, subst, sym}
+use Rattle.racp_model.specs.Project.{Project}
+use Rattle.racp_desk.specs.Closing.{IsRunClosed}
+use Rattle.racp_desk.proofs.signatures.run.Goals as goal
+
+pub returns : goal.returns
+returns g c = subst (λ (p : Project). IfOk c.run-closed.result (IsRunClosed p (g.S.Series.questions c.args.series) c.args.turns g.P.Stop.QUIET)) (sym c.requires.named) c.run-closed.ensures

@@ -1,7 +1,0 @@
-use Rattle.std.proofs.Common.{◌≡◌, ◌++◌, string_bytes}
-use Rattle.racp_report.specs.Drawings.{time_above}
-use Rattle.racp_show.specs.Pictures.{texts_before}
-use Rattle.racp_report.proofs.axis.push_above.Given as goal
-
-abbrev pub invariant-loop-place : goal.invariant-loop-place
-invariant-loop-place l = string_bytes l.text ≡ string_bytes l.initial.text ++ texts_before (time_above l.span l.y) l.place

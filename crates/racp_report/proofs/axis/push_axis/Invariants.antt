@@ -1,7 +1,0 @@
-use Rattle.std.proofs.Common.{◌≡◌, ◌++◌, string_bytes}
-use Rattle.racp_report.specs.Drawings.{time_below}
-use Rattle.racp_show.specs.Pictures.{texts_before}
-use Rattle.racp_report.proofs.axis.push_axis.Given as goal
-
-abbrev pub invariant-loop-place : goal.invariant-loop-place
-invariant-loop-place l = string_bytes l.text ≡ string_bytes l.initial.text ++ texts_before (time_below l.span l.top l.bottom) l.place

@@ -1,6 +1,0 @@
-use Rattle.std.proofs.Common.{◌≡◌, ◌++◌, drop}
-use Rattle.racp_report.specs.Reports.{precedents}
-use Rattle.racp_report.proofs.task.precedents.Given as goal
-
-abbrev pub invariant-loop-arc : goal.invariant-loop-arc
-invariant-loop-arc l = l.numbers.items ++ precedents l.i (drop l.arc-index l.arcs) ≡ precedents l.i l.arcs

@@ -1,0 +1,129 @@
+//! What becomes of an order if one term is changed.
+
+ghost use Rattle.std.specs.Prelude.{[], ◌∷◌, ◌≡◌, ◌++◌, All, IfErr, IfOk, OnOk, length, map};
+ghost use Rattle.racp_model.specs.Project.{Project};
+ghost use Rattle.racp_model.specs.Terms.{AreTermsOf, Terms};
+ghost use Rattle.racp_changes.specs.Changes.{IsChangeFor};
+ghost use Rattle.racp_changes.specs.Outcomes.{AreFindings, IsFinding, IsOutcome, change_of};
+ghost use Rattle.racp_lexfix.specs.Answers.{IsAnswer};
+ghost use Rattle.racp_whatif.specs.Faults.{IsFault};
+
+use crate::planning::{Task, planned};
+use racp_askers::Observer;
+use racp_changes::{Change, Finding, Outcome, changed, changes_of};
+use racp_desk::Gate;
+use racp_lexfix::{Answer, Crew, PlanStop};
+use racp_model::Network;
+use racp_model::limits::MOST_RESOURCES;
+use racp_prices::{Order, cost_of};
+use racp_search::Stop;
+use std::alloc::{AllocError, Global};
+use std::sync::Wait;
+use std::thread::Threads;
+
+/// What becomes of an order with each change that is asked about it and these capacities, in their order. Each plan is made
+/// by such workers, as that of the order itself; one that is stopped is left open.
+///
+/// # Errors
+///
+/// Memory was refused, or a worker could not be started.
+pub fn findings<G: Gate + Sync, P: Stop + Sync, O: Observer, R: Threads + Wait + Sync>(
+    rt: &R,
+    task: &Task<'_>,
+    capacities: &[u32],
+    crew: &Crew<'_, G, P, O>,
+) -> Result<Vec<Finding>, PlanStop>
+    requires terms { AreTermsOf task.now.net.now task.now.order.now }
+    requires places { length capacities.now ≡ task.now.net.now.resources }
+    ensures findings { IfOk result (λ findings. AreFindings task.now.net.now task.now.order.now capacities.now findings.items) }
+    ensures fault { IfErr result IsFault }
+{
+    prove!(task.net.resource_count() <= MOST_RESOURCES);
+    let changes = changes_of(task.alloc, task.order, capacities)?;
+    each_finding(rt, task, &changes, crew)
+}
+
+/// What becomes of an order with each of these changes, in their order.
+fn each_finding<G: Gate + Sync, P: Stop + Sync, O: Observer, R: Threads + Wait + Sync>(
+    rt: &R,
+    task: &Task<'_>,
+    changes: &[Change],
+    crew: &Crew<'_, G, P, O>,
+) -> Result<Vec<Finding>, PlanStop>
+    requires terms { AreTermsOf task.now.net.now task.now.order.now }
+    requires asked { All (IsChangeFor task.now.order.now) changes.now }
+    ensures changes { IfOk result (λ findings. map change_of findings.items ≡ changes.now) }
+    ensures right { IfOk result (λ findings. All (IsFinding task.now.net.now task.now.order.now) findings.items) }
+    ensures fault { IfErr result IsFault }
+{
+    let mut findings = Vec::new(task.alloc);
+    for change in changes {
+        let found = finding(rt, task, *change, crew)?;
+        keep(&mut findings, found)?;
+    }
+    Ok(findings)
+}
+
+/// Adds a finding.
+fn keep(findings: &mut Vec<Finding>, found: Finding) -> Result<(), AllocError>
+    ensures { OnOk result (findings.new.items ≡ findings.old.items ++ found ∷ []) }
+{
+    findings.push(found)?;
+    Ok(())
+}
+
+/// What becomes of an order with this change.
+fn finding<G: Gate + Sync, P: Stop + Sync, O: Observer, R: Threads + Wait + Sync>(
+    rt: &R,
+    task: &Task<'_>,
+    change: Change,
+    crew: &Crew<'_, G, P, O>,
+) -> Result<Finding, PlanStop>
+    requires terms { AreTermsOf task.now.net.now task.now.order.now }
+    requires change { IsChangeFor task.now.order.now change }
+    ensures change { IfOk result (λ finding. finding.change ≡ change) }
+    ensures right { IfOk result (IsFinding task.now.net.now task.now.order.now) }
+    ensures fault { IfErr result IsFault }
+{
+    let order = changed(task.alloc, task.order, change)?;
+    let outcome = outcome(rt, task.alloc, task.net, &order, crew);
+    // Dropped here once, not at each way out.
+    drop(order);
+    let outcome = outcome?;
+    Ok(Finding { change, outcome })
+}
+
+/// What becomes of an order.
+fn outcome<G: Gate + Sync, P: Stop + Sync, O: Observer, R: Threads + Wait + Sync>(
+    rt: &R,
+    alloc: Global,
+    net: &Network,
+    order: &Order,
+    crew: &Crew<'_, G, P, O>,
+) -> Result<Outcome, PlanStop>
+    requires terms { AreTermsOf net.now order.now }
+    ensures outcome { IfOk result (IsOutcome net.now order.now) }
+    ensures fault { IfErr result IsFault }
+{
+    let task = Task { alloc, net, order };
+    match planned(rt, &task, crew) {
+        Ok(answer) => Ok(outcome_of(answer)),
+        Err(PlanStop::Stopped { not_before }) => Ok(Outcome::Open {
+            least: cost_of(net, order, not_before.as_slice()),
+        }),
+        Err(PlanStop::Memory) => Err(PlanStop::Memory),
+        Err(PlanStop::NoThread) => Err(PlanStop::NoThread),
+    }
+}
+
+/// What an answer says of an order.
+fn outcome_of(answer: Answer) -> Outcome
+    ensures { (p : Project) (terms : Terms) → IsAnswer p terms answer → IsOutcome p terms result }
+{
+    match answer {
+        Answer::Plan(plan) => Outcome::Plan(plan),
+        Answer::Impossible { longest } => Outcome::TooLong { critical: longest },
+        Answer::Due { job } => Outcome::TooLate { job },
+        Answer::Ceiling => Outcome::NoneEnough,
+    }
+}
