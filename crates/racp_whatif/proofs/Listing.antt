@@ -20,10 +20,10 @@ listing_on p terms changes place findings new found d within so_far same right g
     let split : drop place changes ≡ get_or changes place d ∷ rest = rw (add-one) (drop-cons changes place d within) in
     record {
       changes_are = ap (λ (t : List Finding). map change_of t ++ rest) grown
-        ∙ ap (λ (t : List Change). t ++ rest) (map-append change_of findings (found ∷ []))
-        ∙ append_assoc (map change_of findings) (change_of found ∷ []) rest
-        ∙ ap (λ (x : Change). map change_of findings ++ (x ∷ rest)) same
-        ∙ sym (ap (λ (t : List Change). map change_of findings ++ t) split)
-        ∙ so_far.changes_are;
+          ∙ ap (λ (t : List Change). t ++ rest) (map-append change_of findings (found ∷ []))
+          ∙ append_assoc (map change_of findings) (change_of found ∷ []) rest
+          ∙ ap (λ (x : Change). map change_of findings ++ (x ∷ rest)) same
+          ∙ sym (ap (λ (t : List Change). map change_of findings ++ t) split)
+          ∙ so_far.changes_are;
       right = subst (λ (t : List Finding). All (IsFinding p terms) t) (sym grown) (All-append (IsFinding p terms) findings (found ∷ []) so_far.right (All-cons (IsFinding p terms) found [] right (All-nil (IsFinding p terms))));
     }
