@@ -109,6 +109,9 @@ impl<P: OfProblem> Descent<P> {
     fn open_part(&self, task: Task<'_>, aim: Aim) -> Option<(usize, u64)> {
         let parts = self.parts.as_ref()?;
         let best = self.best.as_ref()?;
+        if matches!(aim, Aim::Cost) && self.costs_least(task) {
+            return None;
+        }
         let resources = task.net.resource_count();
         for turn in 0..resources {
             let k = parts.first.wrapping_add(turn).checked_rem(resources)?;
@@ -122,6 +125,12 @@ impl<P: OfProblem> Descent<P> {
             }
         }
         None
+    }
+
+    /// Whether nothing can cost less than the best draft: then a part that asks for less would be met by what costs as much.
+    fn costs_least(&self, task: Task<'_>) -> bool {
+        let x = task.net.job_count().saturating_add(task.net.resource_count());
+        self.value(task, x) <= task.root.lower_at(x)
     }
 
     /// Bounds what is still of interest as an aim has it: the cost, or the units of the resources before this one.
