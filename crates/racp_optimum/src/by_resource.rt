@@ -129,7 +129,10 @@ impl<P: OfProblem> Descent<P> {
 
     /// Whether nothing can cost less than the best draft: then a part that asks for less would be met by what costs as much.
     fn costs_least(&self, task: Task<'_>) -> bool {
-        let x = task.net.job_count().saturating_add(task.net.resource_count());
+        let x = task
+            .net
+            .job_count()
+            .saturating_add(task.net.resource_count());
         self.value(task, x) <= task.root.lower_at(x)
     }
 
