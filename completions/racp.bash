@@ -11,12 +11,12 @@ _racp() {
     case $command in
         cpm) options="--json --explain --quiet" ;;
         plan) options="--workers --turns --stats --memory --time-limit --progress --best --json --explain --quiet" ;;
-        prove) options="--facts --explain --quiet" ;;
+        prove) options="--facts --time-limit --explain --quiet" ;;
         check) options="--json --explain --quiet" ;;
         verify) options="--time-limit --json --explain --quiet" ;;
-        show) options="--names --width --ascii --svg --links --json --csv --explain --quiet" ;;
-        report) options="--names --curve --explain --quiet" ;;
-        curve) options="--workers --turns --memory --time-limit --progress --svg --json --explain --quiet" ;;
+        show) options="--names --width --ascii --svg --links --start-date --unit --json --csv --explain --quiet" ;;
+        report) options="--names --curve --start-date --unit --explain --quiet" ;;
+        curve) options="--workers --turns --memory --time-limit --progress --best --svg --json --explain --quiet" ;;
         order) options="--factor --deadline --prices --owned --ceiling --json --explain --quiet" ;;
         import) options="--out --from --prices --factor --deadline --owned --ceiling --quiet" ;;
         explain)

@@ -32,10 +32,14 @@ complete -c racp -n "__fish_seen_subcommand_from show" -l width -x -d "columns o
 complete -c racp -n "__fish_seen_subcommand_from show" -l ascii -d "plain characters"
 complete -c racp -n "__fish_seen_subcommand_from show" -l svg -d "a picture"
 complete -c racp -n "__fish_seen_subcommand_from show" -l links -d "arrows in a picture"
+complete -c racp -n "__fish_seen_subcommand_from show" -l start-date -r -d "the date of the time 0"
+complete -c racp -n "__fish_seen_subcommand_from show" -l unit -r -f -a "day week" -d "how long a time unit is"
 complete -c racp -n "__fish_seen_subcommand_from show" -l json -d JSON
 complete -c racp -n "__fish_seen_subcommand_from show" -l csv -d CSV
 complete -c racp -n "__fish_seen_subcommand_from report" -l names -r -d "names of jobs and resources"
 complete -c racp -n "__fish_seen_subcommand_from report" -l curve -r -d "what each deadline costs"
+complete -c racp -n "__fish_seen_subcommand_from report" -l start-date -r -d "the date of the time 0"
+complete -c racp -n "__fish_seen_subcommand_from report" -l unit -r -f -a "day week" -d "how long a time unit is"
 complete -c racp -n "__fish_seen_subcommand_from report" -l explain -d "say what is wrong"
 complete -c racp -n "__fish_seen_subcommand_from report" -l quiet -d "say nothing of what is wrong"
 complete -c racp -n "__fish_seen_subcommand_from curve" -l workers -x -d "how many workers"
@@ -48,6 +52,7 @@ complete -c racp -n "__fish_seen_subcommand_from order" -l prices -x -d prices
 complete -c racp -n "__fish_seen_subcommand_from order" -l owned -x -d "owned units"
 complete -c racp -n "__fish_seen_subcommand_from order" -l ceiling -x -d "most units"
 complete -c racp -n "__fish_seen_subcommand_from prove" -l facts -d "one by clauses"
+complete -c racp -n "__fish_seen_subcommand_from prove" -l time-limit -x -d seconds
 complete -c racp -n "__fish_seen_subcommand_from prove" -l explain -d "say what is wrong"
 complete -c racp -n "__fish_seen_subcommand_from show" -l explain -d "say what is wrong"
 complete -c racp -n "__fish_seen_subcommand_from curve" -l explain -d "say what is wrong"
@@ -63,6 +68,7 @@ complete -c racp -n "__fish_seen_subcommand_from order" -l quiet -d "say nothing
 complete -c racp -n "__fish_seen_subcommand_from plan" -l best -r -d "file of the best plan known"
 complete -c racp -n "__fish_seen_subcommand_from curve" -l time-limit -x -d seconds
 complete -c racp -n "__fish_seen_subcommand_from curve" -l progress -d "tell how far it is"
+complete -c racp -n "__fish_seen_subcommand_from curve" -l best -r -d "file of the best plan known"
 complete -c racp -n "__fish_seen_subcommand_from cpm" -l json -d JSON
 complete -c racp -n "__fish_seen_subcommand_from plan" -l json -d JSON
 complete -c racp -n "__fish_seen_subcommand_from check" -l json -d JSON

@@ -2,6 +2,7 @@
 use Rattle.std.proofs.Common.{ℕ, Bool, true, false, List, [], ◌∷◌, Option, Ok, Err, IfOk, inl, inr}
 use Rattle.std.specs.Prelude.{Result}
 use Rattle.racp_askers.specs.declared.crowd.Effort.{Effort}
+use Rattle.racp_calendar.specs.declared.calendar.Calendar.{Calendar}
 use Rattle.racp_cli.specs.Crowds.{IsCrowdAnswer, IsCrowdRun}
 use Rattle.racp_cli.specs.Plans.{IsPlanAnswer}
 use Rattle.racp_cli.specs.Proofs.{IsProofAnswer, IsProofRun}
@@ -88,17 +89,17 @@ shown look net order plan names old new (Ok status) run = of_picture look run.0 
 shown look net order plan names old new (Err fault) run = tt
 
 -- what is reported of a plan
-of_report : (curve : Option (List ℕ)) (inputs : List (List ℕ)) (status : ℕ) (text : List ℕ) → ToFour (IsReportAnswer curve) inputs status text → IsStatusOfTool status
-of_report curve [] status text answer = absurd answer
-of_report curve (net ∷ []) status text answer = absurd answer
-of_report curve (net ∷ (order ∷ [])) status text answer = absurd answer
-of_report curve (net ∷ (order ∷ (plan ∷ []))) status text answer = absurd answer
-of_report curve (net ∷ (order ∷ (plan ∷ (names ∷ [])))) status text answer = inr (inr (inr (inl (curve, net, order, plan, names, text, answer))))
-of_report curve (net ∷ (order ∷ (plan ∷ (names ∷ (other ∷ inputs))))) status text answer = absurd answer
+of_report : (calendar : Calendar) (curve : Option (List ℕ)) (inputs : List (List ℕ)) (status : ℕ) (text : List ℕ) → ToFour (IsReportAnswer calendar curve) inputs status text → IsStatusOfTool status
+of_report calendar curve [] status text answer = absurd answer
+of_report calendar curve (net ∷ []) status text answer = absurd answer
+of_report calendar curve (net ∷ (order ∷ [])) status text answer = absurd answer
+of_report calendar curve (net ∷ (order ∷ (plan ∷ []))) status text answer = absurd answer
+of_report calendar curve (net ∷ (order ∷ (plan ∷ (names ∷ [])))) status text answer = inr (inr (inr (inl (calendar, curve, net, order, plan, names, text, answer))))
+of_report calendar curve (net ∷ (order ∷ (plan ∷ (names ∷ (other ∷ inputs))))) status text answer = absurd answer
 
-pub reported : (curve : Option (List ℕ)) (net order plan names : Reader) (old new : Option (List ℕ)) (result : Result ℕ StreamFault) → IsReportRun curve net order plan names old new result → IfOk result IsStatusOfTool
-reported curve net order plan names old new (Ok status) run = of_report curve run.0 status run.2.0 run.2.1
-reported curve net order plan names old new (Err fault) run = tt
+pub reported : (calendar : Calendar) (curve : Option (List ℕ)) (net order plan names : Reader) (old new : Option (List ℕ)) (result : Result ℕ StreamFault) → IsReportRun calendar curve net order plan names old new result → IfOk result IsStatusOfTool
+reported calendar curve net order plan names old new (Ok status) run = of_report calendar curve run.0 status run.2.0 run.2.1
+reported calendar curve net order plan names old new (Err fault) run = tt
 
 -- what one thread tells of deadlines is what workers may tell
 told_alone : (is_drawn : Bool) (net order : List ℕ) (status : ℕ) (text : List ℕ) → IsCurveAnswer is_drawn net order status text → IsCurveCrowdAnswer is_drawn net order status text

@@ -3,6 +3,7 @@ use Rattle.std.specs.Prelude.{◌≡◌, ◌⊎◌, ℕ, Bool, false, List, Opti
 use Rattle.clap.specs.Words.{kind_of}
 use Rattle.clap.specs.declared.error.kind.ErrorKind.{ErrorKind}
 use Rattle.clap.specs.declared.error.kind.ErrorKind.TheVariants.{DisplayHelp, DisplayVersion, OutOfMemory}
+use Rattle.racp_calendar.specs.declared.calendar.Calendar.{Calendar}
 use Rattle.racp_cli.specs.Answers.{IsCpmAnswer}
 use Rattle.racp_cli.specs.Crowds.{IsCrowdAnswer}
 use Rattle.racp_cli.specs.Checks.{IsCheckAnswer}
@@ -43,8 +44,8 @@ IsStatusOfTool status =
     ((net order plan names : List ℕ) × (look : Look) × (text : List ℕ) × IsShowAnswer look net order plan names status text) ⊎
     ((is_drawn : Bool) × (net order : List ℕ) × (text : List ℕ) × IsCurveCrowdAnswer is_drawn net order status text) ⊎
     ((asked : Asked) × (net : List ℕ) × (text : List ℕ) × IsOrderAnswer asked net status text) ⊎
-    ((curve : Option (List ℕ)) × (net order plan names : List ℕ) × (text : List ℕ) ×
-    IsReportAnswer curve net order plan names status text) ⊎
+    ((calendar : Calendar) × (curve : Option (List ℕ)) × (net order plan names : List ℕ) × (text : List ℕ) ×
+    IsReportAnswer calendar curve net order plan names status text) ⊎
     (status ≡ 0)
 
 -- some answer to some texts has this status; nothing is said of which

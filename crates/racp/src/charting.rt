@@ -3,6 +3,7 @@
 ghost use Rattle.std.specs.Prelude.{IfOk};
 ghost use Rattle.racp.specs.Statuses.{IsStatusOfTool};
 
+use crate::dates::calendar_of;
 use crate::failure::Failure;
 use crate::inputs::{opened, text, whole};
 use crate::telling::{Manner, tell};
@@ -59,6 +60,7 @@ pub(crate) fn show<'a, R: Env + Files + Print + Eprint + AllocGlobal>(
             width: width_of(rt, look.width),
             form: look.form,
             has_links: look.has_links,
+            calendar: calendar_of(look.dates)?,
         },
         manner,
     };

@@ -166,7 +166,8 @@ fn curve_alone<N: Read, O: Read, W: Write>(
 }
 
 /// Writes what each deadline up to that of the order of these texts costs, by plans that the workers of a crew make. If
-/// that is asked for, it goes to standard error how far they have come.
+/// that is asked for, it goes to standard error how far they have come, and a file keeps the best plan known for the
+/// deadline of the order.
 fn curve_by<R: Clock + Env + Files + Eprint + AllocGlobal + Threads + Wait + Sync, W: Write>(
     rt: &R,
     net: &[u8],
@@ -183,7 +184,12 @@ fn curve_by<R: Clock + Env + Files + Eprint + AllocGlobal + Threads + Wait + Syn
     };
     let best = Cell::new(Vec::new(rt.alloc()));
     let limit = Limit::of(rt, making.limit, progress, Asks::of(rt));
-    let kept = Kept::nowhere(net, order);
+    let kept = Kept {
+        net,
+        order,
+        path: crew.best,
+        in_memory: false,
+    };
     let listener = Listener::of(
         rt,
         limit.known(),

@@ -35,6 +35,15 @@ pub(crate) enum OptionFault {
     /// The limit of time is no number of seconds, or out of its range.
     #[error("--time-limit has to be a number of seconds such as 60 or 0.5, above 0 and up to 1,000,000,000")]
     TimeLimit,
+    /// The date of the time 0 is no date.
+    #[error("--start-date has to be a date such as 2026-01-05")]
+    StartDate,
+    /// The length of a time unit is none that is told, or told without a date.
+    #[error("--unit has to be day or week, with --start-date")]
+    Unit,
+    /// There is a limit of time for a certificate by trees.
+    #[error("prove takes --time-limit with --facts alone")]
+    TreesLimit,
     /// The format of a table is none that is read.
     #[error("--from has to be csv or rcp")]
     Format,

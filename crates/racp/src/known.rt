@@ -7,10 +7,11 @@ use std::sync::atomic::{AtomicBool, AtomicU64, Ordering};
 /// What stands for a deadline or a cost while none is known.
 const NONE: u64 = u64::MAX;
 
-/// What is known of a plan while it is made: its deadline, what the cheapest costs that is known, what each costs at
-/// least, and whether the user has asked for a stop.
+/// What is known of a plan while it is made: its deadline, the longest deadline for which one was made so far, what the
+/// cheapest costs that is known, what each costs at least, and whether the user has asked for a stop.
 #[derive(Drop)]
 pub(crate) struct Known {
+    longest: AtomicU64,
     deadline: AtomicU64,
     best: AtomicU64,
     bound: AtomicU64,
@@ -21,6 +22,7 @@ impl Known {
     /// No plan is known, and it may cost nothing.
     pub(crate) fn new() -> Self {
         Known {
+            longest: AtomicU64::new(0),
             deadline: AtomicU64::new(NONE),
             best: AtomicU64::new(NONE),
             bound: AtomicU64::new(0),
@@ -32,6 +34,7 @@ impl Known {
     /// of it.
     pub(crate) fn note_deadline(&self, deadline: u32) -> bool {
         let deadline = deadline as u64;
+        let _ = self.longest.fetch_max(deadline, Ordering::SeqCst);
         if self.deadline.swap(deadline, Ordering::SeqCst) == deadline {
             return false;
         }
@@ -40,9 +43,14 @@ impl Known {
         true
     }
 
-    /// Notes a plan of this cost that is known, and says whether it is the cheapest so far.
+    /// Notes a plan of this cost that is known, and says whether none so far is cheaper.
     pub(crate) fn note_plan(&self, cost: u64) -> bool {
-        cost < self.best.fetch_min(cost, Ordering::SeqCst)
+        cost <= self.best.fetch_min(cost, Ordering::SeqCst)
+    }
+
+    /// Whether the plan is made for the longest deadline so far.
+    pub(crate) fn is_for_longest(&self) -> bool {
+        self.longest.load(Ordering::SeqCst) == self.deadline.load(Ordering::SeqCst)
     }
 
     /// Notes that a plan costs at least so much.

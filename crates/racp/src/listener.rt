@@ -23,20 +23,8 @@ pub(crate) struct Kept<'a> {
     pub(crate) in_memory: bool,
 }
 
-impl<'k> Kept<'k> {
-    /// None is kept of the plans for these texts.
-    pub(crate) fn nowhere(net: &'k [u8], order: &'k [u8]) -> Self {
-        Kept {
-            net,
-            order,
-            path: None,
-            in_memory: false,
-        }
-    }
-}
-
-/// Hears how far planning has come, and notes it; the best plan that is known it keeps in a file, if that is wanted. Each time
-/// it looks whether the user has asked for a stop.
+/// Hears how far planning has come, and notes it; the best plan that is known for the longest deadline, that of the order,
+/// it keeps in a file, if that is wanted. Each time it looks whether the user has asked for a stop.
 #[derive(Drop)]
 pub(crate) struct Listener<'a, 'b, 'k, R: Files + Eprint + AllocGlobal + Drop> {
     host: R,
@@ -116,7 +104,7 @@ impl<'a, 'b, 'k, R: Files + Eprint + AllocGlobal + Drop> Observer for Listener<'
     }
 
     fn hear_plan(&self, capacities: &[u32], starts: &[u32], cost: u64) {
-        if !self.known.note_plan(cost) {
+        if !self.known.note_plan(cost) || !self.known.is_for_longest() {
             return;
         }
         if self.kept.path.is_none() && !self.kept.in_memory {

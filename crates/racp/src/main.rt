@@ -48,6 +48,7 @@ mod charting;
 mod checking;
 mod costing;
 mod crewing;
+mod dates;
 mod early;
 mod failure;
 mod files;

@@ -3,60 +3,95 @@
 ghost use Rattle.std.specs.Prelude.{IfOk};
 ghost use Rattle.racp.specs.Statuses.{IsStatusOfAnswer};
 
-use crate::failure::Failure;
+use crate::asks::Asks;
+use crate::failure::{Failure, OptionFault};
 use crate::inputs::{opened, text, whole};
+use crate::seconds::time_limit;
+use crate::shown::Shown;
 use crate::telling::{Manner, tell};
+use crate::until::Until;
 use racp_cli::{CHECK_FAILED, StreamFault, prove_by_clauses_over, prove_over};
 use racp_explain::{Input as Text, order_cause};
 use racp_words::OrderFiles;
 use std::io;
 use std::io::Read;
-use std::rt::Files;
+use std::rt::{Env, Files};
+use std::time::{Clock, Duration};
+
+/// Which certificate is made, and after what time that stops, if it does.
+#[derive(Drop)]
+pub(crate) struct Proving<'a> {
+    files: OrderFiles<'a>,
+    by_clauses: bool,
+    word: Option<&'a str>,
+    limit: Option<Duration>,
+    manner: Manner,
+}
+
+impl<'a> Proving<'a> {
+    /// Of these files, by clauses if that is said, and for the time of this word, if there is one.
+    ///
+    /// # Errors
+    ///
+    /// The word for the time is no number of seconds, or the certificate is one by trees, which no time stops.
+    pub(crate) fn of(
+        files: OrderFiles<'a>,
+        by_clauses: bool,
+        word: Option<&'a str>,
+        manner: Manner,
+    ) -> Result<Self, OptionFault> {
+        if word.is_some() && !by_clauses {
+            return Err(OptionFault::TreesLimit);
+        }
+        Ok(Proving {
+            files,
+            by_clauses,
+            word,
+            limit: time_limit(word)?,
+            manner,
+        })
+    }
+}
 
 /// Writes a certificate for the plan of these files, by clauses if that is asked for, or why there is none.
-pub(crate) fn prove<R: Files + Print + Eprint + AllocGlobal>(
+pub(crate) fn prove<R: Clock + Env + Files + Print + Eprint + AllocGlobal>(
     rt: &R,
-    files: OrderFiles<'_>,
-    by_clauses: bool,
-    manner: Manner,
+    asked: Proving<'_>,
 ) -> Result<u8, Failure>
     ensures { IfOk result IsStatusOfAnswer }
 {
-    let mut net = opened(rt, files.net)?;
-    let mut order = opened(rt, files.order)?;
-    let (net, order) = (&mut net, &mut order);
-    prove_read(rt, files, by_clauses, net, order, manner)
+    let mut net = opened(rt, asked.files.net)?;
+    let mut order = opened(rt, asked.files.order)?;
+    prove_read(rt, asked, &mut net, &mut order)
 }
 
 /// Writes a certificate for the plan of these open files, each read whole before the next, and what is wrong with them.
-fn prove_read<R: Files + Print + Eprint + AllocGlobal, F: Read>(
+fn prove_read<R: Clock + Env + Files + Print + Eprint + AllocGlobal, F: Read>(
     rt: &R,
-    files: OrderFiles<'_>,
-    by_clauses: bool,
+    asked: Proving<'_>,
     net: &mut F,
     order: &mut F,
-    manner: Manner,
 ) -> Result<u8, Failure>
     ensures { IfOk result IsStatusOfAnswer }
 {
-    let net = whole(rt.alloc(), net, files.net)?;
-    let order = whole(rt.alloc(), order, files.order)?;
-    let (net, order) = (text(files.net, &net), text(files.order, &order));
-    prove_told(rt, by_clauses, &net, &order, manner)
+    let net = whole(rt.alloc(), net, asked.files.net)?;
+    let order = whole(rt.alloc(), order, asked.files.order)?;
+    let (net, order) = (text(asked.files.net, &net), text(asked.files.order, &order));
+    prove_told(rt, &asked, &net, &order)
 }
 
 /// Writes a certificate for the plan of these texts, and what is wrong with them.
-fn prove_told<R: Files + Print + Eprint + AllocGlobal>(
+fn prove_told<R: Clock + Env + Files + Print + Eprint + AllocGlobal>(
     rt: &R,
-    by_clauses: bool,
+    asked: &Proving<'_>,
     net: &Text<'_>,
     order: &Text<'_>,
-    manner: Manner,
 ) -> Result<u8, Failure>
     ensures { IfOk result IsStatusOfAnswer }
 {
+    let manner = asked.manner;
     let (mut network, mut terms) = (net.bytes, order.bytes);
-    let status = prove_of(rt, by_clauses, &mut network, &mut terms)?;
+    let status = prove_of(rt, asked, &mut network, &mut terms)?;
     if manner.tells(status) && status != CHECK_FAILED {
         tell(rt, manner, order_cause(rt.alloc(), net, order));
     }
@@ -64,16 +99,53 @@ fn prove_told<R: Files + Print + Eprint + AllocGlobal>(
 }
 
 /// Writes a certificate for the plan of a network and an order that are read there, or why there is none.
-fn prove_of<R: Print + AllocGlobal, N: Read, O: Read>(
+fn prove_of<R: Clock + Env + Files + Print + Eprint + AllocGlobal, N: Read, O: Read>(
     rt: &R,
-    by_clauses: bool,
+    asked: &Proving<'_>,
     net: &mut N,
     order: &mut O,
 ) -> Result<u8, StreamFault>
     ensures { IfOk result IsStatusOfAnswer }
 {
-    if by_clauses {
-        return prove_by_clauses_over(rt.alloc(), net, order, &mut io::writer(rt));
+    if asked.by_clauses {
+        return prove_by_clauses(rt, asked, net, order);
     }
     prove_over(rt.alloc(), net, order, &mut io::writer(rt))
+}
+
+/// The same by clauses. If it was stopped, after so much time or by the user, standard error says so.
+fn prove_by_clauses<R: Clock + Env + Files + Print + Eprint + AllocGlobal, N: Read, O: Read>(
+    rt: &R,
+    asked: &Proving<'_>,
+    net: &mut N,
+    order: &mut O,
+) -> Result<u8, StreamFault>
+    ensures { IfOk result IsStatusOfAnswer }
+{
+    let until = Until::of(rt, asked.limit, Asks::of(rt));
+    let status = prove_by_clauses_over(rt.alloc(), net, order, &mut io::writer(rt), &until);
+    if is_unproved(&status) && until.has_stopped() && !asked.manner.is_quiet() {
+        tell_stop(rt, asked.word, until.is_asked());
+    }
+    // Dropped here once, not at each way out.
+    drop(until);
+    status
+}
+
+/// Whether no certificate was made.
+fn is_unproved(status: &Result<u8, StreamFault>) -> bool {
+    match status {
+        Ok(status) => *status == CHECK_FAILED,
+        Err(_) => false,
+    }
+}
+
+/// Tells on standard error that no certificate was made since the user asked for a stop, or the time of this word was over.
+fn tell_stop<R: Eprint>(rt: &R, word: Option<&str>, is_asked: bool) {
+    let _ = match word {
+        Some(word) if !is_asked => rt.eprintln(format_args!(
+            "racp: stopped after {word} s: no certificate was made"
+        )),
+        _ => rt.eprintln("racp: stopped as was asked: no certificate was made"),
+    };
 }

@@ -3,10 +3,12 @@
 ghost use Rattle.std.specs.Prelude.{IfOk};
 ghost use Rattle.racp.specs.Statuses.{IsStatusOfTool};
 
+use crate::dates::calendar_of;
 use crate::failure::Failure;
 use crate::inputs::{opened, text, whole};
 use crate::telling::{Manner, tell};
-use racp_cli::{StreamFault, report_over};
+use racp_calendar::Calendar;
+use racp_cli::{Page, StreamFault, report_over};
 use racp_explain::{curve_cause, shown_cause};
 use racp_words::{PlanFiles, ReportWords};
 use std::alloc::{AllocError, Global};
@@ -41,9 +43,10 @@ pub(crate) fn report<R: Files + Print + Eprint + AllocGlobal>(
 ) -> Result<u8, Failure>
     ensures { IfOk result IsStatusOfTool }
 {
+    let calendar = calendar_of(options.dates)?;
     let paths = Paths { files, options };
     let inputs = read(rt, &paths)?;
-    let status = report_of(rt, &inputs)?;
+    let status = report_of(rt, &inputs, calendar)?;
     if manner.tells(status) {
         tell(rt, manner, cause(rt.alloc(), &paths, &inputs));
     }
@@ -91,7 +94,11 @@ fn opened_if<R: Files + AllocGlobal>(
 }
 
 /// Writes a page about the plan in these texts.
-fn report_of<R: Print + AllocGlobal>(rt: &R, inputs: &Inputs) -> Result<u8, StreamFault>
+fn report_of<R: Print + AllocGlobal>(
+    rt: &R,
+    inputs: &Inputs,
+    calendar: Calendar,
+) -> Result<u8, StreamFault>
     ensures { IfOk result IsStatusOfTool }
 {
     let (mut net, mut order) = (inputs.net.as_slice(), inputs.order.as_slice());
@@ -103,7 +110,7 @@ fn report_of<R: Print + AllocGlobal>(rt: &R, inputs: &Inputs) -> Result<u8, Stre
         &mut order,
         &mut plan,
         &mut names,
-        curve,
+        Page { curve, calendar },
         &mut io::writer(rt),
     )
 }

@@ -11,7 +11,7 @@ use crate::failure::{Failure, report};
 use crate::inputs::told;
 use crate::making::Making;
 use crate::planning::plan;
-use crate::proving::prove;
+use crate::proving::{Proving, prove};
 use crate::seconds::time_limit;
 use crate::telling::Manner;
 use crate::tools::tool;
@@ -140,7 +140,9 @@ fn answered<R: Clock + Env + Files + Input + Print + Eprint + AllocGlobal + Thre
         Request::Plan(files, memory, crew) => {
             plan(rt, files, Making::of(memory, crew, manner)?)
         },
-        Request::Prove(files, by_clauses) => prove(rt, files, by_clauses, manner),
+        Request::Prove(files, by_clauses, word) => {
+            prove(rt, Proving::of(files, by_clauses, word, manner)?)
+        },
         Request::Check(files) => check(rt, files, manner),
         Request::Verify(files, word) => {
             let limit = time_limit(word)?;

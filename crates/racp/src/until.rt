@@ -20,6 +20,7 @@ pub(crate) struct Until<R: Clock + Files + Drop> {
     asks: Option<Asks>,
     due: AtomicU64,
     is_asked: AtomicBool,
+    has_stopped: AtomicBool,
 }
 
 impl<R: Clock + Files + Drop> Until<R> {
@@ -34,7 +35,18 @@ impl<R: Clock + Files + Drop> Until<R> {
             asks,
             due: AtomicU64::new(0),
             is_asked: AtomicBool::new(false),
+            has_stopped: AtomicBool::new(false),
         }
+    }
+
+    /// Whether the user has asked for a stop, as far as that was looked at.
+    pub(crate) fn is_asked(&self) -> bool {
+        self.is_asked.load(Ordering::SeqCst)
+    }
+
+    /// Whether it has stopped the command.
+    pub(crate) fn has_stopped(&self) -> bool {
+        self.has_stopped.load(Ordering::SeqCst)
     }
 
     /// Whether the limit is over when so much time has passed.
@@ -75,6 +87,10 @@ impl<R: Clock + Files + Drop> Stop for Until<R> {
         }
         let passed = self.begun.passed(&self.host);
         self.look(passed);
-        self.is_asked.load(Ordering::SeqCst) || self.is_over(passed)
+        let stops = self.is_asked() || self.is_over(passed);
+        if stops {
+            self.has_stopped.store(true, Ordering::SeqCst);
+        }
+        stops
     }
 }

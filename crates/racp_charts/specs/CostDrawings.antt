@@ -1,6 +1,8 @@
 -- The drawing of what deadlines cost. Places are from the left and from above.
 use Rattle.std.specs.Prelude.{ℕ, ◌+◌, ◌-◌, ◌*◌, ◌/◌, ◌||◌, max, min, nat_le, List, [], ◌∷◌, ◌++◌, codes, flat_map, fold, if◌then◌else◌}
 use Rattle.std.specs.Fmt.{decimal}
+use Rattle.racp_calendar.specs.Dates.{time_text}
+use Rattle.racp_calendar.specs.declared.calendar.Calendar.{Calendar}
 use Rattle.racp_charts.specs.Texts.{◌⋅◌, mark_of, texts_before}
 use Rattle.racp_charts.specs.Drawings.{across, axis, place_text, step_text}
 use Rattle.racp_charts.specs.declared.axis.Span.{Span}
@@ -49,15 +51,20 @@ cost_stair span most corners =
     codes "<path class=\"used\" d=\"" ⋅ place_text 270 250 ⋅ cost_steps span most corners ⋅ codes "H994V250Z\"/>\n"
 
 -- a corner of it, whose tooltip has its deadline and its cost
-unfoldable pub corner_element : ℕ → ℕ → Corner → List ℕ
-corner_element x y corner = codes "<circle class=\"critical\" cx=\"" ⋅ decimal x ⋅ codes "\" cy=\"" ⋅ decimal y
-    ⋅ codes "\" r=\"4\"><title>from " ⋅ decimal corner.deadline ⋅ codes ": " ⋅ decimal corner.cost
-    ⋅ codes "</title></circle>\n"
+unfoldable pub corner_begin : ℕ → ℕ → List ℕ
+corner_begin x y = codes "<circle class=\"critical\" cx=\"" ⋅ decimal x ⋅ codes "\" cy=\"" ⋅ decimal y
+    ⋅ codes "\" r=\"4\"><title>from "
+
+unfoldable pub corner_end : ℕ → List ℕ
+corner_end cost = codes ": " ⋅ decimal cost ⋅ codes "</title></circle>\n"
+
+unfoldable pub corner_element : Calendar → ℕ → ℕ → Corner → List ℕ
+corner_element calendar x y corner = corner_begin x y ⋅ time_text calendar corner.deadline ⋅ corner_end corner.cost
 
 -- its corners
 abbrev pub cost_corners : Span → ℕ → List Corner → List ℕ
 cost_corners span most corners =
-    flat_map (λ corner. corner_element (across span corner.deadline) (cost_down most corner.cost) corner) corners
+    flat_map (λ corner. corner_element span.calendar (across span corner.deadline) (cost_down most corner.cost) corner) corners
 
 -- a cost that begins at x, and one that ends at the right end of the drawing
 unfoldable pub label_above : ℕ → ℕ → ℕ → List ℕ
@@ -90,6 +97,6 @@ costs_in span most corners =
     ⋅ cost_labels span most 0 0 corners
 
 -- from the first deadline up to a last one
-abbrev pub costs_element : List Corner → ℕ → List ℕ
-costs_element corners last =
-    costs_in (record { first = first_deadline corners last; last = last }) (most_cost corners) corners
+abbrev pub costs_element : Calendar → List Corner → ℕ → List ℕ
+costs_element calendar corners last =
+    costs_in (record { first = first_deadline corners last; last = last; calendar = calendar }) (most_cost corners) corners

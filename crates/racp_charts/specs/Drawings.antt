@@ -3,6 +3,9 @@ use Rattle.std.specs.Prelude.{ℕ, ◌+◌, ◌-◌, ◌*◌, ◌/◌, ◌%◌, 
 use Rattle.std.specs.Fmt.{decimal}
 use Rattle.std.specs.Int.{div_ceil}
 use Rattle.racp_show.specs.declared.usage.Step.{Step}
+use Rattle.racp_calendar.specs.Dates.{time_text}
+use Rattle.racp_calendar.specs.declared.calendar.Calendar.{Calendar}
+use Rattle.racp_calendar.specs.declared.calendar.Calendar.TheVariants.{Numbers, Dates}
 use Rattle.racp_charts.specs.Texts.{◌⋅◌, mark_of, texts_before}
 use Rattle.racp_charts.specs.declared.axis.Span.{Span}
 use Rattle.racp_charts.specs.declared.choice.Choice.{Choice}
@@ -14,31 +17,40 @@ abbrev pub across : Span → ℕ → ℕ
 across span time = if (span.last - span.first) == 0 then 270
     else 270 + min (time - span.first) (span.last - span.first) * 700 / (span.last - span.first)
 
+-- how much later each number of an axis is than the one before; dates, which are wider, have twice the room
+abbrev pub mark_in : Calendar → ℕ → ℕ
+mark_in Numbers times = mark_of times
+mark_in (Dates first unit) times = mark_of (times * 2)
+
+abbrev pub axis_mark : Span → ℕ
+axis_mark span = mark_in span.calendar (span.last - span.first)
+
 -- the time of the number at a place of an axis
 abbrev pub axis_time : Span → ℕ → ℕ
-axis_time span place =
-    let mark = mark_of (span.last - span.first) in
-    (div_ceil span.first mark + place) * mark
+axis_time span place = (div_ceil span.first (axis_mark span) + place) * axis_mark span
 
 -- a line from `top` to `bottom`
 unfoldable pub mark_line : ℕ → ℕ → ℕ → List ℕ
 mark_line x top bottom = codes "<path class=\"line\" d=\"M" ⋅ decimal x ⋅ codes " " ⋅ decimal top ⋅ codes "V"
     ⋅ decimal bottom ⋅ codes "\"/>"
 
--- the number of a time at a place
-unfoldable pub mark_number : ℕ → ℕ → ℕ → List ℕ
-mark_number number x y = codes "<text class=\"mark\" x=\"" ⋅ decimal x ⋅ codes "\" y=\"" ⋅ decimal y ⋅ codes "\">"
-    ⋅ decimal number ⋅ codes "</text>\n"
+-- the beginning of a number at a place
+unfoldable pub mark_begin : ℕ → ℕ → List ℕ
+mark_begin x y = codes "<text class=\"mark\" x=\"" ⋅ decimal x ⋅ codes "\" y=\"" ⋅ decimal y ⋅ codes "\">"
 
--- the line of a time from `top` to `bottom`, and its number below
-unfoldable pub mark_element : ℕ → ℕ → ℕ → ℕ → List ℕ
-mark_element number x top bottom = mark_line x top bottom ⋅ mark_number number x (bottom + 15)
+-- a time at its place
+unfoldable pub mark_number : Span → ℕ → ℕ → List ℕ
+mark_number span time y = mark_begin (across span time) y ⋅ time_text span.calendar time ⋅ codes "</text>\n"
+
+-- the line of a time from `top` to `bottom`, and the time below
+unfoldable pub mark_element : Span → ℕ → ℕ → ℕ → List ℕ
+mark_element span time top bottom = mark_line (across span time) top bottom ⋅ mark_number span time (bottom + 15)
 
 -- a number of the axis below, and its line, if it is no later than the last time
 abbrev pub time_below : Span → ℕ → ℕ → ℕ → List ℕ
 time_below span top bottom place =
     let time = axis_time span place in
-    if nat_le time span.last then mark_element time (across span time) top bottom else []
+    if nat_le time span.last then mark_element span time top bottom else []
 
 -- the axis of times below a chart from `top` to `bottom`
 abbrev pub axis : Span → ℕ → ℕ → List ℕ
@@ -48,7 +60,7 @@ axis span top bottom = texts_before (time_below span top bottom) 13
 abbrev pub time_above : Span → ℕ → ℕ → List ℕ
 time_above span y place =
     let time = axis_time span place in
-    if nat_le time span.last then mark_number time (across span time) y else []
+    if nat_le time span.last then mark_number span time y else []
 
 -- the numbers of the axis above a chart
 abbrev pub numbers_above : Span → ℕ → List ℕ
@@ -59,9 +71,9 @@ unfoldable pub deadline_line : ℕ → ℕ → List ℕ
 deadline_line top bottom = codes "<path class=\"deadline\" d=\"M970 " ⋅ decimal top ⋅ codes "V" ⋅ decimal bottom
     ⋅ codes "\"/>\n"
 
--- its number
-unfoldable pub deadline_label : ℕ → List ℕ
-deadline_label deadline = codes "<text class=\"end\" x=\"990\" y=\"18\">deadline " ⋅ decimal deadline
+-- the deadline above it
+unfoldable pub deadline_label : Span → List ℕ
+deadline_label span = codes "<text class=\"end\" x=\"990\" y=\"18\">deadline " ⋅ time_text span.calendar span.last
     ⋅ codes "</text>\n"
 
 -- the greatest number of a chart at the height `top`, and 0 at `bottom`
@@ -76,10 +88,18 @@ place_text x y = codes "M" ⋅ decimal x ⋅ codes " " ⋅ decimal y
 unfoldable pub step_text : ℕ → ℕ → List ℕ
 step_text x y = codes "H" ⋅ decimal x ⋅ codes "V" ⋅ decimal y
 
+-- the number of a task in a tooltip, and its slack
+unfoldable pub tip_begin : ℕ → List ℕ
+tip_begin job = codes "\ntask " ⋅ decimal job ⋅ codes ", from "
+
+unfoldable pub tip_slack : ℕ → List ℕ
+tip_slack slack = codes ", slack " ⋅ decimal slack
+
 -- the times of a tooltip
-unfoldable pub tip_times : Task → List ℕ
-tip_times task = codes "\ntask " ⋅ decimal task.job ⋅ codes ", from " ⋅ decimal task.start ⋅ codes " to "
-    ⋅ decimal (task.start + task.duration) ⋅ codes ", slack " ⋅ decimal (task.latest - task.start)
+unfoldable pub tip_times : Calendar → Task → List ℕ
+tip_times calendar task =
+    tip_begin task.job ⋅ time_text calendar task.start ⋅ codes " to " ⋅ time_text calendar (task.start + task.duration)
+    ⋅ tip_slack (task.latest - task.start)
 
 -- what comes before a task, if anything does
 abbrev pub tip_before : List ℕ → List ℕ
@@ -87,9 +107,10 @@ tip_before [] = []
 tip_before (number ∷ numbers) = codes ", after " ⋅ number_list 0 (number ∷ numbers)
 
 -- the tooltip of a task
-unfoldable pub tip_element : Task → List ℕ
-tip_element task =
-    codes "<g><title>" ⋅ name_text (option_map (λ name. name.now) task.name) (codes "task") task.job ⋅ tip_times task
+unfoldable pub tip_element : Calendar → Task → List ℕ
+tip_element calendar task =
+    codes "<g><title>" ⋅ name_text (option_map (λ name. name.now) task.name) (codes "task") task.job
+    ⋅ tip_times calendar task
     ⋅ tip_before task.predecessors.items ⋅ codes "</title>"
 
 -- the stripe of a row, and the beginning of its name
@@ -121,13 +142,13 @@ shape_element span task top =
 -- the row of a task at the height `top`
 unfoldable pub row_element : Span → Task → ℕ → List ℕ
 row_element span task top =
-    tip_element task ⋅ row_middle top ⋅ short_text (option_map (λ name. name.now) task.name) (codes "task") task.job
+    tip_element span.calendar task ⋅ row_middle top ⋅ short_text (option_map (λ name. name.now) task.name) (codes "task") task.job
     ⋅ codes "</text>" ⋅ slack_element span task (top + 10) ⋅ shape_element span task (top + 4)
 
 -- what stands around the rows of tasks that go down to `bottom`: both axes, and the line of the deadline
 unfoldable pub frame_element : Span → ℕ → List ℕ
 frame_element span bottom =
-    numbers_above span 34 ⋅ axis span 40 bottom ⋅ deadline_label span.last ⋅ deadline_line 40 bottom
+    numbers_above span 34 ⋅ axis span 40 bottom ⋅ deadline_label span ⋅ deadline_line 40 bottom
 
 -- how high a usage is drawn: all units are 60 high
 abbrev pub height_of : ℕ → ℕ → ℕ

@@ -1,6 +1,9 @@
 -- Whole pictures: what stands in them, from their beginning to their end, but for their style.
 use Rattle.std.specs.Prelude.{◌≡◌, ℕ, ◌+◌, ◌*◌, Bool, List, [], ◌∷◌, ◌++◌, codes, length}
 use Rattle.std.specs.Fmt.{decimal}
+use Rattle.racp_calendar.specs.Dates.{time_text}
+use Rattle.racp_calendar.specs.declared.calendar.Calendar.{Calendar}
+use Rattle.racp_calendar.specs.declared.calendar.Calendar.TheVariants.{Numbers}
 use Rattle.racp_charts.specs.Texts.{◌⋅◌}
 use Rattle.racp_charts.specs.CostDrawings.{costs_element}
 use Rattle.racp_charts.specs.Drawings.{frame_element, panel_element, row_element}
@@ -13,21 +16,24 @@ use Rattle.racp_charts.specs.declared.drawing.Drawing.{Drawing}
 use Rattle.racp_show.specs.declared.task.Task.{Task}
 
 -- what is said first of a plan
-unfoldable pub plan_title : ℕ → ℕ → List ℕ
-plan_title cost deadline = codes "Plan of cost " ⋅ decimal cost ⋅ codes " by deadline " ⋅ decimal deadline
+unfoldable pub plan_title_begin : ℕ → List ℕ
+plan_title_begin cost = codes "Plan of cost " ⋅ decimal cost ⋅ codes " by deadline "
+
+unfoldable pub plan_title : Calendar → ℕ → ℕ → List ℕ
+plan_title calendar cost deadline = plan_title_begin cost ⋅ time_text calendar deadline
 
 -- the title of a picture of a plan
-unfoldable pub title_element : ℕ → ℕ → List ℕ
-title_element cost deadline = codes "<title>" ⋅ plan_title cost deadline ⋅ codes "</title>\n"
+unfoldable pub title_element : Calendar → ℕ → ℕ → List ℕ
+title_element calendar cost deadline = codes "<title>" ⋅ plan_title calendar cost deadline ⋅ codes "</title>\n"
 
 -- the same above its drawings, and the critical length
 unfoldable pub length_element : ℕ → List ℕ
 length_element critical = codes "<text x=\"8\" y=\"48\">critical length " ⋅ decimal critical ⋅ codes "</text>\n"
 
-unfoldable pub heading_element : ℕ → ℕ → ℕ → List ℕ
-heading_element cost deadline critical =
-    codes "<text class=\"title\" x=\"8\" y=\"26\">" ⋅ plan_title cost deadline ⋅ codes "</text>\n"
-    ⋅ length_element critical
+unfoldable pub heading_element : Drawing → List ℕ
+heading_element drawing =
+    codes "<text class=\"title\" x=\"8\" y=\"26\">" ⋅ plan_title drawing.calendar drawing.cost drawing.deadline
+    ⋅ codes "</text>\n" ⋅ length_element drawing.critical
 
 -- what the shapes of a drawing mean
 unfoldable pub key_element : List ℕ
@@ -65,7 +71,7 @@ key_at top = group_begin top ⋅ key_element ⋅ group_end
 
 -- all times of a plan
 abbrev pub whole : Drawing → Span
-whole drawing = record { first = 0; last = drawing.deadline }
+whole drawing = record { first = 0; last = drawing.deadline; calendar = drawing.calendar }
 
 -- how far down the tasks go in their frame; where the resources begin; how high the picture is
 abbrev pub tasks_bottom : Drawing → ℕ
@@ -80,12 +86,12 @@ picture_height drawing = resources_top drawing + length drawing.choices.items * 
 -- the beginning of the picture of a plan
 unfoldable pub plan_begin : Drawing → List ℕ
 plan_begin drawing =
-    picture_begin 0 1000 (picture_height drawing) ⋅ title_element drawing.cost drawing.deadline
+    picture_begin 0 1000 (picture_height drawing) ⋅ title_element drawing.calendar drawing.cost drawing.deadline
 
 -- all of it that stands behind its style
 unfoldable pub plan_body : Bool → Drawing → List ℕ
 plan_body has_links drawing =
-    page_element (picture_height drawing) ⋅ heading_element drawing.cost drawing.deadline drawing.critical ⋅ key_at 38
+    page_element (picture_height drawing) ⋅ heading_element drawing ⋅ key_at 38
     ⋅ tasks_element has_links (whole drawing) (tasks_bottom drawing) drawing.tasks.items
     ⋅ resource_panels (whole drawing) (resources_top drawing) 0 drawing.choices.items ⋅ codes "</svg>\n"
 
@@ -102,7 +108,7 @@ costs_begin = picture_begin 190 810 334 ⋅ codes "<title>What each deadline cos
 unfoldable pub costs_body : List Corner → ℕ → List ℕ
 costs_body corners last =
     page_element 334 ⋅ codes "<text class=\"title\" x=\"204\" y=\"26\">What each deadline costs</text>\n"
-    ⋅ group_begin 40 ⋅ costs_element corners last ⋅ codes "</g>\n</svg>\n"
+    ⋅ group_begin 40 ⋅ costs_element Numbers corners last ⋅ codes "</g>\n</svg>\n"
 
 -- a picture of what deadlines cost
 abbrev pub IsCostPicture : List Corner → ℕ → List ℕ → Type 0

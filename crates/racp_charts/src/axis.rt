@@ -2,9 +2,11 @@
 //! above, and have 128 bits, so that no sum and no product is too great for them.
 
 ghost use Rattle.std.specs.Prelude.{◌≡◌, ◌<◌, ◌≤◌, ◌^◌, ◌++◌, OnOk, string_bytes};
-ghost use Rattle.racp_charts.specs.Drawings.{across, axis, axis_time, deadline_label, deadline_line, mark_element, mark_line, mark_number, numbers_above, place_text, scale_element, step_text, time_above, time_below};
+ghost use Rattle.racp_calendar.specs.Dates.{time_text};
+ghost use Rattle.racp_charts.specs.Drawings.{across, axis, axis_mark, axis_time, deadline_label, deadline_line, mark_begin, mark_element, mark_line, mark_number, numbers_above, place_text, scale_element, step_text, time_above, time_below};
 
 use crate::mark::{MOST_MARKS, mark_of};
+use racp_calendar::{Calendar, push_time};
 use std::alloc::AllocError;
 use std::cmp::min;
 
@@ -15,6 +17,8 @@ pub struct Span {
     pub first: u32,
     /// The last time.
     pub last: u32,
+    /// How times are told.
+    pub calendar: Calendar,
 }
 
 impl Span {
@@ -31,12 +35,25 @@ impl Span {
         270 + min(time.saturating_sub(self.first as u128), all) * 700 / all
     }
 
+    /// How much later each number of an axis is than the one before; dates, which are wider, have twice the room.
+    fn apart(self) -> u128
+        ensures mark { result ≡ axis_mark self }
+        ensures some { 1 ≤ result }
+        ensures small { result < 2 ^ 62 }
+    {
+        let all = self.last.saturating_sub(self.first) as u64;
+        match self.calendar {
+            Calendar::Numbers => mark_of(all),
+            Calendar::Dates { .. } => mark_of(all * 2),
+        }
+    }
+
     /// The time of the number at this place of an axis, from 0.
     fn mark(self, place: u64) -> u128
         requires { place < 2 ^ 32 }
         ensures { result ≡ axis_time self place }
     {
-        let mark = mark_of(self.last.saturating_sub(self.first) as u64);
+        let mark = self.apart();
         ((self.first as u128).div_ceil(mark) + place as u128) * mark
     }
 }
@@ -71,25 +88,25 @@ fn push_below(
 {
     let time = span.mark(place);
     if time <= span.last as u128 {
-        push_mark(text, time, span.across(time), top, bottom)
+        push_mark(text, span, time, top, bottom)
     } else {
         Ok(())
     }
 }
 
-/// Adds the number of a time below a chart, and the line at it.
+/// Adds a time below a chart, and the line at it.
 fn push_mark(
     text: &mut String,
-    number: u128,
-    x: u128,
+    span: Span,
+    time: u128,
     top: u128,
     bottom: u128,
 ) -> Result<(), AllocError>
     requires { bottom < 2 ^ 72 }
-    ensures { OnOk result (string_bytes text.new ≡ string_bytes text.old ++ mark_element number x top bottom) }
+    ensures { OnOk result (string_bytes text.new ≡ string_bytes text.old ++ mark_element span time top bottom) }
 {
-    push_line(text, x, top, bottom)?;
-    push_number(text, number, x, bottom + 15)?;
+    push_line(text, span.across(time), top, bottom)?;
+    push_number(text, span, time, bottom + 15)?;
     Ok(())
 }
 
@@ -98,19 +115,19 @@ pub(crate) fn push_above(text: &mut String, span: Span, y: u128) -> Result<(), A
     ensures { OnOk result (string_bytes text.new ≡ string_bytes text.old ++ numbers_above span y) }
 {
     for place in 0..MOST_MARKS + 1 {
-        push_time(text, span, y, place)?;
+        push_time_above(text, span, y, place)?;
     }
     Ok(())
 }
 
 /// Adds the number at this place of the axis above, from 0, if it is no later than the last time.
-fn push_time(text: &mut String, span: Span, y: u128, place: u64) -> Result<(), AllocError>
+fn push_time_above(text: &mut String, span: Span, y: u128, place: u64) -> Result<(), AllocError>
     requires { place < 2 ^ 32 }
     ensures { OnOk result (string_bytes text.new ≡ string_bytes text.old ++ time_above span y place) }
 {
     let time = span.mark(place);
     if time <= span.last as u128 {
-        push_number(text, time, span.across(time), y)
+        push_number(text, span, time, y)
     } else {
         Ok(())
     }
@@ -124,15 +141,22 @@ fn push_line(text: &mut String, x: u128, top: u128, bottom: u128) -> Result<(), 
     write!(text, "<path class=\"line\" d=\"M{x} {top}V{bottom}\"/>")
 }
 
-/// Adds the number of a time at a place.
-#[tactic(auto, unfolding(crate::specs::Drawings::mark_number))]
-fn push_number(text: &mut String, number: u128, x: u128, y: u128) -> Result<(), AllocError>
-    ensures { OnOk result (string_bytes text.new ≡ string_bytes text.old ++ mark_number number x y) }
+/// Adds a time at its place.
+fn push_number(text: &mut String, span: Span, time: u128, y: u128) -> Result<(), AllocError>
+    ensures { OnOk result (string_bytes text.new ≡ string_bytes text.old ++ mark_number span time y) }
 {
-    write!(
-        text,
-        "<text class=\"mark\" x=\"{x}\" y=\"{y}\">{number}</text>\n"
-    )
+    push_begin(text, span.across(time), y)?;
+    push_time(text, span.calendar, time)?;
+    text.push_str("</text>\n")?;
+    Ok(())
+}
+
+/// Adds the beginning of a number at a place.
+#[tactic(auto, unfolding(crate::specs::Drawings::mark_begin))]
+fn push_begin(text: &mut String, x: u128, y: u128) -> Result<(), AllocError>
+    ensures { OnOk result (string_bytes text.new ≡ string_bytes text.old ++ mark_begin x y) }
+{
+    write!(text, "<text class=\"mark\" x=\"{x}\" y=\"{y}\">")
 }
 
 /// Adds the line of the deadline, from `top` to `bottom`.
@@ -146,15 +170,14 @@ pub(crate) fn push_deadline(text: &mut String, top: u128, bottom: u128) -> Resul
     )
 }
 
-/// Adds the number of the deadline above its line.
-#[tactic(auto, unfolding(crate::specs::Drawings::deadline_label))]
-pub(crate) fn push_deadline_label(text: &mut String, deadline: u32) -> Result<(), AllocError>
-    ensures { OnOk result (string_bytes text.new ≡ string_bytes text.old ++ deadline_label deadline) }
+/// Adds the deadline above its line.
+pub(crate) fn push_deadline_label(text: &mut String, span: Span) -> Result<(), AllocError>
+    ensures { OnOk result (string_bytes text.new ≡ string_bytes text.old ++ deadline_label span) }
 {
-    write!(
-        text,
-        "<text class=\"end\" x=\"990\" y=\"18\">deadline {deadline}</text>\n"
-    )
+    text.push_str("<text class=\"end\" x=\"990\" y=\"18\">deadline ")?;
+    push_time(text, span.calendar, span.last as u128)?;
+    text.push_str("</text>\n")?;
+    Ok(())
 }
 
 /// Adds the numbers at the left of a chart: the greatest at the height `top`, and 0 at `bottom`.

@@ -6,6 +6,7 @@ ghost use Rattle.racp_charts.specs.Pictures.{IsCostPicture, costs_begin, costs_b
 use crate::costs::{Corner, push_costs};
 use crate::parts::{push_begin, push_group, push_page};
 use crate::style::STYLE;
+use racp_calendar::Calendar;
 use std::alloc::{AllocError, Global};
 
 /// What deadlines cost, as a picture in SVG: a stair over the deadlines from that of the first corner up to `last`,
@@ -41,7 +42,7 @@ fn push_body(text: &mut String, corners: &[Corner], last: u32) -> Result<(), All
     push_page(text, 334)?;
     text.push_str("<text class=\"title\" x=\"204\" y=\"26\">What each deadline costs</text>\n")?;
     push_group(text, 40)?;
-    push_costs(text, corners, last)?;
+    push_costs(text, corners, last, Calendar::Numbers)?;
     text.push_str("</g>\n</svg>\n")?;
     Ok(())
 }

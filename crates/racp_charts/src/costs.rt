@@ -2,10 +2,11 @@
 
 ghost use Rattle.std.specs.Prelude.{◌≡◌, ◌<◌, ◌^◌, ◌++◌, ◌≤◌, OnOk, string_bytes};
 ghost use Rattle.racp_charts.specs.Texts.{texts_before};
-ghost use Rattle.racp_charts.specs.CostDrawings.{cost_axis, cost_corners, cost_down, cost_element, cost_label, cost_labels, cost_mark, cost_stair, cost_steps, costs_element, costs_in, corner_element, first_deadline, label_above, label_below, most_cost};
+ghost use Rattle.racp_charts.specs.CostDrawings.{cost_axis, cost_corners, cost_down, cost_element, cost_label, cost_labels, cost_mark, cost_stair, cost_steps, costs_element, costs_in, corner_begin, corner_element, corner_end, first_deadline, label_above, label_below, most_cost};
 
 use crate::axis::{Span, push_axis, push_place, push_step};
 use crate::mark::{MOST_MARKS, mark_of};
+use racp_calendar::{Calendar, push_time};
 use std::alloc::AllocError;
 use std::cmp::{max, min};
 
@@ -25,11 +26,20 @@ pub struct Corner {
 /// # Errors
 ///
 /// Memory was refused.
-pub fn push_costs(text: &mut String, corners: &[Corner], last: u32) -> Result<(), AllocError>
-    ensures { OnOk result (string_bytes text.new ≡ string_bytes text.old ++ costs_element corners.now last) }
+pub fn push_costs(
+    text: &mut String,
+    corners: &[Corner],
+    last: u32,
+    calendar: Calendar,
+) -> Result<(), AllocError>
+    ensures { OnOk result (string_bytes text.new ≡ string_bytes text.old ++ costs_element calendar corners.now last) }
 {
-    let first = first_deadline(corners, last);
-    push_in(text, corners, Span { first, last }, most_cost(corners))
+    let span = Span {
+        first: first_deadline(corners, last),
+        last,
+        calendar,
+    };
+    push_in(text, corners, span, most_cost(corners))
 }
 
 /// Adds what deadlines cost in this span, up to this cost.
@@ -173,21 +183,44 @@ fn push_corners(
 {
     for corner in corners {
         let x = span.across(corner.deadline as u128);
-        push_corner(text, x, down(corner.cost, most), corner)?;
+        push_corner(text, x, down(corner.cost, most), corner, span.calendar)?;
     }
     Ok(())
 }
 
 /// Adds a corner at a place; its deadline and its cost are the tooltip.
-#[tactic(auto, unfolding(crate::specs::CostDrawings::corner_element))]
-fn push_corner(text: &mut String, x: u128, y: u128, corner: &Corner) -> Result<(), AllocError>
-    ensures { OnOk result (string_bytes text.new ≡ string_bytes text.old ++ corner_element x y corner.now) }
+fn push_corner(
+    text: &mut String,
+    x: u128,
+    y: u128,
+    corner: &Corner,
+    calendar: Calendar,
+) -> Result<(), AllocError>
+    ensures { OnOk result (string_bytes text.new ≡ string_bytes text.old ++ corner_element calendar x y corner.now) }
 {
-    let (deadline, cost) = (corner.deadline, corner.cost);
+    push_corner_begin(text, x, y)?;
+    push_time(text, calendar, corner.deadline as u128)?;
+    push_corner_end(text, corner.cost)?;
+    Ok(())
+}
+
+/// Adds the beginning of a corner at a place.
+#[tactic(auto, unfolding(crate::specs::CostDrawings::corner_begin))]
+fn push_corner_begin(text: &mut String, x: u128, y: u128) -> Result<(), AllocError>
+    ensures { OnOk result (string_bytes text.new ≡ string_bytes text.old ++ corner_begin x y) }
+{
     write!(
         text,
-        "<circle class=\"critical\" cx=\"{x}\" cy=\"{y}\" r=\"4\"><title>from {deadline}: {cost}</title></circle>\n"
+        "<circle class=\"critical\" cx=\"{x}\" cy=\"{y}\" r=\"4\"><title>from "
     )
+}
+
+/// Adds the cost of a corner, and its end.
+#[tactic(auto, unfolding(crate::specs::CostDrawings::corner_end))]
+fn push_corner_end(text: &mut String, cost: u64) -> Result<(), AllocError>
+    ensures { OnOk result (string_bytes text.new ≡ string_bytes text.old ++ corner_end cost) }
+{
+    write!(text, ": {cost}</title></circle>\n")
 }
 
 /// Adds the costs of corners, and leaves out each that would stand on the last that was written.

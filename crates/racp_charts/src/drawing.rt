@@ -6,6 +6,7 @@ ghost use Rattle.racp_model.specs.Plan.{FitsTerms};
 ghost use Rattle.racp_charts.specs.Choices.{IsDrawing};
 
 use crate::choice::{Choice, choices_of};
+use racp_calendar::Calendar;
 use racp_model::Network;
 use racp_plan::Plan;
 use racp_prices::Order;
@@ -21,13 +22,16 @@ pub struct Drawing<'a> {
     pub critical: u64,
     /// What the capacities cost, as the plan says.
     pub cost: u64,
+    /// How times are told.
+    pub calendar: Calendar,
     /// The jobs, by place from 0.
     pub tasks: Vec<Task<'a>>,
     /// The resources, by place from 0.
     pub choices: Vec<Choice<'a>>,
 }
 
-/// What is drawn of a plan that fits the order, as `check_plan` of racp_check tells, with these names.
+/// What is drawn of a plan that fits the order, as `check_plan` of racp_check tells, with these names. Times are told by
+/// their numbers; who wants dates sets the calendar.
 ///
 /// # Errors
 ///
@@ -50,6 +54,7 @@ pub fn drawing_of<'a>(
         deadline: order.deadline,
         critical: plan.critical,
         cost: plan.cost,
+        calendar: Calendar::Numbers,
         tasks,
         choices,
     })

@@ -18,7 +18,7 @@ pub fn push_frame(text: &mut String, span: Span, bottom: u128) -> Result<(), All
 {
     push_above(text, span, 34)?;
     push_axis(text, span, 40, bottom)?;
-    push_deadline_label(text, span.last)?;
+    push_deadline_label(text, span)?;
     push_deadline(text, 40, bottom)?;
     Ok(())
 }

@@ -1,42 +1,62 @@
 //! What a picture of a plan says above its drawings.
 
 ghost use Rattle.std.specs.Prelude.{◌≡◌, ◌++◌, OnOk, string_bytes};
-ghost use Rattle.racp_charts.specs.Pictures.{heading_element, key_at, key_element, length_element, plan_title, title_element};
+ghost use Rattle.racp_charts.specs.Pictures.{heading_element, key_at, key_element, length_element, plan_title, plan_title_begin, title_element};
 
+use crate::drawing::Drawing;
 use crate::parts::push_group;
+use racp_calendar::{Calendar, push_time};
 use std::alloc::AllocError;
 
 /// Adds what is said first of a plan.
-#[tactic(auto, unfolding(crate::specs::Pictures::plan_title))]
-fn push_plan(text: &mut String, cost: u64, deadline: u32) -> Result<(), AllocError>
-    ensures { OnOk result (string_bytes text.new ≡ string_bytes text.old ++ plan_title cost deadline) }
+///
+/// # Errors
+///
+/// Memory was refused.
+pub fn push_plan(
+    text: &mut String,
+    cost: u64,
+    deadline: u32,
+    calendar: Calendar,
+) -> Result<(), AllocError>
+    ensures { OnOk result (string_bytes text.new ≡ string_bytes text.old ++ plan_title calendar cost deadline) }
 {
-    write!(text, "Plan of cost {cost} by deadline {deadline}")
+    push_plan_begin(text, cost)?;
+    push_time(text, calendar, deadline as u128)?;
+    Ok(())
+}
+
+/// Adds the beginning of what is said first of a plan.
+#[tactic(auto, unfolding(crate::specs::Pictures::plan_title_begin))]
+fn push_plan_begin(text: &mut String, cost: u64) -> Result<(), AllocError>
+    ensures { OnOk result (string_bytes text.new ≡ string_bytes text.old ++ plan_title_begin cost) }
+{
+    write!(text, "Plan of cost {cost} by deadline ")
 }
 
 /// Adds the title of a picture of a plan.
-pub(crate) fn push_title(text: &mut String, cost: u64, deadline: u32) -> Result<(), AllocError>
-    ensures { OnOk result (string_bytes text.new ≡ string_bytes text.old ++ title_element cost deadline) }
+pub(crate) fn push_title(
+    text: &mut String,
+    cost: u64,
+    deadline: u32,
+    calendar: Calendar,
+) -> Result<(), AllocError>
+    ensures { OnOk result (string_bytes text.new ≡ string_bytes text.old ++ title_element calendar cost deadline) }
 {
     text.push_str("<title>")?;
-    push_plan(text, cost, deadline)?;
+    push_plan(text, cost, deadline, calendar)?;
     text.push_str("</title>\n")?;
     Ok(())
 }
 
 /// Adds what stands above the drawings of a plan.
-pub(crate) fn push_heading(
-    text: &mut String,
-    cost: u64,
-    deadline: u32,
-    critical: u64,
-) -> Result<(), AllocError>
-    ensures { OnOk result (string_bytes text.new ≡ string_bytes text.old ++ heading_element cost deadline critical) }
+pub(crate) fn push_heading(text: &mut String, drawing: &Drawing<'_>) -> Result<(), AllocError>
+    ensures { OnOk result (string_bytes text.new ≡ string_bytes text.old ++ heading_element drawing.now) }
 {
     text.push_str("<text class=\"title\" x=\"8\" y=\"26\">")?;
-    push_plan(text, cost, deadline)?;
+    push_plan(text, drawing.cost, drawing.deadline, drawing.calendar)?;
     text.push_str("</text>\n")?;
-    push_length(text, critical)?;
+    push_length(text, drawing.critical)?;
     Ok(())
 }
 

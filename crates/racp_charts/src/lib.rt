@@ -50,7 +50,7 @@ pub use cost_picture::costs_svg;
 pub use costs::{Corner, push_costs};
 pub use drawing::{Drawing, drawing_of};
 pub use frame::push_frame;
-pub use heading::push_key;
+pub use heading::{push_key, push_plan};
 pub use mark::{MOST_MARKS, mark_of};
 pub use names::{push_name, push_numbers};
 pub use panel::push_panel;

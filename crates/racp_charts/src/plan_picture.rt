@@ -39,7 +39,7 @@ fn push_opening(text: &mut String, drawing: &Drawing<'_>) -> Result<(), AllocErr
     ensures { OnOk result (string_bytes text.new ≡ string_bytes text.old ++ plan_begin drawing.now) }
 {
     push_begin(text, 0, 1000, height(drawing))?;
-    push_title(text, drawing.cost, drawing.deadline)?;
+    push_title(text, drawing.cost, drawing.deadline, drawing.calendar)?;
     Ok(())
 }
 
@@ -78,9 +78,10 @@ fn push_body(
     let span = Span {
         first: 0,
         last: drawing.deadline,
+        calendar: drawing.calendar,
     };
     push_page(text, height(drawing))?;
-    push_heading(text, drawing.cost, drawing.deadline, drawing.critical)?;
+    push_heading(text, drawing)?;
     push_key_at(text, 38)?;
     push_tasks(
         alloc,

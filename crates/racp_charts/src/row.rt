@@ -1,11 +1,12 @@
 //! The row of a task in a chart.
 
 ghost use Rattle.std.specs.Prelude.{◌≡◌, ◌<◌, ◌^◌, ◌++◌, OnOk, option_map, string_bytes};
-ghost use Rattle.racp_charts.specs.Drawings.{bar_element, diamond_element, row_element, row_middle, shape_element, slack_element, tip_before, tip_element, tip_times};
+ghost use Rattle.racp_charts.specs.Drawings.{bar_element, diamond_element, row_element, row_middle, shape_element, slack_element, tip_before, tip_begin, tip_element, tip_slack, tip_times};
 ghost use Rattle.racp_charts.specs.Elements.{shape_class};
 
 use crate::axis::Span;
 use crate::names::{push_name, push_numbers, push_short};
+use racp_calendar::{Calendar, push_time};
 use racp_show::Task;
 use std::alloc::{AllocError, Global};
 
@@ -20,7 +21,7 @@ pub fn push_row(
     requires { top < 2 ^ 72 }
     ensures { OnOk result (string_bytes text.new ≡ string_bytes text.old ++ row_element span task.now top) }
 {
-    push_tip(text, task)?;
+    push_tip(text, task, span.calendar)?;
     push_middle(text, top)?;
     push_short(alloc, text, task.name, "task", task.job)?;
     text.push_str("</text>")?;
@@ -30,26 +31,43 @@ pub fn push_row(
 }
 
 /// Adds the tooltip of a task: its name, when it starts and ends, its slack, and what comes before it.
-fn push_tip(text: &mut String, task: &Task<'_>) -> Result<(), AllocError>
-    ensures { OnOk result (string_bytes text.new ≡ string_bytes text.old ++ tip_element task.now) }
+fn push_tip(text: &mut String, task: &Task<'_>, calendar: Calendar) -> Result<(), AllocError>
+    ensures { OnOk result (string_bytes text.new ≡ string_bytes text.old ++ tip_element calendar task.now) }
 {
     text.push_str("<g><title>")?;
     push_name(text, task.name, "task", task.job)?;
-    push_tip_times(text, task)?;
+    push_tip_times(text, task, calendar)?;
     push_before(text, task.predecessors.as_slice())?;
     text.push_str("</title>")?;
     Ok(())
 }
 
 /// Adds the times of a tooltip.
-#[tactic(auto, unfolding(crate::specs::Drawings::tip_times))]
-fn push_tip_times(text: &mut String, task: &Task<'_>) -> Result<(), AllocError>
-    ensures { OnOk result (string_bytes text.new ≡ string_bytes text.old ++ tip_times task.now) }
+fn push_tip_times(text: &mut String, task: &Task<'_>, calendar: Calendar) -> Result<(), AllocError>
+    ensures { OnOk result (string_bytes text.new ≡ string_bytes text.old ++ tip_times calendar task.now) }
 {
-    let (job, start) = (task.job, task.start);
-    let end = start as u64 + task.duration as u64;
-    let slack = task.latest.saturating_sub(start);
-    write!(text, "\ntask {job}, from {start} to {end}, slack {slack}")
+    push_tip_begin(text, task.job)?;
+    push_time(text, calendar, task.start as u128)?;
+    text.push_str(" to ")?;
+    push_time(text, calendar, task.start as u128 + task.duration as u128)?;
+    push_tip_slack(text, task.latest.saturating_sub(task.start))?;
+    Ok(())
+}
+
+/// Adds the beginning of the times of a tooltip.
+#[tactic(auto, unfolding(crate::specs::Drawings::tip_begin))]
+fn push_tip_begin(text: &mut String, job: usize) -> Result<(), AllocError>
+    ensures { OnOk result (string_bytes text.new ≡ string_bytes text.old ++ tip_begin job) }
+{
+    write!(text, "\ntask {job}, from ")
+}
+
+/// Adds the slack in a tooltip.
+#[tactic(auto, unfolding(crate::specs::Drawings::tip_slack))]
+fn push_tip_slack(text: &mut String, slack: u32) -> Result<(), AllocError>
+    ensures { OnOk result (string_bytes text.new ≡ string_bytes text.old ++ tip_slack slack) }
+{
+    write!(text, ", slack {slack}")
 }
 
 /// Adds what comes before a task, if anything does.

@@ -20,12 +20,13 @@ use Rattle.racp_show.specs.declared.form.Form.{Form}
 use Rattle.racp_show.specs.declared.form.Form.TheVariants.{Text, Ascii, Svg, Json, Csv}
 use Rattle.racp_cli.specs.declared.show.Look.{Look}
 
--- a picture of what is drawn of a plan
-pub record IsDrawn (has_links : Bool) (network : Project) (terms : Terms) (plan : Plan) (names : List (List ℕ))
+-- a picture of what is drawn of a plan, with times as they are to be told
+pub record IsDrawn (look : Look) (network : Project) (terms : Terms) (plan : Plan) (names : List (List ℕ))
     (text : List ℕ) : Type 0 where
   pub drawing : Drawing
   pub right : IsDrawing network terms plan names drawing
-  pub drawn : IsPlanPicture has_links drawing text
+  pub told : drawing.calendar ≡ look.calendar
+  pub drawn : IsPlanPicture look.has_links drawing text
 
 -- the table of a plan's sheet
 pub record IsSheetTable (network : Project) (terms : Terms) (plan : Plan) (names : List (List ℕ))
@@ -36,15 +37,15 @@ pub record IsSheetTable (network : Project) (terms : Terms) (plan : Plan) (names
 
 -- what is written of a plan: as SVG a picture, as CSV its table; nothing is said here of the other forms, whose
 -- values racp_show speaks of
-abbrev pub IsInForm : Form → Bool → Project → Terms → Plan → List (List ℕ) → List ℕ → Type 0
-IsInForm Text has_links network terms plan names text = ⊤
-IsInForm Ascii has_links network terms plan names text = ⊤
-IsInForm Svg has_links network terms plan names text = IsDrawn has_links network terms plan names text
-IsInForm Json has_links network terms plan names text = ⊤
-IsInForm Csv has_links network terms plan names text = IsSheetTable network terms plan names text
+abbrev pub IsInForm : Form → Look → Project → Terms → Plan → List (List ℕ) → List ℕ → Type 0
+IsInForm Text look network terms plan names text = ⊤
+IsInForm Ascii look network terms plan names text = ⊤
+IsInForm Svg look network terms plan names text = IsDrawn look network terms plan names text
+IsInForm Json look network terms plan names text = ⊤
+IsInForm Csv look network terms plan names text = IsSheetTable network terms plan names text
 
 abbrev pub IsPicture : Look → Project → Terms → Plan → List (List ℕ) → List ℕ → Type 0
-IsPicture look network terms plan names text = IsInForm look.form look.has_links network terms plan names text
+IsPicture look network terms plan names text = IsInForm look.form look network terms plan names text
 
 -- the line if names are not UTF-8
 abbrev pub names_line : List ℕ

@@ -7,6 +7,7 @@ use crate::fault::StreamFault;
 use crate::refusal::refused;
 use crate::respond::respond;
 use crate::streams::read_whole;
+use racp_delay::Stop;
 use racp_lexfix::prove_by_clauses;
 use std::alloc::{AllocError, Global};
 use std::io::{Read, Write};
@@ -14,19 +15,20 @@ use std::io::{Read, Write};
 /// Reads a network text and an order text, all of each before the next, makes the plan on the calling thread, and
 /// writes to `out` a certificate by clauses that it is the plan of the order, or a line that says why there is none.
 /// Returns the status that belongs to what was written: 0 for a certificate, 3 if there is no plan, 5 if a text is
-/// refused, 6 if memory ran out, 8 if the certificate would have more than 16,777,216 bytes, or what it is made of takes
-/// too much memory.
+/// refused, 6 if memory ran out, 8 if the certificate would have more than 16,777,216 bytes, what it is made of takes
+/// too much memory, or the search for the plan was stopped.
 ///
 /// # Errors
 ///
 /// After these nothing was written: `Read`, a read failed; `TooLong`, a reader has more than 16,777,216 bytes;
 /// `Memory`, memory for an input was refused. After `Write`, a write failed or took no byte, and what is out is a
 /// beginning of the text.
-pub fn prove_by_clauses_over<N: Read, O: Read, W: Write>(
+pub fn prove_by_clauses_over<N: Read, O: Read, W: Write, S: Stop>(
     alloc: Global,
     net: &mut N,
     order: &mut O,
     out: &mut W,
+    stop: &S,
 ) -> Result<u8, StreamFault>
     ensures { IsClauseProofRun (record { unread = N.remaining net.old; left = N.remaining net.new })
         (record { unread = O.remaining order.old; left = O.remaining order.new })
@@ -34,14 +36,19 @@ pub fn prove_by_clauses_over<N: Read, O: Read, W: Write>(
 {
     let net = read_whole(alloc, net)?;
     let order = read_whole(alloc, order)?;
-    respond(answer(alloc, &net, &order), out)
+    respond(answer(alloc, &net, &order, stop), out)
 }
 
 /// The status and the text of the answer to the texts of a network and an order.
-fn answer(alloc: Global, net: &[u8], order: &[u8]) -> Result<(u8, Vec<u8>), AllocError>
+fn answer<S: Stop>(
+    alloc: Global,
+    net: &[u8],
+    order: &[u8],
+    stop: &S,
+) -> Result<(u8, Vec<u8>), AllocError>
     ensures { IfOk result (λ answer. IsClauseProofAnswer net.now order.now answer.0 answer.1.items) }
 {
-    match prove_by_clauses(alloc, net, order) {
+    match prove_by_clauses(alloc, net, order, stop) {
         Ok(printed) => Ok((printed.status, printed.text)),
         Err(refusal) => refused(alloc, refusal),
     }

@@ -10,6 +10,7 @@ use crate::fault::StreamFault;
 use crate::respond::respond;
 use crate::status::{DONE, REFUSED};
 use crate::streams::read_whole;
+use racp_calendar::Calendar;
 use racp_charts::{drawing_of, plan_svg};
 use racp_model::Network;
 use racp_plan::Plan;
@@ -27,6 +28,8 @@ pub struct Look {
     pub form: Form,
     /// Whether a picture has an arrow from each task to each that comes right after it.
     pub has_links: bool,
+    /// How times are told in a picture.
+    pub calendar: Calendar,
 }
 
 /// Reads a network text, an order text, a plan text and names, all of each before the next, and writes to `out` the
@@ -136,7 +139,7 @@ fn picture(
     let text = match look.form {
         Form::Text => chart_text(alloc, net, order, plan, names, look.width, false)?,
         Form::Ascii => chart_text(alloc, net, order, plan, names, look.width, true)?,
-        Form::Svg => return drawn(alloc, net, order, plan, names, look.has_links),
+        Form::Svg => return drawn(alloc, net, order, plan, names, look),
         Form::Json => json_text(alloc, &sheet_of(alloc, net, order, plan, names)?)?,
         Form::Csv => return sheet_table(alloc, net, order, plan, names),
     };
@@ -150,15 +153,16 @@ fn drawn(
     order: &Order,
     plan: &Plan,
     names: &Names,
-    has_links: bool,
+    look: Look,
 ) -> Result<Vec<u8>, AllocError>
     requires terms { AreTermsOf net.now order.now }
     requires capacities { length plan.now.capacities ≡ net.now.resources }
     requires fitting { IsFitting net.now order.now plan.now }
-    ensures { IfOk result (λ text. IsDrawn has_links net.now order.now plan.now names.now text.items) }
+    ensures { IfOk result (λ text. IsDrawn look net.now order.now plan.now names.now text.items) }
 {
-    let drawing = drawing_of(alloc, net, order, plan, names)?;
-    let picture = plan_svg(alloc, &drawing, has_links)?;
+    let mut drawing = drawing_of(alloc, net, order, plan, names)?;
+    drawing.calendar = look.calendar;
+    let picture = plan_svg(alloc, &drawing, look.has_links)?;
     Ok(picture.into_bytes())
 }
 

@@ -34,7 +34,8 @@ use std::sync::atomic::AtomicU32;
 /// The curve of an order: the plan's capacities, and what they cost, for each deadline up to the order's; or why there
 /// is no plan for that. Questions go to the asker, which is about this network. The order has an entry for each
 /// resource and each job of the network. The asker is told floors, what capacities that are enough cost at least, and
-/// plans that may not be the cheapest, for one deadline after another; `at` is told which deadline that is.
+/// plans that may not be the cheapest, for one deadline after another; `at` is told which deadline that is. Of plans for
+/// the order's own deadline the last that it is told is the plan.
 ///
 /// # Errors
 ///
@@ -215,7 +216,7 @@ fn plan_or_reason(answer: Answer) -> Result<Plan, Answer>
     }
 }
 
-/// The curve of an order that has this plan.
+/// The curve of an order that has this plan, which the asker is told.
 fn curve_from<N: OfProblem, A: Asker<AnySeries>>(
     ground: &Ground,
     plan: Plan,
@@ -231,6 +232,7 @@ fn curve_from<N: OfProblem, A: Asker<AnySeries>>(
     ensures stop { IfErr result (λ end. IsCurveStop ground.now.net.now ground.now.order.now (A.may_stop asker.new)
         (A.may_want_thread asker.new) end.steps.items end.stop) }
 {
+    asker.hear_plan(&plan.capacities, &plan.starts, plan.cost);
     let mut steps = Vec::new(ground.alloc);
     match follow(ground, plan, &mut steps, facts, asker) {
         Ok(()) => Ok(CurveAnswer::Steps(steps)),

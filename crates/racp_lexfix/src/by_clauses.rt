@@ -29,6 +29,7 @@ use racp_plan::Plan;
 use racp_prices::{cost_of, read_order};
 use racp_questions::Leeway;
 use racp_schedules::Draft;
+use racp_search::Stop;
 use racp_sm::read_sm;
 use racp_trimming::certificate_by_clauses;
 use std::alloc::{AllocError, Global};
@@ -37,11 +38,13 @@ use std::marker::Brand;
 /// So many bytes the clauses of the search take at most, about, and so many what they were derived from.
 const MOST_BYTES: u32 = 1 << 30;
 
-/// Hears nothing, and stops nothing.
+/// Hears nothing, and stops a search where a stop asks for it.
 #[derive(Drop)]
-struct Deaf;
+struct Stopping<'a, P: Stop> {
+    stop: &'a P,
+}
 
-impl Hearer for Deaf {
+impl<'a, P: Stop> Hearer for Stopping<'a, P> {
     ghost use Rattle.std.specs.Prelude.{⊤};
 
     ghost may_hear_cost = { λ _. ⊤ };
@@ -49,7 +52,7 @@ impl Hearer for Deaf {
     ghost may_hear_draft = { λ _. ⊤ };
 
     fn stops(&self) -> bool {
-        false
+        self.stop.asked()
     }
 
     fn hear_cost(&self, _least: u64) {}
@@ -61,25 +64,31 @@ impl Hearer for Deaf {
 
 /// A certificate by clauses for the plan of the texts of a network and an order, made on the calling thread: a text that
 /// shows that its capacities are the first of all that are enough, and its starts the least. Where there is no plan, the line
-/// that says why. Where the certificate would have more than 16,777,216 bytes, or what clauses were derived from takes more
-/// than about 1 GiB, the line `unproved`, with the status 8.
+/// that says why. Where the certificate would have more than 16,777,216 bytes, what clauses were derived from takes more
+/// than about 1 GiB, or the search for the plan was stopped, the line `unproved`, with the status 8.
 ///
 /// # Errors
 ///
-/// A text is refused, the network's first; or memory was refused. It neither stops nor wants a thread.
-pub fn prove_by_clauses(
+/// A text is refused, the network's first; or memory was refused. It wants no thread.
+pub fn prove_by_clauses<P: Stop>(
     alloc: Global,
     net_bytes: &[u8],
     order_text: &[u8],
+    stop: &P,
 ) -> Result<Printed, Refusal>
     ensures { IsShowing net_bytes.now order_text.now result }
 {
     let net = read_sm(alloc, net_bytes)?;
-    prove_order(alloc, &net, order_text)
+    prove_order(alloc, &net, order_text, stop)
 }
 
 /// A certificate for the plan of the text of an order for a network, or why there is none.
-fn prove_order(alloc: Global, net: &Network, order_text: &[u8]) -> Result<Printed, Refusal>
+fn prove_order<P: Stop>(
+    alloc: Global,
+    net: &Network,
+    order_text: &[u8],
+    stop: &P,
+) -> Result<Printed, Refusal>
     ensures { (text : List ℕ) → IsReading text (Ok net.now) → IsShowing text order_text.now result }
 {
     let order = read_order(alloc, order_text, net.resource_count(), net.job_count())?;
@@ -88,19 +97,19 @@ fn prove_order(alloc: Global, net: &Network, order_text: &[u8]) -> Result<Printe
         net,
         order: &order,
     };
-    let printed = show_plan(&task);
+    let printed = show_plan(&task, stop);
     // Dropped here once, not at each way out.
     drop(order);
     Ok(printed?)
 }
 
 /// A certificate for the plan of an order, or why there is none.
-fn show_plan(task: &Task) -> Result<Printed, AllocError>
+fn show_plan<P: Stop>(task: &Task, stop: &P) -> Result<Printed, AllocError>
     requires terms { AreTermsOf task.now.net.now task.now.order.now }
     ensures { IfOk result (λ printed. IsAnswerShown task.now.net.now task.now.order.now printed.text.items printed.status) }
 {
     match opening_of(task.alloc, task.net, task.order)? {
-        Opening::Root { critical, window } => show_within(task, critical, &window),
+        Opening::Root { critical, window } => show_within(task, critical, &window, stop),
         Opening::TooLong { critical } => answer_none(
             task,
             &Answer::Impossible { longest: critical },
@@ -110,7 +119,12 @@ fn show_plan(task: &Task) -> Result<Printed, AllocError>
 }
 
 /// The same within the root window, with the critical length.
-fn show_within(task: &Task, critical: u64, window: &Window) -> Result<Printed, AllocError>
+fn show_within<P: Stop>(
+    task: &Task,
+    critical: u64,
+    window: &Window,
+    stop: &P,
+) -> Result<Printed, AllocError>
     requires terms { AreTermsOf task.now.net.now task.now.order.now }
     requires critical { IsCriticalLength task.now.net.now (release_of task.now.order.now) critical }
     requires window { IsRootWindow task.now.net.now (release_of task.now.order.now) (due_of task.now.order.now) window.now }
@@ -122,7 +136,7 @@ fn show_within(task: &Task, critical: u64, window: &Window) -> Result<Printed, A
     let Recorded {
         optimum,
         derivations,
-    } = recorded(task, window, &root)?;
+    } = recorded(task, window, &root, stop)?;
     match optimum {
         Optimum::Plan(capacities, starts) => {
             let plan = plan_of(task, critical, capacities, starts);
@@ -133,8 +147,13 @@ fn show_within(task: &Task, critical: u64, window: &Window) -> Result<Printed, A
     }
 }
 
-/// What a search finds of the plan, with its derivations.
-fn recorded(given: &Task, window: &Window, root: &Domain) -> Result<Recorded, AllocError>
+/// What a search finds of the plan, with its derivations, until it is stopped.
+fn recorded<P: Stop>(
+    given: &Task,
+    window: &Window,
+    root: &Domain,
+    stop: &P,
+) -> Result<Recorded, AllocError>
     requires { IsOpen (record { network = given.now.net.now; terms = given.now.order.now; root = root.now }) }
     ensures { IfOk result (λ found. IsOptimum given.now.net.now given.now.order.now found.optimum) }
 {
@@ -149,7 +168,8 @@ fn recorded(given: &Task, window: &Window, root: &Domain) -> Result<Recorded, Al
         conflicts: u64::MAX,
         bytes: MOST_BYTES as u64,
     });
-    optimum_recorded::<Brand, Deaf>(task, limits, MOST_BYTES as usize, &Deaf)
+    let stopping = Stopping { stop };
+    optimum_recorded::<Brand, Stopping<'_, P>>(task, limits, MOST_BYTES as usize, &stopping)
 }
 
 /// The plan with these capacities and starts.

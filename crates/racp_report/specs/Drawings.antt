@@ -2,6 +2,7 @@
 use Rattle.std.specs.Prelude.{ℕ, ◌+◌, ◌-◌, ◌*◌, ◌==◌, ◌||◌, ◌%◌, min, List, [], ◌∷◌, ◌++◌, codes, map, if◌then◌else◌}
 use Rattle.std.specs.Fmt.{decimal}
 use Rattle.racp_json.specs.declared.curve.Step.{Step}
+use Rattle.racp_calendar.specs.declared.calendar.Calendar.{Calendar}
 use Rattle.racp_charts.specs.Texts.{◌⋅◌}
 use Rattle.racp_charts.specs.CostDrawings.{costs_element}
 use Rattle.racp_charts.specs.Drawings.{frame_element, panel_element, row_element}
@@ -49,13 +50,13 @@ abbrev pub corner_of : Step → Corner
 corner_of step = record { deadline = step.deadline; cost = step.cost }
 
 -- the drawing of what deadlines cost, from the first corner up to a last deadline
-unfoldable pub corner_figure : List Corner → ℕ → List ℕ
-corner_figure corners last =
-    drawing_begin (codes "What each deadline costs") 290 ⋅ costs_element corners last ⋅ codes "</svg></figure>\n"
+unfoldable pub corner_figure : Calendar → List Corner → ℕ → List ℕ
+corner_figure calendar corners last =
+    drawing_begin (codes "What each deadline costs") 290 ⋅ costs_element calendar corners last ⋅ codes "</svg></figure>\n"
 
 -- that of the steps of a curve, up to the plan's deadline
-abbrev pub cost_figure : List Step → ℕ → List ℕ
-cost_figure costs deadline = corner_figure (map corner_of costs) deadline
+abbrev pub cost_figure : Calendar → List Step → ℕ → List ℕ
+cost_figure calendar costs deadline = corner_figure calendar (map corner_of costs) deadline
 
 -- what the shapes of the drawings of tasks and resources mean
 unfoldable pub key_figure : List ℕ

@@ -3,32 +3,36 @@ use Rattle.std.specs.Prelude.{◌≡◌, ℕ, ◌+◌, ◌-◌, ◌*◌, Bool, L
 use Rattle.std.specs.Fmt.{decimal}
 use Rattle.std.specs.Global.{Global}
 use Rattle.racp_json.specs.declared.curve.Step.{Step}
+use Rattle.racp_calendar.specs.Dates.{time_text}
+use Rattle.racp_calendar.specs.declared.calendar.Calendar.{Calendar}
 use Rattle.racp_charts.specs.Texts.{◌⋅◌}
 use Rattle.racp_charts.specs.declared.choice.Choice.{Choice}
 use Rattle.racp_report.specs.declared.report.Report.{Report}
 use Rattle.racp_show.specs.declared.task.Task.{Task}
-use Rattle.racp_charts.specs.Pictures.{whole}
+use Rattle.racp_charts.specs.Pictures.{plan_title, whole}
+use Rattle.racp_charts.specs.declared.drawing.Drawing.{Drawing}
 use Rattle.racp_report.specs.Drawings.{cost_figure, key_figure, panel_figure, task_blocks}
 use Rattle.racp_charts.specs.Elements.{name_text, number_list, shape_class}
 
 -- the beginning of a page, up to its style
-unfoldable pub opening_element : ℕ → ℕ → List ℕ
-opening_element cost deadline =
-    codes "<!DOCTYPE html>\n<html lang=\"en\">\n<head>\n<meta charset=\"utf-8\">\n<meta name=\"viewport\" "
-    ⋅ codes "content=\"width=device-width, initial-scale=1\">\n<title>Plan of cost " ⋅ decimal cost
-    ⋅ codes " by deadline " ⋅ decimal deadline ⋅ codes "</title>\n"
+unfoldable pub opening_element : Drawing → List ℕ
+opening_element plan =
+    (codes "<!DOCTYPE html>\n<html lang=\"en\">\n<head>\n<meta charset=\"utf-8\">\n<meta name=\"viewport\" "
+    ⋅ codes "content=\"width=device-width, initial-scale=1\">\n<title>")
+    ⋅ plan_title plan.calendar plan.cost plan.deadline ⋅ codes "</title>\n"
 
 -- its title
-unfoldable pub title_element : ℕ → ℕ → List ℕ
-title_element cost deadline =
-    codes "</head>\n<body>\n<main>\n<h1>Plan of cost " ⋅ decimal cost ⋅ codes " by deadline " ⋅ decimal deadline
-    ⋅ codes "</h1>\n"
+unfoldable pub title_element : Drawing → List ℕ
+title_element plan =
+    codes "</head>\n<body>\n<main>\n<h1>" ⋅ plan_title plan.calendar plan.cost plan.deadline ⋅ codes "</h1>\n"
 
 -- the cost and the deadline, and the critical length and the number of tasks
-unfoldable pub times_element : ℕ → ℕ → List ℕ
-times_element cost deadline =
+unfoldable pub cost_element : ℕ → List ℕ
+cost_element cost =
     codes "<dl><div><dt>Cost</dt><dd>" ⋅ decimal cost ⋅ codes "</dd></div><div><dt>Deadline</dt><dd>"
-    ⋅ decimal deadline ⋅ codes "</dd></div>"
+
+unfoldable pub times_element : Drawing → List ℕ
+times_element plan = cost_element plan.cost ⋅ time_text plan.calendar plan.deadline ⋅ codes "</dd></div>"
 
 unfoldable pub lengths_element : ℕ → ℕ → List ℕ
 lengths_element critical tasks =
@@ -45,9 +49,9 @@ claim_element =
     ⋅ codes "stands at the end.</p>\n"
 
 -- the heading
-unfoldable pub heading_element : ℕ → ℕ → ℕ → ℕ → List ℕ
-heading_element cost deadline critical tasks =
-    title_element cost deadline ⋅ times_element cost deadline ⋅ lengths_element critical tasks ⋅ claim_element
+unfoldable pub heading_element : Drawing → List ℕ
+heading_element plan =
+    title_element plan ⋅ times_element plan ⋅ lengths_element plan.critical (length plan.tasks.items) ⋅ claim_element
 
 -- how the plan is checked, and the end of the page
 unfoldable pub checking_element : List ℕ
@@ -102,23 +106,29 @@ task_row_begin task =
 abbrev pub yes_text : Bool → List ℕ
 yes_text critical = if critical then codes "yes" else []
 
+-- how long it takes, and its slack
+unfoldable pub task_duration : ℕ → List ℕ
+task_duration duration = codes "</th><td>" ⋅ decimal duration ⋅ codes "</td><td>"
+
+unfoldable pub task_slack : ℕ → List ℕ
+task_slack slack = codes "</td><td>" ⋅ decimal slack ⋅ codes "</td><td class=\"left\">"
+
 -- its times: how long it takes, when it starts and ends, and its slack
-unfoldable pub task_times : Task → List ℕ
-task_times task =
-    codes "</th><td>" ⋅ decimal task.duration ⋅ codes "</td><td>" ⋅ decimal task.start ⋅ codes "</td><td>"
-    ⋅ decimal (task.start + task.duration) ⋅ codes "</td><td>" ⋅ decimal (task.latest - task.start)
-    ⋅ codes "</td><td class=\"left\">"
+unfoldable pub task_times : Calendar → Task → List ℕ
+task_times calendar task =
+    task_duration task.duration ⋅ time_text calendar task.start ⋅ codes "</td><td>"
+    ⋅ time_text calendar (task.start + task.duration) ⋅ task_slack (task.latest - task.start)
 
 -- these, and whether it is on the critical chain
-unfoldable pub task_cells : Task → List ℕ
-task_cells task = task_times task ⋅ yes_text task.is_critical ⋅ codes "</td><td class=\"left\">"
+unfoldable pub task_cells : Calendar → Task → List ℕ
+task_cells calendar task = task_times calendar task ⋅ yes_text task.is_critical ⋅ codes "</td><td class=\"left\">"
 
 -- the row of a task: its number, its name, how long it takes, when it starts and ends, its slack, whether it is on the
 -- critical chain, and what comes right before it
-unfoldable pub task_row : Task → List ℕ
-task_row task =
+unfoldable pub task_row : Calendar → Task → List ℕ
+task_row calendar task =
     task_row_begin task ⋅ name_text (option_map (λ name. name.now) task.name) (codes "task") task.job
-    ⋅ task_cells task ⋅ number_list 0 task.predecessors.items ⋅ codes "</td></tr>\n"
+    ⋅ task_cells calendar task ⋅ number_list 0 task.predecessors.items ⋅ codes "</td></tr>\n"
 
 -- the table of the tasks
 unfoldable pub task_table : Report → List ℕ
@@ -126,13 +136,15 @@ task_table report =
     (codes "<h2>The tasks</h2>\n<div class=\"wide\"><table>\n<thead><tr><th>No.</th><th class=\"left\">"
     ⋅ codes "Task</th><th>Duration</th><th>Start</th><th>End</th><th>Slack</th><th class=\"left\">"
     ⋅ codes "Critical</th><th class=\"left\">After</th></tr></thead>\n<tbody>\n")
-    ⋅ flat_map task_row report.plan.tasks.items ⋅ codes "</tbody></table></div>\n"
+    ⋅ flat_map (task_row report.plan.calendar) report.plan.tasks.items ⋅ codes "</tbody></table></div>\n"
 
 -- the deadline and the cost of a step
-unfoldable pub cost_cells : Step → List ℕ
-cost_cells step =
-    codes "<tr><td class=\"left\">" ⋅ decimal step.deadline ⋅ codes "</td><td>" ⋅ decimal step.cost
-    ⋅ codes "</td><td>"
+unfoldable pub cost_text : ℕ → List ℕ
+cost_text cost = codes "</td><td>" ⋅ decimal cost ⋅ codes "</td><td>"
+
+unfoldable pub cost_cells : Calendar → Step → List ℕ
+cost_cells calendar step =
+    codes "<tr><td class=\"left\">" ⋅ time_text calendar step.deadline ⋅ cost_text step.cost
 
 -- a number of units
 unfoldable pub unit_text : ℕ → List ℕ
@@ -140,30 +152,30 @@ unit_text count =
     codes " " ⋅ decimal count
 
 -- the row of a step
-unfoldable pub cost_row : Step → List ℕ
-cost_row step =
-    cost_cells step ⋅ flat_map unit_text step.capacities.items ⋅ codes "</td></tr>\n"
+unfoldable pub cost_row : Calendar → Step → List ℕ
+cost_row calendar step =
+    cost_cells calendar step ⋅ flat_map unit_text step.capacities.items ⋅ codes "</td></tr>\n"
 
 -- what deadlines cost, from the steps of a curve
-unfoldable pub cost_table : ℕ → List Step → List ℕ
-cost_table deadline costs =
-    codes "<h2>What each deadline costs</h2>\n" ⋅ cost_figure costs deadline
+unfoldable pub cost_table : Calendar → ℕ → List Step → List ℕ
+cost_table calendar deadline costs =
+    codes "<h2>What each deadline costs</h2>\n" ⋅ cost_figure calendar costs deadline
     ⋅ (codes "<div class=\"wide\"><table>\n<thead><tr><th>From deadline</th><th>Cost</th><th>Units of each "
     ⋅ codes "resource</th></tr></thead>\n<tbody>\n")
-    ⋅ flat_map cost_row costs ⋅ codes "</tbody></table></div>\n"
+    ⋅ flat_map (cost_row calendar) costs ⋅ codes "</tbody></table></div>\n"
 
 -- nothing is said of it without steps
-abbrev pub cost_section : ℕ → List Step → List ℕ
-cost_section deadline [] = []
-cost_section deadline (step ∷ steps) = cost_table deadline (step ∷ steps)
+abbrev pub cost_section : Calendar → ℕ → List Step → List ℕ
+cost_section calendar deadline [] = []
+cost_section calendar deadline (step ∷ steps) = cost_table calendar deadline (step ∷ steps)
 
 -- all of a page that stands behind its style
 unfoldable pub body_of : Report → List ℕ
 body_of report =
-    heading_element report.plan.cost report.plan.deadline report.plan.critical (length report.plan.tasks.items)
-    ⋅ choice_table report ⋅ charts report ⋅ task_table report ⋅ cost_section report.plan.deadline report.costs.items ⋅ checking_element
+    heading_element report.plan ⋅ choice_table report ⋅ charts report ⋅ task_table report
+    ⋅ cost_section report.plan.calendar report.plan.deadline report.costs.items ⋅ checking_element
 
 -- a page of a report: its beginning, some style, and its body
 abbrev pub IsPage : Report → String Global → Type 0
 IsPage report text = (style : List ℕ) ×
-    (string_bytes text ≡ opening_element report.plan.cost report.plan.deadline ⋅ style ⋅ body_of report)
+    (string_bytes text ≡ opening_element report.plan ⋅ style ⋅ body_of report)

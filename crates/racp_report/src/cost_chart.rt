@@ -4,6 +4,7 @@ ghost use Rattle.std.specs.Prelude.{◌≡◌, ◌++◌, IfOk, OnOk, map, string
 ghost use Rattle.racp_report.specs.Drawings.{corner_figure, corner_of, cost_figure};
 
 use crate::figure::push_drawing;
+use racp_calendar::Calendar;
 use racp_charts::{Corner, push_costs};
 use racp_json::Step;
 use std::alloc::{AllocError, Global};
@@ -14,19 +15,25 @@ pub(crate) fn push_cost_figure(
     text: &mut String,
     costs: &[Step],
     deadline: u32,
+    calendar: Calendar,
 ) -> Result<(), AllocError>
-    ensures { OnOk result (string_bytes text.new ≡ string_bytes text.old ++ cost_figure costs.now deadline) }
+    ensures { OnOk result (string_bytes text.new ≡ string_bytes text.old ++ cost_figure calendar costs.now deadline) }
 {
     let corners = corners_of(alloc, costs)?;
-    push_corners(text, &corners, deadline)
+    push_corners(text, &corners, deadline, calendar)
 }
 
 /// Adds the drawing of some corners.
-fn push_corners(text: &mut String, corners: &[Corner], deadline: u32) -> Result<(), AllocError>
-    ensures { OnOk result (string_bytes text.new ≡ string_bytes text.old ++ corner_figure corners.now deadline) }
+fn push_corners(
+    text: &mut String,
+    corners: &[Corner],
+    deadline: u32,
+    calendar: Calendar,
+) -> Result<(), AllocError>
+    ensures { OnOk result (string_bytes text.new ≡ string_bytes text.old ++ corner_figure calendar corners.now deadline) }
 {
     push_drawing(text, "What each deadline costs", 290)?;
-    push_costs(text, corners, deadline)?;
+    push_costs(text, corners, deadline, calendar)?;
     text.push_str("</svg></figure>\n")?;
     Ok(())
 }

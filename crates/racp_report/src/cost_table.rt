@@ -1,9 +1,11 @@
 //! What deadlines cost, as a table.
 
 ghost use Rattle.std.specs.Prelude.{◌≡◌, ◌++◌, OnOk, flat_map, string_bytes};
-ghost use Rattle.racp_report.specs.Pages.{cost_cells, cost_row, cost_section, cost_table, unit_text};
+ghost use Rattle.racp_report.specs.Pages.{cost_cells, cost_row, cost_section, cost_table, cost_text, unit_text};
 
 use crate::cost_chart::push_cost_figure;
+use crate::report::Report;
+use racp_calendar::{Calendar, push_time};
 use racp_json::Step;
 use std::alloc::{AllocError, Global};
 
@@ -11,15 +13,22 @@ use std::alloc::{AllocError, Global};
 pub(crate) fn push_curve(
     alloc: Global,
     text: &mut String,
-    costs: &[Step],
-    deadline: u32,
+    report: &Report<'_>,
 ) -> Result<(), AllocError>
-    ensures { OnOk result (string_bytes text.new ≡ string_bytes text.old ++ cost_section deadline costs.now) }
+    ensures { OnOk result (string_bytes text.new ≡ string_bytes text.old ++
+        cost_section report.now.plan.calendar report.now.plan.deadline report.now.costs.items) }
 {
-    if costs.is_empty() {
+    if report.costs.is_empty() {
         return Ok(());
     }
-    push_cost_table(alloc, text, costs, deadline)
+    let plan = &report.plan;
+    push_cost_table(
+        alloc,
+        text,
+        report.costs.as_slice(),
+        plan.deadline,
+        plan.calendar,
+    )
 }
 
 /// Adds what deadlines cost.
@@ -28,50 +37,57 @@ fn push_cost_table(
     text: &mut String,
     costs: &[Step],
     deadline: u32,
+    calendar: Calendar,
 ) -> Result<(), AllocError>
-    ensures { OnOk result (string_bytes text.new ≡ string_bytes text.old ++ cost_table deadline costs.now) }
+    ensures { OnOk result (string_bytes text.new ≡ string_bytes text.old ++ cost_table calendar deadline costs.now) }
 {
     text.push_str("<h2>What each deadline costs</h2>\n")?;
-    push_cost_figure(alloc, text, costs, deadline)?;
+    push_cost_figure(alloc, text, costs, deadline, calendar)?;
     text.push_str(
         "<div class=\"wide\"><table>\n<thead><tr><th>From deadline</th><th>Cost</th><th>Units of each resource</th>\
          </tr></thead>\n<tbody>\n",
     )?;
-    push_rows(text, costs)?;
+    push_rows(text, costs, calendar)?;
     text.push_str("</tbody></table></div>\n")?;
     Ok(())
 }
 
 /// Adds a row for each step.
-fn push_rows(text: &mut String, costs: &[Step]) -> Result<(), AllocError>
-    ensures { OnOk result (string_bytes text.new ≡ string_bytes text.old ++ flat_map cost_row costs.now) }
+fn push_rows(text: &mut String, costs: &[Step], calendar: Calendar) -> Result<(), AllocError>
+    ensures { OnOk result (string_bytes text.new ≡ string_bytes text.old ++ flat_map (cost_row calendar) costs.now) }
 {
     for step in costs {
-        push_row(text, step)?;
+        push_row(text, step, calendar)?;
     }
     Ok(())
 }
 
 /// Adds the row of a step.
-fn push_row(text: &mut String, step: &Step) -> Result<(), AllocError>
-    ensures { OnOk result (string_bytes text.new ≡ string_bytes text.old ++ cost_row step.now) }
+fn push_row(text: &mut String, step: &Step, calendar: Calendar) -> Result<(), AllocError>
+    ensures { OnOk result (string_bytes text.new ≡ string_bytes text.old ++ cost_row calendar step.now) }
 {
-    push_cells(text, step)?;
+    push_cells(text, step, calendar)?;
     push_units(text, step.capacities.as_slice())?;
     text.push_str("</td></tr>\n")?;
     Ok(())
 }
 
 /// Adds the deadline and the cost of a step.
-#[tactic(auto, unfolding(crate::specs::Pages::cost_cells))]
-fn push_cells(text: &mut String, step: &Step) -> Result<(), AllocError>
-    ensures { OnOk result (string_bytes text.new ≡ string_bytes text.old ++ cost_cells step.now) }
+fn push_cells(text: &mut String, step: &Step, calendar: Calendar) -> Result<(), AllocError>
+    ensures { OnOk result (string_bytes text.new ≡ string_bytes text.old ++ cost_cells calendar step.now) }
 {
-    let (deadline, cost) = (step.deadline, step.cost);
-    write!(
-        text,
-        "<tr><td class=\"left\">{deadline}</td><td>{cost}</td><td>"
-    )
+    text.push_str("<tr><td class=\"left\">")?;
+    push_time(text, calendar, step.deadline as u128)?;
+    push_cost(text, step.cost)?;
+    Ok(())
+}
+
+/// Adds the end of a cell, that of a cost, and the beginning of the next.
+#[tactic(auto, unfolding(crate::specs::Pages::cost_text))]
+fn push_cost(text: &mut String, cost: u64) -> Result<(), AllocError>
+    ensures { OnOk result (string_bytes text.new ≡ string_bytes text.old ++ cost_text cost) }
+{
+    write!(text, "</td><td>{cost}</td><td>")
 }
 
 /// Adds how many units there are of each resource, with a blank before each.

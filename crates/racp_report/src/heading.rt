@@ -1,60 +1,64 @@
 //! The beginning of a page, and what it says before its tables and charts.
 
 ghost use Rattle.std.specs.Prelude.{◌≡◌, ◌++◌, OnOk, string_bytes};
-ghost use Rattle.racp_report.specs.Pages.{checking_element, claim_element, heading_element, lengths_element, opening_element, times_element, title_element};
+ghost use Rattle.racp_report.specs.Pages.{checking_element, claim_element, cost_element, heading_element, lengths_element, opening_element, times_element, title_element};
 
+use racp_calendar::push_time;
+use racp_charts::{Drawing, push_plan};
 use std::alloc::AllocError;
 
 /// Adds the beginning of a page, up to its style.
-#[tactic(auto, unfolding(crate::specs::Pages::opening_element))]
-pub(crate) fn push_opening(text: &mut String, cost: u64, deadline: u32) -> Result<(), AllocError>
-    ensures { OnOk result (string_bytes text.new ≡ string_bytes text.old ++ opening_element cost deadline) }
+pub(crate) fn push_opening(text: &mut String, plan: &Drawing<'_>) -> Result<(), AllocError>
+    ensures { OnOk result (string_bytes text.new ≡ string_bytes text.old ++ opening_element plan.now) }
 {
-    write!(
-        text,
+    text.push_str(
         "<!DOCTYPE html>\n<html lang=\"en\">\n<head>\n<meta charset=\"utf-8\">\n\
-         <meta name=\"viewport\" content=\"width=device-width, initial-scale=1\">\n\
-         <title>Plan of cost {cost} by deadline {deadline}</title>\n"
-    )
+         <meta name=\"viewport\" content=\"width=device-width, initial-scale=1\">\n<title>",
+    )?;
+    push_plan(text, plan.cost, plan.deadline, plan.calendar)?;
+    text.push_str("</title>\n")?;
+    Ok(())
 }
 
 /// Adds the heading of a page: what the plan costs, and what is proved of it.
-pub(crate) fn push_heading(
-    text: &mut String,
-    cost: u64,
-    deadline: u32,
-    critical: u64,
-    tasks: usize,
-) -> Result<(), AllocError>
-    ensures { OnOk result
-        (string_bytes text.new ≡ string_bytes text.old ++ heading_element cost deadline critical tasks) }
+pub(crate) fn push_heading(text: &mut String, plan: &Drawing<'_>) -> Result<(), AllocError>
+    ensures { OnOk result (string_bytes text.new ≡ string_bytes text.old ++ heading_element plan.now) }
 {
-    push_title(text, cost, deadline)?;
-    push_times(text, cost, deadline)?;
-    push_lengths(text, critical, tasks)?;
+    push_title(text, plan)?;
+    push_times(text, plan)?;
+    push_lengths(text, plan.critical, plan.tasks.len())?;
     push_claim(text)?;
     Ok(())
 }
 
 /// Adds the title of a page.
-#[tactic(auto, unfolding(crate::specs::Pages::title_element))]
-fn push_title(text: &mut String, cost: u64, deadline: u32) -> Result<(), AllocError>
-    ensures { OnOk result (string_bytes text.new ≡ string_bytes text.old ++ title_element cost deadline) }
+fn push_title(text: &mut String, plan: &Drawing<'_>) -> Result<(), AllocError>
+    ensures { OnOk result (string_bytes text.new ≡ string_bytes text.old ++ title_element plan.now) }
 {
-    write!(
-        text,
-        "</head>\n<body>\n<main>\n<h1>Plan of cost {cost} by deadline {deadline}</h1>\n"
-    )
+    text.push_str("</head>\n<body>\n<main>\n<h1>")?;
+    push_plan(text, plan.cost, plan.deadline, plan.calendar)?;
+    text.push_str("</h1>\n")?;
+    Ok(())
 }
 
 /// Adds the cost and the deadline.
-#[tactic(auto, unfolding(crate::specs::Pages::times_element))]
-fn push_times(text: &mut String, cost: u64, deadline: u32) -> Result<(), AllocError>
-    ensures { OnOk result (string_bytes text.new ≡ string_bytes text.old ++ times_element cost deadline) }
+fn push_times(text: &mut String, plan: &Drawing<'_>) -> Result<(), AllocError>
+    ensures { OnOk result (string_bytes text.new ≡ string_bytes text.old ++ times_element plan.now) }
+{
+    push_cost(text, plan.cost)?;
+    push_time(text, plan.calendar, plan.deadline as u128)?;
+    text.push_str("</dd></div>")?;
+    Ok(())
+}
+
+/// Adds the cost, and the beginning of the deadline.
+#[tactic(auto, unfolding(crate::specs::Pages::cost_element))]
+fn push_cost(text: &mut String, cost: u64) -> Result<(), AllocError>
+    ensures { OnOk result (string_bytes text.new ≡ string_bytes text.old ++ cost_element cost) }
 {
     write!(
         text,
-        "<dl><div><dt>Cost</dt><dd>{cost}</dd></div><div><dt>Deadline</dt><dd>{deadline}</dd></div>"
+        "<dl><div><dt>Cost</dt><dd>{cost}</dd></div><div><dt>Deadline</dt><dd>"
     )
 }
 

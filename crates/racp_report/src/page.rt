@@ -1,6 +1,6 @@
 //! A report as a page.
 
-ghost use Rattle.std.specs.Prelude.{◌≡◌, ◌++◌, IfOk, OnOk, length, string_bytes};
+ghost use Rattle.std.specs.Prelude.{◌≡◌, ◌++◌, IfOk, OnOk, string_bytes};
 ghost use Rattle.racp_report.specs.Pages.{IsPage, body_of, charts, choice_table, task_table};
 
 use crate::chart::push_chart;
@@ -26,7 +26,7 @@ pub fn report_text(alloc: Global, report: &Report<'_>) -> Result<String, AllocEr
     ensures { IfOk result (λ text. IsPage report.now text) }
 {
     let mut text = String::new(alloc);
-    push_opening(&mut text, report.plan.cost, report.plan.deadline)?;
+    push_opening(&mut text, &report.plan)?;
     text.push_str(STYLE)?;
     text.push_str(PAGE_STYLE)?;
     push_body(alloc, &mut text, report)?;
@@ -37,27 +37,13 @@ pub fn report_text(alloc: Global, report: &Report<'_>) -> Result<String, AllocEr
 fn push_body(alloc: Global, text: &mut String, report: &Report<'_>) -> Result<(), AllocError>
     ensures { OnOk result (string_bytes text.new ≡ string_bytes text.old ++ body_of report.now) }
 {
-    let deadline = report.plan.deadline;
-    push_heading(
-        text,
-        report.plan.cost,
-        deadline,
-        report.plan.critical,
-        task_count(report),
-    )?;
+    push_heading(text, &report.plan)?;
     push_choice_table(text, report)?;
     push_charts(alloc, text, report)?;
     push_task_table(text, report)?;
-    push_curve(alloc, text, report.costs.as_slice(), deadline)?;
+    push_curve(alloc, text, report)?;
     push_checking(text)?;
     Ok(())
-}
-
-/// How many tasks a report has.
-fn task_count(report: &Report<'_>) -> usize
-    ensures { result ≡ length report.now.plan.tasks.items }
-{
-    report.plan.tasks.len()
 }
 
 /// Adds the table of the resources.
@@ -80,6 +66,7 @@ fn push_charts(alloc: Global, text: &mut String, report: &Report<'_>) -> Result<
     let span = Span {
         first: 0,
         last: report.plan.deadline,
+        calendar: report.plan.calendar,
     };
     text.push_str("<h2>When each task runs</h2>\n")?;
     push_key_figure(text)?;
@@ -98,7 +85,7 @@ fn push_task_table(text: &mut String, report: &Report<'_>) -> Result<(), AllocEr
          <th>Duration</th><th>Start</th><th>End</th><th>Slack</th><th class=\"left\">Critical</th>\
          <th class=\"left\">After</th></tr></thead>\n<tbody>\n",
     )?;
-    push_tasks(text, report.plan.tasks.as_slice())?;
+    push_tasks(text, report.plan.tasks.as_slice(), report.plan.calendar)?;
     text.push_str("</tbody></table></div>\n")?;
     Ok(())
 }

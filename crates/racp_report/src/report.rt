@@ -16,7 +16,7 @@ use std::alloc::{AllocError, Global};
 /// What a page says of a plan.
 #[derive(Drop)]
 pub struct Report<'a> {
-    /// What is drawn of the plan, and said in tables too.
+    /// What is drawn of the plan, and said in tables too; its calendar tells how times are told in them.
     pub plan: Drawing<'a>,
     /// The steps of a curve; none if there is no curve.
     pub costs: Vec<Step>,

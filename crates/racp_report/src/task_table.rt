@@ -1,29 +1,34 @@
 //! The tasks as a table.
 
 ghost use Rattle.std.specs.Prelude.{◌≡◌, ◌++◌, OnOk, flat_map, option_map, string_bytes};
-ghost use Rattle.racp_report.specs.Pages.{task_cells, task_row, task_row_begin, task_times, yes_text};
+ghost use Rattle.racp_report.specs.Pages.{task_cells, task_duration, task_row, task_row_begin, task_slack, task_times, yes_text};
 
+use racp_calendar::{Calendar, push_time};
 use racp_charts::{class_of, push_name, push_numbers};
 use racp_show::Task;
 use std::alloc::AllocError;
 
 /// Adds a row for each task.
-pub(crate) fn push_tasks(text: &mut String, tasks: &[Task<'_>]) -> Result<(), AllocError>
-    ensures { OnOk result (string_bytes text.new ≡ string_bytes text.old ++ flat_map task_row tasks.now) }
+pub(crate) fn push_tasks(
+    text: &mut String,
+    tasks: &[Task<'_>],
+    calendar: Calendar,
+) -> Result<(), AllocError>
+    ensures { OnOk result (string_bytes text.new ≡ string_bytes text.old ++ flat_map (task_row calendar) tasks.now) }
 {
     for task in tasks {
-        push_task(text, task)?;
+        push_task(text, task, calendar)?;
     }
     Ok(())
 }
 
 /// Adds the row of a task.
-fn push_task(text: &mut String, task: &Task<'_>) -> Result<(), AllocError>
-    ensures { OnOk result (string_bytes text.new ≡ string_bytes text.old ++ task_row task.now) }
+fn push_task(text: &mut String, task: &Task<'_>, calendar: Calendar) -> Result<(), AllocError>
+    ensures { OnOk result (string_bytes text.new ≡ string_bytes text.old ++ task_row calendar task.now) }
 {
     push_begin(text, task)?;
     push_name(text, task.name, "task", task.job)?;
-    push_cells(text, task)?;
+    push_cells(text, task, calendar)?;
     push_numbers(text, task.predecessors.as_slice())?;
     text.push_str("</td></tr>\n")?;
     Ok(())
@@ -43,27 +48,41 @@ fn push_begin(text: &mut String, task: &Task<'_>) -> Result<(), AllocError>
 }
 
 /// Adds the cells of a task, from its duration up to what comes before it.
-fn push_cells(text: &mut String, task: &Task<'_>) -> Result<(), AllocError>
-    ensures { OnOk result (string_bytes text.new ≡ string_bytes text.old ++ task_cells task.now) }
+fn push_cells(text: &mut String, task: &Task<'_>, calendar: Calendar) -> Result<(), AllocError>
+    ensures { OnOk result (string_bytes text.new ≡ string_bytes text.old ++ task_cells calendar task.now) }
 {
-    push_times(text, task)?;
+    push_times(text, task, calendar)?;
     text.push_str(yes_of(task))?;
     text.push_str("</td><td class=\"left\">")?;
     Ok(())
 }
 
 /// Adds the cells of a task's times.
-#[tactic(auto, unfolding(crate::specs::Pages::task_times))]
-fn push_times(text: &mut String, task: &Task<'_>) -> Result<(), AllocError>
-    ensures { OnOk result (string_bytes text.new ≡ string_bytes text.old ++ task_times task.now) }
+fn push_times(text: &mut String, task: &Task<'_>, calendar: Calendar) -> Result<(), AllocError>
+    ensures { OnOk result (string_bytes text.new ≡ string_bytes text.old ++ task_times calendar task.now) }
 {
-    let (duration, start) = (task.duration, task.start);
-    let end = start as u64 + duration as u64;
-    let slack = task.latest.saturating_sub(start);
-    write!(
-        text,
-        "</th><td>{duration}</td><td>{start}</td><td>{end}</td><td>{slack}</td><td class=\"left\">"
-    )
+    push_duration(text, task.duration)?;
+    push_time(text, calendar, task.start as u128)?;
+    text.push_str("</td><td>")?;
+    push_time(text, calendar, task.start as u128 + task.duration as u128)?;
+    push_slack(text, task.latest.saturating_sub(task.start))?;
+    Ok(())
+}
+
+/// Adds the cell of how long a task takes, and the beginning of the next.
+#[tactic(auto, unfolding(crate::specs::Pages::task_duration))]
+fn push_duration(text: &mut String, duration: u32) -> Result<(), AllocError>
+    ensures { OnOk result (string_bytes text.new ≡ string_bytes text.old ++ task_duration duration) }
+{
+    write!(text, "</th><td>{duration}</td><td>")
+}
+
+/// Adds the end of a cell, that of a task's slack, and the beginning of the next.
+#[tactic(auto, unfolding(crate::specs::Pages::task_slack))]
+fn push_slack(text: &mut String, slack: u32) -> Result<(), AllocError>
+    ensures { OnOk result (string_bytes text.new ≡ string_bytes text.old ++ task_slack slack) }
+{
+    write!(text, "</td><td>{slack}</td><td class=\"left\">")
 }
 
 /// What a table says of whether a task is on the critical chain.

@@ -93,8 +93,12 @@ fn finding<G: Gate + Sync, P: Stop + Sync, O: Observer, R: Threads + Wait + Sync
     Ok(Finding { change, outcome })
 }
 
-/// What becomes of an order.
-fn outcome<G: Gate + Sync, P: Stop + Sync, O: Observer, R: Threads + Wait + Sync>(
+/// What becomes of an order, by a plan that such workers make; one that is stopped is left open.
+///
+/// # Errors
+///
+/// Memory was refused, or a worker could not be started.
+pub fn outcome<G: Gate + Sync, P: Stop + Sync, O: Observer, R: Threads + Wait + Sync>(
     rt: &R,
     alloc: Global,
     net: &Network,

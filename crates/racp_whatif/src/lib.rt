@@ -17,5 +17,5 @@
 mod finding;
 mod planning;
 
-pub use finding::findings;
+pub use finding::{findings, outcome};
 pub use planning::{Task, planned};

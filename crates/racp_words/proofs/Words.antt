@@ -125,7 +125,7 @@ none_asked : (command : Option (Text × List Row)) (request : Request) → with_
 unfolding with_network
 none_asked None (Cpm network) e asked = asked
 none_asked None (Plan files memory crew) e asked = asked
-none_asked None (Prove files facts) e asked = asked
+none_asked None (Prove files facts limit) e asked = asked
 none_asked None (Check files) e asked = asked
 none_asked None (Verify files limit) e asked = asked
 none_asked None (Tool tool) e asked = asked
@@ -139,7 +139,7 @@ cpm_asked (Some command) word (Cpm network) e asked = rw (← ap (λ c. c.1) (sa
 cpm_asked (Some command) word (Plan files memory crew) e asked =
     let same : codes "cpm" ≡ codes "plan" = sym (ap (λ c. c.0) (same_Some _ _ e)) ∙ asked.0 in
     let letter : 99 ≡ 112 = ap (λ t. slice_index t 0) same in absurd (omega (arith, letter))
-cpm_asked (Some command) word (Prove files facts) e asked =
+cpm_asked (Some command) word (Prove files facts limit) e asked =
     let same : codes "cpm" ≡ codes "prove" = sym (ap (λ c. c.0) (same_Some _ _ e)) ∙ asked.0 in
     let letter : 99 ≡ 112 = ap (λ t. slice_index t 0) same in absurd (omega (arith, letter))
 cpm_asked (Some command) word (Check files) e asked =
@@ -209,7 +209,7 @@ plan_asked (Some command) net order (Plan files memory crew) e asked =
       subst (λ (w : Option Text). IsNumberOf 1048576 1024 w memory.mebibytes) (ap (λ c. c.1.1.1.0) same) asked.2,
       no_crew command.1 crew (ap (λ c. c.1.1.1.1) same) asked.3,
     )
-plan_asked (Some command) net order (Prove files facts) e asked =
+plan_asked (Some command) net order (Prove files facts limit) e asked =
     let same : codes "plan" ≡ codes "prove" = sym (ap (λ c. c.0) (same_Some _ _ e)) ∙ asked.0 in
     let letter : 108 ≡ 114 = ap (λ t. slice_index t 1) same in absurd (omega (arith, letter))
 plan_asked (Some command) net order (Check files) e asked =
@@ -263,7 +263,7 @@ workers_asked (Some command) net order number (Plan files memory crew) in_range 
       workers_crew command.1 crew number (ap (λ c. c.1.1.1.1.0) same) (ap (λ c. c.1.1.1.1.1.0) same) (ap (λ c. c.1.1.1.1.1.1.0) same)
           (ap (λ c. c.1.1.1.1.1.1.1.0) same) (ap (λ c. c.1.1.1.1.1.1.1.1.0) same) (ap (λ c. c.1.1.1.1.1.1.1.1.1) same) in_range asked.3,
     )
-workers_asked (Some command) net order number (Prove files facts) in_range e asked =
+workers_asked (Some command) net order number (Prove files facts limit) in_range e asked =
     let same : codes "plan" ≡ codes "prove" = sym (ap (λ c. c.0) (same_Some _ _ e)) ∙ asked.0 in
     let letter : 108 ≡ 114 = ap (λ t. slice_index t 1) same in absurd (omega (arith, letter))
 workers_asked (Some command) net order number (Check files) in_range e asked =
@@ -275,26 +275,29 @@ workers_asked (Some command) net order number (Verify files limit) in_range e as
 workers_asked (Some command) net order number (Tool tool) in_range e asked = absurd (no_tool_plan command tool (ap (λ c. c.0) (same_Some _ _ e)) asked)
 
 -- the command that is named, the paths of its words for a network and an order, and whether it is asked for clauses
-with_files : Option (Text × List Row) → Option (Text × (Text × (Text × Bool)))
-with_files = option_map (λ command. (command.0, (path_at (codes "NET") command.1, (path_at (codes "ORDER") command.1, is_set (codes "facts") command.1))))
+with_files : Option (Text × List Row) → Option (Text × (Text × (Text × (Bool × Option Text))))
+with_files = option_map (λ command. (
+  command.0,
+  (path_at (codes "NET") command.1, (path_at (codes "ORDER") command.1, (is_set (codes "facts") command.1, first_of (codes "time-limit") command.1))),
+))
 
 prove_paths : (name : Text) (a b : ℕ) (net order : Text) → (a == 45) ≡ false → (b == 45) ≡ false →
     (fault_of racp (name ∷ codes "prove" ∷ (a ∷ net) ∷ (b ∷ order) ∷ []) ≡ []) ×
-    (with_files (subcommand_of racp (name ∷ codes "prove" ∷ (a ∷ net) ∷ (b ∷ order) ∷ [])) ≡ Some (codes "prove", (a ∷ net, (b ∷ order, false))))
+    (with_files (subcommand_of racp (name ∷ codes "prove" ∷ (a ∷ net) ∷ (b ∷ order) ∷ [])) ≡ Some (codes "prove", (a ∷ net, (b ∷ order, (false, None)))))
 unfolding racp clap_on_literals with_files
 prove_paths name a b net order p q = (rw (p, p, q, q) refl, rw (p, p, q, q) refl)
 
 -- `prove` asks for the files with these paths
-prove_asked : (command : Option (Text × List Row)) (net order : Text) (request : Request) → with_files command ≡ Some (codes "prove", (net, (order, false))) → IsRequested command request → AsksForProve net order request
+prove_asked : (command : Option (Text × List Row)) (net order : Text) (request : Request) → with_files command ≡ Some (codes "prove", (net, (order, (false, None)))) → IsRequested command request → AsksForProve net order request
 unfolding with_files
 prove_asked None net order request e asked = absurd (search rules)
 prove_asked (Some command) net order (Cpm network) e asked = absurd (asked.1 (ap (λ c. c.0) (same_Some _ _ e)))
 prove_asked (Some command) net order (Plan files memory crew) e asked =
     let same : codes "prove" ≡ codes "plan" = sym (ap (λ c. c.0) (same_Some _ _ e)) ∙ asked.0 in
     let letter : 114 ≡ 108 = ap (λ t. slice_index t 1) same in absurd (omega (arith, letter))
-prove_asked (Some command) net order (Prove files facts) e asked =
+prove_asked (Some command) net order (Prove files facts limit) e asked =
     let same = same_Some _ _ e in
-    (asked.1.net ∙ ap (λ c. c.1.0) same, asked.1.order ∙ ap (λ c. c.1.1.0) same, asked.2 ∙ ap (λ c. c.1.1.1) same)
+    (asked.1.net ∙ ap (λ c. c.1.0) same, asked.1.order ∙ ap (λ c. c.1.1.0) same, asked.2 ∙ ap (λ c. c.1.1.1.0) same, asked.3 ∙ ap (λ c. c.1.1.1.1) same)
 prove_asked (Some command) net order (Check files) e asked =
     let same : codes "prove" ≡ codes "check" = sym (ap (λ c. c.0) (same_Some _ _ e)) ∙ asked.0 in
     let letter : 112 ≡ 99 = ap (λ t. slice_index t 0) same in absurd (omega (arith, letter))
@@ -322,7 +325,7 @@ check_asked (Some command) net order plan (Cpm network) e asked = absurd (asked.
 check_asked (Some command) net order plan (Plan files memory crew) e asked =
     let same : codes "check" ≡ codes "plan" = sym (ap (λ c. c.0) (same_Some _ _ e)) ∙ asked.0 in
     let letter : 99 ≡ 112 = ap (λ t. slice_index t 0) same in absurd (omega (arith, letter))
-check_asked (Some command) net order plan (Prove files facts) e asked =
+check_asked (Some command) net order plan (Prove files facts limit) e asked =
     let same : codes "check" ≡ codes "prove" = sym (ap (λ c. c.0) (same_Some _ _ e)) ∙ asked.0 in
     let letter : 99 ≡ 112 = ap (λ t. slice_index t 0) same in absurd (omega (arith, letter))
 check_asked (Some command) net order plan (Check files) e asked =
@@ -355,7 +358,7 @@ verify_asked (Some command) net order plan proof (Cpm network) e asked = absurd 
 verify_asked (Some command) net order plan proof (Plan files memory crew) e asked =
     let same : codes "verify" ≡ codes "plan" = sym (ap (λ c. c.0) (same_Some _ _ e)) ∙ asked.0 in
     let letter : 118 ≡ 112 = ap (λ t. slice_index t 0) same in absurd (omega (arith, letter))
-verify_asked (Some command) net order plan proof (Prove files facts) e asked =
+verify_asked (Some command) net order plan proof (Prove files facts limit) e asked =
     let same : codes "verify" ≡ codes "prove" = sym (ap (λ c. c.0) (same_Some _ _ e)) ∙ asked.0 in
     let letter : 118 ≡ 112 = ap (λ t. slice_index t 0) same in absurd (omega (arith, letter))
 verify_asked (Some command) net order plan proof (Check files) e asked =

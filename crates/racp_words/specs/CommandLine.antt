@@ -35,9 +35,10 @@ plan_timed = with_rule (with_rule plan_within (text_rule (codes "time-limit"))) 
 abbrev pub plan : App
 plan = answering (with_rule plan_timed (text_rule (codes "best")))
 
--- `prove NET ORDER [--facts] [--explain] [--quiet]`
+-- `prove NET ORDER [--facts] [--time-limit S] [--explain] [--quiet]`
 abbrev pub prove : App
-prove = telling (with_rule (of_order (codes "prove")) (flag_rule (codes "facts")))
+prove = telling (with_rule (with_rule (of_order (codes "prove")) (flag_rule (codes "facts")))
+    (text_rule (codes "time-limit")))
 
 -- `check NET ORDER PLAN [--json] [--explain] [--quiet]`
 abbrev pub check : App
@@ -79,7 +80,7 @@ IsSource word (File path) = (word ≡ Some path.now) × (path.now ≢ codes "-")
 abbrev pub IsRequested : Option (Text × List Row) → Request → Type 0
 IsRequested None (Cpm network) = IsSource None network
 IsRequested None (Plan files memory crew) = ⊥
-IsRequested None (Prove files facts) = ⊥
+IsRequested None (Prove files facts limit) = ⊥
 IsRequested None (Check files) = ⊥
 IsRequested None (Verify files limit) = ⊥
 IsRequested None (Tool tool) = ⊥
@@ -89,8 +90,9 @@ IsRequested (Some command) (Cpm network) =
 IsRequested (Some command) (Plan files memory crew) =
     (command.0 ≡ codes "plan") × AreOrderFiles command.1 files ×
     IsNumberOf 1048576 1024 (first_of (codes "memory") command.1) memory.mebibytes × IsCrew command.1 crew
-IsRequested (Some command) (Prove files facts) = (command.0 ≡ codes "prove") × AreOrderFiles command.1 files ×
-    (facts ≡ is_set (codes "facts") command.1)
+IsRequested (Some command) (Prove files facts limit) = (command.0 ≡ codes "prove") × AreOrderFiles command.1 files ×
+    (facts ≡ is_set (codes "facts") command.1) ×
+    (option_map (λ word. word.now) limit ≡ first_of (codes "time-limit") command.1)
 IsRequested (Some command) (Check files) = (command.0 ≡ codes "check") × ArePlanFiles command.1 files
 IsRequested (Some command) (Verify files limit) =
     (command.0 ≡ codes "verify") × AreProofFiles command.1 files ×
@@ -136,7 +138,7 @@ IsCpmLine words (Some word) = (name : Text) × IsPlain word × (words ≡ name �
 abbrev pub AsksForCpm : Option Text → Request → Type 0
 AsksForCpm word (Cpm network) = IsSource word network
 AsksForCpm word (Plan files memory crew) = ⊥
-AsksForCpm word (Prove files facts) = ⊥
+AsksForCpm word (Prove files facts limit) = ⊥
 AsksForCpm word (Check files) = ⊥
 AsksForCpm word (Verify files limit) = ⊥
 AsksForCpm word (Tool tool) = ⊥
@@ -156,7 +158,7 @@ abbrev pub AsksForPlan : Text → Text → Request → Type 0
 AsksForPlan net order (Cpm network) = ⊥
 AsksForPlan net order (Plan files memory crew) =
     (files.net.now ≡ net) × (files.order.now ≡ order) × (memory.mebibytes ≡ 1024) × (crew ≡ None)
-AsksForPlan net order (Prove files facts) = ⊥
+AsksForPlan net order (Prove files facts limit) = ⊥
 AsksForPlan net order (Check files) = ⊥
 AsksForPlan net order (Verify files limit) = ⊥
 AsksForPlan net order (Tool tool) = ⊥
@@ -178,7 +180,7 @@ abbrev pub AsksForWorkers : Text → Text → ℕ → Request → Type 0
 AsksForWorkers net order workers (Cpm network) = ⊥
 AsksForWorkers net order workers (Plan files memory crew) =
     (files.net.now ≡ net) × (files.order.now ≡ order) × (memory.mebibytes ≡ 1024) × IsOfWorkers workers crew
-AsksForWorkers net order workers (Prove files facts) = ⊥
+AsksForWorkers net order workers (Prove files facts limit) = ⊥
 AsksForWorkers net order workers (Check files) = ⊥
 AsksForWorkers net order workers (Verify files limit) = ⊥
 AsksForWorkers net order workers (Tool tool) = ⊥
@@ -188,11 +190,12 @@ abbrev pub IsProveLine : List Text → Text → Text → Type 0
 IsProveLine words net order = (name : Text) × IsPath net × IsPath order ×
     (words ≡ name ∷ codes "prove" ∷ net ∷ order ∷ [])
 
--- `prove` of the files with these paths, and not by clauses
+-- `prove` of the files with these paths, not by clauses, and without a limit of time
 abbrev pub AsksForProve : Text → Text → Request → Type 0
 AsksForProve net order (Cpm network) = ⊥
 AsksForProve net order (Plan files memory crew) = ⊥
-AsksForProve net order (Prove files facts) = (files.net.now ≡ net) × (files.order.now ≡ order) × (facts ≡ false)
+AsksForProve net order (Prove files facts limit) = (files.net.now ≡ net) × (files.order.now ≡ order) ×
+    (facts ≡ false) × (option_map (λ word. word.now) limit ≡ None)
 AsksForProve net order (Check files) = ⊥
 AsksForProve net order (Verify files limit) = ⊥
 AsksForProve net order (Tool tool) = ⊥
@@ -207,7 +210,7 @@ IsCheckLine words net order plan_path =
 abbrev pub AsksForCheck : Text → Text → Text → Request → Type 0
 AsksForCheck net order plan_path (Cpm network) = ⊥
 AsksForCheck net order plan_path (Plan files memory crew) = ⊥
-AsksForCheck net order plan_path (Prove files facts) = ⊥
+AsksForCheck net order plan_path (Prove files facts limit) = ⊥
 AsksForCheck net order plan_path (Check files) = (files.net.now ≡ net) × (files.order.now ≡ order) ×
     (files.plan.now ≡ plan_path)
 AsksForCheck net order plan_path (Verify files limit) = ⊥
@@ -223,7 +226,7 @@ IsVerifyLine words net order plan_path proof =
 abbrev pub AsksForVerify : Text → Text → Text → Text → Request → Type 0
 AsksForVerify net order plan_path proof (Cpm network) = ⊥
 AsksForVerify net order plan_path proof (Plan files memory crew) = ⊥
-AsksForVerify net order plan_path proof (Prove files facts) = ⊥
+AsksForVerify net order plan_path proof (Prove files facts limit) = ⊥
 AsksForVerify net order plan_path proof (Check files) = ⊥
 AsksForVerify net order plan_path proof (Verify files limit) = (files.net.now ≡ net) × (files.order.now ≡ order) ×
     (files.plan.now ≡ plan_path) × (files.proof.now ≡ proof) × (option_map (λ word. word.now) limit ≡ None)

@@ -5,6 +5,7 @@ use Rattle.clap.specs.Words.{App, IsUnsignedIn, Row, Text, first_of, new_app, ne
 use Rattle.racp_words.specs.Rules.{AreOrderFiles, ArePlanFiles, IsCrew, IsNumberOf, answering, file_rule, flag_rule, is_set, number_in, number_rule, of_plan, of_workers, path_at, telling, text_rule}
 use Rattle.racp_show.specs.declared.form.Form.{Form}
 use Rattle.racp_show.specs.declared.form.Form.TheVariants.{Text as Blocks, Ascii, Svg, Json, Csv}
+use Rattle.racp_words.specs.declared.request.Dates.{Dates}
 use Rattle.racp_words.specs.declared.request.Look.{Look}
 use Rattle.racp_words.specs.declared.request.TableWords.{TableWords}
 use Rattle.racp_words.specs.declared.request.Terms.{Terms}
@@ -19,24 +20,33 @@ show_named = with_rule (with_rule (of_plan (codes "show")) (text_rule (codes "na
 abbrev pub show_in_letters : App
 show_in_letters = with_rule (with_rule show_named (flag_rule (codes "ascii"))) (flag_rule (codes "svg"))
 
--- `show NET ORDER PLAN [--names FILE] [--width N] [--ascii] [--svg] [--links] [--json] [--csv] [--explain] [--quiet]`
+-- the options `[--start-date DATE] [--unit UNIT]` after others
+abbrev pub dated : App → App
+dated app = with_rule (with_rule app (text_rule (codes "start-date"))) (text_rule (codes "unit"))
+
+-- `show NET ORDER PLAN [--names FILE] [--width N] [--ascii] [--svg] [--links] [--start-date DATE] [--unit UNIT] [--json]
+-- [--csv] [--explain] [--quiet]`
 abbrev pub show : App
-show = telling (with_rule (with_rule (with_rule show_in_letters (flag_rule (codes "links"))) (flag_rule (codes "json")))
+show = telling (with_rule (with_rule (dated (with_rule show_in_letters (flag_rule (codes "links")))) (flag_rule (codes "json")))
     (flag_rule (codes "csv")))
 
--- `report NET ORDER PLAN [--names FILE] [--curve FILE] [--explain] [--quiet]`
+-- `report NET ORDER PLAN [--names FILE] [--curve FILE] [--start-date DATE] [--unit UNIT] [--explain] [--quiet]`
 abbrev pub report : App
-report = telling (with_rule (with_rule (of_plan (codes "report")) (text_rule (codes "names"))) (text_rule (codes "curve")))
+report = telling (dated (with_rule (with_rule (of_plan (codes "report")) (text_rule (codes "names"))) (text_rule (codes "curve"))))
 
 -- `curve NET ORDER [-j N | --workers N] [--turns N] [--memory MIB] [--time-limit S]`
 abbrev pub curve_timed : App
 curve_timed = with_rule (with_rule (of_workers (codes "curve")) (number_rule (codes "memory") 1048576))
     (text_rule (codes "time-limit"))
 
--- `curve NET ORDER [-j N | --workers N] [--turns N] [--memory MIB] [--time-limit S] [--progress] [--svg] [--json] [--explain]
--- [--quiet]`
+-- `curve NET ORDER [-j N | --workers N] [--turns N] [--memory MIB] [--time-limit S] [--progress] [--best FILE]`
+abbrev pub curve_kept : App
+curve_kept = with_rule (with_rule curve_timed (flag_rule (codes "progress"))) (text_rule (codes "best"))
+
+-- `curve NET ORDER [-j N | --workers N] [--turns N] [--memory MIB] [--time-limit S] [--progress] [--best FILE] [--svg] [--json]
+-- [--explain] [--quiet]`
 abbrev pub curve : App
-curve = answering (with_rule (with_rule curve_timed (flag_rule (codes "progress"))) (flag_rule (codes "svg")))
+curve = answering (with_rule curve_kept (flag_rule (codes "svg")))
 
 -- `order NET [--factor F]`
 abbrev pub order_scaled : App
@@ -90,12 +100,18 @@ abbrev pub IsWidth : Option Text → Option ℕ → Type 0
 IsWidth None width = width ≡ None
 IsWidth (Some word) width = IsUnsignedIn 1 1000 word → width ≡ Some (number_in word)
 
+-- the words say that times are told in this way
+pub record AreDates (words : List Row) (dates : Dates) : Type 0 where
+  pub start : option_map (λ word. word.now) dates.start ≡ first_of (codes "start-date") words
+  pub unit : option_map (λ word. word.now) dates.unit ≡ first_of (codes "unit") words
+
 -- the words say that a plan is shown in this way
 pub record IsLook (words : List Row) (look : Look) : Type 0 where
   pub names : option_map (λ word. word.now) look.names ≡ first_of (codes "names") words
   pub width : IsWidth (first_of (codes "width") words) look.width
   pub form : IsForm words look.form
   pub links : look.has_links ≡ is_set (codes "links") words
+  pub dates : AreDates words look.dates
 
 -- the words for the terms of an order
 pub record AreTerms (words : List Row) (terms : Terms) : Type 0 where
@@ -123,7 +139,8 @@ IsToolOf command (Show files look) =
 IsToolOf command (Report files options) =
     (command.0 ≡ codes "report") × ArePlanFiles command.1 files ×
     (option_map (λ word. word.now) options.names ≡ first_of (codes "names") command.1) ×
-    (option_map (λ word. word.now) options.curve ≡ first_of (codes "curve") command.1)
+    (option_map (λ word. word.now) options.curve ≡ first_of (codes "curve") command.1) ×
+    AreDates command.1 options.dates
 IsToolOf command (Curve files memory crew is_drawn) =
     (command.0 ≡ codes "curve") × AreOrderFiles command.1 files ×
     IsNumberOf 1048576 1024 (first_of (codes "memory") command.1) memory.mebibytes ×

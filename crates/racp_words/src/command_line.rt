@@ -9,7 +9,7 @@ ghost use Rattle.racp_words.specs.Tools.{AreTableWords, AreTerms, IsForm, IsLook
 
 use crate::commands::command;
 use crate::most::MOST_WIDTH;
-use crate::options::{crew_of, is_set, memory_of, number_of, path_of, text_of};
+use crate::options::{crew_of, dates_of, is_set, memory_of, number_of, path_of, text_of};
 use crate::request::{
     Look, OrderFiles, PlanFiles, ProofFiles, ReportWords, Request, Source, TableWords, Task,
     Telling, Terms, Tool,
@@ -111,7 +111,8 @@ fn request_named<'a>(name: &str, words: &ArgMatches<'a>) -> Request<'a>
     if name == "plan" {
         Request::Plan(order_files(words), memory_of(words), crew_of(words))
     } else if name == "prove" {
-        Request::Prove(order_files(words), is_set(words, "facts"))
+        let limit = text_of(words, "time-limit");
+        Request::Prove(order_files(words), is_set(words, "facts"), limit)
     } else if name == "check" {
         Request::Check(plan_files(words))
     } else if name == "verify" {
@@ -135,6 +136,7 @@ fn tool_named<'a>(name: &str, words: &ArgMatches<'a>) -> Option<Tool<'a>>
         let options = ReportWords {
             names: text_of(words, "names"),
             curve: text_of(words, "curve"),
+            dates: dates_of(words),
         };
         Some(Tool::Report(plan_files(words), options))
     } else if name == "curve" {
@@ -195,6 +197,7 @@ fn look_of<'a>(words: &ArgMatches<'a>) -> Look<'a>
         width,
         form: form_of(words),
         has_links: is_set(words, "links"),
+        dates: dates_of(words),
     }
 }
 

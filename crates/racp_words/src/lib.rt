@@ -66,6 +66,6 @@ mod table_words;
 
 pub use command_line::asked;
 pub use request::{
-    CrewOptions, Look, Memory, OrderFiles, PlanFiles, ProofFiles, ReportWords, Request, Source,
-    TableWords, Task, Telling, Terms, Tool,
+    CrewOptions, Dates, Look, Memory, OrderFiles, PlanFiles, ProofFiles, ReportWords, Request,
+    Source, TableWords, Task, Telling, Terms, Tool,
 };

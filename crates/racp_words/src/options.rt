@@ -2,10 +2,11 @@
 
 ghost use Rattle.std.specs.Prelude.{◌≡◌, ◌≤◌, option_map, codes};
 ghost use Rattle.clap.specs.Words.{first_of, found_of, rows_of};
+ghost use Rattle.racp_words.specs.Tools.{AreDates};
 ghost use Rattle.racp_words.specs.Rules.{IsCrew, IsNumberOf, IsWorkerCount, is_set, path_at};
 
 use crate::most::{MOST_MEBIBYTES, MOST_TURNS, MOST_WORKERS};
-use crate::request::{CrewOptions, Memory};
+use crate::request::{CrewOptions, Dates, Memory};
 use clap::ArgMatches;
 
 /// How many mebibytes records are given if no option says so.
@@ -96,5 +97,15 @@ pub(crate) fn number_of(word: Option<&str>, most: u64, otherwise: u64) -> u64
     match word {
         Some(word) => word.parse().unwrap_or(otherwise).clamp(1, most),
         None => otherwise,
+    }
+}
+
+/// How times are to be told.
+pub(crate) fn dates_of<'a>(words: &ArgMatches<'a>) -> Dates<'a>
+    ensures { AreDates (rows_of (found_of words.now)) result }
+{
+    Dates {
+        start: text_of(words, "start-date"),
+        unit: text_of(words, "unit"),
     }
 }

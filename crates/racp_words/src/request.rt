@@ -33,8 +33,9 @@ pub enum Request<'a> {
     /// The plan of a network on the terms of an order, with so much memory for records: made on one thread, or by
     /// workers if an option is given.
     Plan(OrderFiles<'a>, Memory, Option<CrewOptions<'a>>),
-    /// A certificate for the plan of a network on the terms of an order; by clauses if that is said.
-    Prove(OrderFiles<'a>, bool),
+    /// A certificate for the plan of a network on the terms of an order; by clauses if that is said. It stops after the
+    /// time of this word, if an option says so.
+    Prove(OrderFiles<'a>, bool, Option<&'a str>),
     /// Whether a plan is one of a network on the terms of an order.
     Check(PlanFiles<'a>),
     /// Whether a certificate shows that no capacities before a plan's are enough; it stops after the time of this
@@ -72,6 +73,8 @@ pub struct Look<'a> {
     pub form: Form,
     /// Whether a picture has an arrow from each job to each that waits for it.
     pub has_links: bool,
+    /// How times are told.
+    pub dates: Dates<'a>,
     pub ghost width_few: { IfSome width (λ width. width ≤ 1000) } by { Prim.hlevel props },
 }
 
@@ -82,6 +85,17 @@ pub struct ReportWords<'a> {
     pub names: Option<&'a str>,
     /// The path of what each deadline costs, if there is one.
     pub curve: Option<&'a str>,
+    /// How times are told.
+    pub dates: Dates<'a>,
+}
+
+/// The words for times that are told by dates.
+#[derive(Clone, Copy)]
+pub struct Dates<'a> {
+    /// The date of the time 0, if times are told by dates.
+    pub start: Option<&'a str>,
+    /// How long a time unit is: `day` or `week`; a day if no option says so.
+    pub unit: Option<&'a str>,
 }
 
 /// The words for the terms of an order.

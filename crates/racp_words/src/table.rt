@@ -1,7 +1,7 @@
 //! The commands of the program and their words, in a table.
 
 use crate::most::{MOST_MEBIBYTES, MOST_TURNS, MOST_WIDTH, MOST_WORKERS};
-use crate::table_words::IMPORT;
+use crate::table_words::{IMPORT, START_DATE, UNIT};
 
 /// A word of a command: its name first, and what help says of it last.
 #[derive(Clone, Copy)]
@@ -143,7 +143,18 @@ pub(crate) const COMMANDS: &[Line] = &[
     Line {
         name: "prove",
         about: "Prints a certificate that no capacities before those of the plan are enough",
-        words: &[NET, ORDER, FACTS, EXPLAIN, QUIET],
+        words: &[
+            NET,
+            ORDER,
+            FACTS,
+            Word::Text(
+                "time-limit",
+                "S",
+                "With --facts, after how many seconds it stops, up to 1,000,000,000: 60 or 0.5",
+            ),
+            EXPLAIN,
+            QUIET,
+        ],
     },
     Line {
         name: "check",
@@ -188,6 +199,8 @@ pub(crate) const COMMANDS: &[Line] = &[
                 "links",
                 "With --svg, draws an arrow from each job to each that waits for it",
             ),
+            START_DATE,
+            UNIT,
             Word::Flag("json", "Writes the plan as JSON"),
             Word::Flag("csv", "Writes a row for each job as CSV"),
             EXPLAIN,
@@ -211,6 +224,8 @@ pub(crate) const COMMANDS: &[Line] = &[
                 "FILE",
                 "What each deadline costs, as curve prints it",
             ),
+            START_DATE,
+            UNIT,
             EXPLAIN,
             QUIET,
         ],
@@ -232,6 +247,11 @@ pub(crate) const COMMANDS: &[Line] = &[
             MEMORY,
             TIME_LIMIT,
             PROGRESS,
+            Word::Text(
+                "best",
+                "FILE",
+                "Keeps in FILE the cheapest plan that is known for the deadline of the order",
+            ),
             SVG,
             JSON,
             EXPLAIN,

@@ -2,6 +2,20 @@
 
 use crate::table::{QUIET, Word};
 
+/// The option for the date of the time 0.
+pub(crate) const START_DATE: Word<'static> = Word::Text(
+    "start-date",
+    "DATE",
+    "Tells times by dates; the time 0 is the beginning of this day: 2026-01-05",
+);
+
+/// The option for how long a time unit is.
+pub(crate) const UNIT: Word<'static> = Word::Text(
+    "unit",
+    "UNIT",
+    "With --start-date, how long a time unit is: day or week; a day if not said",
+);
+
 /// The words of `import`.
 pub(crate) const IMPORT: &[Word] = &[
     Word::File(

@@ -6,4 +6,4 @@ use Rattle.racp_charts.proofs.heading.push_title.Goals as goal
 pub returns : goal.returns
 unfolding title_element
 returns c =
-    in_three (string_bytes c.args.text.now) (codes "<title>") (plan_title c.args.cost c.args.deadline) (codes "</title>\n") c.in_ok-push_str.ensures.bytes c.in_ok-push_plan.ensures c.in_ok-push_str-2.ensures.bytes
+    in_three (string_bytes c.args.text.now) (codes "<title>") (plan_title c.args.calendar c.args.cost c.args.deadline) (codes "</title>\n") c.in_ok-push_str.ensures.bytes c.in_ok-push_plan.ensures c.in_ok-push_str-2.ensures.bytes

@@ -7,4 +7,4 @@ use Rattle.racp_charts.proofs.plan_picture.push_opening.Goals as goal
 pub returns : goal.returns
 unfolding plan_begin
 returns c =
-    in_two (string_bytes c.args.text.now) (picture_begin 0 1000 (picture_height c.args.drawing.now)) (title_element c.args.drawing.now.cost c.args.drawing.now.deadline) (c.in_ok-push_begin.ensures ∙ ap (λ (h : ℕ). string_bytes c.args.text.now ++ picture_begin 0 1000 h) c.height.ensures) c.in_ok-push_title.ensures
+    in_two (string_bytes c.args.text.now) (picture_begin 0 1000 (picture_height c.args.drawing.now)) (title_element c.args.drawing.now.calendar c.args.drawing.now.cost c.args.drawing.now.deadline) (c.in_ok-push_begin.ensures ∙ ap (λ (h : ℕ). string_bytes c.args.text.now ++ picture_begin 0 1000 h) c.height.ensures) c.in_ok-push_title.ensures

@@ -5,12 +5,12 @@ use Rattle.racp_lexfix.proofs.Staging.{over}
 use Rattle.racp_lexfix.proofs.by_clauses.show_within.Goals as goal
 
 pub plan_of-plan-requires-clause-plan : goal.plan_of-plan-requires-clause-plan
-plan_of-plan-requires-clause-plan c = subst (IsOptimum c.args.task.now.net.now c.args.task.now.order.now) c.in-Plan.is c.in_ok-optimum.ensures
+plan_of-plan-requires-clause-plan g c = subst (IsOptimum c.args.task.now.net.now c.args.task.now.order.now) c.in-Plan.is c.in_ok-optimum.ensures
 
 pub answer_none-requires-clause-answer : goal.answer_none-requires-clause-answer
-answer_none-requires-clause-answer c =
+answer_none-requires-clause-answer g c =
     let none : NoneIsEnough c.args.task.now.net.now c.args.task.now.order.now = subst (IsOptimum c.args.task.now.net.now c.args.task.now.order.now) c.in-NoneEnough.is c.in_ok-optimum.ensures in
     over c.args.task.now.net.now c.args.task.now.order.now c.args.window.now c.requires.terms c.requires.window none
 
 pub answer_none-requires-clause-none : goal.answer_none-requires-clause-none
-answer_none-requires-clause-none c = λ plan is. absurd (cc is)
+answer_none-requires-clause-none g c = λ plan is. absurd (cc is)

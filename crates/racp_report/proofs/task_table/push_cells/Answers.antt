@@ -6,4 +6,4 @@ use Rattle.racp_report.proofs.task_table.push_cells.Goals as goal
 pub returns : goal.returns
 unfolding task_cells
 returns c =
-    in_three (string_bytes c.args.text.now) (task_times c.args.task.now) (yes_text c.args.task.now.is_critical) (codes "</td><td class=\"left\">") c.in_ok-push_times.ensures (c.in_ok-push_str.ensures.bytes ∙ ap (λ (t : List ℕ). string_bytes c.push_times.new.text ++ t) c.yes_of.ensures) c.in_ok-push_str-2.ensures.bytes
+    in_three (string_bytes c.args.text.now) (task_times c.args.calendar c.args.task.now) (yes_text c.args.task.now.is_critical) (codes "</td><td class=\"left\">") c.in_ok-push_times.ensures (c.in_ok-push_str.ensures.bytes ∙ ap (λ (t : List ℕ). string_bytes c.push_times.new.text ++ t) c.yes_of.ensures) c.in_ok-push_str-2.ensures.bytes

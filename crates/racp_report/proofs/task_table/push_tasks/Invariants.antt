@@ -3,4 +3,4 @@ use Rattle.racp_report.specs.Pages.{task_row}
 use Rattle.racp_report.proofs.task_table.push_tasks.Given as goal
 
 abbrev pub invariant-loop-task : goal.invariant-loop-task
-invariant-loop-task l = string_bytes l.text ++ flat_map task_row (drop l.task-index l.tasks) ≡ string_bytes l.initial.text ++ flat_map task_row l.tasks
+invariant-loop-task l = string_bytes l.text ++ flat_map (task_row l.calendar) (drop l.task-index l.tasks) ≡ string_bytes l.initial.text ++ flat_map (task_row l.calendar) l.tasks

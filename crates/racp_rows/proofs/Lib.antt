@@ -1,0 +1,3 @@
+mod Fields
+mod Told
+pub mod Terms

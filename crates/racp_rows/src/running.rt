@@ -1,0 +1,187 @@
+//! A table is made.
+
+ghost use Rattle.std.specs.Prelude.{◌≡◌, ℕ, List, Option, IfOk, Ok, length, true};
+ghost use Rattle.std.specs.Io.KnownBytes.{Appends};
+ghost use Rattle.racp_rows.specs.Lines.{head_line};
+ghost use Rattle.racp_rows.specs.Tables.{IsTableRun, IsTold};
+
+use crate::batch::{Batch, BatchFault, Ending};
+use crate::board::Shared;
+use crate::host::Host;
+use crate::named::OfCases;
+use crate::planner::Planner;
+use crate::telling::{write_head, write_rows};
+use std::io::Write;
+use std::marker::Brand;
+use std::sync::Wait;
+use std::thread;
+use std::thread::{JoinHandle, Scope, Threads};
+use std::time::Clock;
+
+/// Has the cases of a batch planned, and writes a first row with titles and a row for each case, in their order: each as soon as
+/// all before it are written. The writer comes back.
+///
+/// # Errors
+///
+/// A write failed, or memory was refused.
+pub fn table_over<P: Planner + Sync, H: Host, W: Write + Drop, R: Clock + Threads + Wait + Sync>(
+    rt: &R,
+    batch: &Batch<'_>,
+    planner: &P,
+    host: &H,
+    out: W,
+) -> (W, Result<Ending, BatchFault>)
+    ensures { IsTableRun batch.now.cases.now (W.contents out) (W.contents result.0) result.1 }
+{
+    table_of::<Brand, P, H, W, R>(rt, batch, planner, host, out)
+}
+
+/// The same, for the cases that `T` names.
+fn table_of<
+    T: OfCases + Send + Sync,
+    P: Planner + Sync,
+    H: Host,
+    W: Write + Drop,
+    R: Clock + Threads + Wait + Sync,
+>(rt: &R, batch: &Batch<'_>, planner: &P, host: &H, out: W) -> (W, Result<Ending, BatchFault>)
+    requires { batch.now.cases.now ≡ T.cases }
+    ensures { IsTableRun T.cases (W.contents out) (W.contents result.0) result.1 }
+{
+    let mut out = out;
+    match write_head(batch.alloc, &mut out) {
+        Ok(()) => with_rows::<T, P, H, W, R>(rt, batch, planner, host, out),
+        Err(fault) => (out, Err(fault)),
+    }
+}
+
+/// The same, where the first row is written.
+fn with_rows<
+    T: OfCases + Send + Sync,
+    P: Planner + Sync,
+    H: Host,
+    W: Write + Drop,
+    R: Clock + Threads + Wait + Sync,
+>(rt: &R, batch: &Batch<'_>, planner: &P, host: &H, out: W) -> (W, Result<Ending, BatchFault>)
+    requires { batch.now.cases.now ≡ T.cases }
+    ensures { (old : Option (List ℕ)) → Appends old (W.contents out) head_line →
+        IsTableRun T.cases old (W.contents result.0) result.1 }
+{
+    match Shared::<T>::new(batch) {
+        Ok(shared) => {
+            let (out, told) = in_scope(rt, &shared, planner, host, out);
+            let ending = ending_of(&shared, told);
+            // Dropped here once, not at each way out.
+            drop(shared);
+            (out, ending)
+        }
+        Err(_) => (out, Err(BatchFault::Memory)),
+    }
+}
+
+/// How a table ends that has so many rows.
+fn ending_of<T: OfCases>(
+    shared: &Shared<'_, T>,
+    told: Result<usize, BatchFault>,
+) -> Result<Ending, BatchFault>
+    requires { shared.now.batch.now.cases.now ≡ T.cases }
+    ensures rows { IfOk result (λ ending. told ≡ Ok ending.rows) }
+    ensures whole { IfOk result (λ ending. ending.is_whole ≡ true → ending.rows ≡ length T.cases) }
+{
+    let rows = told?;
+    let is_whole = rows == shared.batch.cases.len();
+    if !is_whole && shared.is_lost() {
+        return Err(BatchFault::Memory);
+    }
+    Ok(Ending { rows, is_whole })
+}
+
+/// Starts workers in a scope, writes the rows meanwhile, and joins them.
+fn in_scope<
+    'a,
+    T: OfCases + Send + Sync,
+    P: Planner + Sync,
+    H: Host,
+    W: Write + Drop,
+    R: Clock + Threads + Wait + Sync,
+>(
+    rt: &'a R,
+    shared: &'a Shared<'a, T>,
+    planner: &'a P,
+    host: &'a H,
+    out: W,
+) -> (W, Result<usize, BatchFault>)
+    requires { shared.now.batch.now.cases.now ≡ T.cases }
+    ensures { IfOk result.1 (IsTold T.cases (W.contents out) (W.contents result.0)) }
+{
+    thread::scope(
+        thread::scope_env(),
+        rt,
+        move |scope| -> (W, Result<usize, BatchFault>)
+            requires { shared.now.batch.now.cases.now ≡ T.cases }
+            ensures { IfOk result.1 (IsTold T.cases (W.contents out) (W.contents result.0)) }
+        {
+            let handles = start(scope, rt, shared, planner);
+            beside(rt, shared, planner, host, handles, out)
+        },
+    )
+}
+
+/// Starts the workers, each on a thread of its own. Where one cannot be started, there are fewer.
+fn start<
+    's,
+    E,
+    T: OfCases + Send + Sync + 's,
+    P: Planner + Sync + 's,
+    R: Clock + Threads + Wait + Sync + 's,
+>(
+    scope: &'s Scope<'s, E>,
+    rt: &'s R,
+    shared: &'s Shared<'s, T>,
+    planner: &'s P,
+) -> Vec<JoinHandle<()>>
+    requires { shared.now.batch.now.cases.now ≡ T.cases }
+{
+    let mut handles = Vec::new(shared.batch.alloc);
+    for _ in 0..shared.batch.jobs.min(shared.batch.cases.len()) {
+        let job = move || -> ()
+            requires { shared.now.batch.now.cases.now ≡ T.cases }
+        { shared.work(rt, planner) };
+        let Ok(handle) = scope.spawn(job) else {
+            return handles;
+        };
+        if handles.push(handle).is_err() {
+            shared.lose();
+            return handles;
+        }
+    }
+    handles
+}
+
+/// Writes the rows while these workers plan, or plans first if there are none; and joins them.
+fn beside<T: OfCases, P: Planner, H: Host, W: Write, R: Clock + Threads + Wait + Sync>(
+    rt: &R,
+    shared: &Shared<'_, T>,
+    planner: &P,
+    host: &H,
+    handles: Vec<JoinHandle<()>>,
+    out: W,
+) -> (W, Result<usize, BatchFault>)
+    requires { shared.now.batch.now.cases.now ≡ T.cases }
+    ensures { IfOk result.1 (IsTold T.cases (W.contents out) (W.contents result.0)) }
+{
+    let mut out = out;
+    if handles.is_empty() {
+        shared.work(rt, planner);
+    }
+    let told = write_rows(rt, shared, host, handles.len(), &mut out);
+    shared.halt();
+    join_all(rt, handles);
+    (out, told)
+}
+
+/// Joins workers.
+fn join_all<R: Threads + Wait>(rt: &R, handles: Vec<JoinHandle<()>>) {
+    for handle in handles {
+        handle.join(rt);
+    }
+}
