@@ -4,7 +4,7 @@ use Rattle.std.specs.Prelude.{if◌then◌else◌, option_map}
 use Rattle.clap.specs.Words.{App, IsUnsignedIn, Row, Text, first_of, new_app, new_rule, subcommand_of, with_rule}
 use Rattle.clap.specs.Words.{with_subcommand}
 use Rattle.racp_words.specs.Rules.{AreOrderFiles, ArePlanFiles, AreProofFiles, IsCrew, IsNumberOf, answering, file_rule, flag_rule, is_set, number_rule, of_order, of_plan, of_workers, telling, text_rule}
-use Rattle.racp_words.specs.Tools.{IsNoTool, IsToolOf, curve, explain, import_table, report, show, order as order_app}
+use Rattle.racp_words.specs.Tools.{IsNoTool, IsToolOf, curve, explain, import_table, report, show, order as order_app, whatif}
 use Rattle.racp_words.specs.declared.request.CrewOptions.{CrewOptions}
 use Rattle.racp_words.specs.declared.request.Request.{Request}
 use Rattle.racp_words.specs.declared.request.Request.TheVariants.{Cpm, Plan, Prove, Check, Verify, Tool}
@@ -61,15 +61,17 @@ racp_planning = with_subcommand (with_subcommand (with_version (new_app (codes "
 abbrev pub racp_checking : App
 racp_checking = with_subcommand (with_subcommand (with_subcommand racp_planning prove.top) check.top) verify.top
 
--- `racp [.. | show NET ORDER PLAN [OPTIONS] | report NET ORDER PLAN [OPTIONS] | curve NET ORDER [OPTIONS]
--- | order NET OPTIONS]`
+-- `racp [.. | show NET ORDER PLAN [OPTIONS] | report NET ORDER PLAN [OPTIONS] | curve NET ORDER [OPTIONS]]`
 abbrev pub racp_charting : App
-racp_charting = with_subcommand (with_subcommand (with_subcommand (with_subcommand racp_checking show.top) report.top)
-    curve.top) order_app.top
+racp_charting = with_subcommand (with_subcommand (with_subcommand racp_checking show.top) report.top) curve.top
+
+-- `racp [.. | whatif NET ORDER [PLAN] [OPTIONS] | order NET OPTIONS]`
+abbrev pub racp_asking : App
+racp_asking = with_subcommand (with_subcommand racp_charting whatif.top) order_app.top
 
 -- `racp [.. | import FILE OPTIONS | explain [FORMAT] [FAULT]]`
 unfoldable pub racp : App
-racp = with_subcommand (with_subcommand racp_charting import_table.top) explain.top
+racp = with_subcommand (with_subcommand racp_asking import_table.top) explain.top
 
 -- standard input if no word names a file, or `-` does; else the file of this path
 abbrev pub IsSource : Option Text → Source → Type 0

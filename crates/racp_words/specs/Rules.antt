@@ -40,10 +40,14 @@ text_rule id = record (new_rule id) { long = Some id; value_names = 1 }
 abbrev pub of_order : Text → App
 of_order name = with_rule (with_rule (new_app name) (file_rule (codes "NET"))) (file_rule (codes "ORDER"))
 
+-- a command whose plans workers make, `.. [-j N | --workers N] [--turns N]`
+abbrev pub by_workers : App → App
+by_workers app = with_rule (with_rule app (lettered 106 (ranged_rule (codes "workers") 0 64)))
+    (number_rule (codes "turns") 1000000000000)
+
 -- a command with this name, `NET ORDER [-j N | --workers N] [--turns N]`
 abbrev pub of_workers : Text → App
-of_workers name = with_rule (with_rule (of_order name) (lettered 106 (ranged_rule (codes "workers") 0 64)))
-    (number_rule (codes "turns") 1000000000000)
+of_workers name = by_workers (of_order name)
 
 -- a command that reads files, `.. [--explain] [--quiet]`
 abbrev pub telling : App → App

@@ -1,8 +1,8 @@
--- What the commands `show`, `report`, `curve`, `order`, `import` and `explain` ask for.
+-- What the commands `show`, `report`, `curve`, `whatif`, `order`, `import` and `explain` ask for.
 use Rattle.std.specs.Prelude.{◌≡◌, ◌≢◌, ℕ, List, Option, None, codes, false, true, Some}
 use Rattle.std.specs.Prelude.{option_map}
 use Rattle.clap.specs.Words.{App, IsUnsignedIn, Row, Text, first_of, new_app, new_rule, with_rule}
-use Rattle.racp_words.specs.Rules.{AreOrderFiles, ArePlanFiles, IsCrew, IsNumberOf, answering, file_rule, flag_rule, is_set, number_in, number_rule, of_plan, of_workers, path_at, telling, text_rule}
+use Rattle.racp_words.specs.Rules.{AreOrderFiles, ArePlanFiles, IsCrew, IsNumberOf, answering, by_workers, file_rule, flag_rule, is_set, number_in, number_rule, of_order, of_plan, of_workers, path_at, telling, text_rule}
 use Rattle.racp_show.specs.declared.form.Form.{Form}
 use Rattle.racp_show.specs.declared.form.Form.TheVariants.{Text as Blocks, Ascii, Svg, Json, Csv}
 use Rattle.racp_words.specs.declared.request.Dates.{Dates}
@@ -10,7 +10,7 @@ use Rattle.racp_words.specs.declared.request.Look.{Look}
 use Rattle.racp_words.specs.declared.request.TableWords.{TableWords}
 use Rattle.racp_words.specs.declared.request.Terms.{Terms}
 use Rattle.racp_words.specs.declared.request.Tool.{Tool}
-use Rattle.racp_words.specs.declared.request.Tool.TheVariants.{Show, Report, Curve, Order, Import, Explain}
+use Rattle.racp_words.specs.declared.request.Tool.TheVariants.{Show, Report, Curve, WhatIf, Order, Import, Explain}
 
 -- `show NET ORDER PLAN [--names FILE] [--width N]`
 abbrev pub show_named : App
@@ -47,6 +47,20 @@ curve_kept = with_rule (with_rule curve_timed (flag_rule (codes "progress"))) (t
 -- [--explain] [--quiet]`
 abbrev pub curve : App
 curve = answering (with_rule curve_kept (flag_rule (codes "svg")))
+
+-- `whatif NET ORDER [PLAN] [--names FILE]`
+abbrev pub whatif_named : App
+whatif_named = with_rule (with_rule (of_order (codes "whatif")) (new_rule (codes "PLAN"))) (text_rule (codes "names"))
+
+-- `whatif NET ORDER [PLAN] [--names FILE] [-j N | --workers N] [--turns N]`
+abbrev pub whatif_of_workers : App
+whatif_of_workers = by_workers whatif_named
+
+-- `whatif NET ORDER [PLAN] [--names FILE] [-j N | --workers N] [--turns N] [--memory MIB] [--time-limit S] [--json]
+-- [--explain] [--quiet]`
+abbrev pub whatif : App
+whatif = answering (with_rule (with_rule whatif_of_workers (number_rule (codes "memory") 1048576))
+    (text_rule (codes "time-limit")))
 
 -- `order NET [--factor F]`
 abbrev pub order_scaled : App
@@ -145,6 +159,12 @@ IsToolOf command (Curve files memory crew is_drawn) =
     (command.0 ≡ codes "curve") × AreOrderFiles command.1 files ×
     IsNumberOf 1048576 1024 (first_of (codes "memory") command.1) memory.mebibytes ×
     IsCrew command.1 crew × (is_drawn ≡ is_set (codes "svg") command.1)
+IsToolOf command (WhatIf files options memory crew) =
+    (command.0 ≡ codes "whatif") × AreOrderFiles command.1 files ×
+    (option_map (λ word. word.now) options.plan ≡ first_of (codes "PLAN") command.1) ×
+    (option_map (λ word. word.now) options.names ≡ first_of (codes "names") command.1) ×
+    IsNumberOf 1048576 1024 (first_of (codes "memory") command.1) memory.mebibytes ×
+    IsCrew command.1 crew
 IsToolOf command (Order net terms) =
     (command.0 ≡ codes "order") × (net.now ≡ path_at (codes "NET") command.1) × AreTerms command.1 terms
 IsToolOf command (Import table) = (command.0 ≡ codes "import") × AreTableWords command.1 table
@@ -157,6 +177,7 @@ pub record IsNoTool (name : Text) : Type 0 where
   pub no_show : name ≢ codes "show"
   pub no_report : name ≢ codes "report"
   pub no_curve : name ≢ codes "curve"
+  pub no_whatif : name ≢ codes "whatif"
   pub no_order : name ≢ codes "order"
   pub no_import : name ≢ codes "import"
   pub no_explain : name ≢ codes "explain"

@@ -12,7 +12,7 @@ use crate::most::MOST_WIDTH;
 use crate::options::{crew_of, dates_of, is_set, memory_of, number_of, path_of, text_of};
 use crate::request::{
     Look, OrderFiles, PlanFiles, ProofFiles, ReportWords, Request, Source, TableWords, Task,
-    Telling, Terms, Tool,
+    Telling, Terms, Tool, WhatIfWords,
 };
 use clap::{ArgMatches, Error};
 use racp_show::Form;
@@ -143,6 +143,13 @@ fn tool_named<'a>(name: &str, words: &ArgMatches<'a>) -> Option<Tool<'a>>
         let files = order_files(words);
         let crew = crew_of(words);
         Some(Tool::Curve(files, memory_of(words), crew, is_set(words, "svg")))
+    } else if name == "whatif" {
+        let options = WhatIfWords {
+            plan: text_of(words, "PLAN"),
+            names: text_of(words, "names"),
+        };
+        let crew = crew_of(words);
+        Some(Tool::WhatIf(order_files(words), options, memory_of(words), crew))
     } else if name == "order" {
         Some(Tool::Order(path_of(words, "NET"), terms_of(words)))
     } else if name == "import" {

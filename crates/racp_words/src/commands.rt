@@ -28,6 +28,7 @@ Examples:
   racp show net.sm order.toml net.plan     a chart of the plan
   racp report net.sm order.toml net.plan > plan.html
   racp curve net.sm order.toml             what each deadline costs
+  racp whatif net.sm order.toml            what one unit fewer or more changes
   racp check net.sm order.toml net.plan    whether a plan is right
   racp prove net.sm order.toml > net.proof
   racp verify net.sm order.toml net.plan net.proof

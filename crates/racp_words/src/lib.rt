@@ -20,6 +20,7 @@
 //! racp report a.sm a4.toml p --names n     Tool, Report with these paths, the names n and no curve
 //! racp curve b.sm b3.toml                  Tool, Curve with these paths, 1,024 MiB, one thread, and no picture
 //! racp curve b.sm b3.toml --workers 4      the same, and a CrewOptions of 4 workers
+//! racp whatif a.sm a4.toml p               Tool, WhatIf with these paths, 1,024 MiB, one thread, and no names
 //! racp order a.sm --factor 1.2 --prices 3  Tool, Order with the path a.sm, the factor 1.2 and the prices 3, as words
 //! racp import t.csv --out t                Tool, Import with the path t.csv and the word t for the files
 //! racp explain sm 12                       Tool, Explain with the words sm and 12
@@ -32,14 +33,14 @@
 //! asks for a crew: 1 worker, 1,000,000,000,000 turns, no limit of time, nothing told and no file of the best plan, unless
 //! the others say otherwise. With `--workers 0` there are to be as many workers as there are processors, which the
 //! program counts. `--memory MIB` says how much memory the records of a search take at most, with or without a crew.
-//! `curve` takes all of these but `--stats` and `--best`, `verify` takes `--time-limit`. A limit of time is a word here;
+//! `curve` takes all of these but `--stats`, `whatif` none of `--stats`, `--progress` and `--best`, `verify` takes `--time-limit`. A limit of time is a word here;
 //! the program reads it.
 //!
 //! What is asked for is a `Task`: a request; how much is told of what is wrong, which the flags `--quiet` and `--explain`
 //! of each command that reads a file say; and whether the answer is written as JSON, which the flag `--json` says.
 //!
 //! The commands stand in `specs/` a second time, as values of the library's definitions: `racp`, `cpm`, `plan`,
-//! `of_order`, `of_plan`, `check`, `verify`, `show`, `report`, `curve`, `order`, `import_table` and `explain`. What `clap` is proved to do with
+//! `of_order`, `of_plan`, `check`, `verify`, `show`, `report`, `curve`, `whatif`, `order`, `import_table` and `explain`. What `clap` is proved to do with
 //! them says what any words ask for.
 //!
 //! Proved: without words, with `cpm`, and with `cpm` and a word that does not begin with a hyphen or is a hyphen alone,
@@ -49,7 +50,7 @@
 //! cases only memory can fail. A path here is a word that is not empty and does not begin with a hyphen. For any other
 //! words `asked` answers what `clap` is proved to find, or refuses with the kind of error that it is proved to give:
 //! `plan` asks for a crew exactly if `clap` finds one of the six options, and a number that it finds and that is in
-//! range is that of the crew or of the memory; `show`, `report`, `curve`, `order`, `import` and `explain` ask for what their
+//! range is that of the crew or of the memory; `show`, `report`, `curve`, `whatif`, `order`, `import` and `explain` ask for what their
 //! words and flags say (`IsToolOf`); nothing is told of faults exactly if it finds `--quiet`, and else all exactly if it
 //! finds `--explain`; JSON is asked for exactly if it finds `--json`. No crew has more than 64
 //! workers or 1,000,000,000,000 turns, and no more than 1,048,576 MiB are asked for. Tested alone, over the built
@@ -67,5 +68,5 @@ mod table_words;
 pub use command_line::asked;
 pub use request::{
     CrewOptions, Dates, Look, Memory, OrderFiles, PlanFiles, ProofFiles, ReportWords, Request,
-    Source, TableWords, Task, Telling, Terms, Tool,
+    Source, TableWords, Task, Telling, Terms, Tool, WhatIfWords,
 };

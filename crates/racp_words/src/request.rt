@@ -54,6 +54,9 @@ pub enum Tool<'a> {
     /// What each deadline up to that of an order costs, with so much memory for records: on one thread, or by workers
     /// if an option is given; as a picture if that is said.
     Curve(OrderFiles<'a>, Memory, Option<CrewOptions<'a>>, bool),
+    /// What becomes of an order if one term is changed, with so much memory for records: by one worker, or by others if an
+    /// option is given.
+    WhatIf(OrderFiles<'a>, WhatIfWords<'a>, Memory, Option<CrewOptions<'a>>),
     /// The text of an order for a network with this path.
     Order(&'a str, Terms<'a>),
     /// A network, and perhaps an order, of a table of tasks.
@@ -87,6 +90,15 @@ pub struct ReportWords<'a> {
     pub curve: Option<&'a str>,
     /// How times are told.
     pub dates: Dates<'a>,
+}
+
+/// The words for what becomes of an order if one term is changed.
+#[derive(Clone, Copy)]
+pub struct WhatIfWords<'a> {
+    /// The path of the plan beside which it is told, if there is one; else that of the order is made.
+    pub plan: Option<&'a str>,
+    /// The path of the names of jobs and resources, if there is one.
+    pub names: Option<&'a str>,
 }
 
 /// The words for times that are told by dates.

@@ -47,6 +47,22 @@ const WORKERS: Word = Word::Lettered(
     "How many workers make the plan, 1 to 64, or 0 for one for each processor; else 1",
 );
 
+/// How many workers make several plans.
+const CREW: Word = Word::Lettered(
+    'j',
+    "workers",
+    "N",
+    MOST_WORKERS,
+    "How many workers make the plans, 1 to 64, or 0 for one for each processor; else 1",
+);
+
+/// The names of jobs and resources.
+const NAMES: Word = Word::Text(
+    "names",
+    "FILE",
+    "Names of the jobs and then of the resources, one a line",
+);
+
 /// How many turns workers take.
 const TURNS: Word = Word::Number(
     "turns",
@@ -182,11 +198,7 @@ pub(crate) const COMMANDS: &[Line] = &[
             NET,
             ORDER,
             PLAN,
-            Word::Text(
-                "names",
-                "FILE",
-                "Names of the jobs and then of the resources, one a line",
-            ),
+            NAMES,
             Word::Number(
                 "width",
                 "N",
@@ -214,11 +226,7 @@ pub(crate) const COMMANDS: &[Line] = &[
             NET,
             ORDER,
             PLAN,
-            Word::Text(
-                "names",
-                "FILE",
-                "Names of the jobs and then of the resources, one a line",
-            ),
+            NAMES,
             Word::Text(
                 "curve",
                 "FILE",
@@ -236,13 +244,7 @@ pub(crate) const COMMANDS: &[Line] = &[
         words: &[
             NET,
             ORDER,
-            Word::Lettered(
-                'j',
-                "workers",
-                "N",
-                MOST_WORKERS,
-                "How many workers make the plans, 1 to 64, or 0 for one for each processor; else 1",
-            ),
+            CREW,
             TURNS,
             MEMORY,
             TIME_LIMIT,
@@ -253,6 +255,23 @@ pub(crate) const COMMANDS: &[Line] = &[
                 "Keeps in FILE the cheapest plan that is known for the deadline of the order",
             ),
             SVG,
+            JSON,
+            EXPLAIN,
+            QUIET,
+        ],
+    },
+    Line {
+        name: "whatif",
+        about: "Tells what one unit fewer, one owned unit more and one time unit cost or save",
+        words: &[
+            NET,
+            ORDER,
+            Word::Optional("PLAN", "The plan; else that of the order is made"),
+            NAMES,
+            CREW,
+            TURNS,
+            MEMORY,
+            TIME_LIMIT,
             JSON,
             EXPLAIN,
             QUIET,
