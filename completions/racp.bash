@@ -2,7 +2,7 @@
 
 _racp() {
     local word=${COMP_WORDS[COMP_CWORD]} before=${COMP_WORDS[COMP_CWORD - 1]} command=${COMP_WORDS[1]}
-    local commands="cpm plan prove check verify show report curve order import explain help"
+    local commands="cpm plan prove check verify show report curve whatif order import explain help"
     local options=""
     if [ "$COMP_CWORD" -eq 1 ]; then
         mapfile -t COMPREPLY < <(compgen -W "$commands --help --version" -- "$word")
@@ -17,6 +17,7 @@ _racp() {
         show) options="--names --width --ascii --svg --links --start-date --unit --json --csv --explain --quiet" ;;
         report) options="--names --curve --start-date --unit --explain --quiet" ;;
         curve) options="--workers --turns --memory --time-limit --progress --best --svg --json --explain --quiet" ;;
+        whatif) options="--names --workers --turns --memory --time-limit --json --explain --quiet" ;;
         order) options="--factor --deadline --prices --owned --ceiling --json --explain --quiet" ;;
         import) options="--out --from --prices --factor --deadline --owned --ceiling --quiet" ;;
         explain)

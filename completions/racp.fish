@@ -1,6 +1,6 @@
 # Completions of racp for fish: put this file into ~/.config/fish/completions.
 
-set -l commands cpm plan prove check verify show report curve order import explain help
+set -l commands cpm plan prove check verify show report curve whatif order import explain help
 set -l none "not __fish_seen_subcommand_from $commands"
 complete -c racp -n "$none" -a cpm -d "the critical length and the early starts of a network"
 complete -c racp -n "$none" -a plan -d "the cheapest capacities that meet an order, with the least starts"
@@ -10,6 +10,7 @@ complete -c racp -n "$none" -a verify -d "whether a certificate shows that no ch
 complete -c racp -n "$none" -a show -d "a chart of a plan"
 complete -c racp -n "$none" -a report -d "a page about a plan"
 complete -c racp -n "$none" -a curve -d "what each deadline costs"
+complete -c racp -n "$none" -a whatif -d "what one unit fewer or more changes"
 complete -c racp -n "$none" -a order -d "the text of an order"
 complete -c racp -n "$none" -a import -d "a network of a table of tasks"
 complete -c racp -n "$none" -a explain -d "what a fault means"
@@ -46,6 +47,14 @@ complete -c racp -n "__fish_seen_subcommand_from curve" -l workers -x -d "how ma
 complete -c racp -n "__fish_seen_subcommand_from curve" -l turns -x -d "how many turns"
 complete -c racp -n "__fish_seen_subcommand_from curve" -l memory -x -d "mebibytes for records"
 complete -c racp -n "__fish_seen_subcommand_from curve" -l svg -d "a picture"
+complete -c racp -n "__fish_seen_subcommand_from whatif" -l names -r -d "names of jobs and resources"
+complete -c racp -n "__fish_seen_subcommand_from whatif" -l workers -x -d "how many workers"
+complete -c racp -n "__fish_seen_subcommand_from whatif" -l turns -x -d "how many turns"
+complete -c racp -n "__fish_seen_subcommand_from whatif" -l memory -x -d "mebibytes for records"
+complete -c racp -n "__fish_seen_subcommand_from whatif" -l time-limit -x -d seconds
+complete -c racp -n "__fish_seen_subcommand_from whatif" -l json -d JSON
+complete -c racp -n "__fish_seen_subcommand_from whatif" -l explain -d "say what is wrong"
+complete -c racp -n "__fish_seen_subcommand_from whatif" -l quiet -d "say nothing of what is wrong"
 complete -c racp -n "__fish_seen_subcommand_from order" -l factor -x -d "deadline by the critical length"
 complete -c racp -n "__fish_seen_subcommand_from order" -l deadline -x -d deadline
 complete -c racp -n "__fish_seen_subcommand_from order" -l prices -x -d prices

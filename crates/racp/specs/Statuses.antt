@@ -11,6 +11,7 @@ use Rattle.racp_cli.specs.CurveAnswers.{IsCurveCrowdAnswer}
 use Rattle.racp_cli.specs.OrderAnswers.{IsOrderAnswer}
 use Rattle.racp_cli.specs.ReportAnswers.{IsReportAnswer}
 use Rattle.racp_cli.specs.ShowAnswers.{IsShowAnswer}
+use Rattle.racp_cli.specs.WhatIfAnswers.{IsWhatIfAnswer}
 use Rattle.racp_cli.specs.declared.order.Asked.{Asked}
 use Rattle.racp_cli.specs.declared.show.Look.{Look}
 use Rattle.racp_cli.specs.Proofs.{IsProofAnswer}
@@ -46,6 +47,8 @@ IsStatusOfTool status =
     ((asked : Asked) × (net : List ℕ) × (text : List ℕ) × IsOrderAnswer asked net status text) ⊎
     ((calendar : Calendar) × (curve : Option (List ℕ)) × (net order plan names : List ℕ) × (text : List ℕ) ×
     IsReportAnswer calendar curve net order plan names status text) ⊎
+    ((turns : ℕ) × (quiet is_json : Bool) × (net order : List ℕ) × (plan : Option (List ℕ)) × (names text : List ℕ) ×
+    IsWhatIfAnswer turns quiet is_json net order plan names status text) ⊎
     (status ≡ 0)
 
 -- some answer to some texts has this status; nothing is said of which

@@ -25,6 +25,17 @@ pub(crate) fn opened<R: Files + AllocGlobal>(rt: &R, path: &str) -> Result<R::Fi
     }
 }
 
+/// The file with this path, if there is a path.
+pub(crate) fn opened_if<R: Files + AllocGlobal>(
+    rt: &R,
+    path: Option<&str>,
+) -> Result<Option<R::File>, Failure> {
+    match path {
+        Some(path) => Ok(Some(opened(rt, path)?)),
+        None => Ok(None),
+    }
+}
+
 /// A text with this path.
 pub(crate) fn text<'a>(path: &'a str, bytes: &'a [u8]) -> Input<'a> {
     Input {

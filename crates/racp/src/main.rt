@@ -9,6 +9,7 @@
 //! - `racp show NET ORDER PLAN` draws a plan.
 //! - `racp report NET ORDER PLAN` writes a page about a plan.
 //! - `racp curve NET ORDER` says what each deadline costs.
+//! - `racp whatif NET ORDER` says what becomes of an order if one term is changed.
 //! - `racp order NET` writes an order.
 //! - `racp import FILE --out PROJECT` makes a network of a table of tasks.
 //! - `racp cpm NET` prints the critical length and the early starts.
@@ -44,6 +45,7 @@
 mod asks;
 mod begun;
 mod best;
+mod changing;
 mod charting;
 mod checking;
 mod costing;

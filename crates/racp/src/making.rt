@@ -67,14 +67,19 @@ pub(crate) fn crew_of<'a, R: Env + AllocGlobal>(
     if crew.is_some() || (!is_json && Asks::of(rt).is_none()) {
         return crew;
     }
-    Some(CrewOptions {
+    Some(one_worker())
+}
+
+/// One worker, without a limit, of which nothing is told.
+pub(crate) fn one_worker<'a>() -> CrewOptions<'a> {
+    CrewOptions {
         workers: 1,
         turns: MOST_TURNS,
         time_limit: None,
         stats: false,
         progress: false,
         best: None,
-    })
+    }
 }
 
 /// How many workers there are: as many as are asked for, or with 0 as many as there are processors, 64 at most; 1 if

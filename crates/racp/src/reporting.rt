@@ -5,7 +5,7 @@ ghost use Rattle.racp.specs.Statuses.{IsStatusOfTool};
 
 use crate::dates::calendar_of;
 use crate::failure::Failure;
-use crate::inputs::{opened, text, whole};
+use crate::inputs::{opened, opened_if, text, whole};
 use crate::telling::{Manner, tell};
 use racp_calendar::Calendar;
 use racp_cli::{Page, StreamFault, report_over};
@@ -80,17 +80,6 @@ fn read<R: Files + AllocGlobal>(rt: &R, paths: &Paths<'_>) -> Result<Inputs, Fai
         names,
         curve,
     })
-}
-
-/// The file with this path, if there is a path.
-fn opened_if<R: Files + AllocGlobal>(
-    rt: &R,
-    path: Option<&str>,
-) -> Result<Option<R::File>, Failure> {
-    match path {
-        Some(path) => Ok(Some(opened(rt, path)?)),
-        None => Ok(None),
-    }
 }
 
 /// Writes a page about the plan in these texts.

@@ -3,6 +3,7 @@
 ghost use Rattle.std.specs.Prelude.{IfOk};
 ghost use Rattle.racp.specs.Statuses.{IsStatusOfTool};
 
+use crate::changing::whatif;
 use crate::charting::show;
 use crate::costing::{Costing, curve};
 use crate::failure::{Failure, OptionFault};
@@ -39,6 +40,9 @@ pub(crate) fn tool<R: Clock + Env + Files + Print + Eprint + AllocGlobal + Threa
                 is_drawn: is_drawn && !manner.is_json,
             };
             curve(rt, files, costing)
+        }
+        Tool::WhatIf(files, options, memory, crew) => {
+            whatif(rt, files, options, Making::of(memory, crew, manner)?)
         }
         Tool::Order(net, terms) => {
             let asked = asked_order(rt.alloc(), &terms, Times::none())?;

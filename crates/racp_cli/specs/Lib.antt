@@ -14,3 +14,4 @@ pub mod OrderAnswers
 pub mod CurveAnswers
 pub mod ReportAnswers
 pub mod ShowAnswers
+pub mod WhatIfAnswers

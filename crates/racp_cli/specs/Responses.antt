@@ -58,6 +58,12 @@ IsEndedText is_drawn steps (Stopped not_before) status text = (4 ≡ status) × 
 IsEndedText is_drawn steps MemoryIs status text = ⊥
 IsEndedText is_drawn steps NoThread status text = (7 ≡ status) × (no_thread_line ≡ text)
 
+-- the status and the line if the plan of an order was not made, but not if memory ran out
+abbrev pub IsStopTold : PlanStop → ℕ → List ℕ → Type 0
+IsStopTold (Stopped not_before) status text = (4 ≡ status) × (stopped_line not_before ≡ text)
+IsStopTold MemoryIs status text = ⊥
+IsStopTold NoThread status text = (7 ≡ status) × (no_thread_line ≡ text)
+
 -- the status and the text of an answer, or those of lack of memory if it could not be made
 abbrev pub IsMade : Result (ℕ × Vec ℕ Global) AllocError → ℕ → List ℕ → Type 0
 IsMade (Ok made) status text = (made.0 ≡ status) × (made.1.items ≡ text)

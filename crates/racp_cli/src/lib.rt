@@ -16,6 +16,8 @@
 //! - `show_over` reads a network, an order and a plan, and writes a picture of the plan.
 //! - `report_over` reads the same, and writes a page about the plan.
 //! - `curve_over` reads a network and an order, and writes what each deadline costs; `curve_crowd_over` is for workers.
+//! - `whatif_to` takes the texts of a network, an order and perhaps a plan, and writes what becomes of the order if one
+//!   term is changed.
 //! - `order_over` reads a network, and writes an order.
 //!
 //! `known_text` makes the text of a plan that is known while planning goes on. Each command returns the status with which
@@ -45,7 +47,7 @@
 //!
 //! In `specs/`, an answer is a value, with the text and the status that stand for it. `IsCpmAnswer`, `IsPlanAnswer`,
 //! `IsCrowdAnswer`, `IsProofAnswer`, `IsClauseProofAnswer`, `IsCheckAnswer`, `IsVerifyAnswer`, `IsVerifyAnswerUntil`,
-//! `IsShowAnswer`, `IsReportAnswer`, `IsCurveAnswer`, `IsCurveCrowdAnswer` and `IsOrderAnswer` say when text and status are right for the
+//! `IsShowAnswer`, `IsReportAnswer`, `IsCurveAnswer`, `IsCurveCrowdAnswer`, `IsWhatIfAnswer` and `IsOrderAnswer` say when text and status are right for the
 //! bytes of one to four inputs, and `IsRun` ties answers to what the readers had and what the writer holds, for all
 //! commands.
 //!
@@ -58,6 +60,7 @@
 //! memory is refused.
 #![tactic(auto)]
 
+mod beside;
 mod check;
 mod check_fault;
 mod cpm;
@@ -81,6 +84,7 @@ mod streams;
 mod texts;
 mod verdict;
 mod verify;
+mod whatif;
 
 pub use check::check_over;
 pub use cpm::cpm_over;
@@ -97,3 +101,4 @@ pub use report::{Page, report_over};
 pub use show::{Look, show_over};
 pub use status::{CHECK_FAILED, DONE, IMPOSSIBLE, OUT_OF_MEMORY, REFUSED, STOPPED, STREAM_FAILED};
 pub use verify::{verify_over, verify_over_until};
+pub use whatif::{WhatIfTexts, whatif_to};

@@ -1,6 +1,6 @@
 //! What is wrong with the texts of a plan that is shown, and with the text of a curve.
 
-use crate::cause::plan_cause;
+use crate::cause::{order_cause, plan_cause};
 use crate::explain::push_title;
 use crate::finding::{push_more, push_short};
 use crate::input::Input;
@@ -24,6 +24,32 @@ pub fn shown_cause(
     names: &Input<'_>,
 ) -> Result<String, AllocError> {
     let text = plan_cause(alloc, net, order, plan)?;
+    or_of_names(alloc, text, net, names)
+}
+
+/// What is wrong with the texts of a network, an order and names, in lines that begin with `racp: `; nothing if
+/// nothing is found that keeps the order from a plan, and there are no names or one for each job and resource.
+///
+/// # Errors
+///
+/// Memory was refused.
+pub fn named_cause(
+    alloc: Global,
+    net: &Input<'_>,
+    order: &Input<'_>,
+    names: &Input<'_>,
+) -> Result<String, AllocError> {
+    let text = order_cause(alloc, net, order)?;
+    or_of_names(alloc, text, net, names)
+}
+
+/// What is wrong with other texts, or, if nothing is, with names for a network.
+fn or_of_names(
+    alloc: Global,
+    text: String,
+    net: &Input<'_>,
+    names: &Input<'_>,
+) -> Result<String, AllocError> {
     if !text.is_empty() {
         return Ok(text);
     }
