@@ -8,12 +8,13 @@ use Rattle.racp_cli.specs.Plans.{IsPlanAnswer}
 use Rattle.racp_cli.specs.Proofs.{IsProofAnswer, IsProofRun}
 use Rattle.racp_cli.specs.ClauseProofs.{IsClauseProofAnswer, IsClauseProofRun}
 use Rattle.racp_cli.specs.Verifies.{IsVerifyAnswerUntil}
-use Rattle.racp_cli.specs.Streams.{Reader, ToOne, ToTwo, ToFour, IsPlanRun, IsVerifyRunUntil}
+use Rattle.racp_cli.specs.Streams.{IsAnswerWritten, Reader, ToOne, ToTwo, ToFour, IsPlanRun, IsVerifyRunUntil}
 use Rattle.racp_cli.specs.declared.fault.StreamFault.{StreamFault}
 use Rattle.racp_cli.specs.CurveAnswers.{IsCurveAnswer, IsCurveCrowdAnswer, IsCurveCrowdRun, IsCurveRun}
 use Rattle.racp_cli.specs.OrderAnswers.{IsOrderAnswer, IsOrderRun}
 use Rattle.racp_cli.specs.ReportAnswers.{IsReportAnswer, IsReportRun}
 use Rattle.racp_cli.specs.ShowAnswers.{IsShowAnswer, IsShowRun}
+use Rattle.racp_cli.specs.WhatIfAnswers.{IsWhatIfAnswer}
 use Rattle.racp_cli.specs.declared.order.Asked.{Asked}
 use Rattle.racp_cli.specs.declared.show.Look.{Look}
 use Rattle.racp.specs.Statuses.{IsStatusOfAnswer, IsStatusOfTool}
@@ -136,3 +137,9 @@ of_order asked (net ∷ (other ∷ inputs)) status text answer = absurd answer
 pub ordered : (asked : Asked) (net : Reader) (old new : Option (List ℕ)) (result : Result ℕ StreamFault) → IsOrderRun asked net old new result → IfOk result IsStatusOfTool
 ordered asked net old new (Ok status) run = of_order asked run.0 status run.2.0 run.2.1
 ordered asked net old new (Err fault) run = tt
+
+-- what is told of an order with one term changed
+pub changed_by : (turns : ℕ) (quiet is_json : Bool) (net order : List ℕ) (plan : Option (List ℕ)) (names : List ℕ) (old new : Option (List ℕ)) (result : Result ℕ StreamFault) →
+    IsAnswerWritten (IsWhatIfAnswer turns quiet is_json net order plan names) old new result → IfOk result IsStatusOfTool
+changed_by turns quiet is_json net order plan names old new (Ok status) written = inr (inr (inr (inr (inl (turns, quiet, is_json, net, order, plan, names, written.0, written.1)))))
+changed_by turns quiet is_json net order plan names old new (Err fault) written = tt

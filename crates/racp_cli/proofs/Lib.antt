@@ -9,3 +9,4 @@ mod Statuses
 mod Telling
 mod Ending
 mod Verifying
+mod Asking
