@@ -44,9 +44,7 @@ struct Inputs {
 }
 
 /// Writes what becomes of the order in these files if one term is changed, and what is wrong with them.
-pub(crate) fn whatif<
-    R: Clock + Env + Files + Print + Eprint + AllocGlobal + Threads + Wait + Sync,
->(
+pub(crate) fn whatif<R: Clock + Env + Files + Print + Eprint + AllocGlobal + Threads + Wait + Sync>(
     rt: &R,
     files: OrderFiles<'_>,
     options: WhatIfWords<'_>,
@@ -177,12 +175,7 @@ fn tell_end<R: Print + Eprint + AllocGlobal>(
 }
 
 /// What was written in place of findings.
-fn told<'a>(
-    paths: &'a Paths<'_>,
-    inputs: &'a Inputs,
-    status: u8,
-    text: &'a [u8],
-) -> Told<'a> {
+fn told<'a>(paths: &'a Paths<'_>, inputs: &'a Inputs, status: u8, text: &'a [u8]) -> Told<'a> {
     Told {
         command: if inputs.plan.is_some() {
             Command::Check

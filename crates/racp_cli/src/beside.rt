@@ -38,7 +38,7 @@ pub(crate) fn named<G: Gate + Sync, P: Stop + Sync, B: Observer, R: Threads + Wa
     requires capacities { IfSome given (λ plan. length plan.now.capacities ≡ task.now.net.now.resources) }
     ensures { IfOk result (λ answer.
         IsBesideNamed crew.now.turns P.QUIET texts.entry.is_json task.now.net.now task.now.order.now
-            (option_map (λ plan. plan.now) given) texts.entry.names.now answer.0 answer.1.items) }
+        (option_map (λ plan. plan.now) given.entry) texts.entry.names.now answer.0 answer.1.items) }
 {
     match Names::read(task.alloc, texts.names)? {
         Some(names) => counted(rt, task, given, &names, texts.is_json, crew),
@@ -60,7 +60,7 @@ fn counted<G: Gate + Sync, P: Stop + Sync, B: Observer, R: Threads + Wait + Sync
     requires capacities { IfSome given (λ plan. length plan.now.capacities ≡ task.now.net.now.resources) }
     ensures { IfOk result (λ answer.
         IsBesideCounted crew.now.turns P.QUIET is_json task.now.net.now task.now.order.now
-            (option_map (λ plan. plan.now) given) names.now answer.0 answer.1.items) }
+        (option_map (λ plan. plan.now) given.entry) names.now answer.0 answer.1.items) }
 {
     let net = task.net;
     if !names.are_for(net.job_count() + net.resource_count()) {
@@ -111,11 +111,7 @@ fn beside_answer<G: Gate + Sync, P: Stop + Sync, B: Observer, R: Threads + Wait 
 }
 
 /// The status and the line that say why an order has no plan.
-fn reason_told(
-    alloc: Global,
-    order: &Order,
-    reason: Answer,
-) -> Result<(u8, Vec<u8>), AllocError>
+fn reason_told(alloc: Global, order: &Order, reason: Answer) -> Result<(u8, Vec<u8>), AllocError>
     requires none { IsNoPlan reason }
     ensures { (network : Project) → IsAnswer network order.now reason →
         IfOk result (λ answer. IsTextOfReason network order.now answer.0 answer.1.items) }
@@ -155,9 +151,7 @@ fn beside<G: Gate + Sync, P: Stop + Sync, B: Observer, R: Threads + Wait + Sync>
 {
     match findings(rt, task, base.capacities.as_slice(), crew) {
         Ok(findings) => told(task, base, &findings, names, is_json),
-        Err(PlanStop::NoThread) => {
-            Ok((STREAM_FAILED, b"no thread\n".to_vec(task.alloc)?))
-        }
+        Err(PlanStop::NoThread) => { Ok((STREAM_FAILED, b"no thread\n".to_vec(task.alloc)?)) }
         Err(_) => Err(AllocError),
     }
 }

@@ -46,13 +46,7 @@ pub struct WhatIfTexts<'a> {
 /// # Errors
 ///
 /// `Write`: a write failed or took no byte, and what is out is a beginning of the text.
-pub fn whatif_to<
-    R: Threads + Wait + Sync,
-    G: Gate + Sync,
-    P: Stop + Sync,
-    B: Observer,
-    W: Write,
->(
+pub fn whatif_to<R: Threads + Wait + Sync, G: Gate + Sync, P: Stop + Sync, B: Observer, W: Write>(
     rt: &R,
     alloc: Global,
     texts: WhatIfTexts<'_>,
@@ -61,7 +55,7 @@ pub fn whatif_to<
 ) -> Result<u8, StreamFault>
     ensures { IsAnswerWritten
         (IsWhatIfAnswer crew.entry.now.turns P.QUIET texts.entry.is_json texts.entry.net.now texts.entry.order.now
-            (option_map (λ plan. plan.now) texts.entry.plan) texts.entry.names.now)
+        (option_map (λ plan. plan.now) texts.entry.plan) texts.entry.names.now)
         (W.contents out.old) (W.contents out.new) result }
 {
     respond(answer(rt, alloc, texts, crew), out)
@@ -76,7 +70,7 @@ fn answer<G: Gate + Sync, P: Stop + Sync, B: Observer, R: Threads + Wait + Sync>
 ) -> Result<(u8, Vec<u8>), AllocError>
     ensures { IfOk result (λ answer.
         IsWhatIfAnswer crew.now.turns P.QUIET texts.entry.is_json texts.entry.net.now texts.entry.order.now
-            (option_map (λ plan. plan.now) texts.entry.plan) texts.entry.names.now answer.0 answer.1.items) }
+        (option_map (λ plan. plan.now) texts.entry.plan) texts.entry.names.now answer.0 answer.1.items) }
 {
     match texts.plan {
         Some(plan) => beside_given(rt, alloc, texts, plan, crew),
@@ -94,7 +88,7 @@ fn beside_given<G: Gate + Sync, P: Stop + Sync, B: Observer, R: Threads + Wait +
 ) -> Result<(u8, Vec<u8>), AllocError>
     ensures { IfOk result (λ answer.
         IsWhatIfAnswer crew.now.turns P.QUIET texts.entry.is_json texts.entry.net.now texts.entry.order.now (Some plan.now)
-            texts.entry.names.now answer.0 answer.1.items) }
+        texts.entry.names.now answer.0 answer.1.items) }
 {
     match read_checked(alloc, texts.net, texts.order, plan) {
         Ok(found) => {
@@ -121,7 +115,7 @@ fn beside_own<G: Gate + Sync, P: Stop + Sync, B: Observer, R: Threads + Wait + S
 ) -> Result<(u8, Vec<u8>), AllocError>
     ensures { IfOk result (λ answer.
         IsWhatIfAnswer crew.now.turns P.QUIET texts.entry.is_json texts.entry.net.now texts.entry.order.now None
-            texts.entry.names.now answer.0 answer.1.items) }
+        texts.entry.names.now answer.0 answer.1.items) }
 {
     match read_texts(alloc, texts.net, texts.order) {
         Ok((net, order)) => {
