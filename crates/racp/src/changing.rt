@@ -94,17 +94,18 @@ fn written<R: Clock + Env + Files + Print + Eprint + AllocGlobal + Threads + Wai
 ) -> Result<u8, StreamFault>
     ensures { IfOk result IsStatusOfTool }
 {
+    let texts = texts_of(inputs, making.manner);
     if making.manner.is_json {
-        written_to(rt, inputs, making, text)
+        written_to(rt, texts, making, text)
     } else {
-        written_to(rt, inputs, making, &mut io::writer(rt))
+        written_to(rt, texts, making, &mut io::writer(rt))
     }
 }
 
 /// Writes what becomes of the order in these texts if one term is changed to `out`, by plans that workers make.
-fn written_to<R: Clock + Env + Files + Eprint + AllocGlobal + Threads + Wait + Sync, W: Write>(
+fn written_to<'a, R: Clock + Env + Files + Eprint + AllocGlobal + Threads + Wait + Sync, W: Write>(
     rt: &R,
-    inputs: &Inputs,
+    texts: WhatIfTexts<'a>,
     making: Making<'_>,
     out: &mut W,
 ) -> Result<u8, StreamFault>
@@ -114,8 +115,8 @@ fn written_to<R: Clock + Env + Files + Eprint + AllocGlobal + Threads + Wait + S
     let best = Cell::new(Vec::new(rt.alloc()));
     let limit = Limit::of(rt, making.limit, None, Asks::of(rt));
     let kept = Kept {
-        net: &inputs.net,
-        order: &inputs.order,
+        net: texts.net,
+        order: texts.order,
         path: None,
         in_memory: false,
     };
@@ -128,13 +129,7 @@ fn written_to<R: Clock + Env + Files + Eprint + AllocGlobal + Threads + Wait + S
         stop: &limit,
         observer: &listener,
     };
-    let status = whatif_to(
-        rt,
-        rt.alloc(),
-        texts_of(inputs, making.manner),
-        &workers,
-        out,
-    );
+    let status = whatif_to(rt, rt.alloc(), texts, &workers, out);
     // Dropped here once, not at each way out.
     drop(limit);
     status
