@@ -13,12 +13,12 @@ ghost use Rattle.racp_trees.specs.Texts.{first_line, last_line};
 
 use crate::before::{is_at_most, is_before};
 use crate::claim::Claim;
-use crate::enough::gap;
-use crate::maker::Maker;
+use crate::enough::gap_until;
+use crate::maker::{Maker, given_up};
 use crate::reader::Ground;
 use crate::writer::push_vector;
-use racp_model::{Capacities, Network, Window};
-use racp_prices::Order;
+use racp_delay::Stop;
+use racp_model::{Capacities, Window};
 use racp_text::MOST_TEXT_BYTES;
 use std::alloc::{AllocError, Global};
 
@@ -35,8 +35,9 @@ struct Given<'a> {
 }
 
 /// A certificate that no capacities before these are enough; or `None` if none was made, since some capacities before
-/// them are enough, it would have more than 16,777,216 bytes, or the search for the next child of some node took more
-/// than 1,000,000 steps. Blocks are made while some vector up to the roofs
+/// them are enough, it would have more than 16,777,216 bytes, the search for the next child of some node took more
+/// than 1,000,000 steps, or the stop asked for it. The stop is asked at each line, in each search for a child, and in
+/// the search for the next vector. Blocks are made while some vector up to the roofs
 /// stands before the capacities and is above each block: for one of the hints at or above it, or else for a vector
 /// before the capacities that is as great as can be. A hint is a capacity vector, by place from 0, of which the caller
 /// knows that it is not enough; others cost the certificate. There are a roof, cut to the ceiling, and a capacity for
@@ -45,49 +46,48 @@ struct Given<'a> {
 /// # Errors
 ///
 /// Memory was refused.
-pub fn certificate(
+pub fn certificate<S: Stop>(
     alloc: Global,
-    net: &Network,
-    order: &Order,
+    claim: &Claim,
     root: &Window,
-    roofs: &[u32],
-    capacities: &[u32],
     hints: &[Vec<u32>],
+    stop: &S,
 ) -> Result<Option<Vec<u8>>, AllocError>
-    requires terms { AreTermsOf net.now order.now }
-    requires root { IsRootWindow net.now (release_of order.now) (due_of order.now) root.now }
-    requires roofs { AreMostUnits net.now order.now roofs.now }
-    requires capacities { length capacities.now ≡ net.now.resources }
-    ensures { IfOk result (λ text. IfSome text (λ text. IsCertificate net.now order.now capacities.now text.items)) }
+    requires terms { AreTermsOf claim.now.net.now claim.now.order.now }
+    requires root { IsRootWindow claim.now.net.now (release_of claim.now.order.now) (due_of claim.now.order.now) root.now }
+    requires roofs { AreMostUnits claim.now.net.now claim.now.order.now claim.now.roofs.now }
+    requires capacities { length claim.now.capacities.now ≡ claim.now.net.now.resources }
+    ensures { IfOk result (λ text. IfSome text (λ text. IsCertificate claim.now.net.now claim.now.order.now claim.now.capacities.now text.items)) }
 {
-    let claim = Claim {
-        net,
-        order,
-        roofs,
-        capacities,
-    };
+    let claim = *claim;
     let given = Given { claim, root, hints };
     let mut text = b"proof\n".to_vec(alloc)?;
-    let is_made = push_rest(alloc, &given, &mut text)?;
+    let is_made = push_rest(alloc, &given, &mut text, stop)?;
     Ok(if is_made { Some(text) } else { None })
 }
 
-/// Adds the lines after the first one. False if some block was not made, or the text has too many bytes.
-fn push_rest(alloc: Global, given: &Given, text: &mut Vec<u8>) -> Result<bool, AllocError>
+/// Adds the lines after the first one. False if some block was not made, the text has too many bytes, or the stop asked
+/// for it.
+fn push_rest<S: Stop>(
+    alloc: Global,
+    given: &Given,
+    text: &mut Vec<u8>,
+    stop: &S,
+) -> Result<bool, AllocError>
     requires given { IsGiven given.now }
     requires begun { text.old.items ≡ first_line }
     ensures { IfOk result (λ yes. IsTrue yes → IsCertificate given.now.claim.net.now given.now.claim.order.now given.now.claim.capacities.now text.new.items) }
 {
-    let mut maker = Maker::new(alloc, given.claim.net, given.root)?;
+    let mut maker = Maker::new(alloc, given.claim.net, given.root, stop)?;
     push_blocks(alloc, given, &mut maker, text)
 }
 
-/// Adds blocks until they are enough, and then the last line. False if some block was not made, or the text has too
-/// many bytes.
-fn push_blocks(
+/// Adds blocks until they are enough, and then the last line. False if some block was not made, the text has too many
+/// bytes, or the stop asked for it.
+fn push_blocks<S: Stop>(
     alloc: Global,
     given: &Given,
-    maker: &mut Maker,
+    maker: &mut Maker<'_, S>,
     text: &mut Vec<u8>,
 ) -> Result<bool, AllocError>
     requires given { IsGiven given.now }
@@ -101,7 +101,11 @@ fn push_blocks(
     prove!(claim.net.job_count() == claim.net.job_count());
     let mut blocks = Vec::new(alloc);
     for _ in 0..MOST_BLOCKS {
-        let Some(low) = gap(alloc, claim, &blocks)? else {
+        let low = match gap_until(alloc, claim, &blocks, maker.stop) {
+            Ok(low) => low,
+            Err(unfound) => return given_up(unfound),
+        };
+        let Some(low) = low else {
             return push_end(text);
         };
         if !push_next(alloc, given, maker, &mut blocks, low, text)? {
@@ -120,10 +124,10 @@ fn push_end(text: &mut Vec<u8>) -> Result<bool, AllocError>
 }
 
 /// Adds a block above a vector that stands before the capacities. False if none was made.
-fn push_next(
+fn push_next<S: Stop>(
     alloc: Global,
     given: &Given,
-    maker: &mut Maker,
+    maker: &mut Maker<'_, S>,
     blocks: &mut Vec<Vec<u32>>,
     low: Vec<u32>,
     text: &mut Vec<u8>,
@@ -149,9 +153,9 @@ fn push_next(
 }
 
 /// Adds the block of these capacities. False if none was made.
-fn push_block(
+fn push_block<S: Stop>(
     alloc: Global,
-    maker: &mut Maker,
+    maker: &mut Maker<'_, S>,
     ground: &Ground,
     text: &mut Vec<u8>,
 ) -> Result<bool, AllocError>

@@ -42,7 +42,11 @@ pub fn are_enough(
         roofs,
         capacities,
     };
-    Ok(gap(alloc, &claim, blocks)?.is_none())
+    // It is never stopped, so memory was refused.
+    match gap_until(alloc, &claim, blocks, &Never) {
+        Ok(found) => Ok(found.is_none()),
+        Err(_) => Err(AllocError),
+    }
 }
 
 /// What `are_enough` tells of the blocks of a claim, unless it is stopped. The stop is asked at each box.
@@ -66,26 +70,8 @@ pub fn are_enough_until<S: Stop>(
 }
 
 /// A capacity vector up to the roofs that stands before the capacities and is above each block, or `None` if the blocks
-/// are enough.
-pub(crate) fn gap(
-    alloc: Global,
-    claim: &Claim,
-    blocks: &[Vec<u32>],
-) -> Result<Option<Vec<u32>>, AllocError>
-    requires sound { IsSound claim.now.net.now }
-    requires claim { IsClaim claim.now }
-    requires blocks { (k : ℕ) → k < length blocks.now → (d : _) → length (slice_index_or blocks.now k d).items ≡ claim.now.net.now.resources }
-    ensures { IfOk result (IsGapAnswer claim.now blocks.now) }
-{
-    // It is never stopped, so memory was refused.
-    match gap_until(alloc, claim, blocks, &Never) {
-        Ok(found) => Ok(found),
-        Err(_) => Err(AllocError),
-    }
-}
-
-/// What `gap` answers, unless it is stopped.
-fn gap_until<S: Stop>(
+/// are enough, unless it is stopped. The stop is asked at each box.
+pub(crate) fn gap_until<S: Stop>(
     alloc: Global,
     claim: &Claim,
     blocks: &[Vec<u32>],

@@ -46,7 +46,7 @@
 //! A certificate is made by a reader of the lines that are chosen (`Maker`): for the next window a late job if there is
 //! one, else the newest closed node of the block that covers it, else its first conflict. Each line is written and then
 //! read as any reader reads it, so how it was chosen needs no proof. A tree is given up if the search for one
-//! alternative takes more than 1,000,000 steps. Blocks are made for vectors above all blocks so
+//! alternative takes more than 1,000,000 steps, or the stop asks for it, as it may at each line. Blocks are made for vectors above all blocks so
 //! far, until there is none. What `certificate` makes is proved to be a certificate.
 //!
 //! Blocks are enough if each vector within the roofs that stands before the plan is at most the vector of some block.

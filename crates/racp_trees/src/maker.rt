@@ -16,23 +16,30 @@ use crate::reader::{Ground, Reader};
 use crate::record::Record;
 use crate::writer::push_step;
 use racp_cpm::early;
-use racp_delay::{Unfound, conflict, laws};
+use racp_delay::{Stop, Unfound, conflict, laws};
 use racp_model::{Network, Starts, Window};
 use racp_refutation::Step;
 use racp_text::MOST_TEXT_BYTES;
 use std::alloc::{AllocError, Global};
 use std::rc::Rc;
 
-/// A maker of trees: a reader of the lines that it makes itself, and the nodes that may cover others.
+/// A maker of trees: a reader of the lines that it makes itself, and the nodes that may cover others. It gives a tree up
+/// where its stop asks for it.
 #[derive(Drop)]
-pub(crate) struct Maker {
+pub(crate) struct Maker<'a, S: Stop> {
     pub(crate) reader: Reader,
     pub(crate) offers: Offers,
+    pub(crate) stop: &'a S,
 }
 
-impl Maker {
-    /// A maker that has made nothing. The lower bounds of the root window are usual.
-    pub(crate) fn new(alloc: Global, net: &Network, root: &Window) -> Result<Self, AllocError>
+impl<'a, S: Stop> Maker<'a, S> {
+    /// A maker that has made nothing, with its stop. The lower bounds of the root window are usual.
+    pub(crate) fn new(
+        alloc: Global,
+        net: &Network,
+        root: &Window,
+        stop: &'a S,
+    ) -> Result<Self, AllocError>
         ensures number { IfOk result (λ maker. maker.reader.number ≡ 1) }
         ensures closed { IfOk result (λ maker. (number : ℕ) → record_at maker.reader.closed number ≡ None) }
         ensures branches { IfOk result (λ maker. maker.reader.branches.items ≡ []) }
@@ -41,12 +48,13 @@ impl Maker {
         Ok(Maker {
             reader,
             offers: Offers::new(alloc, net),
+            stop,
         })
     }
 
     /// Makes the tree of the root window, and adds its lines to the text. Each line that is chosen is read as a reader
     /// of the text reads it. False if some window of the tree has starts that fit, the text would have too many bytes,
-    /// or the search for some child took too many steps.
+    /// the search for some child took too many steps, or the stop asked for it, which is asked at each line.
     pub(crate) fn make_tree(
         &mut self,
         alloc: Global,
@@ -64,10 +72,14 @@ impl Maker {
         self.forget(alloc, ground.net);
         let mut lower = copied(alloc, ground.root.lower())?;
         while text.len() < MOST_TEXT_BYTES {
+            if self.stop.asked() {
+                return Ok(false);
+            }
             if !self.make_line(alloc, ground, lower, text)? {
                 return Ok(false);
             }
-            let next = match self.reader.next_window(alloc, ground, &Brief) {
+            let brief = Brief { stop: self.stop };
+            let next = match self.reader.next_window(alloc, ground, &brief) {
                 Ok(next) => next,
                 Err(unfound) => return given_up(unfound),
             };
@@ -182,8 +194,8 @@ impl Maker {
     }
 }
 
-/// That no tree was made, if the search for a child took too many steps.
-fn given_up(unfound: Unfound) -> Result<bool, AllocError>
+/// That none was made, if a search was stopped or took too many steps.
+pub(crate) fn given_up(unfound: Unfound) -> Result<bool, AllocError>
     ensures { IfOk result (λ made. IsFalse made) }
 {
     match unfound {

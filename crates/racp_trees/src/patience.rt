@@ -60,17 +60,38 @@ impl<'a, S: Stop> Patience for Until<'a, S> {
     }
 }
 
-/// As long as each search takes 1,000,000 steps at most.
+/// Stops a search after so many steps, or when some patience is over.
 #[derive(Drop)]
-pub(crate) struct Brief;
+struct StepsUntil<P: Patience + Drop> {
+    steps: Steps,
+    patience: P,
+}
 
-impl Patience for Brief {
+impl<P: Patience + Drop> Stop for StepsUntil<P> {
+    ghost use Rattle.std.specs.Prelude.{false};
+
+    ghost QUIET = { false };
+
+    const QUIET: bool = false;
+
+    fn asked(&self) -> bool {
+        self.steps.asked() || self.patience.asked()
+    }
+}
+
+/// As long as a stop does not say otherwise, and each search takes 1,000,000 steps at most.
+#[derive(Drop)]
+pub(crate) struct Brief<'a, S: Stop> {
+    pub(crate) stop: &'a S,
+}
+
+impl<'a, S: Stop> Patience for Brief<'a, S> {
     ghost use Rattle.std.specs.Prelude.{false};
 
     ghost QUIET = { false };
 
     fn asked(&self) -> bool {
-        false
+        self.stop.asked()
     }
 
     fn find_behind(
@@ -81,13 +102,10 @@ impl Patience for Brief {
         active: &JobSet,
         last: &[u32],
     ) -> Result<bool, Unfound> {
-        next.find_behind(
-            net,
-            capacities,
-            active,
-            active,
-            last,
-            &Steps::new(MOST_STEPS),
-        )
+        let stop = StepsUntil {
+            steps: Steps::new(MOST_STEPS),
+            patience: Until { stop: self.stop },
+        };
+        next.find_behind(net, capacities, active, active, last, &stop)
     }
 }

@@ -3,7 +3,7 @@ use Rattle.racp_trees.specs.Making.{HasMadeBlock}
 use Rattle.racp_trees.proofs.certifying.push_next.Goals as goal
 
 pub returns : goal.returns
-returns c made = record {
+returns g c made = record {
   block = c.into_vec.result;
   places = ap (λ (xs : List ℕ). length xs) (c.into_vec.ensures ∙ c.new-capacities.ensures) ∙ c.in_ok-vector_above.ensures;
   behind = c.in_ok-push.ensures.items;

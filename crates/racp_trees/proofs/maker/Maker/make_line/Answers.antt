@@ -10,23 +10,23 @@ use Rattle.racp_trees.proofs.Making.{thinned_ready}
 use Rattle.racp_trees.proofs.maker.Maker.make_line.Goals as goal
 
 pub choose-requires-clause-lower : goal.choose-requires-clause-lower
-choose-requires-clause-lower c = ap (λ (xs : List ℕ). length xs) c.deref.ensures.value ∙ c.requires.lower
+choose-requires-clause-lower g c = ap (λ (xs : List ℕ). length xs) c.deref.ensures.value ∙ c.requires.lower
 
 pub choose-requires-clause-small : goal.choose-requires-clause-small
-choose-requires-clause-small c = subst (λ (xs : List ℕ). All (λ x. x ≤ most_bound) xs) (sym c.deref.ensures.value) c.requires.small
+choose-requires-clause-small g c = subst (λ (xs : List ℕ). All (λ x. x ≤ most_bound) xs) (sym c.deref.ensures.value) c.requires.small
 
 pub read_line-requires-clause-ready : goal.read_line-requires-clause-ready
-read_line-requires-clause-ready c =
+read_line-requires-clause-ready g c =
     let choice = subst (λ (o : Option Step). IsChoice c.args.self.now.reader c.choose.new.self.reader o) c.in-Some.is c.in_ok-step.ensures in
     thinned_ready c.args.ground.now.net.now c.args.ground.now.capacities.now c.args.self.now.reader c.choose.new.self.reader choice.0 c.requires.ready
 
 pub read_line-requires-clause-place : goal.read_line-requires-clause-place
-read_line-requires-clause-place c =
+read_line-requires-clause-place g c =
     let choice = subst (λ (o : Option Step). IsChoice c.args.self.now.reader c.choose.new.self.reader o) c.in-Some.is c.in_ok-step.ensures in
     choice.2
 
 pub returns : goal.returns
-returns c holds =
+returns g c holds =
     let p = c.args.ground.now.net.now in
     let a : List ℕ = c.args.ground.now.capacities.now in
     let thin : Reader = c.choose.new.self.reader in
