@@ -1,8 +1,10 @@
 -- Contracts of private functions: a collector of one seat, of which each piece is searched to its end before the next is taken.
-use Rattle.std.specs.Prelude.{◌≡◌, ◌≢◌, ◌↔◌, ◌+◌, ◌<◌, Bool, true, false, IsTrue, [], ◌∷◌, length, Option, Some, None}
+use Rattle.std.specs.Prelude.{⊤, ◌≡◌, ◌≢◌, ◌↔◌, ◌+◌, ◌<◌, Bool, true, false, IsTrue, [], ◌∷◌, length, Option, Some, None}
 use Rattle.racp_model.specs.Project.{Project}
 use Rattle.racp_model.specs.Window.{Answers, IsNo}
 use Rattle.racp_model.specs.Formed.{IsFormed}
+use Rattle.racp_questions.specs.declared.asker.AskStop.{AskStop}
+use Rattle.racp_questions.specs.declared.asker.AskStop.TheVariants.{Stopped, Memory, NoThread}
 use Rattle.racp_questions.specs.declared.asker.Probe.{Probe}
 use Rattle.racp_questions.specs.declared.asker.Probe.TheVariants.{Yes, No, Open}
 use Rattle.racp_search.specs.Truth.{SearchPiece, SearchFinding, left_windows}
@@ -55,3 +57,9 @@ abbrev pub IsProbeOf : Project → SearchFinding → Probe → Type 0
 IsProbeOf p finding (Yes starts) = Answers p finding.piece.question.capacities finding.piece.question.window starts
 IsProbeOf p finding No = IsNo p finding.piece.question.capacities finding.piece.question.window
 IsProbeOf p finding Open = left_windows finding ≢ []
+
+-- why a search tells nothing: memory was refused to it, or it was stopped, if that may be
+abbrev pub IsGivenUp : (may_stop : Type 0) → AskStop → Type 0
+IsGivenUp may_stop (Stopped reached) = (reached ≡ None) × may_stop
+IsGivenUp may_stop Memory = ⊤
+IsGivenUp may_stop NoThread = ⊥

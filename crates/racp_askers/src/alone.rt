@@ -1,18 +1,18 @@
 //! An asker on the calling thread.
 
-ghost use Rattle.std.specs.Prelude.{◌≡◌, ◌≤◌, None, [], IfOk, IfErr, IsFalse};
+ghost use Rattle.std.specs.Prelude.{◌≡◌, ◌+◌, ◌≤◌, [], false, IfOk, IfErr, IsFalse, IsTrue, OnOk, OnErr};
 ghost use Rattle.racp_cutset.specs.Kept.{most_records};
-ghost use Rattle.racp_questions.specs.declared.asker.AskStop.TheVariants.{Memory};
-ghost use Rattle.racp_search.specs.Truth.{rest_windows};
-ghost use Rattle.racp_core.specs.Machine.{all_questions, IsSettled};
-ghost use Rattle.racp_questions.specs.FirstYes.{IsFirst};
-ghost use Rattle.racp_askers.specs.Working.{IsIdle, IsAtWork, IsNextPiece, IsHandedIn, IsGoneOn, IsLeft, IsProbeOf};
+ghost use Rattle.racp_model.specs.Formed.{AreFormed, IsFormed};
+ghost use Rattle.racp_questions.specs.FirstYes.{IsFirst, IsProbed};
+ghost use Rattle.racp_askers.specs.Working.{IsGivenUp, IsLeft, IsProbeOf};
 
-use racp_core::{Asked, Core, Merged, Outcome, Reply};
+use crate::settling::{end_of, first_of, settle_next};
+use crate::until::AloneUntil;
+use racp_core::Core;
 use racp_cutset::{Board, DEFAULT_MEMORY, Local, most_records};
 use racp_model::{Network, OfNetwork, Question};
 use racp_questions::{AskStop, Asker, First, Leeway, Probe, Series};
-use racp_search::{Finding, Never, Piece, Rest, explore, make_room};
+use racp_search::{Finding, Never, Piece, Rest, Stop, explore, make_room};
 use std::alloc::{AllocError, Global};
 
 /// Answers series of questions about the network that `N` names, on the calling thread. It keeps the records of the
@@ -25,8 +25,8 @@ pub struct Alone<N: OfNetwork> {
     alloc: Global,
     board: Board<N>,
     local: Local<N>,
-    answered: u64,
-    leeway: Leeway,
+    pub(crate) answered: u64,
+    pub(crate) leeway: Leeway,
 }
 
 impl<N: OfNetwork> Alone<N> {
@@ -72,6 +72,69 @@ impl<N: OfNetwork> Alone<N> {
         self.leeway.conflicts = conflicts;
         self
     }
+
+    /// The same asker, which stops where this stop asks for it.
+    pub fn until<P: Stop>(self, stop: &P) -> AloneUntil<'_, N, P> {
+        AloneUntil { alone: self, stop }
+    }
+
+    /// The first yes of the series, unless the stop asks before, as it may at each node.
+    pub(crate) fn first_until<S: Series, P: Stop>(
+        &mut self,
+        net: &Network,
+        series: S,
+        stop: &P,
+    ) -> Result<First, AskStop>
+        requires named { net.now ≡ N.network }
+        requires formed { AreFormed net.now (S.questions series) }
+        ensures answer { IfOk result (IsFirst net.now (S.questions series)) }
+        ensures answered { OnOk result (self.new.answered ≡ self.old.answered + 1) }
+        ensures unanswered { OnErr result (self.new.answered ≡ self.old.answered) }
+        ensures stop { IfErr result (IsGivenUp (P.QUIET ≡ false)) }
+    {
+        let answered = self.answered.checked_add(1).ok_or(AskStop::Memory)?;
+        let mut core: Core<N, S> = Core::new(self.alloc, net, series);
+        'questions: loop {
+            let local = &mut self.local;
+            match settle_next(self.alloc, net, &self.board, local, &mut core, stop) {
+                Ok(true) => {}
+                Ok(false) => {
+                    self.answered = answered;
+                    return Ok(first_of(core));
+                }
+                Err(end) => {
+                    // Dropped here once, not at each way out.
+                    drop(core);
+                    return Err(end);
+                }
+            }
+        }
+    }
+
+    /// What a search of one question tells that has a bound on its nodes, unless the stop asks before.
+    pub(crate) fn probe_until<P: Stop>(
+        &mut self,
+        net: &Network,
+        question: Question,
+        most: Option<u64>,
+        stop: &P,
+    ) -> Result<Probe, AskStop>
+        requires named { net.now ≡ N.network }
+        requires formed { IsFormed net.now question }
+        ensures probed { IfOk result (IsProbed net.now question most) }
+        ensures answered { self.new.answered ≡ self.old.answered }
+        ensures stop { IfErr result (IsGivenUp (P.QUIET ≡ false)) }
+    {
+        let kept = make_room(&mut self.local);
+        let piece = Piece::new(0, 0, 0, question);
+        let local = &mut self.local;
+        let finding = explore(self.alloc, net, piece, most, &self.board, local, stop);
+        let probe = probe_of(finding)?;
+        if matches!(probe, Probe::No) {
+            self.local.forget_behind(kept);
+        }
+        Ok(probe)
+    }
 }
 
 impl<N: OfNetwork, S: Series> Asker<S> for Alone<N> {
@@ -88,22 +151,7 @@ impl<N: OfNetwork, S: Series> Asker<S> for Alone<N> {
     ghost may_want_thread = { λ _. ⊥ };
 
     fn first(&mut self, net: &Network, series: S) -> Result<First, AskStop> {
-        let answered = self.answered.checked_add(1).ok_or(AskStop::Memory)?;
-        let mut core: Core<N, S> = Core::new(self.alloc, net, series);
-        'questions: loop {
-            match settle_next(self.alloc, net, &self.board, &mut self.local, &mut core) {
-                Ok(true) => {}
-                Ok(false) => {
-                    self.answered = answered;
-                    return Ok(first_of(core));
-                }
-                Err(stop) => {
-                    // Dropped here once, not at each way out.
-                    drop(core);
-                    return Err(stop);
-                }
-            }
-        }
+        self.first_until(net, series, &Never)
     }
 
     fn leeway(&self) -> Leeway {
@@ -116,28 +164,22 @@ impl<N: OfNetwork, S: Series> Asker<S> for Alone<N> {
         question: Question,
         most: Option<u64>,
     ) -> Result<Probe, AskStop> {
-        let kept = make_room(&mut self.local);
-        let piece = Piece::new(0, 0, 0, question);
-        let local = &mut self.local;
-        let finding = explore(self.alloc, net, piece, most, &self.board, local, &Never);
-        let probe = probe_of(finding)?;
-        if matches!(probe, Probe::No) {
-            self.local.forget_behind(kept);
-        }
-        Ok(probe)
+        self.probe_until(net, question, most, &Never)
     }
 }
 
-/// What the finding of a question tells of it. Where memory was refused to the search, it tells nothing.
+/// What the finding of a question tells of it. Where memory was refused to the search, or it was stopped, it tells
+/// nothing.
 fn probe_of<N: OfNetwork>(finding: Finding<N>) -> Result<Probe, AskStop>
     ensures probe { IfOk result (IsProbeOf N.network finding) }
     ensures long { IfOk result (λ _. IsFalse finding.short) }
-    ensures err { IfErr result (λ stop. stop ≡ Memory) }
+    ensures whole { IfOk result (λ _. IsFalse finding.stopped) }
+    ensures err { IfErr result (IsGivenUp (IsTrue finding.stopped)) }
 {
-    if finding.short() {
+    if let Some(end) = end_of(&finding) {
         // Dropped here once, not at each way out.
         drop(finding.into_found());
-        return Err(AskStop::Memory);
+        return Err(end);
     }
     let open = is_left(finding.rest());
     match finding.into_found() {
@@ -154,93 +196,5 @@ fn is_left(rest: &Rest) -> bool
     match rest {
         Rest::Whole => true,
         Rest::Windows(windows) => !windows.is_empty(),
-    }
-}
-
-/// Asks the next question, and searches it to its end. Where it is a no, its records are forgotten. False where the
-/// answer is known.
-fn settle_next<N: OfNetwork, S: Series>(
-    alloc: Global,
-    net: &Network,
-    board: &Board<N>,
-    local: &mut Local<N>,
-    core: &mut Core<N, S>,
-) -> Result<bool, AskStop>
-    requires named { net.now ≡ N.network }
-    requires idle { IsIdle core.old }
-    ensures questions { IfOk result (λ _. all_questions core.new ≡ all_questions core.old) }
-    ensures gone_on { IfOk result (λ more. IsGoneOn core.old more core.new) }
-    ensures err { IfErr result (λ stop. stop ≡ Memory) }
-{
-    let Some(piece) = next_piece(core)? else {
-        return Ok(false);
-    };
-    let kept = make_room(local);
-    let finding = explore(alloc, net, piece, None, board, local, &Never);
-    if finding.short() {
-        // Dropped here once, not at each way out.
-        drop(finding.into_found());
-        return Err(AskStop::Memory);
-    }
-    if finding.found().is_none() {
-        local.forget_behind(kept);
-    }
-    Ok(hand_in(core, finding)?)
-}
-
-/// Asks the next question, and takes its one piece. `None` where no question is to come, so that the answer is known.
-fn next_piece<N: OfNetwork, S: Series>(
-    core: &mut Core<N, S>,
-) -> Result<Option<Piece<N>>, AllocError>
-    requires { IsIdle core.old }
-    ensures questions { IfOk result (λ _. all_questions core.new ≡ all_questions core.old) }
-    ensures next { IfOk result (λ piece. IsNextPiece N.network core.old piece core.new) }
-{
-    match core.ask()? {
-        Asked::Question(_) => {}
-        Asked::End => return Ok(None),
-        Asked::Enough => unreachable!(),
-        Asked::Halted => unreachable!(),
-    }
-    match core.take(0)? {
-        Reply::Piece(piece) => Ok(Some(piece)),
-        Reply::Nothing => unreachable!(),
-        Reply::Done => unreachable!(),
-        Reply::Halted => unreachable!(),
-    }
-}
-
-/// Hands in the finding of the one piece that is out. False where the answer is then known.
-fn hand_in<N: OfNetwork, S: Series>(
-    core: &mut Core<N, S>,
-    finding: Finding<N>,
-) -> Result<bool, AllocError>
-    requires work { IsAtWork core.old finding.piece }
-    requires whole { finding.found ≡ None → rest_windows finding.piece.question.window finding.rest ≡ [] }
-    ensures questions { IfOk result (λ _. all_questions core.new ≡ all_questions core.old) }
-    ensures handed { IfOk result (λ more. IsHandedIn core.old more core.new) }
-{
-    let more = finding.found().is_none();
-    match core.hand(finding) {
-        Ok(Merged::Taken) => Ok(more),
-        Ok(Merged::Stale) => unreachable!(),
-        Err((finding, error)) => {
-            // Dropped here once, not at each way out.
-            drop(finding.into_found());
-            Err(error)
-        }
-    }
-}
-
-/// The first yes of the series, of a collector that knows it.
-fn first_of<N: OfNetwork, S: Series>(core: Core<N, S>) -> First
-    requires { IsSettled core }
-    ensures { IsFirst N.network (all_questions core) result }
-{
-    let (outcome, _) = core.into_answer();
-    match outcome {
-        Outcome::First { index, starts } => First::Yes { index, starts },
-        Outcome::NoYes => First::None,
-        Outcome::Open { first_open: _ } => unreachable!(),
     }
 }

@@ -1,7 +1,7 @@
 use Rattle.std.proofs.Common.{◌≡◌, length}
 use Rattle.racp_core.specs.Machine.{all_questions}
 use Rattle.racp_askers.specs.Working.{IsIdle}
-use Rattle.racp_askers.proofs.alone.AloneAsker.first.Given as goal
+use Rattle.racp_askers.proofs.alone.Alone.first_until.Given as goal
 
 abbrev pub invariant-questions : goal.invariant-questions
 invariant-questions g l = record {

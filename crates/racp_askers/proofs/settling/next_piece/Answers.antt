@@ -6,7 +6,7 @@ use Rattle.racp_core.specs.Steps.{IsNextAsked}
 use Rattle.racp_core.specs.Replies.{IsAsked, IsTaken, IsSmallPlace, IsFormedReply}
 use Rattle.racp_askers.proofs.Working.{at_work, fewer, ended, mid_numbered, mid_running, not_none, not_settled}
 use Rattle.std.proofs.lemmas.Result.{err_from_is_err_and}
-use Rattle.racp_askers.proofs.alone.next_piece.Goals as goal
+use Rattle.racp_askers.proofs.settling.next_piece.Goals as goal
 
 pub returns-clause-next : goal.returns-clause-next
 returns-clause-next g c =

@@ -2,7 +2,7 @@ use Rattle.std.proofs.Common.{◌≡◌, ◌∙◌, ap, sym, subst, is_some, not
 use Rattle.racp_core.specs.declared.replies.Merged.{Merged}
 use Rattle.racp_core.specs.Replies.{IsHanded}
 use Rattle.racp_askers.proofs.Working.{copied_some, handed_in, is_out}
-use Rattle.racp_askers.proofs.alone.hand_in.Goals as goal
+use Rattle.racp_askers.proofs.settling.hand_in.Goals as goal
 
 pub returns-in-Ok-Taken-clause-handed : goal.returns-in-Ok-Taken-clause-handed
 returns-in-Ok-Taken-clause-handed g c =
