@@ -1,4 +1,4 @@
-//! The two askers that answer a planner's series of questions: one on the calling thread, one with workers.
+//! The askers that answer a planner's series of questions: on the calling thread, with a stop or without, and with workers.
 //!
 //! `Alone` answers on the calling thread, over a collector of one seat: it asks a question, takes its one piece, searches
 //! that to its end and hands it in. Records of a question that was a yes serve those after it; those of a no are forgotten.
@@ -17,9 +17,9 @@
 //! ```
 //!
 //! Proved: what an asker answers is the first yes of a series, or that there is none (`IsFirst`, `IsProbed`). `Alone` gives
-//! up for memory alone, or after 2^64 - 1 series; `AloneUntil` also where its stop may ask at all. `Crowd` stops only where no turn is left, or where its stop may ask at
-//! all. Tested alone: that memory is not refused without need. What only costs time has no contract: how many nodes a first
-//! look has, and which questions are searched ahead.
+//! up for memory alone, or after 2^64 - 1 series; `AloneUntil` also where its stop may ask at all. `Crowd` stops only where
+//! no turn is left, or where its stop may ask at all. Tested alone: that memory is not refused without need. What only costs
+//! time has no contract: how many nodes a first look has, and which questions are searched ahead.
 #![tactic(auto)]
 
 mod alone;

@@ -221,7 +221,7 @@ fn answer_none(task: &Task, answer: &Answer) -> Result<Printed, AllocError>
 }
 
 /// That no certificate was made.
-fn unproved(task: &Task) -> Result<Printed, AllocError>
+pub(crate) fn unproved(task: &Task) -> Result<Printed, AllocError>
     ensures line { IfOk result (λ printed. (printed.status ≡ 8) × (printed.text.items ≡ unproved_line)) }
     ensures shown { IfOk result (λ printed. IsAnswerShown task.now.net.now task.now.order.now printed.text.items printed.status) }
 {

@@ -43,6 +43,9 @@
 //! at most (racp_cutset), and before that the clauses; the others take 1,024. Where turns are limited, workers leave no
 //! room for a search of planning's own, so that all work is done in turns.
 //!
+//! `prove_alone` makes a certificate by trees for the plan, and `prove_by_clauses` one by clauses. `prove_until` does the first
+//! with a stop; where that asks for an end, the line is `unproved`.
+//!
 //! Proved: the answer of `plan` is right (`IsAnswer`): the plan, without any bound on the numbers of units, or the
 //! first reason for which there is none. `plan_alone` prints that answer for what the texts are read as, or tells the
 //! fault of the first text that is refused, or that memory was refused (`IsPrinting`). `plan_crowd` prints the same,
@@ -62,6 +65,7 @@ mod bounds;
 mod by_clauses;
 mod by_workers;
 mod facts;
+mod hints;
 pub mod laws;
 mod lines;
 mod one_thread;
@@ -82,6 +86,6 @@ pub use lines::answer_lines;
 pub use one_thread::plan_alone_within;
 pub use planning::plan;
 pub use printed::{Printed, Refusal};
-pub use proving::prove_alone;
+pub use proving::{prove_alone, prove_until};
 pub use roots::{RootBounds, root_bounds};
 pub use signatures::{plan_alone, plan_crowd};

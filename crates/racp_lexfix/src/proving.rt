@@ -6,22 +6,25 @@ ghost use Rattle.racp_model.specs.Window.{IsRootWindow};
 ghost use Rattle.racp_sm.specs.Reading.{IsReading};
 ghost use Rattle.racp_trees.specs.Certificates.{IsCertificate};
 ghost use Rattle.racp_lexfix.specs.Answers.{IsAnswer};
-ghost use Rattle.racp_lexfix.specs.Proving.{IsAnswerProved, IsProofOf, IsProving, unproved_line};
+ghost use Rattle.racp_lexfix.specs.Proving.{IsAnswerProvedUntil, IsProofOf, IsProving, IsProvingUntil, MayEndPlanning};
 ghost use Rattle.racp_lexfix.specs.declared.answer.Answer.TheVariants.{Plan as ThePlan};
 ghost use Rattle.racp_lexfix.specs.declared.answer.PlanStop.TheVariants.{Memory};
 
 use crate::answer::{Answer, PlanStop};
+use crate::by_clauses::unproved;
+use crate::hints::hints_of;
 use crate::planning::Task;
 use crate::printed::{Printed, Refusal, answer_printed};
-use crate::status::{CHECK_FAILED, DONE};
+use crate::status::DONE;
 use racp_askers::Alone;
 use racp_bounds::Sharp;
 use racp_check::{Opening, opening_of};
-use racp_model::{Capacities, Network, OfNetwork, Window};
+use racp_model::{Network, OfNetwork, Window};
 use racp_plan::Plan;
 use racp_prices::{most_units, read_order};
+use racp_search::{Never, Stop};
 use racp_sm::read_sm;
-use racp_trees::certificate;
+use racp_trees::{Claim, certificate};
 use std::alloc::{AllocError, Global};
 use std::marker::Brand;
 
@@ -35,13 +38,35 @@ use std::marker::Brand;
 pub fn prove_alone(alloc: Global, net_bytes: &[u8], order_text: &[u8]) -> Result<Printed, Refusal>
     ensures { IsProving net_bytes.now order_text.now result }
 {
+    prove_until(alloc, net_bytes, order_text, &Never)
+}
+
+/// What `prove_alone` answers, unless it is stopped: then the line `unproved`, with the status 8, whether there is a plan
+/// or not. The stop is asked at each node of a search, and at each line of the certificate.
+///
+/// # Errors
+///
+/// As with `prove_alone`.
+pub fn prove_until<P: Stop>(
+    alloc: Global,
+    net_bytes: &[u8],
+    order_text: &[u8],
+    stop: &P,
+) -> Result<Printed, Refusal>
+    ensures { IsProvingUntil P.QUIET net_bytes.now order_text.now result }
+{
     let net = read_sm(alloc, net_bytes)?;
-    prove_order(alloc, &net, order_text)
+    prove_order(alloc, &net, order_text, stop)
 }
 
 /// A certificate for the plan of the text of an order for a network, or why there is none.
-fn prove_order(alloc: Global, net: &Network, order_text: &[u8]) -> Result<Printed, Refusal>
-    ensures { (text : List ℕ) → IsReading text (Ok net.now) → IsProving text order_text.now result }
+fn prove_order<P: Stop>(
+    alloc: Global,
+    net: &Network,
+    order_text: &[u8],
+    stop: &P,
+) -> Result<Printed, Refusal>
+    ensures { (text : List ℕ) → IsReading text (Ok net.now) → IsProvingUntil P.QUIET text order_text.now result }
 {
     let order = read_order(alloc, order_text, net.resource_count(), net.job_count())?;
     let task = Task {
@@ -49,55 +74,70 @@ fn prove_order(alloc: Global, net: &Network, order_text: &[u8]) -> Result<Printe
         net,
         order: &order,
     };
-    let printed = prove_plan(&task);
+    let printed = prove_plan(&task, stop);
     // Dropped here once, not at each way out.
     drop(order);
     Ok(printed?)
 }
 
 /// A certificate for the plan of an order, or why there is none.
-fn prove_plan(task: &Task) -> Result<Printed, PlanStop>
+fn prove_plan<P: Stop>(task: &Task, stop: &P) -> Result<Printed, PlanStop>
     requires terms { AreTermsOf task.now.net.now task.now.order.now }
-    ensures proof { IfOk result (λ printed. IsAnswerProved task.now.net.now task.now.order.now printed.text.items
-        printed.status) }
+    ensures proof { IfOk result (λ printed. IsAnswerProvedUntil P.QUIET task.now.net.now task.now.order.now
+        printed.text.items printed.status) }
     ensures stop { IfErr result (λ stop. stop ≡ Memory) }
 {
     let mut sharp = None;
-    prove_and_keep(task, &mut sharp)
+    prove_and_keep(task, &mut sharp, stop)
 }
 
 /// A certificate for the plan of an order, or why there is none. The sharpened floors are kept, once they are known.
-fn prove_and_keep(task: &Task, sharp: &mut Option<Sharp>) -> Result<Printed, PlanStop>
+fn prove_and_keep<P: Stop>(
+    task: &Task,
+    sharp: &mut Option<Sharp>,
+    stop: &P,
+) -> Result<Printed, PlanStop>
     requires terms { AreTermsOf task.now.net.now task.now.order.now }
-    ensures proof { IfOk result (λ printed. IsAnswerProved task.now.net.now task.now.order.now printed.text.items
-        printed.status) }
+    ensures proof { IfOk result (λ printed. IsAnswerProvedUntil P.QUIET task.now.net.now task.now.order.now
+        printed.text.items printed.status) }
     ensures stop { IfErr result (λ stop. stop ≡ Memory) }
 {
-    let answer = plan_with_floors::<Brand>(task, sharp)?;
-    answer_proof(task, &answer, sharp)
+    match plan_with_floors::<Brand, P>(task, sharp, stop) {
+        Ok(answer) => answer_proof(task, &answer, sharp, stop),
+        Err(PlanStop::Stopped { .. }) => Ok(unproved(task)?),
+        // It wants no thread, so memory was refused.
+        Err(_) => Err(PlanStop::Memory),
+    }
 }
 
 /// The plan of an order, or why there is none; the sharpened floors are kept where they were asked for. The network is
 /// the one that `N` names.
-fn plan_with_floors<N: OfNetwork>(
+fn plan_with_floors<N: OfNetwork, P: Stop>(
     task: &Task,
     sharp: &mut Option<Sharp>,
+    stop: &P,
 ) -> Result<Answer, PlanStop>
     requires named { task.now.net.now ≡ N.network }
     requires terms { AreTermsOf task.now.net.now task.now.order.now }
     ensures answer { IfOk result (IsAnswer task.now.net.now task.now.order.now) }
-    ensures stop { IfErr result (λ stop. stop ≡ Memory) }
+    ensures stop { IfErr result (MayEndPlanning P.QUIET) }
 {
     // A search of its own would not sharpen the floors.
-    let mut alone: Alone<N> = Alone::new(task.alloc, task.net)?.with_conflicts(0);
-    let planned = task.plan_and_keep(&mut alone, sharp, None);
+    let alone: Alone<N> = Alone::new(task.alloc, task.net)?.with_conflicts(0);
+    let mut until = alone.until(stop);
+    let planned = task.plan_and_keep(&mut until, sharp, None);
     // Dropped here once, not at each way out.
-    drop(alone);
+    drop(until);
     planned
 }
 
 /// The text and the status for an answer: a certificate for the plan, or why there is no plan.
-fn answer_proof(task: &Task, answer: &Answer, sharp: &Option<Sharp>) -> Result<Printed, PlanStop>
+fn answer_proof<P: Stop>(
+    task: &Task,
+    answer: &Answer,
+    sharp: &Option<Sharp>,
+    stop: &P,
+) -> Result<Printed, PlanStop>
     requires terms { AreTermsOf task.now.net.now task.now.order.now }
     requires answer { IsAnswer task.now.net.now task.now.order.now answer.now }
     ensures proof { IfOk result (λ printed. IsProofOf task.now.net.now task.now.order.now answer.now printed.text.items
@@ -105,7 +145,7 @@ fn answer_proof(task: &Task, answer: &Answer, sharp: &Option<Sharp>) -> Result<P
     ensures stop { IfErr result (λ stop. stop ≡ Memory) }
 {
     match answer {
-        Answer::Plan(plan) => Ok(answer_certificate(task, plan, sharp)?),
+        Answer::Plan(plan) => Ok(answer_certificate(task, plan, sharp, stop)?),
         _ => {
             let printed = answer_printed(task.alloc, task.order, answer)?;
             Ok(printed)
@@ -114,30 +154,29 @@ fn answer_proof(task: &Task, answer: &Answer, sharp: &Option<Sharp>) -> Result<P
 }
 
 /// A certificate for a plan, or that none was made, with its status.
-fn answer_certificate(
+fn answer_certificate<P: Stop>(
     task: &Task,
     plan: &Plan,
     sharp: &Option<Sharp>,
+    stop: &P,
 ) -> Result<Printed, AllocError>
     requires terms { AreTermsOf task.now.net.now task.now.order.now }
     requires plan { IsAnswer task.now.net.now task.now.order.now (ThePlan plan.now) }
     ensures { IfOk result (λ printed. IsProofOf task.now.net.now task.now.order.now (ThePlan plan.now) printed.text.items
         printed.status) }
 {
-    let Some(text) = certificate_of(task, plan.capacities.as_slice(), sharp)? else {
-        return Ok(Printed {
-            text: b"unproved\n".to_vec(task.alloc)?,
-            status: CHECK_FAILED,
-        });
+    let Some(text) = certificate_of(task, plan.capacities.as_slice(), sharp, stop)? else {
+        return unproved(task);
     };
     Ok(Printed { text, status: DONE })
 }
 
 /// A certificate that no capacities before these are enough, or `None` where none was made.
-fn certificate_of(
+fn certificate_of<P: Stop>(
     task: &Task,
     capacities: &[u32],
     sharp: &Option<Sharp>,
+    stop: &P,
 ) -> Result<Option<Vec<u8>>, AllocError>
     requires terms { AreTermsOf task.now.net.now task.now.order.now }
     requires capacities { length capacities.now ≡ task.now.net.now.resources }
@@ -147,15 +186,16 @@ fn certificate_of(
     let Opening::Root { window, .. } = opening_of(task.alloc, task.net, task.order)? else {
         return Ok(None);
     };
-    certificate_within(task, &window, capacities, sharp)
+    certificate_within(task, &window, capacities, sharp, stop)
 }
 
 /// A certificate that no capacities before these are enough, by the root window of the task. `None` where none is made.
-fn certificate_within(
+fn certificate_within<P: Stop>(
     task: &Task,
     root: &Window,
     capacities: &[u32],
     sharp: &Option<Sharp>,
+    stop: &P,
 ) -> Result<Option<Vec<u8>>, AllocError>
     requires terms { AreTermsOf task.now.net.now task.now.order.now }
     requires root { IsRootWindow task.now.net.now (release_of task.now.order.now) (due_of task.now.order.now) root.now }
@@ -166,49 +206,11 @@ fn certificate_within(
     let (alloc, net, order) = (task.alloc, task.net, task.order);
     let roofs = most_units(alloc, net, order)?;
     let hints = hints_of(alloc, sharp, &roofs)?;
-    let roofs = roofs.as_slice();
-    certificate(alloc, net, order, root, roofs, capacities, &hints)
-}
-
-/// Capacities that are not enough, where the floors are sharpened: of each resource one unit less than its floor, and of
-/// each refuted pair both floors, with the roofs of the other resources.
-fn hints_of(
-    alloc: Global,
-    sharp: &Option<Sharp>,
-    roofs: &Capacities,
-) -> Result<Vec<Vec<u32>>, AllocError> {
-    let mut hints = Vec::new(alloc);
-    let Some(sharp) = sharp else {
-        return Ok(hints);
+    let claim = Claim {
+        net,
+        order,
+        roofs: roofs.as_slice(),
+        capacities,
     };
-    let (floors, roofs) = (sharp.floors.as_slice(), roofs.as_slice());
-    for k in 0..floors.len() {
-        if floors[k] > 0 {
-            let mut hint = roofs.to_vec(alloc)?;
-            put(&mut hint, k, floors[k] - 1);
-            hints.push(hint)?;
-        }
-    }
-    for (first, second) in &sharp.pairs {
-        let mut hint = roofs.to_vec(alloc)?;
-        put_floor(&mut hint, floors, *first);
-        put_floor(&mut hint, floors, *second);
-        hints.push(hint)?;
-    }
-    Ok(hints)
-}
-
-/// Writes the floor of the resource with this number to its place.
-fn put_floor(hint: &mut [u32], floors: &[u32], resource: u32) {
-    let k = (resource as usize).saturating_sub(1);
-    if k < floors.len() {
-        put(hint, k, floors[k]);
-    }
-}
-
-/// Writes a number of units to a place, if there is such a place.
-fn put(hint: &mut [u32], k: usize, units: u32) {
-    if k < hint.len() {
-        hint[k] = units;
-    }
+    certificate(alloc, &claim, root, &hints, stop)
 }
