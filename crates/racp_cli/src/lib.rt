@@ -21,8 +21,9 @@
 //! - `order_over` reads a network, and writes an order.
 //!
 //! `known_text` makes the text of a plan that is known while planning goes on. Each command returns the status with which
-//! the program ends. `verify_over_until` and `prove_by_clauses_over` can be stopped. `run_over_within` and `crowd_over_by`
-//! also take how much memory the records of refuted nodes may have. docs/FORMATS.md has every line and every status.
+//! the program ends. `verify_over_until`, `prove_over_until` and `prove_by_clauses_over` can be stopped. `run_over_within`
+//! and `crowd_over_by` also take how much memory the records of refuted nodes may have. docs/FORMATS.md has every line and
+//! every status.
 //!
 //! Two jobs, 1 before 2, run for 2 time units and 1, and use 1 unit and 3; the order has the deadline 4 and the price
 //! 5. With these texts in `net` and `order`, `run_over(alloc, &mut net, &mut order, &mut out)` returns 0, and in `out`
@@ -95,7 +96,7 @@ pub use fault::StreamFault;
 pub use known::known_text;
 pub use order::{Asked, Time, order_over};
 pub use plan::{run_over, run_over_within};
-pub use prove::prove_over;
+pub use prove::{prove_over, prove_over_until};
 pub use prove_by_clauses::prove_by_clauses_over;
 pub use report::{Page, report_over};
 pub use show::{Look, show_over};

@@ -1,13 +1,14 @@
 //! `prove`: a certificate for the plan of a network on the terms of an order, made on one thread.
 
 ghost use Rattle.std.specs.Prelude.{IfOk};
-ghost use Rattle.racp_cli.specs.Proofs.{IsProofAnswer, IsProofRun};
+ghost use Rattle.racp_cli.specs.Proofs.{IsProofAnswer, IsProofAnswerUntil, IsProofRun, IsProofRunUntil};
 
 use crate::fault::StreamFault;
 use crate::refusal::refused;
 use crate::respond::respond;
 use crate::streams::read_whole;
-use racp_lexfix::prove_alone;
+use racp_delay::Stop;
+use racp_lexfix::{prove_alone, prove_until};
 use std::alloc::{AllocError, Global};
 use std::io::{Read, Write};
 
@@ -36,11 +37,47 @@ pub fn prove_over<N: Read, O: Read, W: Write>(
     respond(answer(alloc, &net, &order), out)
 }
 
+/// What `prove_over` does, unless it is stopped: then it writes that no certificate was made, and returns 8.
+///
+/// # Errors
+///
+/// As with `prove_over`.
+pub fn prove_over_until<N: Read, O: Read, W: Write, S: Stop>(
+    alloc: Global,
+    net: &mut N,
+    order: &mut O,
+    out: &mut W,
+    stop: &S,
+) -> Result<u8, StreamFault>
+    ensures { IsProofRunUntil S.QUIET (record { unread = N.remaining net.old; left = N.remaining net.new })
+        (record { unread = O.remaining order.old; left = O.remaining order.new })
+        (W.contents out.old) (W.contents out.new) result }
+{
+    let net = read_whole(alloc, net)?;
+    let order = read_whole(alloc, order)?;
+    respond(answer_until(alloc, &net, &order, stop), out)
+}
+
 /// The status and the text of the answer to the texts of a network and an order.
 fn answer(alloc: Global, net: &[u8], order: &[u8]) -> Result<(u8, Vec<u8>), AllocError>
     ensures { IfOk result (λ answer. IsProofAnswer net.now order.now answer.0 answer.1.items) }
 {
     match prove_alone(alloc, net, order) {
+        Ok(printed) => Ok((printed.status, printed.text)),
+        Err(refusal) => refused(alloc, refusal),
+    }
+}
+
+/// The same, unless it is stopped.
+fn answer_until<S: Stop>(
+    alloc: Global,
+    net: &[u8],
+    order: &[u8],
+    stop: &S,
+) -> Result<(u8, Vec<u8>), AllocError>
+    ensures { IfOk result (λ answer. IsProofAnswerUntil S.QUIET net.now order.now answer.0 answer.1.items) }
+{
+    match prove_until(alloc, net, order, stop) {
         Ok(printed) => Ok((printed.status, printed.text)),
         Err(refusal) => refused(alloc, refusal),
     }

@@ -1,0 +1,16 @@
+use Rattle.std.proofs.Common.{[], ◌∷◌, IfOk, inr, refl}
+use Rattle.racp_cli.specs.Proofs.{IsProofAnswerUntil}
+use Rattle.racp_cli.specs.Streams.{Reader, AreInputs, ToTwo}
+use Rattle.racp_cli.proofs.Responding.{answered_as, made_right, run_answered}
+use Rattle.racp_cli.proofs.prove.prove_over_until.Goals as goal
+
+pub returns : goal.returns
+returns g c =
+    let net = c.in_ok-net.net.items in
+    let order = c.in_ok-order.order.items in
+    let first : Reader = record { unread = g.N.Read.remaining c.args.net.now; left = g.N.Read.remaining c.read_whole.new.reader } in
+    let second : Reader = record { unread = g.O.Read.remaining c.args.order.now; left = g.O.Read.remaining c.read_whole-2.new.reader } in
+    let are : AreInputs (first ∷ (second ∷ [])) (net ∷ (order ∷ [])) = (c.in_ok-net.ensures, (c.in_ok-order.ensures, tt)) in
+    let made : IfOk c.answer_until.result (λ answer. IsProofAnswerUntil g.S.Stop.QUIET net order answer.0 answer.1.items) = rw (← c.deref.ensures.value, ← c.deref-2.ensures.value) c.answer_until.ensures in
+    run_answered (ToTwo (IsProofAnswerUntil g.S.Stop.QUIET)) (first ∷ (second ∷ [])) (net ∷ (order ∷ [])) _ _ c.respond.result are
+    (answered_as _ (IsProofAnswerUntil g.S.Stop.QUIET net order) _ _ c.respond.result (made_right (IsProofAnswerUntil g.S.Stop.QUIET net order) c.answer_until.result made (inr (inr (inr (refl, refl))))) c.respond.ensures)
