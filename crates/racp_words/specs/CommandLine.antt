@@ -4,6 +4,7 @@ use Rattle.std.specs.Prelude.{if◌then◌else◌, option_map}
 use Rattle.clap.specs.Words.{App, IsUnsignedIn, Row, Text, first_of, new_app, new_rule, subcommand_of, with_rule}
 use Rattle.clap.specs.Words.{with_subcommand}
 use Rattle.racp_words.specs.Rules.{AreOrderFiles, ArePlanFiles, AreProofFiles, IsCrew, IsNumberOf, answering, file_rule, flag_rule, is_set, number_rule, of_order, of_plan, of_workers, telling, text_rule}
+use Rattle.racp_words.specs.Batches.{batch}
 use Rattle.racp_words.specs.Tools.{IsNoTool, IsToolOf, curve, explain, import_table, report, show, order as order_app, whatif}
 use Rattle.racp_words.specs.declared.request.CrewOptions.{CrewOptions}
 use Rattle.racp_words.specs.declared.request.Request.{Request}
@@ -69,9 +70,9 @@ racp_charting = with_subcommand (with_subcommand (with_subcommand racp_checking 
 abbrev pub racp_asking : App
 racp_asking = with_subcommand (with_subcommand racp_charting whatif.top) order_app.top
 
--- `racp [.. | import FILE OPTIONS | explain [FORMAT] [FAULT]]`
+-- `racp [.. | batch NET.. OPTIONS | import FILE OPTIONS | explain [FORMAT] [FAULT]]`
 unfoldable pub racp : App
-racp = with_subcommand (with_subcommand racp_asking import_table.top) explain.top
+racp = with_subcommand (with_subcommand (with_subcommand racp_asking batch.top) import_table.top) explain.top
 
 -- standard input if no word names a file, or `-` does; else the file of this path
 abbrev pub IsSource : Option Text → Source → Type 0

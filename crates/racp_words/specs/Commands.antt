@@ -3,10 +3,11 @@ use Rattle.std.specs.Prelude.{◌≡◌, List, [], ◌∷◌, false, true}
 use Rattle.clap.specs.Words.{App, Rule, app_of, new_app, new_rule, with_rule, with_subcommand}
 use Rattle.clap.specs.declared.builder.command.Command.{Command}
 use Rattle.clap.specs.declared.builder.command.Command.TheViews.{out-Command}
+use Rattle.racp_words.specs.Batches.{files_rule}
 use Rattle.racp_words.specs.Rules.{file_rule, flag_rule, lettered, number_rule, ranged_rule, text_rule}
 use Rattle.racp_words.specs.declared.table.Line.{Line}
 use Rattle.racp_words.specs.declared.table.Word.{Word}
-use Rattle.racp_words.specs.declared.table.Word.TheVariants.{File, Optional, Number, Lettered, Text, Needed, Flag}
+use Rattle.racp_words.specs.declared.table.Word.TheVariants.{File, Files, Optional, Number, Lettered, Text, Needed, Flag}
 
 -- the command is as said, and none of its words is one of all commands
 pub record IsCommandOf (app : App) (command : Command) : Type 0 where
@@ -16,6 +17,7 @@ pub record IsCommandOf (app : App) (command : Command) : Type 0 where
 -- the rule of a word
 abbrev pub rule_of_word : Word → Rule
 rule_of_word (File id help) = file_rule id.now
+rule_of_word (Files id help) = files_rule id.now
 rule_of_word (Optional id help) = new_rule id.now
 rule_of_word (Number id name most help) = number_rule id.now most
 rule_of_word (Lettered letter id name most help) = lettered letter (ranged_rule id.now 0 most)

@@ -1,16 +1,17 @@
--- What the commands `show`, `report`, `curve`, `whatif`, `order`, `import` and `explain` ask for.
+-- What the commands `show`, `report`, `curve`, `whatif`, `order`, `batch`, `import` and `explain` ask for.
 use Rattle.std.specs.Prelude.{◌≡◌, ◌≢◌, ℕ, List, Option, None, codes, false, true, Some}
 use Rattle.std.specs.Prelude.{option_map}
 use Rattle.clap.specs.Words.{App, IsUnsignedIn, Row, Text, first_of, new_app, new_rule, with_rule}
 use Rattle.racp_words.specs.Rules.{AreOrderFiles, ArePlanFiles, IsCrew, IsNumberOf, answering, by_workers, file_rule, flag_rule, is_set, number_in, number_rule, of_order, of_plan, of_workers, path_at, telling, text_rule}
 use Rattle.racp_show.specs.declared.form.Form.{Form}
 use Rattle.racp_show.specs.declared.form.Form.TheVariants.{Text as Blocks, Ascii, Svg, Json, Csv}
+use Rattle.racp_words.specs.Batches.{AreBatchWords}
 use Rattle.racp_words.specs.declared.request.Dates.{Dates}
 use Rattle.racp_words.specs.declared.request.Look.{Look}
 use Rattle.racp_words.specs.declared.request.TableWords.{TableWords}
 use Rattle.racp_words.specs.declared.request.Terms.{Terms}
 use Rattle.racp_words.specs.declared.request.Tool.{Tool}
-use Rattle.racp_words.specs.declared.request.Tool.TheVariants.{Show, Report, Curve, WhatIf, Order, Import, Explain}
+use Rattle.racp_words.specs.declared.request.Tool.TheVariants.{Show, Report, Curve, WhatIf, Order, Batch, Import, Explain}
 
 -- `show NET ORDER PLAN [--names FILE] [--width N]`
 abbrev pub show_named : App
@@ -167,6 +168,8 @@ IsToolOf command (WhatIf files options memory crew) =
     IsCrew command.1 crew
 IsToolOf command (Order net terms) =
     (command.0 ≡ codes "order") × (net.now ≡ path_at (codes "NET") command.1) × AreTerms command.1 terms
+IsToolOf command (Batch table memory) = (command.0 ≡ codes "batch") × AreBatchWords command.1 table ×
+    IsNumberOf 1048576 1024 (first_of (codes "memory") command.1) memory.mebibytes
 IsToolOf command (Import table) = (command.0 ≡ codes "import") × AreTableWords command.1 table
 IsToolOf command (Explain format fault) =
     (command.0 ≡ codes "explain") × (option_map (λ word. word.now) format ≡ first_of (codes "FORMAT") command.1) ×
@@ -179,5 +182,6 @@ pub record IsNoTool (name : Text) : Type 0 where
   pub no_curve : name ≢ codes "curve"
   pub no_whatif : name ≢ codes "whatif"
   pub no_order : name ≢ codes "order"
+  pub no_batch : name ≢ codes "batch"
   pub no_import : name ≢ codes "import"
   pub no_explain : name ≢ codes "explain"

@@ -1,12 +1,13 @@
 //! The words of the command line, and what they ask for.
 
-ghost use Rattle.std.specs.Prelude.{◌≡◌, ◌≤◌, ℕ, List, Option, Some, IfNone, IfOk, IfSome, MatchResult, map, option_map, string_bytes, codes};
+ghost use Rattle.std.specs.Prelude.{◌≡◌, ◌≢◌, ◌≤◌, ℕ, List, Option, Some, IfNone, IfOk, IfSome, MatchResult, map, option_map, string_bytes, codes};
 ghost use Rattle.clap.specs.Words.{FailsBy, fault_of, first_of, first_value, found_of, kind_of, rows_of, subcommand_rows_of};
 ghost use Rattle.clap.specs.declared.error.kind.ErrorKind.TheVariants.{OutOfMemory};
 ghost use Rattle.racp_words.specs.CommandLine.{AskFor, IsTask, IsCheckLine, AsksForCheck, IsProveLine, AsksForProve, IsVerifyLine, AsksForVerify, IsCpmLine, AsksForCpm, IsPlanLine, AsksForPlan, IsWorkersLine, AsksForWorkers, IsRequested, IsSource, is_json_of, racp, telling_by, telling_of};
 ghost use Rattle.racp_words.specs.Rules.{AreOrderFiles, ArePlanFiles, AreProofFiles, number_in};
 ghost use Rattle.racp_words.specs.Tools.{AreTableWords, AreTerms, IsForm, IsLook, IsNoTool, IsToolOf, IsWidth};
 
+use crate::batch_words::batch_of;
 use crate::commands::command;
 use crate::most::MOST_WIDTH;
 use crate::options::{crew_of, dates_of, is_set, memory_of, number_of, path_of, text_of};
@@ -16,7 +17,7 @@ use crate::request::{
 };
 use clap::{ArgMatches, Error};
 use racp_show::Form;
-use std::alloc::Global;
+use std::alloc::{AllocError, Global};
 
 /// What the words ask for. The first of them is the program's name.
 ///
@@ -47,18 +48,20 @@ pub fn asked<'a>(alloc: Global, words: &'a [String]) -> Result<Task<'a>, Error>
     ensures faults { FailsBy (fault_of racp (map string_bytes words.entry.now)) result }
 {
     let matches = command(alloc)?.try_get_matches_from(words)?;
-    Ok(task_of(&matches))
+    let task = task_of(alloc, &matches)?;
+    Ok(task)
 }
 
 /// What the matches of the words ask for, how much is told of faults, and whether JSON is written.
-fn task_of<'a>(matches: &ArgMatches<'a>) -> Task<'a>
-    ensures { IsTask (subcommand_rows_of matches.now) result }
+fn task_of<'a>(alloc: Global, matches: &ArgMatches<'a>) -> Result<Task<'a>, AllocError>
+    ensures { IfOk result (IsTask (subcommand_rows_of matches.now)) }
 {
-    Task {
-        request: request_of(matches),
+    let request = request_of(alloc, matches)?;
+    Ok(Task {
+        request,
         telling: telling_of(matches),
         is_json: is_json_of(matches),
-    }
+    })
 }
 
 /// How much is told of faults.
@@ -95,17 +98,34 @@ fn is_json_of(matches: &ArgMatches<'_>) -> bool
 }
 
 /// What the matches of the words ask for.
-fn request_of<'a>(matches: &ArgMatches<'a>) -> Request<'a>
-    ensures { IsRequested (subcommand_rows_of matches.now) result }
+fn request_of<'a>(alloc: Global, matches: &ArgMatches<'a>) -> Result<Request<'a>, AllocError>
+    ensures { IfOk result (IsRequested (subcommand_rows_of matches.now)) }
 {
     match entered(matches) {
-        Some((name, words)) => request_named(name, words),
-        None => Request::Cpm(Source::StandardInput),
+        Some((name, words)) => request_among(alloc, name, words),
+        None => Ok(Request::Cpm(Source::StandardInput)),
     }
 }
 
 /// What a command with this name and these words asks for.
+fn request_among<'a>(
+    alloc: Global,
+    name: &str,
+    words: &ArgMatches<'a>,
+) -> Result<Request<'a>, AllocError>
+    ensures { IfOk result (IsRequested (Some (name.now, rows_of (found_of words.now)))) }
+{
+    if name == "batch" {
+        let table = batch_of(alloc, words)?;
+        Ok(Request::Tool(Tool::Batch(table, memory_of(words))))
+    } else {
+        Ok(request_named(name, words))
+    }
+}
+
+/// The same of a command other than `batch`.
 fn request_named<'a>(name: &str, words: &ArgMatches<'a>) -> Request<'a>
+    requires { name.now ≢ codes "batch" }
     ensures { IsRequested (Some (name.now, rows_of (found_of words.now))) result }
 {
     if name == "plan" {
@@ -125,8 +145,9 @@ fn request_named<'a>(name: &str, words: &ArgMatches<'a>) -> Request<'a>
     }
 }
 
-/// The tool with this name that these words ask for, if there is one of the name.
+/// The tool with this name other than `batch` that these words ask for, if there is one of the name.
 fn tool_named<'a>(name: &str, words: &ArgMatches<'a>) -> Option<Tool<'a>>
+    requires { name.now ≢ codes "batch" }
     ensures some { IfSome result (IsToolOf (name.now, rows_of (found_of words.now))) }
     ensures none { IfNone result (IsNoTool name.now) }
 {

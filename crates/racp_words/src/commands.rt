@@ -7,6 +7,7 @@ ghost use Rattle.racp_words.specs.Commands.{IsCommandOf, app_of_line, rule_of_wo
 ghost use Rattle.racp_words.specs.Rules.{flag_rule, lettered, ranged_rule, text_rule};
 
 use crate::table::{COMMANDS, Line, Word};
+use crate::tools::TOOLS;
 use clap::builder::ValueParser;
 use clap::{Arg, ArgAction, Command};
 use std::alloc::{AllocError, Global};
@@ -48,7 +49,8 @@ Proved with Rattle, logic dac8208d650f15bf.";
 pub(crate) fn command<'a>(alloc: Global) -> Result<Command<'a>, AllocError>
     ensures { IfOk result (λ command. app_of command ≡ racp) }
 {
-    with_commands(alloc, program(alloc), COMMANDS)
+    let planning = with_commands(alloc, program(alloc), COMMANDS)?;
+    with_commands(alloc, planning, TOOLS)
 }
 
 /// The program with a command for each line of a table.
@@ -118,6 +120,11 @@ fn argument_of<'a>(alloc: Global, word: &Word<'a>) -> Arg<'a>
 {
     match *word {
         Word::File(id, help) => Arg::new(alloc, id).required(true).help(help),
+        Word::Files(id, help) => Arg::new(alloc, id)
+            .required(true)
+            .num_args(1..)
+            .action(ArgAction::Append)
+            .help(help),
         Word::Optional(id, help) => Arg::new(alloc, id).help(help),
         Word::Number(id, name, most, help) => number_option(alloc, id, name, 1, most).help(help),
         Word::Lettered(letter, id, name, most, help) => number_option(alloc, id, name, 0, most)

@@ -1,7 +1,7 @@
 //! The words of the command line of the program `racp`, and what they ask for.
 //!
 //! The library `clap` reads the words: `command` in `commands` tells it the commands of the program and their words,
-//! from the table in `table`, and `asked` turns what it found into a `Task`. The crate is apart from the others, so that a change of
+//! from the tables in `table` and `tools`, and `asked` turns what it found into a `Task`. The crate is apart from the others, so that a change of
 //! a help text leaves them as they were proved. The first of the words is the program's name; words are UTF-8.
 //!
 //! ```text
@@ -22,6 +22,7 @@
 //! racp curve b.sm b3.toml --workers 4      the same, and a CrewOptions of 4 workers
 //! racp whatif a.sm a4.toml p               Tool, WhatIf with these paths, 1,024 MiB, one thread, and no names
 //! racp order a.sm --factor 1.2 --prices 3  Tool, Order with the path a.sm, the factor 1.2 and the prices 3, as words
+//! racp batch a.sm b.sm --factors 1.0,1.5   Tool, Batch with the paths a.sm and b.sm, the word 1.0,1.5 and 1,024 MiB
 //! racp import t.csv --out t                Tool, Import with the path t.csv and the word t for the files
 //! racp explain sm 12                       Tool, Explain with the words sm and 12
 //! racp plan b.sm b3.toml --workers 65      an error: this is no number from 0 to 64
@@ -40,7 +41,7 @@
 //! of each command that reads a file say; and whether the answer is written as JSON, which the flag `--json` says.
 //!
 //! The commands stand in `specs/` a second time, as values of the library's definitions: `racp`, `cpm`, `plan`,
-//! `of_order`, `of_plan`, `check`, `verify`, `show`, `report`, `curve`, `whatif`, `order`, `import_table` and `explain`. What `clap` is proved to do with
+//! `of_order`, `of_plan`, `check`, `verify`, `show`, `report`, `curve`, `whatif`, `order`, `batch`, `import_table` and `explain`. What `clap` is proved to do with
 //! them says what any words ask for.
 //!
 //! Proved: without words, with `cpm`, and with `cpm` and a word that does not begin with a hyphen or is a hyphen alone,
@@ -50,13 +51,14 @@
 //! cases only memory can fail. A path here is a word that is not empty and does not begin with a hyphen. For any other
 //! words `asked` answers what `clap` is proved to find, or refuses with the kind of error that it is proved to give:
 //! `plan` asks for a crew exactly if `clap` finds one of the six options, and a number that it finds and that is in
-//! range is that of the crew or of the memory; `show`, `report`, `curve`, `whatif`, `order`, `import` and `explain` ask for what their
+//! range is that of the crew or of the memory; `show`, `report`, `curve`, `whatif`, `order`, `batch`, `import` and `explain` ask for what their
 //! words and flags say (`IsToolOf`); nothing is told of faults exactly if it finds `--quiet`, and else all exactly if it
 //! finds `--explain`; JSON is asked for exactly if it finds `--json`. No crew has more than 64
 //! workers or 1,000,000,000,000 turns, and no more than 1,048,576 MiB are asked for. Tested alone, over the built
 //! program: the texts of help, of the version and of errors.
 #![tactic(auto)]
 
+mod batch_words;
 mod command_line;
 mod commands;
 mod most;
@@ -64,9 +66,10 @@ mod options;
 mod request;
 mod table;
 mod table_words;
+mod tools;
 
 pub use command_line::asked;
 pub use request::{
-    CrewOptions, Dates, Look, Memory, OrderFiles, PlanFiles, ProofFiles, ReportWords, Request,
+    BatchWords, CrewOptions, Dates, Look, Memory, OrderFiles, PlanFiles, ProofFiles, ReportWords, Request,
     Source, TableWords, Task, Telling, Terms, Tool, WhatIfWords,
 };

@@ -58,7 +58,7 @@ pub(crate) fn crew_of<'a>(words: &ArgMatches<'a>) -> Option<CrewOptions<'a>>
 
 /// How many workers the word of their option asks for; 0 stands for as many as there are processors. The option's rule
 /// refuses words that are no numbers from 0 to 64.
-fn worker_count(word: Option<&str>) -> usize
+pub(crate) fn worker_count(word: Option<&str>) -> usize
     ensures number { IsWorkerCount (option_map (λ word. word.now) word.entry) result }
     ensures few { result ≤ 64 }
 {

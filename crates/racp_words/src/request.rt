@@ -59,6 +59,8 @@ pub enum Tool<'a> {
     WhatIf(OrderFiles<'a>, WhatIfWords<'a>, Memory, Option<CrewOptions<'a>>),
     /// The text of an order for a network with this path.
     Order(&'a str, Terms<'a>),
+    /// A table of what networks cost with deadlines, with so much memory for the records of each plan.
+    Batch(BatchWords<'a>, Memory),
     /// A network, and perhaps an order, of a table of tasks.
     Import(TableWords<'a>),
     /// What faults mean: those that these words name, or a list of all.
@@ -144,6 +146,24 @@ pub struct TableWords<'a> {
     pub owned: Option<&'a str>,
     /// How many units there may be, if that is told.
     pub ceiling: Option<&'a str>,
+}
+
+/// The words for a table of results.
+#[derive(Drop)]
+pub struct BatchWords<'a> {
+    /// The paths of the networks, in the order of the words.
+    pub nets: Vec<&'a str>,
+    /// By what the critical lengths are multiplied.
+    pub factors: &'a str,
+    /// What a unit of each resource costs, if that is told.
+    pub price: Option<&'a str>,
+    /// The word for the seconds after which the planning of a row stops, if an option says so.
+    pub limit: Option<&'a str>,
+    /// How many rows are planned at a time, 1 to 64, or 0 for one for each processor; 1 if no option says so.
+    pub jobs: usize,
+    /// The path of the folder in which plans are kept, if they are.
+    pub out: Option<&'a str>,
+    pub ghost jobs_few: { jobs ≤ 64 },
 }
 
 /// The paths of the files of a network and an order.

@@ -21,7 +21,7 @@ returns-clause-asked c =
     let is_racp : app_of c.in_ok-command.field-0 ≡ racp = c.in_ok-command.ensures in
     let entered : subcommand_rows_of c.in_ok-matches.matches ≡ subcommand_of racp words =
     (c.in_ok-matches.ensures.matches (ap is_simple is_racp ∙ simple)).1 ∙ ap (λ a. subcommand_of a words) is_racp in
-    subst (λ (command : Option (Text × List Row)). IsTask command c.task_of.result) entered c.task_of.ensures
+    subst (λ (command : Option (Text × List Row)). IsTask command c.in_ok-task.task) entered c.in_ok-task.ensures
 
 pub returns-clause-faults : goal.returns-clause-faults
 returns-clause-faults c =
@@ -42,22 +42,22 @@ returns-in_err-matches-clause-faults c =
     rw (p.1, p.2) (refused c)
 
 pub returns-clause-cpm : goal.returns-clause-cpm
-returns-clause-cpm c network line = (cpm_line (map string_bytes c.args.words.now) network line).1 c.task_of.result.request (returns-clause-asked c).request
+returns-clause-cpm c network line = (cpm_line (map string_bytes c.args.words.now) network line).1 c.in_ok-task.task.request (returns-clause-asked c).request
 
 pub returns-clause-plan : goal.returns-clause-plan
-returns-clause-plan c net order line = (plan_line (map string_bytes c.args.words.now) net order line).1 c.task_of.result.request (returns-clause-asked c).request
+returns-clause-plan c net order line = (plan_line (map string_bytes c.args.words.now) net order line).1 c.in_ok-task.task.request (returns-clause-asked c).request
 
 pub returns-clause-workers : goal.returns-clause-workers
-returns-clause-workers c net order number line = (workers_line (map string_bytes c.args.words.now) net order number line).1 c.task_of.result.request (returns-clause-asked c).request
+returns-clause-workers c net order number line = (workers_line (map string_bytes c.args.words.now) net order number line).1 c.in_ok-task.task.request (returns-clause-asked c).request
 
 pub returns-clause-prove : goal.returns-clause-prove
-returns-clause-prove c net order line = (prove_line (map string_bytes c.args.words.now) net order line).1 c.task_of.result.request (returns-clause-asked c).request
+returns-clause-prove c net order line = (prove_line (map string_bytes c.args.words.now) net order line).1 c.in_ok-task.task.request (returns-clause-asked c).request
 
 pub returns-clause-check : goal.returns-clause-check
-returns-clause-check c net order plan line = (check_line (map string_bytes c.args.words.now) net order plan line).1 c.task_of.result.request (returns-clause-asked c).request
+returns-clause-check c net order plan line = (check_line (map string_bytes c.args.words.now) net order plan line).1 c.in_ok-task.task.request (returns-clause-asked c).request
 
 pub returns-clause-verify : goal.returns-clause-verify
-returns-clause-verify c net order plan proof line = (verify_line (map string_bytes c.args.words.now) net order plan proof line).1 c.task_of.result.request (returns-clause-asked c).request
+returns-clause-verify c net order plan proof line = (verify_line (map string_bytes c.args.words.now) net order plan proof line).1 c.in_ok-task.task.request (returns-clause-asked c).request
 
 -- an error of none of the kinds is want of memory
 only_memory : (e : Error) → HasKind [] e → kind_of e ≡ OutOfMemory

@@ -1,0 +1,77 @@
+//! The words of the command that writes a table of results.
+
+ghost use Rattle.std.specs.Prelude.{◌≡◌, IfOk, codes, map};
+ghost use Rattle.clap.specs.Words.{found_of, rows_of};
+ghost use Rattle.racp_words.specs.Batches.{AreBatchWords, words_at};
+
+use crate::most::MOST_WORKERS;
+use crate::options::{path_of, text_of, worker_count};
+use crate::request::BatchWords;
+use crate::table::{MEMORY, QUIET, Word};
+use clap::ArgMatches;
+use std::alloc::{AllocError, Global};
+
+/// The words of `batch`.
+pub(crate) const BATCH: &[Word] = &[
+    Word::Files("NET", "The networks"),
+    Word::Needed(
+        "factors",
+        "F,..",
+        "The deadlines, each as so many times the critical length, rounded down: 1.0,1.2",
+    ),
+    Word::Text(
+        "price",
+        "N",
+        "What a unit of each resource costs, 0 to 1,000,000; else 1",
+    ),
+    Word::Text(
+        "time-limit",
+        "S",
+        "After how many seconds the planning of each row stops, up to 1,000,000,000: 60 or 0.5",
+    ),
+    MEMORY,
+    Word::Lettered(
+        'j',
+        "jobs",
+        "N",
+        MOST_WORKERS,
+        "How many rows are planned at a time, 1 to 64, or 0 for one for each processor; else 1",
+    ),
+    Word::Text(
+        "out",
+        "DIR",
+        "Keeps each plan in this folder: DIR/NAME-FACTOR.plan",
+    ),
+    QUIET,
+];
+
+/// The words for a table of results.
+pub(crate) fn batch_of<'a>(
+    alloc: Global,
+    words: &ArgMatches<'a>,
+) -> Result<BatchWords<'a>, AllocError>
+    ensures { IfOk result (AreBatchWords (rows_of (found_of words.now))) }
+{
+    let nets = nets_of(alloc, words)?;
+    Ok(BatchWords {
+        nets,
+        factors: path_of(words, "factors"),
+        price: text_of(words, "price"),
+        limit: text_of(words, "time-limit"),
+        jobs: worker_count(text_of(words, "jobs")),
+        out: text_of(words, "out"),
+    })
+}
+
+/// The paths of the networks.
+fn nets_of<'a>(alloc: Global, words: &ArgMatches<'a>) -> Result<Vec<&'a str>, AllocError>
+    ensures { IfOk result (λ nets. map (λ net. net.now) nets.items ≡ words_at (codes "NET") (rows_of (found_of words.now))) }
+{
+    match words.get_strs("NET") {
+        Some(nets) => {
+            let nets = nets.to_vec(alloc)?;
+            Ok(nets)
+        }
+        None => Ok(Vec::new(alloc)),
+    }
+}

@@ -1,0 +1,166 @@
+//! The commands of the program that go with plans, and their words, in a table.
+
+use crate::batch_words::BATCH;
+use crate::most::{MOST_WIDTH, MOST_WORKERS};
+use crate::table::{EXPLAIN, JSON, Line, MEMORY, NET, ORDER, PLAN, PROGRESS, QUIET, TIME_LIMIT, TURNS, Word};
+use crate::table_words::{IMPORT, START_DATE, UNIT};
+
+/// How many workers make several plans.
+const CREW: Word = Word::Lettered(
+    'j',
+    "workers",
+    "N",
+    MOST_WORKERS,
+    "How many workers make the plans, 1 to 64, or 0 for one for each processor; else 1",
+);
+
+/// The names of jobs and resources.
+const NAMES: Word = Word::Text(
+    "names",
+    "FILE",
+    "Names of the jobs and then of the resources, one a line",
+);
+
+/// Whether a picture is written.
+const SVG: Word = Word::Flag("svg", "Writes a picture for a browser, SVG");
+
+/// The commands that go with plans, in the order of help.
+pub(crate) const TOOLS: &[Line] = &[
+    Line {
+        name: "show",
+        about: "Draws a plan that is right: a chart of the jobs, and the use of each resource",
+        words: &[
+            NET,
+            ORDER,
+            PLAN,
+            NAMES,
+            Word::Number(
+                "width",
+                "N",
+                MOST_WIDTH,
+                "How many columns a line has at most, 1 to 1,000; else as COLUMNS says, or 80",
+            ),
+            Word::Flag("ascii", "Draws with the characters that every terminal has"),
+            SVG,
+            Word::Flag(
+                "links",
+                "With --svg, draws an arrow from each job to each that waits for it",
+            ),
+            START_DATE,
+            UNIT,
+            Word::Flag("json", "Writes the plan as JSON"),
+            Word::Flag("csv", "Writes a row for each job as CSV"),
+            EXPLAIN,
+            QUIET,
+        ],
+    },
+    Line {
+        name: "report",
+        about: "Writes a page about a plan that is right, in HTML: to be read and to be printed",
+        words: &[
+            NET,
+            ORDER,
+            PLAN,
+            NAMES,
+            Word::Text(
+                "curve",
+                "FILE",
+                "What each deadline costs, as curve prints it",
+            ),
+            START_DATE,
+            UNIT,
+            EXPLAIN,
+            QUIET,
+        ],
+    },
+    Line {
+        name: "curve",
+        about: "Prints what each deadline costs, from the critical length to the order's",
+        words: &[
+            NET,
+            ORDER,
+            CREW,
+            TURNS,
+            MEMORY,
+            TIME_LIMIT,
+            PROGRESS,
+            Word::Text(
+                "best",
+                "FILE",
+                "Keeps in FILE the cheapest plan that is known for the deadline of the order",
+            ),
+            SVG,
+            JSON,
+            EXPLAIN,
+            QUIET,
+        ],
+    },
+    Line {
+        name: "whatif",
+        about: "Tells what one unit fewer, one owned unit more and one time unit cost or save",
+        words: &[
+            NET,
+            ORDER,
+            Word::Optional("PLAN", "The plan; else that of the order is made"),
+            NAMES,
+            CREW,
+            TURNS,
+            MEMORY,
+            TIME_LIMIT,
+            JSON,
+            EXPLAIN,
+            QUIET,
+        ],
+    },
+    Line {
+        name: "order",
+        about: "Writes an order for a network: a deadline and prices",
+        words: &[
+            NET,
+            Word::Text(
+                "factor",
+                "F",
+                "The deadline as so many times the critical length, rounded down: 1.2",
+            ),
+            Word::Text("deadline", "T", "The deadline, 0 to 10,000,000"),
+            Word::Needed("prices", "N,..", "What a unit of each resource costs: 3,5"),
+            Word::Text(
+                "owned",
+                "N,..",
+                "How many units of each resource are owned, and cost nothing: 0,4",
+            ),
+            Word::Text(
+                "ceiling",
+                "N,..",
+                "How many units of each resource there may be: 5,9",
+            ),
+            JSON,
+            EXPLAIN,
+            QUIET,
+        ],
+    },
+    Line {
+        name: "batch",
+        about: "Writes a table of what each network costs with each deadline, as CSV",
+        words: BATCH,
+    },
+    Line {
+        name: "import",
+        about: "Makes a network of a table of tasks, and an order if there are prices",
+        words: IMPORT,
+    },
+    Line {
+        name: "explain",
+        about: "Says what a fault means, with an example and what helps; without words, lists them",
+        words: &[
+            Word::Optional(
+                "FORMAT",
+                "The kind of text, the first word of a line, or a name: sm, impossible, TooFew",
+            ),
+            Word::Optional(
+                "FAULT",
+                "The number or the name of a fault of that kind: 12, TooFew, critical",
+            ),
+        ],
+    },
+];
