@@ -1,5 +1,5 @@
 -- The status that tells why no answer is written.
-use Rattle.std.specs.Prelude.{◌≡◌, ◌⊎◌, ℕ, Bool, false, List, Option}
+use Rattle.std.specs.Prelude.{◌≡◌, ◌⊎◌, ℕ, Bool, false, List, Option, Some, None, Result, Ok, Err, if◌then◌else◌}
 use Rattle.clap.specs.Words.{kind_of}
 use Rattle.clap.specs.declared.error.kind.ErrorKind.{ErrorKind}
 use Rattle.clap.specs.declared.error.kind.ErrorKind.TheVariants.{DisplayHelp, DisplayVersion, OutOfMemory}
@@ -19,6 +19,10 @@ use Rattle.racp_cli.specs.ClauseProofs.{IsClauseProofAnswer}
 use Rattle.racp_cli.specs.Verifies.{IsVerifyAnswerUntil}
 use Rattle.racp_cli.specs.Streams.{fault_status}
 use Rattle.racp_cli.specs.declared.fault.StreamFault.TheVariants as stream
+use Rattle.racp_rows.specs.declared.batch.BatchFault.{BatchFault}
+use Rattle.racp_rows.specs.declared.batch.Ending.{Ending}
+use Rattle.racp.specs.declared.keeping.Lack.{Lack}
+use Rattle.racp.specs.declared.keeping.Lack.TheVariants.{Memory, Thread, Write}
 use Rattle.racp.specs.declared.failure.Failure.{Failure}
 use Rattle.racp.specs.declared.failure.Failure.TheVariants.{Words, NotText, Option as OptionIs, Stream, Told, Refused}
 
@@ -39,6 +43,19 @@ IsStatusOf (Stream fault) status = status ≡ fault_status fault
 IsStatusOf (Told fault words) status = status ≡ fault_status fault
 IsStatusOf (Refused words) status = status ≡ 5
 
+-- the status of a table that is written: what a row lacked tells it, and else 0 says that each case has a row, and 4 that the
+-- user wanted a stop before; where the file of a plan cannot be written, there is a failure in place of it
+abbrev pub IsStatusBy : Bool → Option Lack → ℕ → Type 0
+IsStatusBy is_whole (Some Memory) status = status ≡ 6
+IsStatusBy is_whole (Some Thread) status = status ≡ 7
+IsStatusBy is_whole (Some Write) status = ⊥
+IsStatusBy is_whole None status = status ≡ (if is_whole then 0 else 4)
+
+-- the same of a table that ended so; there is a failure where it has no end
+abbrev pub IsStatusOfTable : Result Ending BatchFault → Option Lack → ℕ → Type 0
+IsStatusOfTable (Ok ending) lack status = IsStatusBy ending.is_whole lack status
+IsStatusOfTable (Err fault) lack status = ⊥
+
 -- some answer of a command that goes with plans has this status
 abbrev pub IsStatusOfTool : ℕ → Type 0
 IsStatusOfTool status =
@@ -49,7 +66,7 @@ IsStatusOfTool status =
     IsReportAnswer calendar curve net order plan names status text) ⊎
     ((turns : ℕ) × (quiet is_json : Bool) × (net order : List ℕ) × (plan : Option (List ℕ)) × (names text : List ℕ) ×
     IsWhatIfAnswer turns quiet is_json net order plan names status text) ⊎
-    (status ≡ 0)
+    (status ≡ 0) ⊎ (status ≡ 4) ⊎ (status ≡ 6) ⊎ (status ≡ 7)
 
 -- some answer to some texts has this status; nothing is said of which
 abbrev pub IsStatusOfAnswer : ℕ → Type 0

@@ -12,15 +12,20 @@ use std::{fs, io};
 const PART: &str = ".part";
 
 /// Keeps a text in the file with this path: it is written beside it and then takes its name, so that the file has a whole
-/// text at any time. If that fails, standard error says why.
-pub(crate) fn keep<R: Files + Eprint + AllocGlobal>(rt: &R, path: &str, text: &[u8]) {
+/// text at any time. Says whether it is kept; if it is not, standard error says why.
+pub(crate) fn keep<R: Files + Eprint + AllocGlobal>(rt: &R, path: &str, text: &[u8]) -> bool {
     match part_of(rt.alloc(), path) {
-        Some(part) => {
-            if let Err(error) = replace(rt, path, part.as_str(), text) {
+        Some(part) => match replace(rt, path, part.as_str(), text) {
+            Ok(()) => true,
+            Err(error) => {
                 tell(rt, path, &error);
+                false
             }
+        },
+        None => {
+            tell(rt, path, &"no memory");
+            false
         }
-        None => tell(rt, path, &"no memory"),
     }
 }
 

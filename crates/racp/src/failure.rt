@@ -56,6 +56,15 @@ pub(crate) enum OptionFault {
     /// Prices by name name another thing than each resource once.
     #[error("--prices has to name each resource once, as in Masons=9,Cranes=30, or none")]
     PriceNames,
+    /// A factor of a table is no decimal.
+    #[error("--factors has to be decimals such as 1.0,1.2")]
+    Factors,
+    /// The price of a table is no whole number, or too great.
+    #[error("--price has to be a whole number from 0 to 1,000,000")]
+    Price,
+    /// The plans of two networks would be kept in the same file.
+    #[error("with --out no two networks may have the same file name")]
+    SameName,
     /// No fault has these words.
     #[error("no fault is named by these words; racp explain lists them all")]
     Topic,

@@ -11,6 +11,7 @@
 //! - `racp curve NET ORDER` says what each deadline costs.
 //! - `racp whatif NET ORDER` says what becomes of an order if one term is changed.
 //! - `racp order NET` writes an order.
+//! - `racp batch NET.. --factors F,..` writes a table of what networks cost with deadlines.
 //! - `racp import FILE --out PROJECT` makes a network of a table of tasks.
 //! - `racp cpm NET` prints the critical length and the early starts.
 //! - `racp explain` says what faults mean.
@@ -43,6 +44,7 @@
 #![tactic(auto)]
 
 mod asks;
+mod batching;
 mod begun;
 mod best;
 mod changing;
@@ -54,8 +56,10 @@ mod dates;
 mod early;
 mod failure;
 mod files;
+mod gathering;
 mod importing;
 mod inputs;
+mod keeping;
 mod known;
 mod limit;
 mod listener;

@@ -4,6 +4,7 @@ ghost use Rattle.std.specs.Prelude.{IfOk};
 ghost use Rattle.racp.specs.Statuses.{IsStatusOfTool};
 
 use crate::changing::whatif;
+use crate::batching::batch;
 use crate::charting::show;
 use crate::costing::{Costing, curve};
 use crate::failure::{Failure, OptionFault};
@@ -48,6 +49,7 @@ pub(crate) fn tool<R: Clock + Env + Files + Print + Eprint + AllocGlobal + Threa
             let asked = asked_order(rt.alloc(), &terms, Times::none())?;
             order(rt, net, asked, manner)
         }
+        Tool::Batch(words, memory) => batch(rt, &words, memory, manner),
         Tool::Import(words) => import(rt, &words),
         Tool::Explain(format, fault) => explain(rt, format, fault),
     }

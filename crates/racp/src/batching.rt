@@ -1,0 +1,187 @@
+//! `batch`: runs it.
+
+ghost use Rattle.std.specs.Prelude.{◌≤◌, IfOk};
+ghost use Rattle.racp.specs.Statuses.{IsStatusBy, IsStatusOfTable, IsStatusOfTool};
+
+use crate::asks::Asks;
+use crate::failure::{Failure, OptionFault};
+use crate::gathering::gathered;
+use crate::inputs::told;
+use crate::keeping::{Keeping, Lack, name_of};
+use crate::making::worker_count;
+use crate::seconds::time_limit;
+use crate::telling::Manner;
+use racp_batch::Planning;
+use racp_cli::{DONE, OUT_OF_MEMORY, STOPPED, STREAM_FAILED, StreamFault};
+use racp_prices::Factor;
+use racp_rows::{Batch, BatchFault, Case, Ending, File, Multiple, cases, table_over};
+use racp_words::{BatchWords, Memory};
+use std::alloc::{AllocError, Global};
+use std::rt::{Env, Files};
+use std::sync::Wait;
+use std::thread::Threads;
+use std::time::{Clock, Duration};
+use std::{fs, io};
+
+/// The most that a unit of a resource costs.
+const MOST_PRICE: u32 = 1_000_000;
+
+/// How the rows of a table are made, and where their plans are kept.
+#[derive(Clone, Copy)]
+struct Manufacture<'a> {
+    /// The price of a unit of each resource.
+    price: u32,
+    /// After what time the planning of a row stops, if it does.
+    limit: Option<Duration>,
+    /// How much memory the records of a plan take.
+    memory: Memory,
+    /// How many rows are planned at a time, or 0 for one for each processor.
+    jobs: usize,
+    /// The folder in which plans are kept, if they are.
+    folder: Option<&'a str>,
+    ghost price_few: { price ≤ 1000000 },
+    ghost jobs_few: { jobs ≤ 64 },
+}
+
+/// Writes the table that the words ask for.
+pub(crate) fn batch<R: Clock + Env + Files + Print + Eprint + AllocGlobal + Threads + Wait + Sync>(
+    rt: &R,
+    words: &BatchWords<'_>,
+    memory: Memory,
+    manner: Manner,
+) -> Result<u8, Failure>
+    ensures { IfOk result IsStatusOfTool }
+{
+    let making = Manufacture {
+        price: price_of(words.price)?,
+        limit: time_limit(words.limit)?,
+        memory,
+        jobs: words.jobs,
+        folder: words.out,
+    };
+    let multiples = multiples_of(rt.alloc(), words.factors)?;
+    prepare(rt, making.folder, &words.nets)?;
+    let files = gathered(rt, &words.nets, manner)?;
+    table_of(rt, &files, &multiples, making)
+}
+
+/// The price that a word writes; 1 without a word.
+fn price_of(word: Option<&str>) -> Result<u32, OptionFault>
+    ensures { IfOk result (λ price. price ≤ 1000000) }
+{
+    let Some(word) = word else {
+        return Ok(1);
+    };
+    match word.parse::<u32>() {
+        Ok(price) if price <= MOST_PRICE => Ok(price),
+        _ => Err(OptionFault::Price),
+    }
+}
+
+/// The factors that a word lists.
+fn multiples_of<'a>(alloc: Global, words: &'a str) -> Result<Vec<Multiple<'a>>, Failure> {
+    let mut multiples = Vec::new(alloc);
+    for word in words.split(',') {
+        let Some(factor) = Factor::read(word) else {
+            return Err(Failure::Option(OptionFault::Factors));
+        };
+        add(&mut multiples, Multiple { word, factor })?;
+    }
+    Ok(multiples)
+}
+
+/// Adds a factor.
+fn add<'a>(multiples: &mut Vec<Multiple<'a>>, multiple: Multiple<'a>) -> Result<(), AllocError> {
+    multiples.push(multiple)?;
+    Ok(())
+}
+
+/// Makes the folder in which plans are kept, if it is not there. No two networks may have their plans in the same files.
+fn prepare<R: Files + AllocGlobal>(
+    rt: &R,
+    folder: Option<&str>,
+    nets: &[&str],
+) -> Result<(), Failure> {
+    let Some(folder) = folder else {
+        return Ok(());
+    };
+    if share_a_name(nets) {
+        return Err(Failure::Option(OptionFault::SameName));
+    }
+    match fs::create_dir_all(rt, folder) {
+        Ok(()) => Ok(()),
+        Err(error) => Err(told(rt.alloc(), StreamFault::Write, folder, &error)),
+    }
+}
+
+/// Whether plans of two of these networks would be kept in the same files.
+fn share_a_name(nets: &[&str]) -> bool {
+    nets.iter()
+        .enumerate()
+        .any(|(k, net)| nets.iter().take(k).any(|other| name_of(other) == name_of(net)))
+}
+
+/// Writes the table of these files with these factors.
+fn table_of<R: Clock + Env + Files + Print + Eprint + AllocGlobal + Threads + Wait + Sync>(
+    rt: &R,
+    files: &[File<'_>],
+    multiples: &[Multiple<'_>],
+    making: Manufacture<'_>,
+) -> Result<u8, Failure>
+    ensures { IfOk result IsStatusOfTool }
+{
+    let cases = cases(rt.alloc(), files, multiples, making.price)?;
+    table_written(rt, &cases, making)
+}
+
+/// Writes the table of these cases.
+fn table_written<R: Clock + Env + Files + Print + Eprint + AllocGlobal + Threads + Wait + Sync>(
+    rt: &R,
+    cases: &[Case<'_>],
+    making: Manufacture<'_>,
+) -> Result<u8, Failure>
+    ensures { IfOk result IsStatusOfTool }
+{
+    let batch = Batch {
+        alloc: rt.alloc(),
+        cases,
+        jobs: worker_count(rt, making.jobs),
+    };
+    let planning = Planning {
+        alloc: rt.alloc(),
+        memory: making.memory.mebibytes,
+        limit: making.limit,
+    };
+    let keeping = Keeping::of(rt, making.folder, Asks::of(rt));
+    let (_, ending) = table_over(rt, &batch, &planning, &keeping, io::writer(rt));
+    let lack = keeping.lack();
+    // Dropped here once, not at each way out.
+    drop(keeping);
+    status_of(ending, lack)
+}
+
+/// The status of a table that ended so, of which rows may have lacked something.
+fn status_of(
+    ending: Result<Ending, BatchFault>,
+    lack: Option<Lack>,
+) -> Result<u8, Failure>
+    ensures { IfOk result (IsStatusOfTable ending lack) }
+{
+    match ending {
+        Ok(ending) => status_by(ending.is_whole, lack),
+        Err(BatchFault::Write) => Err(Failure::Stream(StreamFault::Write)),
+        Err(BatchFault::Memory) => Err(Failure::Stream(StreamFault::Memory)),
+    }
+}
+
+/// The status of a table that is written, whole or not, of which rows may have lacked something.
+fn status_by(is_whole: bool, lack: Option<Lack>) -> Result<u8, Failure>
+    ensures { IfOk result (IsStatusBy is_whole lack) }
+{
+    match lack {
+        Some(Lack::Memory) => Ok(OUT_OF_MEMORY),
+        Some(Lack::Thread) => Ok(STREAM_FAILED),
+        Some(Lack::Write) => Err(Failure::Stream(StreamFault::Write)),
+        None => Ok(if is_whole { DONE } else { STOPPED }),
+    }
+}

@@ -1,0 +1,104 @@
+//! Who hears of the rows of a table: keeps their plans, and knows whether the user wants a stop.
+
+use crate::asks::Asks;
+use crate::best::keep;
+use racp_changes::Outcome;
+use racp_plan::{Plan, write_plan};
+use racp_rows::{Case, Host, Row};
+use std::alloc::{AllocError, Global};
+use std::cell::Cell;
+use std::rt::Files;
+
+/// What the name of a network's file ends with, and that of a plan's.
+const NETWORK: &str = ".sm";
+const PLAN: &str = ".plan";
+
+/// What a row or its plan lacked.
+#[derive(Clone, Copy)]
+pub(crate) enum Lack {
+    /// Memory was refused.
+    Memory,
+    /// No thread could be started.
+    Thread,
+    /// The file of a plan could not be written.
+    Write,
+}
+
+/// Keeps the plans of rows in a folder, if that is wanted, hears whether the user wants a stop, and notes what a row or a plan
+/// lacked.
+#[derive(Drop)]
+pub(crate) struct Keeping<'a, R: Files + Eprint + AllocGlobal + Drop> {
+    host: R,
+    folder: Option<&'a str>,
+    asks: Option<Asks>,
+    lack: Cell<Option<Lack>>,
+}
+
+impl<'a, R: Files + Eprint + AllocGlobal + Drop> Keeping<'a, R> {
+    /// Keeps plans in the folder with this path, if there is one, and hears the user so, or does not.
+    pub(crate) fn of(host: R, folder: Option<&'a str>, asks: Option<Asks>) -> Self {
+        Keeping {
+            host,
+            folder,
+            asks,
+            lack: Cell::new(None),
+        }
+    }
+
+    /// What the last row lacked of those that lacked something.
+    pub(crate) fn lack(&self) -> Option<Lack> {
+        self.lack.get()
+    }
+
+    /// Keeps the plan of a case in the folder.
+    fn keep_plan(&self, folder: &str, case: &Case<'_>, plan: &Plan) {
+        let alloc = self.host.alloc();
+        match (path_of(alloc, folder, case), write_plan(alloc, plan)) {
+            (Ok(path), Ok(text)) => {
+                if !keep(&self.host, &path, &text) {
+                    self.lack.set(Some(Lack::Write));
+                }
+            }
+            _ => self.lack.set(Some(Lack::Memory)),
+        }
+    }
+}
+
+impl<'a, R: Files + Eprint + AllocGlobal + Drop> Host for Keeping<'a, R> {
+    fn hear(&self, case: &Case<'_>, row: &Row) {
+        match row {
+            Row::Answered(answered) => {
+                if let (Some(folder), Outcome::Plan(plan)) = (self.folder, &answered.outcome) {
+                    self.keep_plan(folder, case, plan);
+                }
+            }
+            Row::Memory => self.lack.set(Some(Lack::Memory)),
+            Row::NoThread => self.lack.set(Some(Lack::Thread)),
+            Row::Late { .. } => {}
+            Row::Refused => {}
+        }
+    }
+
+    fn is_asked(&self) -> bool {
+        match &self.asks {
+            Some(asks) => asks.are_made(&self.host),
+            None => false,
+        }
+    }
+}
+
+/// The path of the plan of a case in a folder.
+fn path_of(alloc: Global, folder: &str, case: &Case<'_>) -> Result<String, AllocError> {
+    let name = name_of(case.file.name);
+    let factor = case.multiple.word;
+    format!(in alloc; "{folder}/{name}-{factor}{PLAN}")
+}
+
+/// The name of a file without its folder, and without what the name of a network ends with.
+pub(crate) fn name_of(path: &str) -> &str {
+    let name = match path.rsplit_once('/') {
+        Some((_, name)) => name,
+        None => path,
+    };
+    name.strip_suffix(NETWORK).unwrap_or(name)
+}
