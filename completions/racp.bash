@@ -2,7 +2,7 @@
 
 _racp() {
     local word=${COMP_WORDS[COMP_CWORD]} before=${COMP_WORDS[COMP_CWORD - 1]} command=${COMP_WORDS[1]}
-    local commands="cpm plan prove check verify show report curve whatif order import explain help"
+    local commands="cpm plan prove check verify show report curve whatif order batch import explain help"
     local options=""
     if [ "$COMP_CWORD" -eq 1 ]; then
         mapfile -t COMPREPLY < <(compgen -W "$commands --help --version" -- "$word")
@@ -19,6 +19,7 @@ _racp() {
         curve) options="--workers --turns --memory --time-limit --progress --best --svg --json --explain --quiet" ;;
         whatif) options="--names --workers --turns --memory --time-limit --json --explain --quiet" ;;
         order) options="--factor --deadline --prices --owned --ceiling --json --explain --quiet" ;;
+        batch) options="--factors --price --time-limit --memory --jobs --out --quiet" ;;
         import) options="--out --from --prices --factor --deadline --owned --ceiling --quiet" ;;
         explain)
             mapfile -t COMPREPLY < <(compgen -W "sm order plan names impossible fault --help" -- "$word")

@@ -1,6 +1,6 @@
 # Completions of racp for fish: put this file into ~/.config/fish/completions.
 
-set -l commands cpm plan prove check verify show report curve whatif order import explain help
+set -l commands cpm plan prove check verify show report curve whatif order batch import explain help
 set -l none "not __fish_seen_subcommand_from $commands"
 complete -c racp -n "$none" -a cpm -d "the critical length and the early starts of a network"
 complete -c racp -n "$none" -a plan -d "the cheapest capacities that meet an order, with the least starts"
@@ -12,6 +12,7 @@ complete -c racp -n "$none" -a report -d "a page about a plan"
 complete -c racp -n "$none" -a curve -d "what each deadline costs"
 complete -c racp -n "$none" -a whatif -d "what one unit fewer or more changes"
 complete -c racp -n "$none" -a order -d "the text of an order"
+complete -c racp -n "$none" -a batch -d "a table of what networks cost"
 complete -c racp -n "$none" -a import -d "a network of a table of tasks"
 complete -c racp -n "$none" -a explain -d "what a fault means"
 complete -c racp -n "$none" -a help -d help
@@ -84,6 +85,13 @@ complete -c racp -n "__fish_seen_subcommand_from check" -l json -d JSON
 complete -c racp -n "__fish_seen_subcommand_from verify" -l json -d JSON
 complete -c racp -n "__fish_seen_subcommand_from curve" -l json -d JSON
 complete -c racp -n "__fish_seen_subcommand_from order" -l json -d JSON
+complete -c racp -n "__fish_seen_subcommand_from batch" -l factors -x -d "deadlines by the critical length"
+complete -c racp -n "__fish_seen_subcommand_from batch" -l price -x -d "price of each unit"
+complete -c racp -n "__fish_seen_subcommand_from batch" -l time-limit -x -d "seconds for each row"
+complete -c racp -n "__fish_seen_subcommand_from batch" -l memory -x -d "mebibytes for records"
+complete -c racp -n "__fish_seen_subcommand_from batch" -l jobs -x -d "how many rows at a time"
+complete -c racp -n "__fish_seen_subcommand_from batch" -l out -r -d "folder of the plans"
+complete -c racp -n "__fish_seen_subcommand_from batch" -l quiet -d "say nothing of what is wrong"
 complete -c racp -n "__fish_seen_subcommand_from import" -l out -r -d "beginning of the written paths"
 complete -c racp -n "__fish_seen_subcommand_from import" -l from -x -a "csv rcp" -d "format of the table"
 complete -c racp -n "__fish_seen_subcommand_from import" -l prices -x -d prices

@@ -116,9 +116,10 @@ fn prepare<R: Files + AllocGlobal>(
 
 /// Whether plans of two of these networks would be kept in the same files.
 fn share_a_name(nets: &[&str]) -> bool {
-    nets.iter()
-        .enumerate()
-        .any(|(k, net)| nets.iter().take(k).any(|other| name_of(other) == name_of(net)))
+    nets.iter().enumerate().any(|(k, net)| nets
+        .iter()
+        .take(k)
+        .any(|other| name_of(other) == name_of(net)))
 }
 
 /// Writes the table of these files with these factors.
@@ -161,10 +162,7 @@ fn table_written<R: Clock + Env + Files + Print + Eprint + AllocGlobal + Threads
 }
 
 /// The status of a table that ended so, of which rows may have lacked something.
-fn status_of(
-    ending: Result<Ending, BatchFault>,
-    lack: Option<Lack>,
-) -> Result<u8, Failure>
+fn status_of(ending: Result<Ending, BatchFault>, lack: Option<Lack>) -> Result<u8, Failure>
     ensures { IfOk result (IsStatusOfTable ending lack) }
 {
     match ending {

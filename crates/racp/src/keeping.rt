@@ -11,6 +11,7 @@ use std::rt::Files;
 
 /// What the name of a network's file ends with, and that of a plan's.
 const NETWORK: &str = ".sm";
+
 const PLAN: &str = ".plan";
 
 /// What a row or its plan lacked.

@@ -3,8 +3,8 @@
 ghost use Rattle.std.specs.Prelude.{IfOk};
 ghost use Rattle.racp.specs.Statuses.{IsStatusOfTool};
 
-use crate::changing::whatif;
 use crate::batching::batch;
+use crate::changing::whatif;
 use crate::charting::show;
 use crate::costing::{Costing, curve};
 use crate::failure::{Failure, OptionFault};

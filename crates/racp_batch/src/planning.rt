@@ -45,7 +45,13 @@ impl Planner for Planning {
         ensures { IsRowOf case.now result }
     {
         match &case.file.input {
-            Input::Network(net) => self.row_of(rt, net, case.multiple.factor, case.price, is_halted),
+            Input::Network(net) => self.row_of(
+                rt,
+                net,
+                case.multiple.factor,
+                case.price,
+                is_halted,
+            ),
             Input::Fault(_) => Row::Refused,
         }
     }

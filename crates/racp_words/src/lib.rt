@@ -70,6 +70,6 @@ mod tools;
 
 pub use command_line::asked;
 pub use request::{
-    BatchWords, CrewOptions, Dates, Look, Memory, OrderFiles, PlanFiles, ProofFiles, ReportWords, Request,
-    Source, TableWords, Task, Telling, Terms, Tool, WhatIfWords,
+    BatchWords, CrewOptions, Dates, Look, Memory, OrderFiles, PlanFiles, ProofFiles, ReportWords,
+    Request, Source, TableWords, Task, Telling, Terms, Tool, WhatIfWords,
 };

@@ -2,7 +2,9 @@
 
 use crate::batch_words::BATCH;
 use crate::most::{MOST_WIDTH, MOST_WORKERS};
-use crate::table::{EXPLAIN, JSON, Line, MEMORY, NET, ORDER, PLAN, PROGRESS, QUIET, TIME_LIMIT, TURNS, Word};
+use crate::table::{
+    EXPLAIN, JSON, Line, MEMORY, NET, ORDER, PLAN, PROGRESS, QUIET, TIME_LIMIT, TURNS, Word,
+};
 use crate::table_words::{IMPORT, START_DATE, UNIT};
 
 /// How many workers make several plans.

@@ -14,4 +14,4 @@ pub returns-in_ok-nets-in-Some : goal.returns-in_ok-nets-in-Some
 returns-in_ok-nets-in-Some c =
     let words : all_of (codes "NET") (rows_of (found_of c.args.words.now)) ≡ Some (map (λ net. net.now) c.in-Some.nets.now) =
     sym (raw_values-rows (found_of c.args.words.now) (codes "NET")) ∙ (sym c.get_strs.ensures ∙ ap (option_map (λ nets. map (λ net. net.now) nets.now)) c.in-Some.is) in
-    ap (map (λ net. net.now)) (c.in_ok-nets.ensures.items_if_clones_equal (λ x y same. same)) ∙ ap (λ (o : Option (List Text)). unwrap_or o []) (sym words)
+    ap (map (λ net. net.now)) (c.in_ok-nets-in-Some.ensures.items_if_clones_equal (λ x y same. same)) ∙ ap (λ (o : Option (List Text)). unwrap_or o []) (sym words)
