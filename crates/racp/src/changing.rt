@@ -129,7 +129,7 @@ fn written_to<'a, R: Clock + Env + Files + Eprint + AllocGlobal + Threads + Wait
         stop: &limit,
         observer: &listener,
     };
-    let status = whatif_to(rt, rt.alloc(), texts, &workers, out);
+    let status = whatif_to(rt, rt.alloc(), texts, workers, out);
     // Dropped here once, not at each way out.
     drop(limit);
     status

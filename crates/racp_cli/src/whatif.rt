@@ -50,15 +50,15 @@ pub fn whatif_to<R: Threads + Wait + Sync, G: Gate + Sync, P: Stop + Sync, B: Ob
     rt: &R,
     alloc: Global,
     texts: WhatIfTexts<'_>,
-    crew: &Crew<'_, G, P, B>,
+    crew: Crew<'_, G, P, B>,
     out: &mut W,
 ) -> Result<u8, StreamFault>
     ensures { IsAnswerWritten
-        (IsWhatIfAnswer crew.entry.now.turns P.QUIET texts.entry.is_json texts.entry.net.now texts.entry.order.now
+        (IsWhatIfAnswer crew.entry.turns P.QUIET texts.entry.is_json texts.entry.net.now texts.entry.order.now
         (option_map (λ plan. plan.now) texts.entry.plan) texts.entry.names.now)
         (W.contents out.old) (W.contents out.new) result }
 {
-    respond(answer(rt, alloc, texts, crew), out)
+    respond(answer(rt, alloc, texts, &crew), out)
 }
 
 /// The status and the text of the answer to these texts.
