@@ -120,7 +120,14 @@ fn written_to<'a, R: Clock + Env + Files + Eprint + AllocGlobal + Threads + Wait
         path: None,
         in_memory: false,
     };
-    let listener = Listener::of(rt, limit.known(), None, limit.asks(), kept, &best);
+    let listener = Listener::of(
+        rt,
+        limit.known(),
+        limit.progress(),
+        limit.asks(),
+        kept,
+        &best,
+    );
     let workers = Crew {
         workers: worker_count(rt, crew.workers),
         turns: crew.turns,
