@@ -5,7 +5,7 @@ use Rattle.racp_askers.specs.declared.crowd.Effort.{Effort}
 use Rattle.racp_calendar.specs.declared.calendar.Calendar.{Calendar}
 use Rattle.racp_cli.specs.Crowds.{IsCrowdAnswer, IsCrowdRun}
 use Rattle.racp_cli.specs.Plans.{IsPlanAnswer}
-use Rattle.racp_cli.specs.Proofs.{IsProofAnswer, IsProofRun}
+use Rattle.racp_cli.specs.Proofs.{IsProofAnswerUntil, IsProofRunUntil}
 use Rattle.racp_cli.specs.ClauseProofs.{IsClauseProofAnswer, IsClauseProofRun}
 use Rattle.racp_cli.specs.Verifies.{IsVerifyAnswerUntil}
 use Rattle.racp_cli.specs.Streams.{IsAnswerWritten, Reader, ToOne, ToTwo, ToFour, IsPlanRun, IsVerifyRunUntil}
@@ -42,21 +42,21 @@ planned_by turns quiet net order old new (Ok done) run = of_crowd turns quiet ru
 planned_by turns quiet net order old new (Err fault) run = tt
 
 -- what is answered with a certificate, or where there is none
-with_certificate : (inputs : List (List ℕ)) (status : ℕ) (text : List ℕ) → ToTwo IsProofAnswer inputs status text → IsStatusOfAnswer status
-with_certificate [] status text answer = absurd answer
-with_certificate (net ∷ []) status text answer = absurd answer
-with_certificate (net ∷ (order ∷ [])) status text answer = inr (inr (inr (inl (net, order, text, inl answer))))
-with_certificate (net ∷ (order ∷ (other ∷ inputs))) status text answer = absurd answer
+with_certificate : (quiet : Bool) (inputs : List (List ℕ)) (status : ℕ) (text : List ℕ) → ToTwo (IsProofAnswerUntil quiet) inputs status text → IsStatusOfAnswer status
+with_certificate quiet [] status text answer = absurd answer
+with_certificate quiet (net ∷ []) status text answer = absurd answer
+with_certificate quiet (net ∷ (order ∷ [])) status text answer = inr (inr (inr (inl (quiet, net, order, text, inl answer))))
+with_certificate quiet (net ∷ (order ∷ (other ∷ inputs))) status text answer = absurd answer
 
-pub proved_alone : (net order : Reader) (old new : Option (List ℕ)) (result : Result ℕ StreamFault) → IsProofRun net order old new result → IfOk result IsStatusOfAnswer
-proved_alone net order old new (Ok status) run = with_certificate run.0 status run.2.0 run.2.1
-proved_alone net order old new (Err fault) run = tt
+pub proved_by_trees : (quiet : Bool) (net order : Reader) (old new : Option (List ℕ)) (result : Result ℕ StreamFault) → IsProofRunUntil quiet net order old new result → IfOk result IsStatusOfAnswer
+proved_by_trees quiet net order old new (Ok status) run = with_certificate quiet run.0 status run.2.0 run.2.1
+proved_by_trees quiet net order old new (Err fault) run = tt
 
 -- the same with one by clauses
 with_clauses : (inputs : List (List ℕ)) (status : ℕ) (text : List ℕ) → ToTwo IsClauseProofAnswer inputs status text → IsStatusOfAnswer status
 with_clauses [] status text answer = absurd answer
 with_clauses (net ∷ []) status text answer = absurd answer
-with_clauses (net ∷ (order ∷ [])) status text answer = inr (inr (inr (inl (net, order, text, inr answer))))
+with_clauses (net ∷ (order ∷ [])) status text answer = inr (inr (inr (inl (true, net, order, text, inr answer))))
 with_clauses (net ∷ (order ∷ (other ∷ inputs))) status text answer = absurd answer
 
 pub proved_by_clauses : (net order : Reader) (old new : Option (List ℕ)) (result : Result ℕ StreamFault) → IsClauseProofRun net order old new result → IfOk result IsStatusOfAnswer

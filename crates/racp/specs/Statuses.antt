@@ -14,7 +14,7 @@ use Rattle.racp_cli.specs.ShowAnswers.{IsShowAnswer}
 use Rattle.racp_cli.specs.WhatIfAnswers.{IsWhatIfAnswer}
 use Rattle.racp_cli.specs.declared.order.Asked.{Asked}
 use Rattle.racp_cli.specs.declared.show.Look.{Look}
-use Rattle.racp_cli.specs.Proofs.{IsProofAnswer}
+use Rattle.racp_cli.specs.Proofs.{IsProofAnswerUntil}
 use Rattle.racp_cli.specs.ClauseProofs.{IsClauseProofAnswer}
 use Rattle.racp_cli.specs.Verifies.{IsVerifyAnswerUntil}
 use Rattle.racp_cli.specs.Streams.{fault_status}
@@ -75,7 +75,8 @@ IsStatusOfAnswer status =
     ((turns : ℕ) × (quiet : Bool) × (net order : List ℕ) × (text : List ℕ) ×
     IsCrowdAnswer turns quiet net order status text) ⊎
     ((net order plan : List ℕ) × (text : List ℕ) × IsCheckAnswer net order plan status text) ⊎
-    ((net order : List ℕ) × (text : List ℕ) × (IsProofAnswer net order status text ⊎ IsClauseProofAnswer net order status text)) ⊎
+    ((quiet : Bool) × (net order : List ℕ) × (text : List ℕ) ×
+    (IsProofAnswerUntil quiet net order status text ⊎ IsClauseProofAnswer net order status text)) ⊎
     ((net order plan proof : List ℕ) × (text : List ℕ) × IsVerifyAnswerUntil false net order plan proof status text) ⊎
     IsStatusOfTool status
 

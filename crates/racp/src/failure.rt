@@ -41,9 +41,6 @@ pub(crate) enum OptionFault {
     /// The length of a time unit is none that is told, or told without a date.
     #[error("--unit has to be day or week, with --start-date")]
     Unit,
-    /// There is a limit of time for a certificate by trees.
-    #[error("prove takes --time-limit with --facts alone")]
-    TreesLimit,
     /// The format of a table is none that is read.
     #[error("--from has to be csv or rcp")]
     Format,

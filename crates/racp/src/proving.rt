@@ -10,8 +10,9 @@ use crate::seconds::time_limit;
 use crate::shown::Shown;
 use crate::telling::{Manner, tell};
 use crate::until::Until;
-use racp_cli::{CHECK_FAILED, StreamFault, prove_by_clauses_over, prove_over};
+use racp_cli::{CHECK_FAILED, StreamFault, prove_by_clauses_over, prove_over_until};
 use racp_explain::{Input as Text, order_cause};
+use racp_search::Stop;
 use racp_words::OrderFiles;
 use std::io;
 use std::io::Read;
@@ -33,16 +34,13 @@ impl<'a> Proving<'a> {
     ///
     /// # Errors
     ///
-    /// The word for the time is no number of seconds, or the certificate is one by trees, which no time stops.
+    /// The word for the time is no number of seconds.
     pub(crate) fn of(
         files: OrderFiles<'a>,
         by_clauses: bool,
         word: Option<&'a str>,
         manner: Manner,
     ) -> Result<Self, OptionFault> {
-        if word.is_some() && !by_clauses {
-            return Err(OptionFault::TreesLimit);
-        }
         Ok(Proving {
             files,
             by_clauses,
@@ -98,7 +96,8 @@ fn prove_told<R: Clock + Env + Files + Print + Eprint + AllocGlobal>(
     Ok(status)
 }
 
-/// Writes a certificate for the plan of a network and an order that are read there, or why there is none.
+/// Writes a certificate for the plan of a network and an order that are read there, or why there is none. If it was
+/// stopped, after so much time or by the user, standard error says so.
 fn prove_of<R: Clock + Env + Files + Print + Eprint + AllocGlobal, N: Read, O: Read>(
     rt: &R,
     asked: &Proving<'_>,
@@ -107,29 +106,42 @@ fn prove_of<R: Clock + Env + Files + Print + Eprint + AllocGlobal, N: Read, O: R
 ) -> Result<u8, StreamFault>
     ensures { IfOk result IsStatusOfAnswer }
 {
-    if asked.by_clauses {
-        return prove_by_clauses(rt, asked, net, order);
-    }
-    prove_over(rt.alloc(), net, order, &mut io::writer(rt))
-}
-
-/// The same by clauses. If it was stopped, after so much time or by the user, standard error says so.
-fn prove_by_clauses<R: Clock + Env + Files + Print + Eprint + AllocGlobal, N: Read, O: Read>(
-    rt: &R,
-    asked: &Proving<'_>,
-    net: &mut N,
-    order: &mut O,
-) -> Result<u8, StreamFault>
-    ensures { IfOk result IsStatusOfAnswer }
-{
     let until = Until::of(rt, asked.limit, Asks::of(rt));
-    let status = prove_by_clauses_over(rt.alloc(), net, order, &mut io::writer(rt), &until);
+    let status = if asked.by_clauses {
+        prove_by_clauses(rt, net, order, &until)
+    } else {
+        prove_by_trees(rt, net, order, &until)
+    };
     if is_unproved(&status) && until.has_stopped() && !asked.manner.is_quiet() {
         tell_stop(rt, asked.word, until.is_asked());
     }
     // Dropped here once, not at each way out.
     drop(until);
     status
+}
+
+/// Writes one by clauses, until a stop asks for an end.
+fn prove_by_clauses<R: Print + AllocGlobal, N: Read, O: Read, S: Stop>(
+    rt: &R,
+    net: &mut N,
+    order: &mut O,
+    stop: &S,
+) -> Result<u8, StreamFault>
+    ensures { IfOk result IsStatusOfAnswer }
+{
+    prove_by_clauses_over(rt.alloc(), net, order, &mut io::writer(rt), stop)
+}
+
+/// Writes one by trees, until a stop that may ask at any time asks for an end.
+fn prove_by_trees<R: Print + AllocGlobal, N: Read, O: Read, S: Stop>(
+    rt: &R,
+    net: &mut N,
+    order: &mut O,
+    stop: &S,
+) -> Result<u8, StreamFault>
+    ensures { IfOk result IsStatusOfAnswer }
+{
+    prove_over_until(rt.alloc(), net, order, &mut io::writer(rt), stop)
 }
 
 /// Whether no certificate was made.

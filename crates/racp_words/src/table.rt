@@ -141,18 +141,7 @@ pub(crate) const COMMANDS: &[Line] = &[
     Line {
         name: "prove",
         about: "Prints a certificate that no capacities before those of the plan are enough",
-        words: &[
-            NET,
-            ORDER,
-            FACTS,
-            Word::Text(
-                "time-limit",
-                "S",
-                "With --facts, after how many seconds it stops, up to 1,000,000,000: 60 or 0.5",
-            ),
-            EXPLAIN,
-            QUIET,
-        ],
+        words: &[NET, ORDER, FACTS, TIME_LIMIT, EXPLAIN, QUIET],
     },
     Line {
         name: "check",
