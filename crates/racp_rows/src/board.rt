@@ -6,7 +6,7 @@ ghost use Rattle.racp_rows.specs.Places.{IsPlaced};
 use crate::batch::Batch;
 use crate::done::Done;
 use crate::named::OfCases;
-use crate::planner::Planner;
+use crate::planning::Planning;
 use std::alloc::AllocError;
 use std::sync::Wait;
 use std::sync::atomic::{AtomicBool, AtomicUsize, Ordering};
@@ -80,7 +80,7 @@ impl<'a, T: OfCases> Shared<'a, T> {
     }
 
     /// Plans cases, until none is left or all are to stop.
-    pub(crate) fn work<P: Planner, R: Clock + Threads + Wait + Sync>(&self, rt: &R, planner: &P)
+    pub(crate) fn work<R: Clock + Threads + Wait + Sync>(&self, rt: &R, planner: &Planning)
         requires { self.now.batch.now.cases.now ≡ T.cases }
     {
         for _ in 0..self.batch.cases.len() {
@@ -92,7 +92,7 @@ impl<'a, T: OfCases> Shared<'a, T> {
     }
 
     /// Plans the next case, and says whether there may be another one.
-    fn plan_next<P: Planner, R: Clock + Threads + Wait + Sync>(&self, rt: &R, planner: &P) -> bool
+    fn plan_next<R: Clock + Threads + Wait + Sync>(&self, rt: &R, planner: &Planning) -> bool
         requires { self.now.batch.now.cases.now ≡ T.cases }
     {
         if self.is_halted() {

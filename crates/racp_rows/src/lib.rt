@@ -6,7 +6,7 @@
 //! comma-separated values. With examples/a.sm, whose critical length is 3, the factor 1.5 and the price 1 the order has the
 //! deadline 4, and its plan 3 units of the one resource. The row is `a.sm,5,1,1.5,4,optimal,3,3,3,0,..`.
 //!
-//! `table_over(rt, &batch, &planner, &host, out)` has each case planned by a `Planner`, and writes a first row with titles and the
+//! `table_over(rt, &batch, &planner, &host, out)` has each case planned by a `Planning`, and writes a first row with titles and the
 //! row of each case to `out`, in the order of the cases. Workers on threads of their own take the next case that no other has
 //! taken, and leave its row on a board. The calling thread writes each row as soon as all rows before it are written, tells the
 //! `Host`, and asks that whether the user wants a stop: then what is being planned is stopped, and no further case is begun.
@@ -25,19 +25,21 @@ mod board;
 mod case;
 mod cells;
 mod done;
+mod heard;
 mod host;
 mod line;
 mod named;
 mod order;
-mod planner;
+mod planning;
 mod row;
 mod running;
 mod telling;
+mod until;
 
 pub use batch::{Batch, BatchFault, Ending};
 pub use case::{Case, File, Input, Multiple, cases};
 pub use host::Host;
 pub use order::{deadline_of, order_by};
-pub use planner::Planner;
+pub use planning::Planning;
 pub use row::{Answered, Row, Work};
 pub use running::table_over;

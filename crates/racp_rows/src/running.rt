@@ -9,7 +9,7 @@ use crate::batch::{Batch, BatchFault, Ending};
 use crate::board::Shared;
 use crate::host::Host;
 use crate::named::OfCases;
-use crate::planner::Planner;
+use crate::planning::Planning;
 use crate::telling::{write_head, write_rows};
 use std::io::Write;
 use std::marker::Brand;
@@ -24,44 +24,44 @@ use std::time::Clock;
 /// # Errors
 ///
 /// A write failed, or memory was refused.
-pub fn table_over<P: Planner + Sync, H: Host, W: Write + Drop, R: Clock + Threads + Wait + Sync>(
+pub fn table_over<H: Host, W: Write + Drop, R: Clock + Threads + Wait + Sync>(
     rt: &R,
     batch: &Batch<'_>,
-    planner: &P,
+    planner: &Planning,
     host: &H,
     out: W,
 ) -> (W, Result<Ending, BatchFault>)
     ensures { IsTableRun batch.now.cases.now (W.contents out) (W.contents result.0) result.1 }
 {
-    table_of::<Brand, P, H, W, R>(rt, batch, planner, host, out)
+    table_of::<Brand, H, W, R>(rt, batch, planner, host, out)
 }
 
 /// The same, for the cases that `T` names.
-fn table_of<
-    T: OfCases + Send + Sync,
-    P: Planner + Sync,
-    H: Host,
-    W: Write + Drop,
-    R: Clock + Threads + Wait + Sync,
->(rt: &R, batch: &Batch<'_>, planner: &P, host: &H, out: W) -> (W, Result<Ending, BatchFault>)
+fn table_of<T: OfCases + Send + Sync, H: Host, W: Write + Drop, R: Clock + Threads + Wait + Sync>(
+    rt: &R,
+    batch: &Batch<'_>,
+    planner: &Planning,
+    host: &H,
+    out: W,
+) -> (W, Result<Ending, BatchFault>)
     requires { batch.now.cases.now ≡ T.cases }
     ensures { IsTableRun T.cases (W.contents out) (W.contents result.0) result.1 }
 {
     let mut out = out;
     match write_head(batch.alloc, &mut out) {
-        Ok(()) => with_rows::<T, P, H, W, R>(rt, batch, planner, host, out),
+        Ok(()) => with_rows::<T, H, W, R>(rt, batch, planner, host, out),
         Err(fault) => (out, Err(fault)),
     }
 }
 
 /// The same, where the first row is written.
-fn with_rows<
-    T: OfCases + Send + Sync,
-    P: Planner + Sync,
-    H: Host,
-    W: Write + Drop,
-    R: Clock + Threads + Wait + Sync,
->(rt: &R, batch: &Batch<'_>, planner: &P, host: &H, out: W) -> (W, Result<Ending, BatchFault>)
+fn with_rows<T: OfCases + Send + Sync, H: Host, W: Write + Drop, R: Clock + Threads + Wait + Sync>(
+    rt: &R,
+    batch: &Batch<'_>,
+    planner: &Planning,
+    host: &H,
+    out: W,
+) -> (W, Result<Ending, BatchFault>)
     requires { batch.now.cases.now ≡ T.cases }
     ensures { (old : Option (List ℕ)) → Appends old (W.contents out) head_line →
         IsTableRun T.cases old (W.contents result.0) result.1 }
@@ -99,14 +99,13 @@ fn ending_of<T: OfCases>(
 fn in_scope<
     'a,
     T: OfCases + Send + Sync,
-    P: Planner + Sync,
     H: Host,
     W: Write + Drop,
     R: Clock + Threads + Wait + Sync,
 >(
     rt: &'a R,
     shared: &'a Shared<'a, T>,
-    planner: &'a P,
+    planner: &'a Planning,
     host: &'a H,
     out: W,
 ) -> (W, Result<usize, BatchFault>)
@@ -127,17 +126,11 @@ fn in_scope<
 }
 
 /// Starts the workers, each on a thread of its own. Where one cannot be started, there are fewer.
-fn start<
-    's,
-    E,
-    T: OfCases + Send + Sync + 's,
-    P: Planner + Sync + 's,
-    R: Clock + Threads + Wait + Sync + 's,
->(
+fn start<'s, E, T: OfCases + Send + Sync + 's, R: Clock + Threads + Wait + Sync + 's>(
     scope: &'s Scope<'s, E>,
     rt: &'s R,
     shared: &'s Shared<'s, T>,
-    planner: &'s P,
+    planner: &'s Planning,
 ) -> Vec<JoinHandle<()>>
     requires { shared.now.batch.now.cases.now ≡ T.cases }
 {
@@ -158,10 +151,10 @@ fn start<
 }
 
 /// Writes the rows while these workers plan, or plans first if there are none; and joins them.
-fn beside<T: OfCases, P: Planner, H: Host, W: Write, R: Clock + Threads + Wait + Sync>(
+fn beside<T: OfCases, H: Host, W: Write, R: Clock + Threads + Wait + Sync>(
     rt: &R,
     shared: &Shared<'_, T>,
-    planner: &P,
+    planner: &Planning,
     host: &H,
     handles: Vec<JoinHandle<()>>,
     out: W,

@@ -6,13 +6,15 @@ ghost use Rattle.racp_changes.specs.Outcomes.{IsOutcome};
 ghost use Rattle.racp_rows.specs.Rows.{IsRowFor, IsRowOf};
 ghost use Rattle.racp_rows.specs.declared.case.Input.TheVariants as inputs;
 
+use crate::case::{Case, Input};
+use crate::order::{deadline_of, order_by};
+use crate::row::{Answered, Row, Work};
 use crate::until::Until;
 use racp_changes::Outcome;
 use racp_desk::Open;
 use racp_lexfix::{Crew, PlanStop};
 use racp_model::Network;
 use racp_prices::{Factor, Order};
-use racp_rows::{Answered, Case, Input, Planner, Row, Work, deadline_of, order_by};
 use racp_whatif::outcome;
 use std::alloc::Global;
 use std::sync::Wait;
@@ -35,8 +37,9 @@ pub struct Planning {
     pub ghost memory_few: { memory ≤ 1048576 },
 }
 
-impl Planner for Planning {
-    fn row<R: Clock + Threads + Wait + Sync>(
+impl Planning {
+    /// The row of a case. It is made without delay once the flag is set.
+    pub(crate) fn row<R: Clock + Threads + Wait + Sync>(
         &self,
         rt: &R,
         case: &Case<'_>,
@@ -55,9 +58,7 @@ impl Planner for Planning {
             Input::Fault(_) => Row::Refused,
         }
     }
-}
 
-impl Planning {
     /// The row of a network with a factor and a price.
     fn row_of<R: Clock + Threads + Wait + Sync>(
         &self,

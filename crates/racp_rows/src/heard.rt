@@ -1,7 +1,7 @@
 //! What is heard of a plan while it is made.
 
+use crate::row::Work;
 use racp_askers::Observer;
-use racp_rows::Work;
 use std::sync::atomic::{AtomicU64, Ordering};
 
 /// What stands for a cost while none is known.
