@@ -6,12 +6,16 @@
 //! comma-separated values. With examples/a.sm, whose critical length is 3, the factor 1.5 and the price 1 the order has the
 //! deadline 4, and its plan 3 units of the one resource. The row is `a.sm,5,1,1.5,4,optimal,3,3,3,0,..`.
 //!
-//! `table_over(rt, &batch, &planner, &host, out)` has each case planned by a `Planning`, and writes a first row with titles and the
-//! row of each case to `out`, in the order of the cases. Workers on threads of their own take the next case that no other has
+//! `table_over(rt, &batch, &planning, &host, out)` has each case planned, and writes a first row with titles and the row of each
+//! case to `out`, in the order of the cases. Workers on threads of their own take the next case that no other has
 //! taken, and leave its row on a board. The calling thread writes each row as soon as all rows before it are written, tells the
 //! `Host`, and asks that whether the user wants a stop: then what is being planned is stopped, and no further case is begun.
 //! Threads share the board (a `boxcar::Vec` of rows), the number of the next case, how many workers have ended, and two flags.
 //! Each row on the board is right of the case at its place, by its type. So the table does not depend on what the threads do.
+//!
+//! A `Planning` says how a case is planned: by one worker of racp_whatif, within so much memory, and until its time is over, which
+//! begins anew with each row. An observer notes meanwhile what the cheapest plan costs that is known, what each costs at least, and
+//! the conflicts of the search that learns; a stop counts how often it is asked, which is once for each node.
 //!
 //! Proved: `cases` lists each file with each factor, file by file and in the order of the factors. `deadline_of` and `order_by`
 //! give the deadline and the terms of a case. Which rows are right of a case `IsRowOf` says. If `table_over` answers an ending,
