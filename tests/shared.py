@@ -26,7 +26,7 @@ RUNS_AT_ONCE = 4
 os.environ.pop("COLUMNS", None)
 
 # The commands that tell on standard error what is wrong with the files that they read.
-TELLING = ["cpm", "plan", "prove", "check", "verify", "show", "curve", "whatif", "order"]
+TELLING = ["cpm", "plan", "prove", "check", "verify", "show", "curve", "whatif", "batch", "order"]
 
 # What a run of the program gives, or has to give.
 Run = collections.namedtuple("Run", "status output error")
