@@ -84,15 +84,21 @@ fn multiples_of<'a>(alloc: Global, words: &'a str) -> Result<Vec<Multiple<'a>>, 
         let Some(factor) = Factor::read(word) else {
             return Err(Failure::Option(OptionFault::Factors));
         };
-        add(&mut multiples, Multiple { word, factor })?;
+        add(&mut multiples, word, factor)?;
     }
     Ok(multiples)
 }
 
 /// Adds a factor.
-fn add<'a>(multiples: &mut Vec<Multiple<'a>>, multiple: Multiple<'a>) -> Result<(), AllocError> {
-    multiples.push(multiple)?;
-    Ok(())
+fn add<'a>(
+    multiples: &mut Vec<Multiple<'a>>,
+    word: &'a str,
+    factor: Factor,
+) -> Result<(), AllocError> {
+    match multiples.push(Multiple { word, factor }) {
+        Ok(()) => Ok(()),
+        Err(_) => Err(AllocError),
+    }
 }
 
 /// Makes the folder in which plans are kept, if it is not there. No two networks may have their plans in the same files.
