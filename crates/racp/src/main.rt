@@ -31,8 +31,8 @@
 //! is wrong with them: in one line, in several with `--explain`, and not at all with `--quiet`. A file with the path `-` is
 //! standard input.
 //!
-//! Files are opened in the order of the words, before the first is read. A file that cannot be opened counts as a read
-//! that failed. Answers go to standard output, and so do help and the version. Words that are refused, a file or a
+//! Files are opened in the order of the words, before the first is read; those of `batch` one after another. A file that
+//! cannot be opened counts as a read that failed, and is a row of the table of `batch`. Answers go to standard output, and so do help and the version. Words that are refused, a file or a
 //! stream that failed, and lack of memory for the words or the inputs are told on standard error. If nothing can be
 //! written there, the status alone tells.
 //!

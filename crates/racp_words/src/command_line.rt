@@ -1,22 +1,21 @@
 //! The words of the command line, and what they ask for.
 
-ghost use Rattle.std.specs.Prelude.{◌≡◌, ◌≢◌, ◌≤◌, ℕ, List, Option, Some, IfNone, IfOk, IfSome, MatchResult, map, option_map, string_bytes, codes};
-ghost use Rattle.clap.specs.Words.{FailsBy, fault_of, first_of, first_value, found_of, kind_of, rows_of, subcommand_rows_of};
+ghost use Rattle.std.specs.Prelude.{◌≡◌, ◌≢◌, ℕ, List, Option, Some, IfNone, IfOk, IfSome, MatchResult, map, option_map, string_bytes, codes};
+ghost use Rattle.clap.specs.Words.{FailsBy, fault_of, first_value, found_of, kind_of, rows_of, subcommand_rows_of};
 ghost use Rattle.clap.specs.declared.error.kind.ErrorKind.TheVariants.{OutOfMemory};
 ghost use Rattle.racp_words.specs.CommandLine.{AskFor, IsTask, IsCheckLine, AsksForCheck, IsProveLine, AsksForProve, IsVerifyLine, AsksForVerify, IsCpmLine, AsksForCpm, IsPlanLine, AsksForPlan, IsWorkersLine, AsksForWorkers, IsRequested, IsSource, is_json_of, racp, telling_by, telling_of};
 ghost use Rattle.racp_words.specs.Rules.{AreOrderFiles, ArePlanFiles, AreProofFiles, number_in};
-ghost use Rattle.racp_words.specs.Tools.{AreTableWords, AreTerms, IsForm, IsLook, IsNoTool, IsToolOf, IsWidth};
+ghost use Rattle.racp_words.specs.Tools.{IsNoTool, IsToolOf};
 
 use crate::batch_words::batch_of;
 use crate::commands::command;
-use crate::most::MOST_WIDTH;
-use crate::options::{crew_of, dates_of, is_set, memory_of, number_of, path_of, text_of};
+use crate::options::{crew_of, dates_of, is_set, memory_of, path_of, text_of};
 use crate::request::{
-    Look, OrderFiles, PlanFiles, ProofFiles, ReportWords, Request, Source, TableWords, Task,
-    Telling, Terms, Tool, WhatIfWords,
+    OrderFiles, PlanFiles, ProofFiles, ReportWords, Request, Source, Task, Telling, Tool,
+    WhatIfWords,
 };
+use crate::tool_words::{look_of, table_of, terms_of};
 use clap::{ArgMatches, Error};
-use racp_show::Form;
 use std::alloc::{AllocError, Global};
 
 /// What the words ask for. The first of them is the program's name.
@@ -212,75 +211,6 @@ fn proof_files<'a>(words: &ArgMatches<'a>) -> ProofFiles<'a>
         order: path_of(words, "ORDER"),
         plan: path_of(words, "PLAN"),
         proof: path_of(words, "PROOF"),
-    }
-}
-
-/// How a plan is to be shown.
-fn look_of<'a>(words: &ArgMatches<'a>) -> Look<'a>
-    ensures { IsLook (rows_of (found_of words.now)) result }
-{
-    let width = width_of(words);
-    Look {
-        names: text_of(words, "names"),
-        width,
-        form: form_of(words),
-        has_links: is_set(words, "links"),
-        dates: dates_of(words),
-    }
-}
-
-/// How many columns a line has at most, if an option says so.
-fn width_of(words: &ArgMatches<'_>) -> Option<u64>
-    ensures width { IsWidth (first_of (codes "width") (rows_of (found_of words.now))) result }
-    ensures few { IfSome result (λ width. width ≤ 1000) }
-{
-    let word = text_of(words, "width")?;
-    Some(number_of(Some(word), MOST_WIDTH, MOST_WIDTH))
-}
-
-/// What is to be written of a plan that is shown.
-fn form_of(words: &ArgMatches<'_>) -> Form
-    ensures { IsForm (rows_of (found_of words.now)) result }
-{
-    if is_set(words, "svg") {
-        Form::Svg
-    } else if is_set(words, "json") {
-        Form::Json
-    } else if is_set(words, "csv") {
-        Form::Csv
-    } else if is_set(words, "ascii") {
-        Form::Ascii
-    } else {
-        Form::Text
-    }
-}
-
-/// The words for the terms of an order.
-fn terms_of<'a>(words: &ArgMatches<'a>) -> Terms<'a>
-    ensures { AreTerms (rows_of (found_of words.now)) result }
-{
-    Terms {
-        factor: text_of(words, "factor"),
-        deadline: text_of(words, "deadline"),
-        prices: path_of(words, "prices"),
-        owned: text_of(words, "owned"),
-        ceiling: text_of(words, "ceiling"),
-    }
-}
-
-/// The words for a table of tasks.
-fn table_of<'a>(words: &ArgMatches<'a>) -> TableWords<'a>
-    ensures { AreTableWords (rows_of (found_of words.now)) result }
-{
-    TableWords {
-        file: path_of(words, "FILE"),
-        out: path_of(words, "out"),
-        from: text_of(words, "from"),
-        prices: text_of(words, "prices"),
-        factor: text_of(words, "factor"),
-        deadline: text_of(words, "deadline"),
-        owned: text_of(words, "owned"),
-        ceiling: text_of(words, "ceiling"),
     }
 }
 

@@ -34,8 +34,8 @@
 //! asks for a crew: 1 worker, 1,000,000,000,000 turns, no limit of time, nothing told and no file of the best plan, unless
 //! the others say otherwise. With `--workers 0` there are to be as many workers as there are processors, which the
 //! program counts. `--memory MIB` says how much memory the records of a search take at most, with or without a crew.
-//! `curve` takes all of these but `--stats`, `whatif` none of `--stats`, `--progress` and `--best`, `verify` takes `--time-limit`. A limit of time is a word here;
-//! the program reads it.
+//! `curve` takes all of these but `--stats`, `whatif` none of `--stats`, `--progress` and `--best`, `verify` takes
+//! `--time-limit`. A limit of time is a word here; the program reads it.
 //!
 //! What is asked for is a `Task`: a request; how much is told of what is wrong, which the flags `--quiet` and `--explain`
 //! of each command that reads a file say; and whether the answer is written as JSON, which the flag `--json` says.
@@ -66,6 +66,7 @@ mod options;
 mod request;
 mod table;
 mod table_words;
+mod tool_words;
 mod tools;
 
 pub use command_line::asked;

@@ -1,0 +1,80 @@
+//! What the words of `show`, `order` and `import` say.
+
+ghost use Rattle.std.specs.Prelude.{◌≤◌, IfSome, codes};
+ghost use Rattle.clap.specs.Words.{first_of, found_of, rows_of};
+ghost use Rattle.racp_words.specs.Tools.{AreTableWords, AreTerms, IsForm, IsLook, IsWidth};
+
+use crate::most::MOST_WIDTH;
+use crate::options::{dates_of, is_set, number_of, path_of, text_of};
+use crate::request::{Look, TableWords, Terms};
+use clap::ArgMatches;
+use racp_show::Form;
+
+/// How a plan is to be shown.
+pub(crate) fn look_of<'a>(words: &ArgMatches<'a>) -> Look<'a>
+    ensures { IsLook (rows_of (found_of words.now)) result }
+{
+    let width = width_of(words);
+    Look {
+        names: text_of(words, "names"),
+        width,
+        form: form_of(words),
+        has_links: is_set(words, "links"),
+        dates: dates_of(words),
+    }
+}
+
+/// How many columns a line has at most, if an option says so.
+fn width_of(words: &ArgMatches<'_>) -> Option<u64>
+    ensures width { IsWidth (first_of (codes "width") (rows_of (found_of words.now))) result }
+    ensures few { IfSome result (λ width. width ≤ 1000) }
+{
+    let word = text_of(words, "width")?;
+    Some(number_of(Some(word), MOST_WIDTH, MOST_WIDTH))
+}
+
+/// What is to be written of a plan that is shown.
+fn form_of(words: &ArgMatches<'_>) -> Form
+    ensures { IsForm (rows_of (found_of words.now)) result }
+{
+    if is_set(words, "svg") {
+        Form::Svg
+    } else if is_set(words, "json") {
+        Form::Json
+    } else if is_set(words, "csv") {
+        Form::Csv
+    } else if is_set(words, "ascii") {
+        Form::Ascii
+    } else {
+        Form::Text
+    }
+}
+
+/// The words for the terms of an order.
+pub(crate) fn terms_of<'a>(words: &ArgMatches<'a>) -> Terms<'a>
+    ensures { AreTerms (rows_of (found_of words.now)) result }
+{
+    Terms {
+        factor: text_of(words, "factor"),
+        deadline: text_of(words, "deadline"),
+        prices: path_of(words, "prices"),
+        owned: text_of(words, "owned"),
+        ceiling: text_of(words, "ceiling"),
+    }
+}
+
+/// The words for a table of tasks.
+pub(crate) fn table_of<'a>(words: &ArgMatches<'a>) -> TableWords<'a>
+    ensures { AreTableWords (rows_of (found_of words.now)) result }
+{
+    TableWords {
+        file: path_of(words, "FILE"),
+        out: path_of(words, "out"),
+        from: text_of(words, "from"),
+        prices: text_of(words, "prices"),
+        factor: text_of(words, "factor"),
+        deadline: text_of(words, "deadline"),
+        owned: text_of(words, "owned"),
+        ceiling: text_of(words, "ceiling"),
+    }
+}
