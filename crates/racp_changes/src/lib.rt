@@ -24,11 +24,11 @@
 //! one fewer of resource 2: cost 3, as much; 1 more of resource 1; 1 fewer of resource 2
 //! ```
 //!
-//! `findings_json` tells the same as an object of JSON.
+//! `findings_json` tells the same as an object of JSON, and `base_line` the first of these lines alone.
 //!
 //! Proved: `changed` answers exactly the order with that term changed, and if the order was for a project, so is this one;
 //! `changes_of` exactly the changes that are asked, each of which an order may say; `findings_text` exactly the lines of the
-//! findings; `told_finding` the numbers of a finding. Not proved: the text of the JSON, which rests on what `serde` derives.
+//! findings, the first of which is that of `base_line`; `told_finding` the numbers of a finding. Not proved: the text of the JSON, which rests on what `serde` derives.
 //! That an outcome is right is said by `IsOutcome`, and proved where plans are made (racp_whatif).
 #![tactic(auto)]
 
@@ -43,5 +43,5 @@ pub use change::Change;
 pub use changes::changes_of;
 pub use changing::changed;
 pub use json::{ToldFinding, findings_json, told_finding};
-pub use lines::{Called, findings_text};
+pub use lines::{Called, base_line, findings_text};
 pub use outcome::{Finding, Outcome, are_known};

@@ -84,8 +84,12 @@ fn push_findings(
     Ok(())
 }
 
-/// The line for the plan.
-fn base_line(alloc: Global, base: &Plan) -> Result<String, AllocError>
+/// The line that the plan has before all findings: its deadline and its cost.
+///
+/// # Errors
+///
+/// Memory was refused.
+pub fn base_line(alloc: Global, base: &Plan) -> Result<String, AllocError>
     ensures { IfOk result (λ text. string_bytes text ≡ base_line base.now) }
 {
     let (deadline, cost) = (base.deadline, base.cost);

@@ -1,12 +1,14 @@
 -- What facts say of an order, if the root bounds leave nothing out.
-use Rattle.std.specs.Prelude.{◌≡◌, ℕ, ◌<◌, ◌≤◌, List, length, slice_index}
+use Rattle.std.specs.Prelude.{◌≡◌, ℕ, ◌+◌, ◌<◌, ◌≤◌, List, length, slice_index}
 use Rattle.racp_model.specs.Project.{Project}
+use Rattle.racp_model.specs.Schedule.{sum_below, use_of}
 use Rattle.racp_model.specs.Terms.{Terms, release_of, due_of, cost, IsWithinCeilings}
 use Rattle.racp_model.specs.Plan.{IsEnough, FitsTerms}
-use Rattle.racp_model.specs.Window.{Bounds, IsRootWindow}
+use Rattle.racp_model.specs.Window.{Bounds, IsRootWindow, LiesIn}
 use Rattle.racp_model.specs.Laws.{IsCutToRoofs}
 use Rattle.racp_facts.specs.Solutions.{Problem, HasPlaces, values, units_place, cost_place}
 use Rattle.racp_facts.specs.Clauses.{SatisfiesSome, Holds, IsRefuted}
+use Rattle.racp_facts.specs.Rules.{least_work}
 use Rattle.racp_facts.specs.Roots.{IsOpen, IsRootOf, IsPartOf, IsTighter}
 use Rattle.racp_facts.specs.declared.literal.Literal.{Literal}
 
@@ -62,3 +64,9 @@ TighterIsPart =
     IsRootOf p tight tight_window tight_floors tight_root → IsRootOf p wide wide_window wide_floors wide_root →
     IsPartOf (record { network = p; terms = tight; root = tight_root })
     (record { network = p; terms = wide; root = wide_root })
+
+-- wherever the jobs start in a window, a job does its least work on a resource between two times
+abbrev pub LeastWorkIsDone : Type 0
+LeastWorkIsDone =
+    (p : Project) (window : Bounds) (starts : List ℕ) (k from span i : ℕ) → LiesIn p window starts → i < length p.jobs →
+    least_work p window k from (from + span) i ≤ sum_below span (λ u. use_of p starts k (from + u) i)

@@ -1,7 +1,7 @@
-//! Laws of clauses, of refuted bounds and of parts of a problem. The functions do nothing; their contracts are the
-//! laws.
+//! Laws of clauses, of refuted bounds, of parts of a problem and of least work. The functions do nothing; their
+//! contracts are the laws.
 
-ghost use Rattle.racp_facts.specs.Uses.{HoldsOfFitting, HoldsOfParts, RefutedAreNotEnough, TighterIsPart};
+ghost use Rattle.racp_facts.specs.Uses.{HoldsOfFitting, HoldsOfParts, LeastWorkIsDone, RefutedAreNotEnough, TighterIsPart};
 
 /// If no solution lies within bounds that leave the starts open, no units within them are enough.
 pub fn refuted_are_not_enough()
@@ -21,4 +21,9 @@ pub fn clauses_hold_of_parts()
 /// Under tighter terms, as a shorter deadline or lower ceilings, an order is part of what it was.
 pub fn tighter_is_part()
     ensures { TighterIsPart }
+{}
+
+/// Wherever the jobs start in a window, a job does its least work between two times.
+pub fn least_work_is_done()
+    ensures { LeastWorkIsDone }
 {}

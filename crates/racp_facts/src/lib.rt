@@ -37,8 +37,8 @@
 //! exactly as its definition says, and a derivation keeps that each solution of which no literal of its clause is true
 //! is within its bounds. `root_of` gives root bounds that leave nothing out; then `least_cost` is a lower bound on the
 //! cost of all capacities that are enough. In `laws`: starts that fit satisfy each clause, units within refuted bounds
-//! are not enough, clauses hold of each part of their problem, and tighter terms make a part. Not proved: that a
-//! derivation ends with nothing left.
+//! are not enough, clauses hold of each part of their problem, tighter terms make a part, and each job does its least
+//! work wherever it starts. Not proved: that a derivation ends with nothing left.
 #![tactic(auto)]
 
 mod clause;
