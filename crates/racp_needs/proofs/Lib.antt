@@ -1,0 +1,5 @@
+mod Works
+mod Jobs
+mod Crowds
+mod Orders
+mod Found
