@@ -2,6 +2,7 @@
 docs/FORMATS.md."""
 
 from shared import Run
+from slow.needs import need_words, wrong_need
 from slow.orders import LATEST, order_text, read_order
 from slow.plans import read_plan
 
@@ -44,10 +45,22 @@ def changes_of(order, capacities):
             yield f"deadline {deadline}", order._replace(deadline=deadline, due=due)
 
 
-def findings_of(plan_by, network, text, base):
-    """What `whatif` has to write beside a plan, if `plan_by` gives the run of `plan` for an order text."""
+def needs_told(network, order, base, ends, told):
+    """The ends of the lines with the needs that are told as JSON, if these are right; what is wrong with the first that is not."""
+    for place, ((change, changed), end, need) in enumerate(zip(changes_of(order, base.capacities), ends, told)):
+        if end == "not possible":
+            wrong = wrong_need(network, changed, need)
+            ends[place] = f"{end}: {wrong}" if wrong else end + need_words(need)
+    return ends
+
+
+def findings_of(plan_by, network, text, base, told):
+    """What `whatif` has to write beside a plan, if `plan_by` gives the run of `plan` for an order text, and these needs are told as
+    JSON."""
     order = read_order(text, network.resources, len(network.durations))
+    changes = list(changes_of(order, base.capacities))
+    ends = [ends_of(base, plan_by(order_text(changed)), changed, network) for _, changed in changes]
     lines = [f"deadline {base.deadline}: cost {base.cost}\n"]
-    for change, changed in changes_of(order, base.capacities):
-        lines.append(f"{change}: {ends_of(base, plan_by(order_text(changed)), changed, network)}\n")
+    for (change, _), end in zip(changes, needs_told(network, order, base, ends, told)):
+        lines.append(f"{change}: {end}\n")
     return Run(0, ("".join(lines) + "end\n").encode(), b"")

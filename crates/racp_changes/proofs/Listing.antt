@@ -6,7 +6,7 @@ use Rattle.racp_plan.specs.declared.plan.Plan.{Plan}
 use Rattle.racp_changes.specs.declared.outcome.Finding.{Finding}
 use Rattle.racp_changes.specs.declared.change.Change.{Change}
 use Rattle.racp_changes.specs.Changes.{each_fewer, each_owned, one_fewer, one_owned}
-use Rattle.racp_changes.specs.Lines.{base_line, each_beside, finding_line, findings_text, resource_called, units_beside}
+use Rattle.racp_changes.specs.Lines.{base_line, each_beside, each_job, finding_line, findings_text, job_called, job_words, resource_called, units_beside}
 
 -- the change about the next resource is added
 pub fewer_on : (numbers : List ℕ) (old all new : List Change) (place : ℕ) → place < length numbers → old ++ each_fewer place (drop place numbers) ≡ all → new ≡ old ++ one_fewer place (get_or numbers place 0) → new ++ each_fewer (place + 1) (drop (place + 1) numbers) ≡ all
@@ -38,6 +38,17 @@ beside_on names jobs olds numbers old all new place within so_far grown =
     ap (λ (t : List ℕ). t ++ each_beside names jobs olds (place + 1) rest) grown
     ∙ append_assoc old (units_beside (resource_called names jobs place) (slice_index olds place) next) (each_beside names jobs olds (place + 1) rest)
     ∙ sym (ap (λ (t : List ℕ). old ++ each_beside names jobs olds place t) split)
+    ∙ so_far
+
+-- the name of the next job of a need is added
+pub job_on : (names : List (List ℕ)) (numbers old all new : List ℕ) (place : ℕ) → place < length numbers → old ++ each_job names place (drop place numbers) ≡ all → new ≡ old ++ job_words place (job_called names (get_or numbers place 0)) → new ++ each_job names (place + 1) (drop (place + 1) numbers) ≡ all
+job_on names numbers old all new place within so_far grown =
+    let next = get_or numbers place 0 in
+    let rest : List ℕ = drop (place + 1) numbers in
+    let split : drop place numbers ≡ next ∷ rest = rw (add-one) (drop-cons numbers place 0 within) in
+    ap (λ (t : List ℕ). t ++ each_job names (place + 1) rest) grown
+    ∙ append_assoc old (job_words place (job_called names next)) (each_job names (place + 1) rest)
+    ∙ sym (ap (λ (t : List ℕ). old ++ each_job names place t) split)
     ∙ so_far
 
 -- the pieces of a text

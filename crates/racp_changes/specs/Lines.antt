@@ -1,8 +1,9 @@
 -- The lines that tell findings. Each ends with a line feed; numbers are decimal, without leading zeros.
-use Rattle.std.specs.Prelude.{ℕ, ◌+◌, ◌-◌, ◌==◌, List, [], ◌∷◌, ◌++◌, codes, flat_map, nat_lt, slice_index, unwrap_or, if◌then◌else◌}
+use Rattle.std.specs.Prelude.{ℕ, ◌+◌, ◌-◌, ◌==◌, List, [], ◌∷◌, ◌++◌, Some, None, codes, flat_map, length, nat_lt, slice_index, unwrap_or, if◌then◌else◌}
 use Rattle.std.specs.Fmt.{decimal}
 use Rattle.racp_plan.specs.Texts.{line}
 use Rattle.racp_show.specs.Called.{name_at}
+use Rattle.racp_needs.specs.declared.need.Need.{Need}
 use Rattle.racp_plan.specs.declared.plan.Plan.{Plan}
 use Rattle.racp_changes.specs.declared.change.Change.{Change}
 use Rattle.racp_changes.specs.declared.change.Change.TheVariants.{Ceiling, Owned, Deadline}
@@ -42,6 +43,35 @@ each_beside names jobs olds place [] = []
 each_beside names jobs olds place (new ∷ news) =
     units_beside (resource_called names jobs place) (slice_index olds place) new ++ each_beside names jobs olds (place + 1) news
 
+-- the name of a job of a need, the first of them at the place 0: ` by NAME`, or `, NAME` for each further one
+unfoldable pub job_words : ℕ → List ℕ → List ℕ
+job_words place name = (if place == 0 then codes " by " else codes ", ") ++ name
+
+-- those of all jobs, the first of them at this place
+abbrev pub each_job : List (List ℕ) → ℕ → List ℕ → List ℕ
+each_job names place [] = []
+each_job names place (job ∷ rest) = job_words place (job_called names job) ++ each_job names (place + 1) rest
+
+-- ` by NAME, NAME`, or ` by N jobs` if there are more than 8
+unfoldable pub jobs_words : List (List ℕ) → List ℕ → List ℕ
+jobs_words names jobs =
+    if nat_lt 8 (length jobs) then codes " by " ++ decimal (length jobs) ++ codes " jobs" else each_job names 0 jobs
+
+-- ` between T and U`, or nothing for a single job
+unfoldable pub between : ℕ → ℕ → List ℕ
+between from until = codes " between " ++ decimal from ++ codes " and " ++ decimal until
+
+unfoldable pub times_words : Need → List ℕ
+times_words need = if nat_lt 1 (length need.jobs.items) then between need.from need.until else []
+
+-- what is needed above a ceiling: `5 of NAME needed by NAME`, or `5 of NAME needed between T and U by NAME, NAME`
+unfoldable pub needed : ℕ → (name times jobs : List ℕ) → List ℕ
+needed units name times jobs = decimal units ++ codes " of " ++ name ++ codes " needed" ++ times ++ jobs
+
+unfoldable pub need_words : List (List ℕ) → ℕ → Need → List ℕ
+need_words names jobs need =
+    needed need.units (resource_called names jobs need.place) (times_words need) (jobs_words names need.jobs.items)
+
 -- what becomes of an order, beside a plan
 unfoldable pub outcome_words : List (List ℕ) → ℕ → Plan → Outcome → List ℕ
 outcome_words names jobs base (ThePlan plan) =
@@ -49,7 +79,8 @@ outcome_words names jobs base (ThePlan plan) =
     ++ each_beside names jobs base.capacities 0 plan.capacities
 outcome_words names jobs base (TooLong critical) = codes "not possible; the critical length is " ++ decimal critical
 outcome_words names jobs base (TooLate job) = codes "not possible; " ++ job_called names job ++ codes " ends too late"
-outcome_words names jobs base NoneEnough = codes "not possible"
+outcome_words names jobs base (NoneEnough None) = codes "not possible"
+outcome_words names jobs base (NoneEnough (Some need)) = codes "not possible; " ++ need_words names jobs need
 outcome_words names jobs base (Open least) = codes "not known; costs at least " ++ decimal least
 
 -- `CHANGE: OUTCOME`

@@ -3,6 +3,7 @@ use Rattle.std.specs.Prelude.{◌≡◌, ℕ, ◌≤◌, Bool, true, false, List
 use Rattle.racp_model.specs.Project.{Project, number}
 use Rattle.racp_model.specs.Terms.{Terms, cost}
 use Rattle.racp_model.specs.Plan.{IsEnough, IsTooLong, IsTooLateAt, IsOverCeilings}
+use Rattle.racp_needs.specs.Needs.{IsNeedAnswer}
 use Rattle.racp_plan.specs.Plans.{IsPlanOf}
 use Rattle.racp_changes.specs.Changes.{changed, changes_of}
 use Rattle.racp_changes.specs.declared.change.Change.{Change}
@@ -10,13 +11,13 @@ use Rattle.racp_changes.specs.declared.outcome.Outcome.{Outcome}
 use Rattle.racp_changes.specs.declared.outcome.Outcome.TheVariants.{Plan as ThePlan, TooLong, TooLate, NoneEnough, Open}
 use Rattle.racp_changes.specs.declared.outcome.Finding.{Finding}
 
--- the plan of an order; or the first reason for which there is none; or, of a plan that is not known, what capacities that are enough cost
--- at least
+-- the plan of an order; or the first reason for which there is none, if the ceilings are, with a need above one that is seen; or, of a plan
+-- that is not known, what capacities that are enough cost at least
 abbrev pub IsOutcome : Project → Terms → Outcome → Type 0
 IsOutcome p terms (ThePlan plan) = IsPlanOf p terms plan
 IsOutcome p terms (TooLong critical) = IsTooLong p terms critical
 IsOutcome p terms (TooLate job) = (i : ℕ) × (number i ≡ job) × IsTooLateAt p terms i
-IsOutcome p terms NoneEnough = IsOverCeilings p terms
+IsOutcome p terms (NoneEnough need) = IsOverCeilings p terms × IsNeedAnswer p terms need
 IsOutcome p terms (Open least) = (enough : List ℕ) → IsEnough p terms enough → least ≤ cost terms enough
 
 -- what becomes of the order with the finding's change
@@ -37,7 +38,7 @@ abbrev pub is_settled : Outcome → Bool
 is_settled (ThePlan plan) = true
 is_settled (TooLong critical) = true
 is_settled (TooLate job) = true
-is_settled NoneEnough = true
+is_settled (NoneEnough need) = true
 is_settled (Open least) = false
 
 abbrev pub is_known : Finding → Bool

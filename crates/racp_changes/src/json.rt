@@ -1,11 +1,12 @@
 //! Findings as JSON.
 
 ghost use Rattle.std.specs.Prelude.{◌≡◌, IfOk, None, option_map};
-ghost use Rattle.racp_changes.specs.Values.{TellsFinding, capacities_in, cost_in, least_in, value_of};
+ghost use Rattle.racp_changes.specs.Values.{TellsFinding, TellsNeed, TellsNeedOf, capacities_in, cost_in, least_in, value_of};
 
 use crate::change::Change;
 use crate::lines::Called;
 use crate::outcome::{Finding, Outcome, are_known};
+use racp_needs::Need;
 use racp_plan::Plan;
 use serde::Serialize;
 use std::alloc::{AllocError, Global};
@@ -44,6 +45,25 @@ pub struct ToldFinding {
     pub capacities: Option<Vec<u32>>,
     /// What each plan costs at least, of a plan that is not known.
     pub least: Option<u64>,
+    /// What is needed above a ceiling, if there is no plan and that is seen.
+    pub need: Option<ToldNeed>,
+}
+
+/// What is told of a need.
+#[derive(Drop, Serialize)]
+pub struct ToldNeed {
+    /// The number of the resource, from 1.
+    pub resource: u64,
+    /// What the resource is called.
+    pub name: String,
+    /// How many units are needed,
+    pub units: u64,
+    /// at some time from this one on,
+    pub from: u64,
+    /// before this one.
+    pub until: u64,
+    /// The numbers of the jobs that need them, from 1, rising.
+    pub jobs: Vec<u32>,
 }
 
 /// Findings beside a plan as one line of JSON.
@@ -101,6 +121,7 @@ pub fn told_finding(
 {
     let name = name_of(alloc, called, finding.change)?;
     let capacities = capacities_of(alloc, &finding.outcome)?;
+    let need = need_of(alloc, called, &finding.outcome)?;
     Ok(ToldFinding {
         change: kind_of(finding.change),
         resource: resource_of(finding.change),
@@ -110,6 +131,7 @@ pub fn told_finding(
         cost: cost_of(&finding.outcome),
         capacities,
         least: least_of(&finding.outcome),
+        need,
     })
 }
 
@@ -191,4 +213,34 @@ fn least_of(outcome: &Outcome) -> Option<u64>
         Outcome::Open { least } => Some(*least),
         _ => None,
     }
+}
+
+/// What is needed above a ceiling, if that is seen.
+fn need_of(
+    alloc: Global,
+    called: &Called<'_>,
+    outcome: &Outcome,
+) -> Result<Option<ToldNeed>, AllocError>
+    ensures { IfOk result (TellsNeedOf outcome.now) }
+{
+    match outcome {
+        Outcome::NoneEnough { need: Some(need) } => Ok(Some(told_need(alloc, called, need)?)),
+        _ => Ok(None),
+    }
+}
+
+/// What is told of a need.
+fn told_need(alloc: Global, called: &Called<'_>, need: &Need) -> Result<ToldNeed, AllocError>
+    ensures { IfOk result (TellsNeed need.now) }
+{
+    let name = called.resource(alloc, need.place as usize)?;
+    let jobs = need.jobs.to_vec(alloc)?;
+    Ok(ToldNeed {
+        resource: need.place as u64 + 1,
+        name,
+        units: need.units,
+        from: need.from,
+        until: need.until,
+        jobs,
+    })
 }

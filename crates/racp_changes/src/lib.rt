@@ -37,6 +37,7 @@ mod changes;
 mod changing;
 mod json;
 mod lines;
+mod needed;
 mod outcome;
 
 pub use change::Change;

@@ -5,6 +5,7 @@ ghost use Rattle.racp_changes.specs.Lines.{base_line, beside, change_words, each
 ghost use Rattle.racp_changes.specs.declared.outcome.Outcome.TheVariants.{Plan as ThePlan};
 
 use crate::change::Change;
+use crate::needed::need_words;
 use crate::outcome::{Finding, Outcome};
 use racp_plan::Plan;
 use racp_show::Names;
@@ -151,7 +152,11 @@ fn outcome_words(
             let name = called.job(alloc, *job)?;
             format!(in alloc; "not possible; {name} ends too late")
         }
-        Outcome::NoneEnough => String::from_str(alloc, "not possible"),
+        Outcome::NoneEnough { need: None } => String::from_str(alloc, "not possible"),
+        Outcome::NoneEnough { need: Some(need) } => {
+            let words = need_words(alloc, called, need)?;
+            format!(in alloc; "not possible; {words}")
+        }
         Outcome::Open { least } => {
             let least = *least;
             format!(in alloc; "not known; costs at least {least}")

@@ -5,6 +5,7 @@ ghost use Rattle.std.specs.List.{list_all};
 ghost use Rattle.racp_changes.specs.Outcomes.{is_known};
 
 use crate::change::Change;
+use racp_needs::Need;
 use racp_plan::Plan;
 
 /// What becomes of an order.
@@ -23,7 +24,10 @@ pub enum Outcome {
         job: u32,
     },
     /// It has none: no capacities within the ceilings are enough.
-    NoneEnough,
+    NoneEnough {
+        /// What is needed above a ceiling, if that is seen without a search.
+        need: Option<Need>,
+    },
     /// Its plan is not known, since planning was stopped.
     Open {
         /// What each plan costs at least.

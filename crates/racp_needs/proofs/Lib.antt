@@ -3,3 +3,4 @@ mod Jobs
 mod Crowds
 mod Orders
 mod Found
+mod Refuting

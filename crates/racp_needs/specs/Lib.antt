@@ -1,3 +1,4 @@
 pub mod Fitting
 pub mod Needs
+pub mod Laws
 pub mod Within

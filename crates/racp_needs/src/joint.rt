@@ -9,7 +9,7 @@ use crate::need::{Need, push_job};
 use crate::work::{Work, part_of};
 use racp_facts::Times;
 use racp_facts::laws::least_work_is_done;
-use racp_model::limits::MOST_JOBS;
+use racp_model::limits::{MOST_JOBS, MOST_RESOURCES};
 use racp_model::{Network, Window};
 use std::alloc::{AllocError, Global};
 
@@ -51,11 +51,12 @@ fn need_of(
         IsAbove net.now window.now ceilings need) }
 {
     least_work_is_done();
+    prove!(net.resource_count() <= MOST_RESOURCES);
     let times = work.times;
     let jobs = workers(alloc, net, window, k, times)?;
     let units = work.amount.div_ceil(times.until - times.from);
     Ok(Need {
-        place: k,
+        place: k as u32,
         units,
         from: times.from,
         until: times.until,

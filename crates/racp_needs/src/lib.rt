@@ -23,6 +23,7 @@
 
 mod crowd;
 mod joint;
+pub mod laws;
 mod need;
 mod single;
 mod work;

@@ -17,7 +17,7 @@ use std::alloc::{AllocError, Global};
 #[derive(Drop)]
 pub struct Need {
     /// The place of the resource, from 0.
-    pub place: usize,
+    pub place: u32,
     /// How many units they use.
     pub units: u64,
     /// The first time at which that may be.

@@ -6,7 +6,7 @@ ghost use Rattle.racp_needs.specs.Fitting.{RequestsFit};
 ghost use Rattle.racp_needs.specs.Within.{IsAbove};
 
 use crate::need::{Need, push_job};
-use racp_model::limits::MOST_JOBS;
+use racp_model::limits::{MOST_JOBS, MOST_RESOURCES};
 use racp_model::{Network, Window};
 use std::alloc::{AllocError, Global};
 
@@ -65,10 +65,11 @@ fn need_of(
         IsAbove net.now window.now ceilings need) }
 {
     prove!(net.job_count() <= MOST_JOBS);
+    prove!(net.resource_count() <= MOST_RESOURCES);
     let mut jobs = Vec::new(alloc);
     push_job(&mut jobs, i)?;
     Ok(Need {
-        place: k,
+        place: k as u32,
         units: net.request(i, k) as u64,
         from: window.lower()[i] as u64,
         until: window.upper()[i] as u64 + net.duration(i) as u64,

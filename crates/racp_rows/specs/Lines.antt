@@ -65,7 +65,7 @@ abbrev pub outcome_cells : Outcome → Work → Cells
 outcome_cells (ThePlan plan) work = plan_cells plan.cost
 outcome_cells (TooLong critical) work = sized None None statuses.Impossible
 outcome_cells (TooLate job) work = sized None None statuses.Impossible
-outcome_cells NoneEnough work = sized None None statuses.Impossible
+outcome_cells (NoneEnough need) work = sized None None statuses.Impossible
 outcome_cells (Open least) work = open_cells least work
 
 -- those of a row with an outcome

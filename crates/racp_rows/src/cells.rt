@@ -114,7 +114,7 @@ fn outcome_cells(outcome: &Outcome, work: &Work) -> Cells
         Outcome::Plan(plan) => plan_cells(plan.cost),
         Outcome::TooLong { .. } => sized(None, None, Status::Impossible),
         Outcome::TooLate { .. } => sized(None, None, Status::Impossible),
-        Outcome::NoneEnough => sized(None, None, Status::Impossible),
+        Outcome::NoneEnough { .. } => sized(None, None, Status::Impossible),
         Outcome::Open { least } => open_cells(*least, work),
     }
 }

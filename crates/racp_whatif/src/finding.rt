@@ -1,8 +1,7 @@
 //! What becomes of an order if one term is changed.
 
 ghost use Rattle.std.specs.Prelude.{[], ◌∷◌, ◌≡◌, ◌++◌, All, IfErr, IfOk, OnOk, length, map};
-ghost use Rattle.racp_model.specs.Project.{Project};
-ghost use Rattle.racp_model.specs.Terms.{AreTermsOf, Terms};
+ghost use Rattle.racp_model.specs.Terms.{AreTermsOf};
 ghost use Rattle.racp_changes.specs.Changes.{IsChangeFor};
 ghost use Rattle.racp_changes.specs.Outcomes.{AreFindings, IsFinding, IsOutcome, change_of};
 ghost use Rattle.racp_lexfix.specs.Answers.{IsAnswer};
@@ -15,6 +14,7 @@ use racp_desk::Gate;
 use racp_lexfix::{Answer, Crew, PlanStop};
 use racp_model::Network;
 use racp_model::limits::MOST_RESOURCES;
+use racp_needs::need_above;
 use racp_prices::{Order, cost_of};
 use racp_search::Stop;
 use std::alloc::{AllocError, Global};
@@ -111,7 +111,7 @@ pub fn outcome<G: Gate + Sync, P: Stop + Sync, O: Observer, R: Threads + Wait + 
 {
     let task = Task { alloc, net, order };
     match planned(rt, &task, crew) {
-        Ok(answer) => Ok(outcome_of(answer)),
+        Ok(answer) => Ok(outcome_of(&task, answer)?),
         Err(PlanStop::Stopped { not_before }) => Ok(Outcome::Open {
             least: cost_of(net, order, not_before.as_slice()),
         }),
@@ -120,14 +120,18 @@ pub fn outcome<G: Gate + Sync, P: Stop + Sync, O: Observer, R: Threads + Wait + 
     }
 }
 
-/// What an answer says of an order.
-fn outcome_of(answer: Answer) -> Outcome
-    ensures { (p : Project) (terms : Terms) → IsAnswer p terms answer → IsOutcome p terms result }
+/// What an answer says of an order, with a need above a ceiling if the ceilings leave no plan.
+fn outcome_of(task: &Task<'_>, answer: Answer) -> Result<Outcome, AllocError>
+    requires terms { AreTermsOf task.now.net.now task.now.order.now }
+    requires answer { IsAnswer task.now.net.now task.now.order.now answer }
+    ensures { IfOk result (IsOutcome task.now.net.now task.now.order.now) }
 {
     match answer {
-        Answer::Plan(plan) => Outcome::Plan(plan),
-        Answer::Impossible { longest } => Outcome::TooLong { critical: longest },
-        Answer::Due { job } => Outcome::TooLate { job },
-        Answer::Ceiling => Outcome::NoneEnough,
+        Answer::Plan(plan) => Ok(Outcome::Plan(plan)),
+        Answer::Impossible { longest } => Ok(Outcome::TooLong { critical: longest }),
+        Answer::Due { job } => Ok(Outcome::TooLate { job }),
+        Answer::Ceiling => Ok(Outcome::NoneEnough {
+            need: need_above(task.alloc, task.net, task.order)?,
+        }),
     }
 }

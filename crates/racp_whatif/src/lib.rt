@@ -9,7 +9,8 @@
 //!
 //! Proved: `planned` answers the plan of the order, or the first reason for which there is none; if it is stopped, which it may
 //! be, it tells capacities before which none are enough. `findings` answers a finding for each change, in their order: the
-//! plan of the order so changed, why it has none, or, of a plan that is not known, what each that is enough costs at least.
+//! plan of the order so changed; why it has none, if the ceilings leave none with a need above one that racp_needs sees; or, of a plan
+//! that is not known, what each that is enough costs at least.
 //! It ends early only if memory is refused or a worker cannot be started. Not proved: that memory is not refused without
 //! need, and how long it takes.
 #![tactic(auto)]
