@@ -6,7 +6,7 @@ use Rattle.racp_plan.specs.declared.plan.Plan.{Plan}
 use Rattle.racp_changes.specs.declared.outcome.Finding.{Finding}
 use Rattle.racp_changes.specs.declared.change.Change.{Change}
 use Rattle.racp_changes.specs.Changes.{each_fewer, each_owned, one_fewer, one_owned}
-use Rattle.racp_changes.specs.Lines.{base_line, each_beside, each_job, finding_line, findings_text, job_called, job_words, resource_called, units_beside}
+use Rattle.racp_changes.specs.Lines.{base_line, between, each_beside, each_job, finding_line, findings_text, job_called, job_words, needed, resource_called, units_beside}
 
 -- the change about the next resource is added
 pub fewer_on : (numbers : List ℕ) (old all new : List Change) (place : ℕ) → place < length numbers → old ++ each_fewer place (drop place numbers) ≡ all → new ≡ old ++ one_fewer place (get_or numbers place 0) → new ++ each_fewer (place + 1) (drop (place + 1) numbers) ≡ all
@@ -50,6 +50,15 @@ job_on names numbers old all new place within so_far grown =
     ∙ append_assoc old (job_words place (job_called names next)) (each_job names (place + 1) rest)
     ∙ sym (ap (λ (t : List ℕ). old ++ each_job names place t) split)
     ∙ so_far
+
+-- the pieces of the words for a need
+pub between_pieces : (from until : ℕ) → codes " between " ++ (decimal from ++ (codes " and " ++ decimal until)) ≡ between from until
+unfolding between
+between_pieces from until = simp append_assoc
+
+pub needed_pieces : (units : ℕ) (name times jobs : List ℕ) → decimal units ++ (codes " of " ++ (name ++ (codes " needed" ++ (times ++ jobs)))) ≡ needed units name times jobs
+unfolding needed
+needed_pieces units name times jobs = simp append_assoc
 
 -- the pieces of a text
 pub base_line_pieces : (base : Plan) → codes "deadline " ++ (decimal base.deadline ++ (codes ": cost " ++ (decimal base.cost ++ codes "\n"))) ≡ base_line base

@@ -26,7 +26,6 @@ pub(crate) fn need_words(
 }
 
 /// These words as one text.
-#[tactic(auto, unfolding(crate::specs::Lines::needed))]
 fn needed(
     alloc: Global,
     units: u64,
@@ -52,7 +51,6 @@ fn times_words(alloc: Global, need: &Need) -> Result<String, AllocError>
 }
 
 /// ` between T and U`.
-#[tactic(auto, unfolding(crate::specs::Lines::between))]
 fn between(alloc: Global, from: u64, until: u64) -> Result<String, AllocError>
     ensures { IfOk result (λ text. string_bytes text ≡ between from until) }
 {
