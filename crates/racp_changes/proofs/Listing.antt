@@ -1,5 +1,5 @@
 -- Lists and texts that are made resource by resource.
-use Rattle.std.proofs.Common.{◌≡◌, ◌∙◌, ℕ, ◌+◌, ◌<◌, List, [], ◌∷◌, ◌++◌, length, slice_index, drop, get_or, sym, ap, append_assoc, add-one, drop-cons, codes, flat_map}
+use Rattle.std.proofs.Common.{◌≡◌, ◌∙◌, ℕ, ◌+◌, ◌<◌, List, ◌∷◌, ◌++◌, length, slice_index, drop, get_or, sym, ap, append_assoc, add-one, drop-cons, codes, flat_map}
 use Rattle.std.specs.Fmt.{decimal}
 use Rattle.racp_plan.specs.Texts.{line}
 use Rattle.racp_plan.specs.declared.plan.Plan.{Plan}

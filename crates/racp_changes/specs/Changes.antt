@@ -1,5 +1,5 @@
 -- Orders with one term changed, and which changes are asked about.
-use Rattle.std.specs.Prelude.{◌≡◌, ℕ, zero, suc, ◌+◌, ◌==◌, ◌<◌, ◌≤◌, List, [], ◌∷◌, ◌++◌, length, map, min, replicate, set, Option, Some, IfSome, unwrap_or, nat_lt, if◌then◌else◌}
+use Rattle.std.specs.Prelude.{ℕ, zero, suc, ◌+◌, ◌==◌, ◌<◌, ◌≤◌, List, [], ◌∷◌, ◌++◌, length, map, min, replicate, set, Some, IfSome, unwrap_or, nat_lt, if◌then◌else◌}
 use Rattle.racp_model.specs.Limits.{latest_time, most_units}
 use Rattle.racp_model.specs.Terms.{Terms}
 use Rattle.racp_changes.specs.declared.change.Change.{Change}

@@ -15,12 +15,12 @@
 //! units: there are at most 512 jobs, and none asks for more than 10,000. A due time that is the deadline moves with it: an
 //! order that names no due times has the deadline for each job.
 //!
-//! What becomes of an order is an `Outcome`: its plan, why it has none, or what each plan costs at least if the plan is not
-//! known. `findings_text` tells a `Finding`, a change with its outcome, in a line beside the plan that was there before:
+//! What becomes of an order is an `Outcome`: its plan; why it has none, with a need of racp_needs where one is seen; or what each
+//! plan costs at least if the plan is not known. `findings_text` tells a `Finding`, a change with its outcome, in a line beside the plan that was there before:
 //!
 //! ```text
 //! deadline 3: cost 3
-//! one fewer of resource 1: not possible
+//! one fewer of resource 1: not possible; 1 of resource 1 needed by job 2
 //! one fewer of resource 2: cost 3, as much; 1 more of resource 1; 1 fewer of resource 2
 //! ```
 //!

@@ -1,5 +1,5 @@
 -- The jobs of a need.
-use Rattle.std.proofs.Common.{◌≡◌, ◌∙◌, ℕ, suc, ◌+◌, ◌-◌, ◌*◌, ◌<◌, ◌≤◌, inl, inr, List, [], ◌∷◌, ◌++◌, All, AllPairs, length, slice_index, get_or, sum_by, arith, ap, subst, sym, refl}
+use Rattle.std.proofs.Common.{◌≡◌, ◌∙◌, ℕ, ◌+◌, ◌-◌, ◌*◌, ◌<◌, ◌≤◌, inl, inr, List, [], ◌∷◌, ◌++◌, All, AllPairs, length, slice_index, get_or, sum_by, arith, ap, subst, sym}
 use Rattle.std.specs.Int.{div_ceil}
 use Rattle.std.proofs.Math.Nat.{mul-le-mul_right}
 use Rattle.std.proofs.lemmas.Bool.{cases_lt}
@@ -9,12 +9,12 @@ use Rattle.std.proofs.lemmas.List.Quantifiers.{all_pairs_push}
 use Rattle.std.proofs.lemmas.List.Sums.{sum_by-cons, sum_by_push}
 use Rattle.racp_model.specs.Project.{Project, IsNumber, place, number, duration, request}
 use Rattle.racp_model.specs.Schedule.{IsActive, sum_below, use_of}
-use Rattle.racp_model.specs.Window.{Bounds, LiesIn}
+use Rattle.racp_model.specs.Window.{Bounds}
 use Rattle.racp_model.proofs.lemmas.Sums.{sum_below-step, sum_below-none}
 use Rattle.racp_model.proofs.lemmas.Usage.{use_of-active}
 use Rattle.racp_facts.specs.Rules.{least_work}
 use Rattle.racp_facts.specs.Uses.{LeastWorkIsDone}
-use Rattle.racp_needs.specs.Needs.{usage_by, UseTogether}
+use Rattle.racp_needs.specs.Needs.{usage_by, UsesSome}
 use Rattle.racp_needs.specs.Within.{AreWorkers, IsAbove, IsNeedIn, IsOver}
 use Rattle.racp_needs.specs.declared.need.Need.{Need}
 use Rattle.racp_needs.specs.declared.work.Work.{Work}
@@ -30,6 +30,7 @@ module _ (p : Project) (window : Bounds) (k a b : ℕ) where
   no_worker = record {
     named = λ q d l. absurd (omega (arith, l));
     rising = λ i j d less l. absurd (omega (arith, l));
+    parts = λ q d l. absurd (omega (arith, l));
     amount = omega (arith, sum_below-none (least_work p window k a b));
   }
 
@@ -38,17 +39,19 @@ module _ (p : Project) (window : Bounds) (k a b : ℕ) where
   worker-passed i jobs none h = record {
     named = λ q d l. let at = h.named q d l in (at.0, omega (arith, at.1));
     rising = h.rising;
+    parts = h.parts;
     amount = omega (arith, h.amount, none, sum_below-step i (least_work p window k a b));
   }
 
   -- the next job has one
-  pub worker-added : (i : ℕ) (jobs all : List ℕ) → all ≡ jobs ++ number i ∷ [] → AreWorkers p window k a b i jobs → AreWorkers p window k a b (i + 1) all
-  worker-added i jobs all same h =
+  pub worker-added : (i : ℕ) (jobs all : List ℕ) → all ≡ jobs ++ number i ∷ [] → 0 < least_work p window k a b i → AreWorkers p window k a b i jobs → AreWorkers p window k a b (i + 1) all
+  worker-added i jobs all same some h =
       let work : ℕ → ℕ = λ job. least_work p window k a b (place job) in
       let named : All (IsNumber (i + 1)) jobs = λ q d l. let at = h.named q d l in (at.0, omega (arith, at.1)) in
       subst (AreWorkers p window k a b (i + 1)) (sym same) (record {
         named = All-push (IsNumber (i + 1)) jobs (number i) named (omega arith, omega arith);
         rising = all_pairs_push ◌<◌ jobs (number i) h.rising (λ q d l. let at = h.named q d l in omega (arith, at.1));
+        parts = All-push (λ job. 0 < work job) jobs (number i) h.parts (omega (arith, some, ap (least_work p window k a b) (place-number i)));
         amount = omega (arith, h.amount, sum_by_push work jobs (number i), ap (least_work p window k a b) (place-number i), sum_below-step i (least_work p window k a b));
       })
 
@@ -86,6 +89,14 @@ work-above p window ceilings k work jobs need law resource over workers at units
           let same : usage_by p starts need.place (a + found.0) need.jobs.items ≡ usage_by p starts k (a + found.0) jobs =
           ap (λ (q : ℕ). usage_by p starts q (a + found.0) need.jobs.items) at ∙ ap (usage_by p starts k (a + found.0)) are in
           (a + found.0, omega (arith, from), omega (arith, found.1, until, end), omega (arith, same, found.2, units, c.1));
+      each = λ starts lies.
+          subst (All (UsesSome p starts need)) (sym are) (λ q d l.
+          let job : ℕ = get_or jobs q d in
+          let is = workers.named q d l in
+          let Q : ℕ → Type 0 = λ until. least_work p window k a until (place job) ≤ sum_below span (λ u. use_of p starts k (a + u) (place job)) in
+          let done = subst Q end (law p window starts k a span (place job) lies (omega (arith, is.0, is.1))) in
+          let found = some-more span 0 (λ u. use_of p starts k (a + u) (place job)) (omega (arith, workers.parts q d l, done)) in
+          (a + found.0, omega (arith, from), omega (arith, found.1, until, end), omega (arith, found.2, ap (λ (q : ℕ). use_of p starts q (a + found.0) (place job)) at)));
     } in
     record { is = is; above = omega (arith, ap (slice_index ceilings) at, units, c.3) }
 
@@ -107,5 +118,15 @@ request-above p window ceilings k i jobs need resource job runs more single at u
           let used : usage_by p starts k t (number i ∷ []) ≡ request p i k =
           omega (arith, sum_by-cons (λ job. use_of p starts k t (place job)) (number i) [], ap (use_of p starts k t) (place-number i), use_of-active p starts k t i active) in
           (t, omega (arith, from, lies.above i job), omega (arith, until, lies.below i job, runs), omega (arith, same, used, units));
+      each = λ starts lies.
+          let t : ℕ = slice_index starts i in
+          let active : IsActive p starts t i = record { started = omega arith; runs = omega (arith, runs) } in
+          let some : UsesSome p starts need (number i) = (
+            t,
+            omega (arith, from, lies.above i job),
+            omega (arith, until, lies.below i job, runs),
+            omega (arith, more, use_of-active p starts k t i active, ap (use_of p starts k t) (place-number i), ap (λ (q : ℕ). use_of p starts q t (place (number i))) at),
+          ) in
+          subst (All (UsesSome p starts need)) (sym only) (All-push (UsesSome p starts need) [] (number i) (λ q d l. absurd (omega (arith, l))) some);
     } in
     record { is = is; above = omega (arith, ap (slice_index ceilings) at, units, more) }

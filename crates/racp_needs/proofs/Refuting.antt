@@ -1,11 +1,11 @@
 -- A need above a ceiling leaves no plan: its jobs use no more than all jobs do, and these no more than there is.
-use Rattle.std.proofs.Common.{◌≡◌, ℕ, zero, suc, ◌+◌, ◌-◌, ◌<◌, ◌≤◌, inl, inr, List, [], ◌∷◌, All, AllPairs, IfSome, Some, length, slice_index, sum_by, arith, ap, subst}
+use Rattle.std.proofs.Common.{◌≡◌, ℕ, zero, suc, ◌+◌, ◌<◌, ◌≤◌, inl, inr, List, [], ◌∷◌, All, AllPairs, IfSome, length, slice_index, sum_by, arith, ap, subst}
 use Rattle.std.proofs.lemmas.Bool.{cases_lt}
 use Rattle.std.proofs.lemmas.List.Elements.{All-head, All-tail}
 use Rattle.std.proofs.lemmas.List.Sums.{sum_by-cons}
 use Rattle.racp_model.specs.Project.{place}
 use Rattle.racp_model.specs.Schedule.{sum_below, use_of, usage}
-use Rattle.racp_model.proofs.lemmas.Sums.{sum_below-step, sum_below-none}
+use Rattle.racp_model.proofs.lemmas.Sums.{sum_below-step}
 use Rattle.racp_needs.specs.Needs.{usage_by}
 use Rattle.racp_needs.specs.Laws.{NeedLeavesNone}
 

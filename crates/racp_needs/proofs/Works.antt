@@ -1,11 +1,11 @@
 -- The least work at some times: how much it is at the most, and that no starts in a window do less together.
-use Rattle.std.proofs.Common.{◌≡◌, ◌∙◌, ℕ, zero, suc, ◌+◌, ◌-◌, ◌*◌, ◌<◌, ◌≤◌, inl, inr, List, [], ◌∷◌, All, length, sum_by, arith, ap, refl}
+use Rattle.std.proofs.Common.{◌≡◌, ℕ, zero, suc, ◌+◌, ◌-◌, ◌*◌, ◌<◌, ◌≤◌, inl, inr, List, [], ◌∷◌, All, length, sum_by, arith, ap}
 use Rattle.std.proofs.Math.Nat.{mul-le-mul_right}
 use Rattle.std.proofs.lemmas.Bool.{cases_lt}
 use Rattle.std.proofs.lemmas.Nat.{mul-le}
 use Rattle.std.proofs.lemmas.List.Elements.{All-head, All-tail}
 use Rattle.std.proofs.lemmas.List.Sums.{sum_by-cons}
-use Rattle.racp_model.specs.Project.{Project, IsNumber, IsSound, place, number, duration, request}
+use Rattle.racp_model.specs.Project.{Project, IsNumber, IsSound, place, request}
 use Rattle.racp_model.specs.Schedule.{sum_below, use_of, roof}
 use Rattle.racp_model.specs.Window.{Bounds, LiesIn}
 use Rattle.racp_model.proofs.lemmas.Sums.{sum_below-step, sum_below-none, sum_below-mono, sum_below-add, sum_below-times, request-small}

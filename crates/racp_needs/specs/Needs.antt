@@ -17,6 +17,11 @@ abbrev pub UseTogether : Project → List ℕ → Need → Type 0
 UseTogether p starts need =
     (t : ℕ) × (need.from ≤ t) × (t < need.until) × (need.units ≤ usage_by p starts need.place t need.jobs.items)
 
+-- a job uses units of it at some time from one until another
+abbrev pub UsesSome : Project → List ℕ → Need → ℕ → Type 0
+UsesSome p starts need job =
+    (t : ℕ) × (need.from ≤ t) × (t < need.until) × (0 < use_of p starts need.place t (place job))
+
 -- jobs of the project, each once, that do so whenever the jobs keep precedence and are in time
 pub record IsNeed (p : Project) (terms : Terms) (need : Need) : Type 0 where
   pub resource : need.place < p.resources
@@ -24,6 +29,8 @@ pub record IsNeed (p : Project) (terms : Terms) (need : Need) : Type 0 where
   pub rising : AllPairs ◌<◌ need.jobs.items
   pub used : (starts : List ℕ) → length starts ≡ length p.jobs → KeepsPrecedence p starts →
       IsInTime p (release_of terms) (due_of terms) starts → UseTogether p starts need
+  pub each : (starts : List ℕ) → length starts ≡ length p.jobs → KeepsPrecedence p starts →
+      IsInTime p (release_of terms) (due_of terms) starts → All (UsesSome p starts need) need.jobs.items
 
 -- there may not be as many units
 abbrev pub IsAboveCeiling : Terms → Need → Type 0

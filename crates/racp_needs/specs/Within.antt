@@ -5,7 +5,7 @@ use Rattle.racp_model.specs.Schedule.{sum_below}
 use Rattle.racp_model.specs.Window.{Bounds, LiesIn}
 use Rattle.racp_facts.specs.Rules.{least_work}
 use Rattle.racp_needs.specs.Fitting.{IsSeenToFit}
-use Rattle.racp_needs.specs.Needs.{UseTogether}
+use Rattle.racp_needs.specs.Needs.{UseTogether, UsesSome}
 use Rattle.racp_needs.specs.declared.need.Need.{Need}
 use Rattle.racp_needs.specs.declared.work.Work.{Work}
 
@@ -15,6 +15,7 @@ pub record IsNeedIn (p : Project) (window : Bounds) (need : Need) : Type 0 where
   pub named : All (IsNumber (length p.jobs)) need.jobs.items
   pub rising : AllPairs ◌<◌ need.jobs.items
   pub used : (starts : List ℕ) → LiesIn p window starts → UseTogether p starts need
+  pub each : (starts : List ℕ) → LiesIn p window starts → All (UsesSome p starts need) need.jobs.items
 
 -- and that is more than a ceiling
 pub record IsAbove (p : Project) (window : Bounds) (ceilings : List ℕ) (need : Need) : Type 0 where
@@ -32,9 +33,10 @@ pub record IsOver (p : Project) (window : Bounds) (k units : ℕ) (work : Work) 
   pub amount : work.amount ≡ sum_below (length p.jobs) (least_work p window k work.times.from work.times.until)
   pub more : units * (work.times.until - work.times.from) < work.amount
 
--- of the first n jobs those, each once, that do all of this work
+-- of the first n jobs those, each once, that have a part in this work
 pub record AreWorkers (p : Project) (window : Bounds) (k from until n : ℕ) (jobs : List ℕ) : Type 0 where
   pub named : All (IsNumber n) jobs
   pub rising : AllPairs ◌<◌ jobs
+  pub parts : All (λ job. 0 < least_work p window k from until (place job)) jobs
   pub amount : sum_by (λ job. least_work p window k from until (place job)) jobs ≡
       sum_below n (least_work p window k from until)

@@ -4,9 +4,10 @@ ghost use Rattle.std.specs.Prelude.{◌≡◌, ◌⊎◌, ◌<◌, IfSome, None,
 ghost use Rattle.racp_needs.specs.Fitting.{AllWorkFits, WorkFits, WorkFitsFrom};
 ghost use Rattle.racp_needs.specs.Within.{IsOver};
 
-use crate::work::{Work, work_at};
+use crate::work::{Work, part_of, work_at};
 use racp_facts::Times;
 use racp_model::{Network, Window, roof_of};
+use std::cmp::{max, min};
 
 /// The least work at some times that is more than so many units of a resource can do, of few jobs; or `None` if it is so
 /// at none of the times that are looked at.
@@ -25,6 +26,39 @@ pub(crate) fn crowd(net: &Network, window: &Window, k: usize, units: u32) -> Opt
         best = tried_from(net, window, k, units, i, best);
     }
     best
+}
+
+/// The same work, or that of as many jobs at all times at which each of them runs wherever it starts, if that is more than
+/// the units can do too.
+pub(crate) fn widened(net: &Network, window: &Window, k: usize, units: u32, work: Work) -> Work
+    requires resource { k < net.now.resources }
+    requires lower { length window.now.lower ≡ length net.now.jobs }
+    requires upper { length window.now.upper ≡ length net.now.jobs }
+    requires work { IsOver net.now window.now k units work }
+    ensures { IsOver net.now window.now k units result }
+{
+    let times = shared_times(net, window, k, work.times);
+    match tried(net, window, k, units, times, None) {
+        Some(wide) if wide.jobs == work.jobs => wide,
+        _ => work,
+    }
+}
+
+/// From the last late start to the first early finish of the jobs that have a part in the work at some times. What becomes
+/// of them is tried, so no contract speaks of them.
+fn shared_times(net: &Network, window: &Window, k: usize, times: Times) -> Times
+    requires resource { k < net.now.resources }
+    requires lower { length window.now.lower ≡ length net.now.jobs }
+    requires upper { length window.now.upper ≡ length net.now.jobs }
+{
+    let (mut from, mut until) = (0, u64::MAX);
+    for i in 0..net.job_count() {
+        if 0 < part_of(net, window, k, times, i) {
+            from = max(from, window.upper()[i] as u64);
+            until = min(until, window.lower()[i] as u64 + net.duration(i) as u64);
+        }
+    }
+    Times { from, until }
 }
 
 /// The best that is known, or the work in the time unit from a late start on, or that from an early start until some late

@@ -4,7 +4,7 @@ ghost use Rattle.std.specs.Prelude.{◌≡◌, ℕ, ◌<◌, List, IfOk, IfSome,
 ghost use Rattle.racp_needs.specs.Fitting.{AllWorkFits};
 ghost use Rattle.racp_needs.specs.Within.{AreWorkers, IsAbove, IsOver};
 
-use crate::crowd::crowd;
+use crate::crowd::{crowd, widened};
 use crate::need::{Need, push_job};
 use crate::work::{Work, part_of};
 use racp_facts::Times;
@@ -29,6 +29,7 @@ pub(crate) fn joint_above(
 {
     for k in 0..net.resource_count() {
         if let Some(work) = crowd(net, window, k, ceilings[k]) {
+            let work = widened(net, window, k, ceilings[k], work);
             return Ok(Some(need_of(alloc, net, window, k, work)?));
         }
     }

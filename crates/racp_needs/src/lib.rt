@@ -7,8 +7,8 @@
 //! times that the units cannot do it (the energy of Erschler, Lopez and Thuriot 1991). `need_above(alloc, net, &order)`
 //! looks for such a `Need`, in this order, and of those of the last two kinds for one with the fewest jobs.
 //!
-//! With examples/b.sm and the deadline 3, jobs 2 and 3 of 2 time units each use 1 unit of resource 1 each. Its ceiling
-//! is 0: the need is 1 unit, of job 2, between 0 and 3.
+//! With examples/a.sm and the deadline 4 the jobs 2, 3 and 4 have to do the work of 10 units in one time unit, between 0
+//! and 4. If there are at most 2 units, the need is 3 units, 10 / 4 rounded up, of these jobs.
 //!
 //! The least time for which a job runs between two times is that of racp_facts; the windows are those of racp_check.
 //! What is looked at are the times from each early start until each late finish, and the time unit from each late start
@@ -16,7 +16,7 @@
 //! could use more than the ceiling.
 //!
 //! Proved: in each start vector in time that keeps precedence, the jobs of a need together use its units at some time in
-//! it; and these are more than the ceiling. If there is none, each job that runs for some time requests at most the
+//! it, and each of them some units; and these are more than the ceiling. If there is none, each job that runs for some time requests at most the
 //! ceiling, and at the times that are looked at the least work of all jobs fits. In `laws`: a need above a ceiling leaves
 //! no plan. Not proved: that a need has the fewest jobs, and that memory is not refused without need.
 #![tactic(auto)]

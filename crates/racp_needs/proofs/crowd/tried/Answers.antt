@@ -1,4 +1,4 @@
-use Rattle.std.proofs.Common.{◌≡◌, ℕ, ◌-◌, ◌*◌, ◌<◌, inl, inr, IfSome, Some, arith, ap, subst, sym}
+use Rattle.std.proofs.Common.{ℕ, ◌-◌, ◌*◌, ◌<◌, inl, inr, IfSome, arith, ap, subst, sym}
 use Rattle.racp_needs.specs.Within.{IsOver}
 use Rattle.racp_needs.proofs.Crowds.{over-found}
 use Rattle.racp_needs.proofs.crowd.tried.Goals as goal

@@ -1,4 +1,4 @@
-use Rattle.std.proofs.Common.{◌≡◌, ℕ, ◌+◌, ◌<◌, inl, inr, length, slice_index, arith, subst, rules}
+use Rattle.std.proofs.Common.{◌≡◌, ℕ, inl, inr, length, slice_index, arith, subst}
 use Rattle.std.proofs.lemmas.Bool.{cases_lt}
 use Rattle.racp_needs.specs.Fitting.{AllWorkFits}
 use Rattle.racp_needs.proofs.joint.joint_above.Goals as goal

@@ -1,4 +1,4 @@
-use Rattle.std.proofs.Common.{◌≡◌, ℕ, ◌+◌, List, Vec, Global, arith, ap, subst, sym}
+use Rattle.std.proofs.Common.{ℕ, ◌+◌, List, Vec, Global, arith, ap, subst, sym}
 use Rattle.racp_needs.specs.Within.{AreWorkers}
 use Rattle.racp_needs.proofs.Jobs.{no_worker, worker-added, worker-passed}
 use Rattle.racp_needs.proofs.joint.workers.Goals.{then-part_of-gt0+else-prove+in_ok-push_job, else-part_of-gt0}
@@ -19,7 +19,7 @@ loop-i-preserved c =
     let Are : List ℕ → Type 0 = AreWorkers p window k from until (i + 1) in
     elim c.if-part_of-gt0.branch [
       | then-part_of-gt0+else-prove+in_ok-push_job w ↦
-          subst Are (sym (ap (λ (v : Vec ℕ Global). v.items) w.jobs-is)) (worker-added p window k from until i jobs w.push_job.new.jobs.items w.in_ok-push_job.ensures c.loop-i.invariant)
+          subst Are (sym (ap (λ (v : Vec ℕ Global). v.items) w.jobs-is)) (worker-added p window k from until i jobs w.push_job.new.jobs.items w.in_ok-push_job.ensures (omega (arith, w.if-part_of-gt0.true, c.part_of.ensures.part)) c.loop-i.invariant)
       | else-part_of-gt0 w ↦
           subst Are (sym (ap (λ (v : Vec ℕ Global). v.items) w.jobs-is)) (worker-passed p window k from until i jobs (omega (arith, w.if-part_of-gt0.false, c.part_of.ensures.part)) c.loop-i.invariant)
     ]

@@ -1,4 +1,4 @@
-use Rattle.std.proofs.Common.{◌≡◌, ◌∙◌, IfOk, Some, List, ℕ, option_map, ap, subst, sym}
+use Rattle.std.proofs.Common.{◌≡◌, ◌∙◌, Some, option_map, ap, subst, sym}
 use Rattle.racp_check.specs.Openings.{IsOpening}
 use Rattle.racp_check.specs.declared.opening.Opening.TheVariants.{Root}
 use Rattle.racp_model.specs.Terms.{Terms}

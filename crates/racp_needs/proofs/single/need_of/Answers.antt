@@ -1,4 +1,4 @@
-use Rattle.std.proofs.Common.{◌≡◌, ◌∙◌, ◌+◌, ◌++◌, ◌∷◌, [], List, ℕ, slice_index, refl, ap, arith, rules}
+use Rattle.std.proofs.Common.{◌≡◌, ◌∙◌, ◌+◌, ◌++◌, ◌∷◌, [], List, ℕ, slice_index, refl, ap, arith}
 use Rattle.racp_model.specs.Project.{duration, number}
 use Rattle.racp_needs.proofs.Jobs.{request-above}
 use Rattle.racp_needs.proofs.single.need_of.Goals as goal

@@ -1,4 +1,4 @@
-use Rattle.std.proofs.Common.{arith, ◌≡◌, ◌*◌, ap, ◌∙◌}
+use Rattle.std.proofs.Common.{◌*◌, ap}
 use Rattle.racp_needs.proofs.Works.{part-small}
 use Rattle.racp_needs.proofs.work.part_of.Goals as goal
 
