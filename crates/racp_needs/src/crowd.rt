@@ -120,9 +120,19 @@ fn tried(
     }
 }
 
-/// The one of fewer jobs; of as many, the first.
+/// The one of fewer jobs; of as many, that of fewer times, or else the first.
 fn fewer(best: Work, work: Work) -> Work
     ensures { (result ≡ best) ⊎ (result ≡ work) }
 {
-    if work.jobs < best.jobs { work } else { best }
+    let is_short = length_of(work.times) < length_of(best.times);
+    if work.jobs < best.jobs || (work.jobs == best.jobs && is_short) {
+        work
+    } else {
+        best
+    }
+}
+
+/// How many these times are.
+fn length_of(times: Times) -> u64 {
+    times.until.saturating_sub(times.from)
 }
