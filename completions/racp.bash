@@ -15,7 +15,7 @@ _racp() {
         check) options="--json --explain --quiet" ;;
         verify) options="--time-limit --json --explain --quiet" ;;
         show) options="--names --width --ascii --svg --links --start-date --unit --json --csv --explain --quiet" ;;
-        report) options="--names --curve --start-date --unit --explain --quiet" ;;
+        report) options="--names --curve --whatif --start-date --unit --explain --quiet" ;;
         curve) options="--workers --turns --memory --time-limit --progress --best --svg --json --explain --quiet" ;;
         whatif) options="--names --workers --turns --memory --time-limit --json --explain --quiet" ;;
         order) options="--factor --deadline --prices --owned --ceiling --json --explain --quiet" ;;

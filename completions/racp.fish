@@ -40,6 +40,7 @@ complete -c racp -n "__fish_seen_subcommand_from show" -l json -d JSON
 complete -c racp -n "__fish_seen_subcommand_from show" -l csv -d CSV
 complete -c racp -n "__fish_seen_subcommand_from report" -l names -r -d "names of jobs and resources"
 complete -c racp -n "__fish_seen_subcommand_from report" -l curve -r -d "what each deadline costs"
+complete -c racp -n "__fish_seen_subcommand_from report" -l whatif -r -d "what changes cost"
 complete -c racp -n "__fish_seen_subcommand_from report" -l start-date -r -d "the date of the time 0"
 complete -c racp -n "__fish_seen_subcommand_from report" -l unit -r -f -a "day week" -d "how long a time unit is"
 complete -c racp -n "__fish_seen_subcommand_from report" -l explain -d "say what is wrong"

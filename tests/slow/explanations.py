@@ -26,7 +26,8 @@ NAMED = [
     (["Memory"], ["sm 15 Memory", "order 7 Memory", "plan 3 Memory"]), (["memory"], ["memory"]),
     (["impossible"], ["impossible critical", "impossible due", "impossible ceiling"]),
     (["ceiling"], ["impossible ceiling", "fault ceiling"]), (["too", "long"], ["too long"]), (["unproved"], ["unproved"]),
-    (["names", "1"], ["names 1 NotUtf8"]), (["NotUtf8"], ["names 1 NotUtf8", "curve 1 NotUtf8"]), (["curve", "2"], ["curve 2 NoSteps"]), (["Count"], ["order 6 Count", "names 2 Count"]),
+    (["names", "1"], ["names 1 NotUtf8"]), (["NotUtf8"], ["names 1 NotUtf8", "curve 1 NotUtf8", "whatif 1 NotUtf8"]),
+    (["curve", "2"], ["curve 2 NoSteps"]), (["whatif", "2"], ["whatif 2 OtherPlan"]), (["Count"], ["order 6 Count", "names 2 Count"]),
     (["impossible critical 3 deadline 2"], ["impossible critical"]), (["read fault"], ["read fault"]), (["stopped 1 2"], ["stopped"]),
     (["refused sm 12 TooFew line 25"], ["sm 12 TooFew"]), (["plan"], ["plan 1 Syntax", "plan 2 Range", "plan 3 Memory"]),
     (["sm", "16"], []), (["sm", "0"], []), (["order", "TooFew"], []), (["toofew"], []), (["12"], []), ([""], []), (["sm", ""], []),
@@ -103,5 +104,5 @@ def faults():
     for title, name in [("The network text", "sm"), ("The order", "order"), ("The plan", "plan")]:
         part = re.split(r"(?m)^## ", text.partition(f"\n## {title}\n")[2])[0].partition("### Faults")[2]
         found += [f"{name} {number} {fault}" for number, fault in re.findall(r"(?m)^\| ([0-9]+) `([A-Za-z]+)`", part)]
-    found += sorted(set(re.findall(r"`refused ((?:names|curve) [0-9] \w+)`", text)))
+    found += sorted(set(re.findall(r"`refused ((?:names|curve|whatif) [0-9] \w+)`", text)))
     return found

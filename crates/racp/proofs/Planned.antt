@@ -2,7 +2,6 @@
 use Rattle.std.proofs.Common.{ℕ, Bool, true, false, List, [], ◌∷◌, Option, Ok, Err, IfOk, inl, inr}
 use Rattle.std.specs.Prelude.{Result}
 use Rattle.racp_askers.specs.declared.crowd.Effort.{Effort}
-use Rattle.racp_calendar.specs.declared.calendar.Calendar.{Calendar}
 use Rattle.racp_cli.specs.Crowds.{IsCrowdAnswer, IsCrowdRun}
 use Rattle.racp_cli.specs.Plans.{IsPlanAnswer}
 use Rattle.racp_cli.specs.Proofs.{IsProofAnswerUntil, IsProofRunUntil}
@@ -16,6 +15,7 @@ use Rattle.racp_cli.specs.ReportAnswers.{IsReportAnswer, IsReportRun}
 use Rattle.racp_cli.specs.ShowAnswers.{IsShowAnswer, IsShowRun}
 use Rattle.racp_cli.specs.WhatIfAnswers.{IsWhatIfAnswer}
 use Rattle.racp_cli.specs.declared.order.Asked.{Asked}
+use Rattle.racp_cli.specs.declared.report.Page.{Page}
 use Rattle.racp_cli.specs.declared.show.Look.{Look}
 use Rattle.racp.specs.Statuses.{IsStatusOfAnswer, IsStatusOfTool}
 
@@ -90,17 +90,17 @@ shown look net order plan names old new (Ok status) run = of_picture look run.0 
 shown look net order plan names old new (Err fault) run = tt
 
 -- what is reported of a plan
-of_report : (calendar : Calendar) (curve : Option (List ℕ)) (inputs : List (List ℕ)) (status : ℕ) (text : List ℕ) → ToFour (IsReportAnswer calendar curve) inputs status text → IsStatusOfTool status
-of_report calendar curve [] status text answer = absurd answer
-of_report calendar curve (net ∷ []) status text answer = absurd answer
-of_report calendar curve (net ∷ (order ∷ [])) status text answer = absurd answer
-of_report calendar curve (net ∷ (order ∷ (plan ∷ []))) status text answer = absurd answer
-of_report calendar curve (net ∷ (order ∷ (plan ∷ (names ∷ [])))) status text answer = inr (inr (inr (inl (calendar, curve, net, order, plan, names, text, answer))))
-of_report calendar curve (net ∷ (order ∷ (plan ∷ (names ∷ (other ∷ inputs))))) status text answer = absurd answer
+of_report : (page : Page) (inputs : List (List ℕ)) (status : ℕ) (text : List ℕ) → ToFour (IsReportAnswer page) inputs status text → IsStatusOfTool status
+of_report page [] status text answer = absurd answer
+of_report page (net ∷ []) status text answer = absurd answer
+of_report page (net ∷ (order ∷ [])) status text answer = absurd answer
+of_report page (net ∷ (order ∷ (plan ∷ []))) status text answer = absurd answer
+of_report page (net ∷ (order ∷ (plan ∷ (names ∷ [])))) status text answer = inr (inr (inr (inl (page, net, order, plan, names, text, answer))))
+of_report page (net ∷ (order ∷ (plan ∷ (names ∷ (other ∷ inputs))))) status text answer = absurd answer
 
-pub reported : (calendar : Calendar) (curve : Option (List ℕ)) (net order plan names : Reader) (old new : Option (List ℕ)) (result : Result ℕ StreamFault) → IsReportRun calendar curve net order plan names old new result → IfOk result IsStatusOfTool
-reported calendar curve net order plan names old new (Ok status) run = of_report calendar curve run.0 status run.2.0 run.2.1
-reported calendar curve net order plan names old new (Err fault) run = tt
+pub reported : (page : Page) (net order plan names : Reader) (old new : Option (List ℕ)) (result : Result ℕ StreamFault) → IsReportRun page net order plan names old new result → IfOk result IsStatusOfTool
+reported page net order plan names old new (Ok status) run = of_report page run.0 status run.2.0 run.2.1
+reported page net order plan names old new (Err fault) run = tt
 
 -- what one thread tells of deadlines is what workers may tell
 told_alone : (is_drawn : Bool) (net order : List ℕ) (status : ℕ) (text : List ℕ) → IsCurveAnswer is_drawn net order status text → IsCurveCrowdAnswer is_drawn net order status text

@@ -3,7 +3,6 @@ use Rattle.std.specs.Prelude.{◌≡◌, ◌⊎◌, ℕ, Bool, false, List, Opti
 use Rattle.clap.specs.Words.{kind_of}
 use Rattle.clap.specs.declared.error.kind.ErrorKind.{ErrorKind}
 use Rattle.clap.specs.declared.error.kind.ErrorKind.TheVariants.{DisplayHelp, DisplayVersion, OutOfMemory}
-use Rattle.racp_calendar.specs.declared.calendar.Calendar.{Calendar}
 use Rattle.racp_cli.specs.Answers.{IsCpmAnswer}
 use Rattle.racp_cli.specs.Crowds.{IsCrowdAnswer}
 use Rattle.racp_cli.specs.Checks.{IsCheckAnswer}
@@ -13,6 +12,7 @@ use Rattle.racp_cli.specs.ReportAnswers.{IsReportAnswer}
 use Rattle.racp_cli.specs.ShowAnswers.{IsShowAnswer}
 use Rattle.racp_cli.specs.WhatIfAnswers.{IsWhatIfAnswer}
 use Rattle.racp_cli.specs.declared.order.Asked.{Asked}
+use Rattle.racp_cli.specs.declared.report.Page.{Page}
 use Rattle.racp_cli.specs.declared.show.Look.{Look}
 use Rattle.racp_cli.specs.Proofs.{IsProofAnswerUntil}
 use Rattle.racp_cli.specs.ClauseProofs.{IsClauseProofAnswer}
@@ -62,8 +62,8 @@ IsStatusOfTool status =
     ((net order plan names : List ℕ) × (look : Look) × (text : List ℕ) × IsShowAnswer look net order plan names status text) ⊎
     ((is_drawn : Bool) × (net order : List ℕ) × (text : List ℕ) × IsCurveCrowdAnswer is_drawn net order status text) ⊎
     ((asked : Asked) × (net : List ℕ) × (text : List ℕ) × IsOrderAnswer asked net status text) ⊎
-    ((calendar : Calendar) × (curve : Option (List ℕ)) × (net order plan names : List ℕ) × (text : List ℕ) ×
-    IsReportAnswer calendar curve net order plan names status text) ⊎
+    ((page : Page) × (net order plan names : List ℕ) × (text : List ℕ) ×
+    IsReportAnswer page net order plan names status text) ⊎
     ((turns : ℕ) × (quiet is_json : Bool) × (net order : List ℕ) × (plan : Option (List ℕ)) × (names text : List ℕ) ×
     IsWhatIfAnswer turns quiet is_json net order plan names status text) ⊎
     (status ≡ 0) ⊎ (status ≡ 4) ⊎ (status ≡ 6) ⊎ (status ≡ 7)

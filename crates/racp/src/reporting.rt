@@ -9,7 +9,7 @@ use crate::inputs::{opened, opened_if, text, whole};
 use crate::telling::{Manner, tell};
 use racp_calendar::Calendar;
 use racp_cli::{Page, StreamFault, report_over};
-use racp_explain::{curve_cause, shown_cause};
+use racp_explain::{changes_cause, curve_cause, shown_cause};
 use racp_words::{PlanFiles, ReportWords};
 use std::alloc::{AllocError, Global};
 use std::io;
@@ -20,7 +20,7 @@ use std::rt::Files;
 struct Paths<'a> {
     /// Those of the plan.
     files: PlanFiles<'a>,
-    /// Those of the names and of the curve.
+    /// Those of the names, of the curve and of the changes.
     options: ReportWords<'a>,
 }
 
@@ -32,6 +32,7 @@ struct Inputs {
     plan: Vec<u8>,
     names: Vec<u8>,
     curve: Option<Vec<u8>>,
+    changes: Option<Vec<u8>>,
 }
 
 /// Writes a page about the plan in these files.
@@ -59,6 +60,8 @@ fn read<R: Files + AllocGlobal>(rt: &R, paths: &Paths<'_>) -> Result<Inputs, Fai
     let mut named = opened_if(rt, names)?;
     let curve = paths.options.curve;
     let mut curved = opened_if(rt, curve)?;
+    let changes = paths.options.changes;
+    let mut changed = opened_if(rt, changes)?;
     let mut net = opened(rt, paths.files.net)?;
     let mut order = opened(rt, paths.files.order)?;
     let mut plan = opened(rt, paths.files.plan)?;
@@ -73,12 +76,17 @@ fn read<R: Files + AllocGlobal>(rt: &R, paths: &Paths<'_>) -> Result<Inputs, Fai
         Some(file) => Some(whole(rt.alloc(), file, curve.unwrap_or(""))?),
         None => None,
     };
+    let changes = match &mut changed {
+        Some(file) => Some(whole(rt.alloc(), file, changes.unwrap_or(""))?),
+        None => None,
+    };
     Ok(Inputs {
         net,
         order,
         plan,
         names,
         curve,
+        changes,
     })
 }
 
@@ -92,14 +100,18 @@ fn report_of<R: Print + AllocGlobal>(
 {
     let (mut net, mut order) = (inputs.net.as_slice(), inputs.order.as_slice());
     let (mut plan, mut names) = (inputs.plan.as_slice(), inputs.names.as_slice());
-    let curve = inputs.curve.as_ref().map(|bytes| bytes.as_slice());
+    let page = Page {
+        curve: inputs.curve.as_ref().map(|bytes| bytes.as_slice()),
+        changes: inputs.changes.as_ref().map(|bytes| bytes.as_slice()),
+        calendar,
+    };
     report_over(
         rt.alloc(),
         &mut net,
         &mut order,
         &mut plan,
         &mut names,
-        Page { curve, calendar },
+        page,
         &mut io::writer(rt),
     )
 }
@@ -111,10 +123,23 @@ fn cause(alloc: Global, paths: &Paths<'_>, inputs: &Inputs) -> Result<String, Al
     let plan = text(paths.files.plan, &inputs.plan);
     let names = text(paths.options.names.unwrap_or(""), &inputs.names);
     let cause = shown_cause(alloc, &net, &order, &plan, &names)?;
-    match &inputs.curve {
-        Some(bytes) if cause.is_empty() => {
-            curve_cause(alloc, &text(paths.options.curve.unwrap_or(""), bytes))
+    if cause.is_empty() {
+        of_beside(alloc, paths, inputs)
+    } else {
+        Ok(cause)
+    }
+}
+
+/// What is wrong with the texts that a page has beside a plan; nothing of a curve that is right.
+fn of_beside(alloc: Global, paths: &Paths<'_>, inputs: &Inputs) -> Result<String, AllocError> {
+    if let Some(bytes) = &inputs.curve {
+        let cause = curve_cause(alloc, &text(paths.options.curve.unwrap_or(""), bytes))?;
+        if !cause.is_empty() {
+            return Ok(cause);
         }
-        _ => Ok(cause),
+    }
+    match &inputs.changes {
+        Some(bytes) => changes_cause(alloc, &text(paths.options.changes.unwrap_or(""), bytes)),
+        None => Ok(String::new(alloc)),
     }
 }

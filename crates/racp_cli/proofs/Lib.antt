@@ -10,3 +10,4 @@ mod Telling
 mod Ending
 mod Verifying
 mod Asking
+mod Begun

@@ -1,5 +1,5 @@
--- What `report` answers to the texts of a network, an order, a plan, names and perhaps a curve.
-use Rattle.std.specs.Prelude.{◌≡◌, ◌≢◌, ◌⊎◌, ◌+◌, ℕ, List, [], ◌∷◌, IsUtf8, Option, Some, None, Result, Ok, String, codes, false, length, string_bytes, true}
+-- What `report` answers to the texts of a network, an order, a plan and names, and to what a page has beside them.
+use Rattle.std.specs.Prelude.{◌≡◌, ◌≢◌, ◌⊎◌, ◌+◌, ◌++◌, ℕ, List, [], ◌∷◌, IsUtf8, Option, Some, None, Result, Ok, String, codes, false, length, option_map, string_bytes, true}
 use Rattle.std.specs.Global.{Global}
 use Rattle.racp_model.specs.Project.{Project}
 use Rattle.racp_model.specs.Terms.{Terms}
@@ -7,6 +7,7 @@ use Rattle.racp_plan.specs.declared.plan.Plan.{Plan}
 use Rattle.racp_plan.specs.Texts.{line}
 use Rattle.racp_check.specs.PlanFaults.{IsChecked}
 use Rattle.racp_calendar.specs.declared.calendar.Calendar.{Calendar}
+use Rattle.racp_changes.specs.Lines.{base_line}
 use Rattle.racp_report.specs.Pages.{IsPage}
 use Rattle.racp_report.specs.Reports.{IsReport}
 use Rattle.racp_report.specs.declared.report.Report.{Report}
@@ -16,16 +17,50 @@ use Rattle.racp_cli.specs.Checks.{AreRead, HasRightHead}
 use Rattle.racp_cli.specs.ShowAnswers.{IsFaulty, count_line, names_line}
 use Rattle.racp_cli.specs.Streams.{Reader, IsRun, ToFour}
 use Rattle.racp_cli.specs.declared.fault.StreamFault.{StreamFault}
+use Rattle.racp_cli.specs.declared.report.Page.{Page}
 
--- the page of a report that is right for the plan, the names and the text of a curve, with times as a calendar tells them
-pub record IsPageOf (calendar : Calendar) (curve : List ℕ) (network : Project) (terms : Terms) (plan : Plan) (names : List (List ℕ))
-    (text : List ℕ) : Type 0 where
+-- the page of a report that is right for the plan, the names, the text of a curve and the lines of changes, with times
+-- as a calendar tells them
+pub record IsPageOf (calendar : Calendar) (curve changes : List ℕ) (network : Project) (terms : Terms) (plan : Plan)
+    (names : List (List ℕ)) (text : List ℕ) : Type 0 where
   pub report : Report
-  pub right : IsReport network terms plan names curve report
+  pub right : IsReport network terms plan names curve changes report
   pub told : report.plan.calendar ≡ calendar
   pub page : String Global
   pub written : IsPage report page
   pub is : text ≡ string_bytes page
+
+-- the lines for a text of changes that is not UTF-8, or that tells of another plan
+abbrev pub changes_line : List ℕ
+changes_line = line (codes "refused whatif 1 NotUtf8")
+
+abbrev pub other_line : List ℕ
+other_line = line (codes "refused whatif 2 OtherPlan")
+
+-- a text of changes begins with the line of the plan, and this stands behind it; or it does not begin so
+abbrev pub AreBehind : Plan → List ℕ → Option (List ℕ) → Type 0
+AreBehind plan changes (Some rest) = changes ≡ base_line plan ++ rest
+AreBehind plan changes None = (rest : List ℕ) → changes ≢ base_line plan ++ rest
+
+-- the page, with the lines behind that of the plan; or that the text tells of another plan
+abbrev pub IsBegun : Calendar → List ℕ → List ℕ → Project → Terms → Plan → List (List ℕ) → ℕ → List ℕ → Type 0
+IsBegun calendar curve changes network terms plan names status text =
+    ((rest : List ℕ) × AreBehind plan changes (Some rest) × (status ≡ 0) ×
+    IsPageOf calendar curve rest network terms plan names text) ⊎
+    (AreBehind plan changes None × (status ≡ 5) × (text ≡ other_line))
+
+-- the page, or that the text of changes is none; without it nothing is said of changes
+abbrev pub IsChangedBy : Calendar → Option (List ℕ) → List ℕ → Project → Terms → Plan → List (List ℕ) → ℕ → List ℕ →
+    Type 0
+IsChangedBy calendar None curve network terms plan names status text =
+    (status ≡ 0) × IsPageOf calendar curve [] network terms plan names text
+IsChangedBy calendar (Some changes) curve network terms plan names status text =
+    (IsUtf8 changes × IsBegun calendar curve changes network terms plan names status text) ⊎
+    ((IsUtf8 changes → ⊥) × (status ≡ 5) × (text ≡ changes_line))
+
+-- the same of what a page has, with the text of a curve that is right, or is empty
+abbrev pub IsChanged : Page → List ℕ → Project → Terms → Plan → List (List ℕ) → ℕ → List ℕ → Type 0
+IsChanged page = IsChangedBy page.calendar (option_map (λ changes. changes.now) page.changes)
 
 -- how many lines of a text begin with `deadline`
 abbrev pub step_count : List ℕ → ℕ
@@ -39,50 +74,53 @@ abbrev pub steps_line : List ℕ
 steps_line = line (codes "refused curve 2 NoSteps")
 
 -- the page, or that the curve has no step
-abbrev pub IsStepped : Calendar → List ℕ → Project → Terms → Plan → List (List ℕ) → ℕ → List ℕ → Type 0
-IsStepped calendar curve network terms plan names status text =
-    ((step_count curve ≢ 0) × (status ≡ 0) × IsPageOf calendar curve network terms plan names text) ⊎
+abbrev pub IsStepped : Page → List ℕ → Project → Terms → Plan → List (List ℕ) → ℕ → List ℕ → Type 0
+IsStepped page curve network terms plan names status text =
+    ((step_count curve ≢ 0) × IsChanged page curve network terms plan names status text) ⊎
     ((step_count curve ≡ 0) × (status ≡ 5) × (text ≡ steps_line))
 
 -- the page, or that the curve is none; without a curve nothing is said of other deadlines
-abbrev pub IsCurved : Calendar → Option (List ℕ) → Project → Terms → Plan → List (List ℕ) → ℕ → List ℕ → Type 0
-IsCurved calendar None network terms plan names status text = (status ≡ 0) × IsPageOf calendar [] network terms plan names text
-IsCurved calendar (Some curve) network terms plan names status text =
-    (IsUtf8 curve × IsStepped calendar curve network terms plan names status text) ⊎
+abbrev pub IsCurvedBy : Page → Option (List ℕ) → Project → Terms → Plan → List (List ℕ) → ℕ → List ℕ → Type 0
+IsCurvedBy page None network terms plan names status text = IsChanged page [] network terms plan names status text
+IsCurvedBy page (Some curve) network terms plan names status text =
+    (IsUtf8 curve × IsStepped page curve network terms plan names status text) ⊎
     ((IsUtf8 curve → ⊥) × (status ≡ 5) × (text ≡ curve_line))
 
+-- the same with the curve that a page has
+abbrev pub IsCurved : Page → Project → Terms → Plan → List (List ℕ) → ℕ → List ℕ → Type 0
+IsCurved page = IsCurvedBy page (option_map (λ curve. curve.now) page.curve)
+
 -- the same, if there are no names or one for each job and resource
-abbrev pub IsCountedReport : Calendar → Option (List ℕ) → Project → Terms → Plan → List (List ℕ) → ℕ → List ℕ → Type 0
-IsCountedReport calendar curve network terms plan names status text =
+abbrev pub IsCountedReport : Page → Project → Terms → Plan → List (List ℕ) → ℕ → List ℕ → Type 0
+IsCountedReport page network terms plan names status text =
     ((are_names_for names (length network.jobs + network.resources) ≡ true) ×
-    IsCurved calendar curve network terms plan names status text) ⊎
+    IsCurved page network terms plan names status text) ⊎
     ((are_names_for names (length network.jobs + network.resources) ≡ false) × (status ≡ 5) × (text ≡ count_line))
 
 -- the same with these names, or that they are none
-abbrev pub IsNamedReport : Calendar → Option (List ℕ) → Project → Terms → Plan → List ℕ → ℕ → List ℕ → Type 0
-IsNamedReport calendar curve network terms plan names status text =
-    (IsUtf8 names × IsCountedReport calendar curve network terms plan (names_of names) status text) ⊎
+abbrev pub IsNamedReport : Page → Project → Terms → Plan → List ℕ → ℕ → List ℕ → Type 0
+IsNamedReport page network terms plan names status text =
+    (IsUtf8 names × IsCountedReport page network terms plan (names_of names) status text) ⊎
     ((IsUtf8 names → ⊥) × (status ≡ 5) × (text ≡ names_line))
 
 -- the page about a plan with which nothing is wrong
-pub record IsReported (calendar : Calendar) (curve : Option (List ℕ)) (net order plan names : List ℕ) (status : ℕ)
-    (text : List ℕ) : Type 0 where
+pub record IsReported (page : Page) (net order plan names : List ℕ) (status : ℕ) (text : List ℕ) : Type 0 where
   pub network : Project
   pub terms : Terms
   pub found : Plan
   pub are_read : AreRead net order plan network terms found
   pub head : HasRightHead network terms found
   pub checked : IsChecked network terms found (Ok tt)
-  pub named : IsNamedReport calendar curve network terms found names status text
+  pub named : IsNamedReport page network terms found names status text
 
 -- what is right for the texts: the page, if nothing is wrong with the plan; else what `check` says; memory may run out
 -- at any texts
-abbrev pub IsReportAnswer : Calendar → Option (List ℕ) → List ℕ → List ℕ → List ℕ → List ℕ → ℕ → List ℕ → Type 0
-IsReportAnswer calendar curve net order plan names status text =
-    IsReported calendar curve net order plan names status text ⊎ IsFaulty net order plan status text
+abbrev pub IsReportAnswer : Page → List ℕ → List ℕ → List ℕ → List ℕ → ℕ → List ℕ → Type 0
+IsReportAnswer page net order plan names status text =
+    IsReported page net order plan names status text ⊎ IsFaulty net order plan status text
 
 -- a run of `report`
-abbrev pub IsReportRun : Calendar → Option (List ℕ) → Reader → Reader → Reader → Reader → Option (List ℕ) → Option (List ℕ) →
+abbrev pub IsReportRun : Page → Reader → Reader → Reader → Reader → Option (List ℕ) → Option (List ℕ) →
     Result ℕ StreamFault → Type 0
-IsReportRun calendar curve net order plan names =
-    IsRun (ToFour (IsReportAnswer calendar curve)) (net ∷ (order ∷ (plan ∷ (names ∷ []))))
+IsReportRun page net order plan names =
+    IsRun (ToFour (IsReportAnswer page)) (net ∷ (order ∷ (plan ∷ (names ∷ []))))

@@ -78,6 +78,7 @@ mod prove;
 mod prove_by_clauses;
 mod refusal;
 mod report;
+mod report_page;
 mod respond;
 mod show;
 mod status;

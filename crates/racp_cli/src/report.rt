@@ -1,22 +1,18 @@
 //! `report`: a page about a plan.
 
-ghost use Rattle.std.specs.Prelude.{◌≡◌, ℕ, List, IfOk, length, option_map};
-ghost use Rattle.racp_model.specs.Project.{Project};
-ghost use Rattle.racp_model.specs.Terms.{AreTermsOf, Terms};
-ghost use Rattle.racp_plan.specs.declared.plan.Plan.{Plan};
-ghost use Rattle.racp_report.specs.Reports.{IsReport};
+ghost use Rattle.std.specs.Prelude.{◌≡◌, IfOk, length};
+ghost use Rattle.racp_model.specs.Terms.{AreTermsOf};
 ghost use Rattle.racp_check.specs.PlanFaults.{IsFitting};
-ghost use Rattle.racp_cli.specs.ReportAnswers.{IsCountedReport, IsCurved, IsNamedReport, IsPageOf, IsReportAnswer, IsReportRun, IsStepped, step_count};
+ghost use Rattle.racp_cli.specs.ReportAnswers.{IsCountedReport, IsCurved, IsNamedReport, IsReportAnswer, IsReportRun, IsStepped, step_count};
 
 use crate::check::{Checked, read_checked};
 use crate::fault::StreamFault;
+use crate::report_page::changed;
 use crate::respond::respond;
-use crate::status::{DONE, REFUSED};
+use crate::status::REFUSED;
 use crate::streams::read_whole;
 use racp_calendar::Calendar;
-use racp_charts::Drawing;
 use racp_json::rows_of;
-use racp_report::{Report, report_of, report_text};
 use racp_show::Names;
 use std::alloc::{AllocError, Global};
 use std::io::{Read, Write};
@@ -26,15 +22,19 @@ use std::io::{Read, Write};
 pub struct Page<'a> {
     /// The text of what each deadline costs, if there is one.
     pub curve: Option<&'a [u8]>,
+    /// The text of what changes cost, as `whatif` writes it, if there is one.
+    pub changes: Option<&'a [u8]>,
     /// How times are told.
     pub calendar: Calendar,
 }
 
 /// Reads a network text, an order text, a plan text and names, all of each before the next, and writes to `out` a page
-/// in HTML about the plan, with the steps of a curve if there is one, and times as the calendar tells them; or, if something is wrong with the plan, what
-/// `check_over` writes. The names are those of the jobs and then of the resources, one a line; there may be none.
-/// Returns the status that belongs to what was written: 0 for a page, 5 if the names are refused as by `show_over`, or
-/// the curve is not UTF-8 or has no line that begins with `deadline`, else that of `check_over`.
+/// in HTML about the plan, with the steps of a curve and with changes, if there are such texts, and times as the
+/// calendar tells them; or, if something is wrong with the plan, what `check_over` writes. The names are those of the
+/// jobs and then of the resources, one a line; there may be none. Returns the status that belongs to what was written:
+/// 0 for a page, 5 if the names are refused as by `show_over`, or the curve is not UTF-8 or has no line that begins with
+/// `deadline`, or the text of changes is not UTF-8 or does not begin with the line of the plan, else that of
+/// `check_over`.
 ///
 /// # Errors
 ///
@@ -50,8 +50,7 @@ pub fn report_over<N: Read, O: Read, P: Read, M: Read, W: Write>(
     page: Page<'_>,
     out: &mut W,
 ) -> Result<u8, StreamFault>
-    ensures { IsReportRun page.entry.calendar (option_map (λ curve. curve.now) page.entry.curve)
-        (record { unread = N.remaining net.old; left = N.remaining net.new })
+    ensures { IsReportRun page.entry (record { unread = N.remaining net.old; left = N.remaining net.new })
         (record { unread = O.remaining order.old; left = O.remaining order.new })
         (record { unread = P.remaining plan.old; left = P.remaining plan.new })
         (record { unread = M.remaining names.old; left = M.remaining names.new }) (W.contents out.old)
@@ -64,7 +63,7 @@ pub fn report_over<N: Read, O: Read, P: Read, M: Read, W: Write>(
     respond(answer(alloc, &net, &order, &plan, &names, page), out)
 }
 
-/// The status and the text of the answer to the texts of a network, an order, a plan, names and perhaps a curve.
+/// The status and the text of the answer to the texts of a network, an order, a plan, names, and what a page has beside.
 fn answer(
     alloc: Global,
     net: &[u8],
@@ -73,8 +72,8 @@ fn answer(
     names: &[u8],
     page: Page<'_>,
 ) -> Result<(u8, Vec<u8>), AllocError>
-    ensures { IfOk result (λ answer. IsReportAnswer page.entry.calendar (option_map (λ curve. curve.now) page.entry.curve) net.now order.now
-        plan.now names.now answer.0 answer.1.items) }
+    ensures { IfOk result (λ answer. IsReportAnswer page.entry net.now order.now plan.now names.now
+        answer.0 answer.1.items) }
 {
     match read_checked(alloc, net, order, plan) {
         Ok(found) => named(alloc, &found, names, page),
@@ -95,8 +94,8 @@ fn named(
     requires terms { AreTermsOf found.now.net found.now.order }
     requires capacities { length found.now.plan.capacities ≡ found.now.net.resources }
     requires fitting { IsFitting found.now.net found.now.order found.now.plan }
-    ensures { IfOk result (λ answer. IsNamedReport page.entry.calendar (option_map (λ curve. curve.now) page.entry.curve) found.now.net
-        found.now.order found.now.plan names.now answer.0 answer.1.items) }
+    ensures { IfOk result (λ answer. IsNamedReport page.entry found.now.net found.now.order found.now.plan
+        names.now answer.0 answer.1.items) }
 {
     match Names::read(alloc, names)? {
         Some(names) => counted(alloc, found, &names, page),
@@ -115,8 +114,8 @@ fn counted(
     requires terms { AreTermsOf found.now.net found.now.order }
     requires capacities { length found.now.plan.capacities ≡ found.now.net.resources }
     requires fitting { IsFitting found.now.net found.now.order found.now.plan }
-    ensures { IfOk result (λ answer. IsCountedReport page.entry.calendar (option_map (λ curve. curve.now) page.entry.curve) found.now.net
-        found.now.order found.now.plan names.now answer.0 answer.1.items) }
+    ensures { IfOk result (λ answer. IsCountedReport page.entry found.now.net found.now.order found.now.plan
+        names.now answer.0 answer.1.items) }
 {
     if !names.are_for(found.net.job_count() + found.net.resource_count()) {
         return Ok((REFUSED, b"refused names 2 Count\n".to_vec(alloc)?));
@@ -135,15 +134,14 @@ fn curved(
     requires terms { AreTermsOf found.now.net found.now.order }
     requires capacities { length found.now.plan.capacities ≡ found.now.net.resources }
     requires fitting { IsFitting found.now.net found.now.order found.now.plan }
-    ensures { IfOk result (λ answer. IsCurved page.entry.calendar (option_map (λ curve. curve.now) page.entry.curve) found.now.net
-        found.now.order found.now.plan names.now answer.0 answer.1.items) }
+    ensures { IfOk result (λ answer. IsCurved page.entry found.now.net found.now.order found.now.plan names.now
+        answer.0 answer.1.items) }
 {
     let Some(bytes) = page.curve else {
-        let text = page_text(alloc, found, names, "", page.calendar)?;
-        return Ok((DONE, text));
+        return changed(alloc, found, names, "", page);
     };
     match std::str::from_utf8(bytes) {
-        Ok(text) => stepped(alloc, found, names, text, page.calendar),
+        Ok(text) => stepped(alloc, found, names, text, page),
         Err(_) => Ok((REFUSED, b"refused curve 1 NotUtf8\n".to_vec(alloc)?)),
     }
 }
@@ -155,19 +153,18 @@ fn stepped(
     found: &Checked,
     names: &Names,
     curve: &str,
-    calendar: Calendar,
+    page: Page<'_>,
 ) -> Result<(u8, Vec<u8>), AllocError>
     requires terms { AreTermsOf found.now.net found.now.order }
     requires capacities { length found.now.plan.capacities ≡ found.now.net.resources }
     requires fitting { IsFitting found.now.net found.now.order found.now.plan }
-    ensures { IfOk result (λ answer. IsStepped calendar curve.now found.now.net found.now.order found.now.plan names.now answer.0
-        answer.1.items) }
+    ensures { IfOk result (λ answer. IsStepped page.entry curve.now found.now.net found.now.order found.now.plan
+        names.now answer.0 answer.1.items) }
 {
     if step_count(alloc, curve)? == 0 {
         return Ok((REFUSED, b"refused curve 2 NoSteps\n".to_vec(alloc)?));
     }
-    let text = page_text(alloc, found, names, curve, calendar)?;
-    Ok((DONE, text))
+    changed(alloc, found, names, curve, page)
 }
 
 /// How many lines of a text begin with `deadline`.
@@ -176,50 +173,4 @@ fn step_count(alloc: Global, text: &str) -> Result<usize, AllocError>
 {
     let rows = rows_of(alloc, text, "deadline")?;
     Ok(rows.len())
-}
-
-/// The page about a plan, with the steps of a curve.
-fn page_text(
-    alloc: Global,
-    found: &Checked,
-    names: &Names,
-    curve: &str,
-    calendar: Calendar,
-) -> Result<Vec<u8>, AllocError>
-    requires terms { AreTermsOf found.now.net found.now.order }
-    requires capacities { length found.now.plan.capacities ≡ found.now.net.resources }
-    requires fitting { IsFitting found.now.net found.now.order found.now.plan }
-    ensures { IfOk result (λ text. IsPageOf calendar curve.now found.now.net found.now.order found.now.plan names.now
-        text.items) }
-{
-    let report = report_of(alloc, &found.net, &found.order, &found.plan, names, curve)?;
-    let report = dated(report, calendar);
-    let text = report_text(alloc, &report)?;
-    Ok(text.into_bytes())
-}
-
-/// A report whose times a calendar tells.
-fn dated(report: Report<'_>, calendar: Calendar) -> Report<'_>
-    ensures told { result.plan.calendar ≡ calendar }
-    ensures right { (network : Project) (terms : Terms) (plan : Plan) (names : List (List ℕ)) (curve : List ℕ) →
-        IsReport network terms plan names curve report.entry → IsReport network terms plan names curve result }
-{
-    let Report { plan, costs } = report;
-    let Drawing {
-        deadline,
-        critical,
-        cost,
-        tasks,
-        choices,
-        ..
-    } = plan;
-    let plan = Drawing {
-        deadline,
-        critical,
-        cost,
-        calendar,
-        tasks,
-        choices,
-    };
-    Report { plan, costs }
 }

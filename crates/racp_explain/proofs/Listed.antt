@@ -11,7 +11,7 @@ use Rattle.racp_explain.specs.declared.subjects.TheConstants.{SUBJECTS}
 use Rattle.racp_explain.specs.declared.subject.Line as lines
 use Rattle.racp_explain.specs.declared.subject.Line.TheVariants as variants
 use Rattle.racp_explain.specs.declared.subject.Subject.{Subject}
-use Rattle.racp_explain.specs.declared.subject.Subject.TheVariants.{Sm, Order, Plan, Names, NamesCount, Curve, CurveSteps, Line}
+use Rattle.racp_explain.specs.declared.subject.Subject.TheVariants.{Sm, Order, Plan, Names, NamesCount, Curve, CurveSteps, Changes, ChangesPlan, Line}
 
 of_network : (x : SmFaultKind) → Contains SUBJECTS (Sm x)
 of_network sm.NoJobs = (0, omega arith, refl)
@@ -46,23 +46,23 @@ of_plan texts.Range = (24, omega arith, refl)
 of_plan texts.Memory = (25, omega arith, refl)
 
 of_line : (x : lines.Line) → Contains SUBJECTS (Line x)
-of_line variants.TooLate = (30, omega arith, refl)
-of_line variants.Due = (31, omega arith, refl)
-of_line variants.NoRoom = (32, omega arith, refl)
-of_line variants.Stopped = (33, omega arith, refl)
-of_line variants.Head = (34, omega arith, refl)
-of_line variants.Cost = (35, omega arith, refl)
-of_line variants.Late = (36, omega arith, refl)
-of_line variants.Order = (37, omega arith, refl)
-of_line variants.Over = (38, omega arith, refl)
-of_line variants.Ceiling = (39, omega arith, refl)
-of_line variants.Early = (40, omega arith, refl)
-of_line variants.Unproved = (41, omega arith, refl)
-of_line variants.Read = (42, omega arith, refl)
-of_line variants.Write = (43, omega arith, refl)
-of_line variants.TooLong = (44, omega arith, refl)
-of_line variants.NoThread = (45, omega arith, refl)
-of_line variants.Memory = (46, omega arith, refl)
+of_line variants.TooLate = (32, omega arith, refl)
+of_line variants.Due = (33, omega arith, refl)
+of_line variants.NoRoom = (34, omega arith, refl)
+of_line variants.Stopped = (35, omega arith, refl)
+of_line variants.Head = (36, omega arith, refl)
+of_line variants.Cost = (37, omega arith, refl)
+of_line variants.Late = (38, omega arith, refl)
+of_line variants.Order = (39, omega arith, refl)
+of_line variants.Over = (40, omega arith, refl)
+of_line variants.Ceiling = (41, omega arith, refl)
+of_line variants.Early = (42, omega arith, refl)
+of_line variants.Unproved = (43, omega arith, refl)
+of_line variants.Read = (44, omega arith, refl)
+of_line variants.Write = (45, omega arith, refl)
+of_line variants.TooLong = (46, omega arith, refl)
+of_line variants.NoThread = (47, omega arith, refl)
+of_line variants.Memory = (48, omega arith, refl)
 
 pub listed : (subject : Subject) → Contains SUBJECTS subject
 listed (Sm kind) = of_network kind
@@ -72,4 +72,6 @@ listed Names = (26, omega arith, refl)
 listed NamesCount = (27, omega arith, refl)
 listed Curve = (28, omega arith, refl)
 listed CurveSteps = (29, omega arith, refl)
+listed Changes = (30, omega arith, refl)
+listed ChangesPlan = (31, omega arith, refl)
 listed (Line line) = of_line line

@@ -7,7 +7,7 @@ use Rattle.racp_plan.specs.TextFaults.{fault_number as plan_number, fault_name a
 use Rattle.racp_explain.specs.declared.subject.Line as lines
 use Rattle.racp_explain.specs.declared.subject.Line.TheVariants.{Head, Cost, Late, Order as Before, Over, Ceiling, Early, TooLate, Due, NoRoom, Unproved, Stopped, NoThread, Memory, Read, Write, TooLong}
 use Rattle.racp_explain.specs.declared.subject.Subject.{Subject}
-use Rattle.racp_explain.specs.declared.subject.Subject.TheVariants.{Sm, Order, Plan, Names, NamesCount, Curve, CurveSteps, Line}
+use Rattle.racp_explain.specs.declared.subject.Subject.TheVariants.{Sm, Order, Plan, Names, NamesCount, Curve, CurveSteps, Changes, ChangesPlan, Line}
 
 -- the first word of a line without a number, and its second word, or the first if there is no other
 abbrev pub line_words : lines.Line → List ℕ × List ℕ
@@ -38,6 +38,8 @@ format_of Names = codes "names"
 format_of NamesCount = codes "names"
 format_of Curve = codes "curve"
 format_of CurveSteps = codes "curve"
+format_of Changes = codes "whatif"
+format_of ChangesPlan = codes "whatif"
 format_of (Line line) = (line_words line).0
 
 -- the number of the fault, if it has one
@@ -49,6 +51,8 @@ number_of Names = Some 1
 number_of NamesCount = Some 2
 number_of Curve = Some 1
 number_of CurveSteps = Some 2
+number_of Changes = Some 1
+number_of ChangesPlan = Some 2
 number_of (Line line) = None
 
 -- the name of the fault, or the second word of the line
@@ -60,6 +64,8 @@ name_of Names = codes "NotUtf8"
 name_of NamesCount = codes "Count"
 name_of Curve = codes "NotUtf8"
 name_of CurveSteps = codes "NoSteps"
+name_of Changes = codes "NotUtf8"
+name_of ChangesPlan = codes "OtherPlan"
 name_of (Line line) = (line_words line).1
 
 -- the word is this number in decimal, if there is one; zeros may stand in front

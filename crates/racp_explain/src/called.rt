@@ -1,11 +1,11 @@
-//! What is wrong with the texts of a plan that is shown, and with the text of a curve.
+//! What is wrong with the texts of a plan that is shown, and with the texts of a curve and of changes.
 
 use crate::cause::{order_cause, plan_cause};
 use crate::explain::push_title;
 use crate::finding::{push_more, push_short};
 use crate::input::Input;
 use crate::subject::Subject;
-use racp_fault_words::THERE;
+use racp_fault_words::{THERE, push_changes_finding};
 use racp_model::Network;
 use racp_sm::read_sm;
 use std::alloc::{AllocError, Global};
@@ -106,7 +106,8 @@ fn push_count(
     push_more(text, Subject::NamesCount)
 }
 
-/// What is wrong with the text of a curve that is refused for a page, in lines that begin with `racp: `.
+/// What is wrong with the text of a curve for a page, in lines that begin with `racp: `; nothing if a line of it begins
+/// with `deadline`.
 ///
 /// # Errors
 ///
@@ -114,6 +115,7 @@ fn push_count(
 pub fn curve_cause(alloc: Global, curve: &Input<'_>) -> Result<String, AllocError> {
     let mut text = String::new(alloc);
     match std::str::from_utf8(curve.bytes) {
+        Ok(lines) if lines.lines().any(is_step) => {}
         Ok(_) => push_curve(&mut text, curve.name, Subject::CurveSteps, "no such line")?,
         Err(_) => push_curve(
             &mut text,
@@ -125,6 +127,11 @@ pub fn curve_cause(alloc: Global, curve: &Input<'_>) -> Result<String, AllocErro
     Ok(text)
 }
 
+/// Whether a line begins with `deadline`.
+fn is_step(line: &str) -> bool {
+    line.starts_with("deadline")
+}
+
 /// Adds what is wrong with a curve.
 fn push_curve(
     text: &mut String,
@@ -132,12 +139,48 @@ fn push_curve(
     subject: Subject,
     there: &str,
 ) -> Result<(), AllocError> {
-    write!(text, "racp: {name}: ")?;
-    push_title(text, subject)?;
-    push_short(text, subject)?;
+    push_begin(text, name, subject)?;
     write!(
         text,
         "lines that begin with deadline, as racp curve prints them{THERE}{there}"
     )?;
     push_more(text, subject)
+}
+
+/// What is wrong with a text of changes that is refused for a page, in lines that begin with `racp: `.
+///
+/// # Errors
+///
+/// Memory was refused.
+pub fn changes_cause(alloc: Global, changes: &Input<'_>) -> Result<String, AllocError> {
+    let mut text = String::new(alloc);
+    match std::str::from_utf8(changes.bytes) {
+        Ok(_) => push_other_plan(&mut text, changes)?,
+        Err(_) => push_no_changes(&mut text, changes.name)?,
+    }
+    Ok(text)
+}
+
+/// Adds that a text of changes is that of another plan.
+fn push_other_plan(text: &mut String, changes: &Input<'_>) -> Result<(), AllocError> {
+    push_begin(text, changes.name, Subject::ChangesPlan)?;
+    push_changes_finding(text, changes.bytes)?;
+    push_more(text, Subject::ChangesPlan)
+}
+
+/// Adds that a text of changes is not UTF-8.
+fn push_no_changes(text: &mut String, name: &str) -> Result<(), AllocError> {
+    push_begin(text, name, Subject::Changes)?;
+    write!(
+        text,
+        "lines in UTF-8, as racp whatif prints them{THERE}bytes that are not UTF-8"
+    )?;
+    push_more(text, Subject::Changes)
+}
+
+/// Adds the name of a file and of its fault, and what stands before what was wanted.
+fn push_begin(text: &mut String, name: &str, subject: Subject) -> Result<(), AllocError> {
+    write!(text, "racp: {name}: ")?;
+    push_title(text, subject)?;
+    push_short(text, subject)
 }

@@ -24,9 +24,10 @@
 //! them are read, `order_cause` says why there is no plan, as far as that is known without a search, and `plan_cause`
 //! says what is wrong with the plan.
 //!
-//! `shown_cause` and `named_cause` also say what is wrong with names, `curve_cause` with a curve, and `asked_cause` with what an order is
-//! to say. `one_line` makes one line of a cause: `racp: a.sm:25: sm 12 TooFew: a part ends too early; wanted: so many numbers behind this title: 20 (jobs:
-//! 5, resources: 1); there: so many numbers up to the end of the part: 16`. `parts_of` gives its parts.
+//! `shown_cause` and `named_cause` also say what is wrong with names, `curve_cause` with a curve, `changes_cause` with a
+//! text of changes, and `asked_cause` with what an order is to say. `one_line` makes one line of a cause: `racp:
+//! a.sm:25: sm 12 TooFew: a part ends too early; wanted: so many numbers behind this title: 20 (jobs: 5, resources: 1);
+//! there: so many numbers up to the end of the part: 16`. `parts_of` gives its parts.
 //!
 //! The texts are read a second time by the same readers, so the fault is theirs. What was wanted and what is there is
 //! said by racp_fault_words.
@@ -59,7 +60,7 @@ mod topic;
 
 pub use asked::{Numbers, asked_cause};
 pub use brief::{Parts, one_line, parts_of};
-pub use called::{curve_cause, named_cause, shown_cause};
+pub use called::{changes_cause, curve_cause, named_cause, shown_cause};
 pub use cause::{network_cause, order_cause, plan_cause, proof_cause};
 pub use explain::{explanation, subject_list};
 pub use input::Input;

@@ -25,6 +25,10 @@ pub enum Subject {
     Curve,
     /// A curve without a line for a deadline.
     CurveSteps,
+    /// A text of changes that is not UTF-8.
+    Changes,
+    /// A text of changes of another plan.
+    ChangesPlan,
     /// A line without a number.
     Line(Line),
 }
@@ -131,6 +135,7 @@ impl Subject {
             Subject::Plan(_) => "plan",
             Subject::Names | Subject::NamesCount => "names",
             Subject::Curve | Subject::CurveSteps => "curve",
+            Subject::Changes | Subject::ChangesPlan => "whatif",
             Subject::Line(line) => line.first(),
         }
     }
@@ -147,6 +152,8 @@ impl Subject {
             Subject::NamesCount => Some(2),
             Subject::Curve => Some(1),
             Subject::CurveSteps => Some(2),
+            Subject::Changes => Some(1),
+            Subject::ChangesPlan => Some(2),
             Subject::Line(_) => None,
         }
     }
@@ -164,6 +171,8 @@ impl Subject {
             Subject::NamesCount => "Count",
             Subject::Curve => "NotUtf8",
             Subject::CurveSteps => "NoSteps",
+            Subject::Changes => "NotUtf8",
+            Subject::ChangesPlan => "OtherPlan",
             Subject::Line(line) => line.second(),
         }
     }

@@ -12,7 +12,7 @@ use racp_sm::SmFaultKind;
 use std::alloc::{AllocError, Global};
 
 /// All subjects: those of each format by their numbers, and then the lines without a number.
-pub const SUBJECTS: [Subject; 47] = [
+pub const SUBJECTS: [Subject; 49] = [
     Subject::Sm(SmFaultKind::NoJobs),
     Subject::Sm(SmFaultKind::NoRenewable),
     Subject::Sm(SmFaultKind::ManyProjects),
@@ -43,6 +43,8 @@ pub const SUBJECTS: [Subject; 47] = [
     Subject::NamesCount,
     Subject::Curve,
     Subject::CurveSteps,
+    Subject::Changes,
+    Subject::ChangesPlan,
     Subject::Line(Line::TooLate),
     Subject::Line(Line::Due),
     Subject::Line(Line::NoRoom),

@@ -56,6 +56,24 @@ const CURVE_STEPS: Topic = Topic {
     cure: "Give the file that racp curve has written, as text and not as a picture.",
 };
 
+/// What is said of a text of changes that is not UTF-8.
+const CHANGES: Topic = Topic {
+    short: "the text of changes is not UTF-8",
+    meaning: "The file of --whatif is not UTF-8.",
+    command: "printf '\\377' | racp report examples/a.sm examples/a4.toml examples/a4.plan --whatif /dev/stdin",
+    file: "",
+    cure: "Give the file that racp whatif has written.",
+};
+
+/// What is said of a text of changes of another plan.
+const CHANGES_PLAN: Topic = Topic {
+    short: "the changes are told beside another plan",
+    meaning: "The file of --whatif does not begin with the line of the plan: its deadline and its cost.",
+    command: "printf 'deadline 5: cost 20\\nend\\n' | racp report examples/a.sm examples/a4.toml examples/a4.plan --whatif -",
+    file: "",
+    cure: "Give the file that racp whatif has written of the same network, order and plan, as text and not as JSON.",
+};
+
 /// What is said of a subject.
 pub fn topic_of(subject: Subject) -> &'static Topic {
     match subject {
@@ -66,6 +84,8 @@ pub fn topic_of(subject: Subject) -> &'static Topic {
         Subject::NamesCount => &NAMES_COUNT,
         Subject::Curve => &CURVE,
         Subject::CurveSteps => &CURVE_STEPS,
+        Subject::Changes => &CHANGES,
+        Subject::ChangesPlan => &CHANGES_PLAN,
         Subject::Line(line) => line_topic(line),
     }
 }

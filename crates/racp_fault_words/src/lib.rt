@@ -15,6 +15,7 @@
 //! - `push_order_finding` for an order that is refused, and `push_text_finding` for a plan text.
 //! - `push_head_finding` and `push_plan_finding` for a plan that was read and is not right.
 //! - `push_too_long`, `push_too_late` and `push_no_room` for an order that no plan meets.
+//! - `push_changes_finding` for a text of changes that is not that of a plan.
 //!
 //! They look at the text plainly: at the line of the fault, at the words before the title, at the keys of the table.
 //! Jobs that wait for each other are found by leaving out, round by round, the jobs that wait for none.
@@ -22,6 +23,7 @@
 //! Proved: all of them return, and fail only if memory is refused. Tested alone: what they say.
 #![tactic(auto)]
 
+mod changes_text;
 mod head;
 mod line_of;
 mod looks;
@@ -35,6 +37,7 @@ mod wanted;
 /// What stands between what was wanted and what is there.
 pub const THERE: &str = "\nracp: there:  ";
 
+pub use changes_text::push_changes_finding;
 pub use network_text::push_network_finding;
 pub use order_text::{Sizes, push_order_finding};
 pub use plan_faults::{

@@ -29,12 +29,12 @@ pub in_five : (old a b c d e : List ℕ) {t1 t2 t3 t4 t5 : List ℕ} → t1 ≡ 
 in_five old a b c d e p1 p2 p3 p4 p5 =
     p5 ∙ ap (λ (t : List ℕ). t ++ e) (p4 ∙ ap (λ (t : List ℕ). t ++ d) (p3 ∙ ap (λ (t : List ℕ). t ++ c) (p2 ∙ ap (λ (t : List ℕ). t ++ b) p1))) ∙ five old a b c d e
 
-six : (old a b c d e f : List ℕ) → (((((old ++ a) ++ b) ++ c) ++ d) ++ e) ++ f ≡ old ++ (a ++ (b ++ (c ++ (d ++ (e ++ f)))))
-six old a b c d e f = simp append_assoc
+seven : (old a b c d e f g : List ℕ) → ((((((old ++ a) ++ b) ++ c) ++ d) ++ e) ++ f) ++ g ≡ old ++ (a ++ (b ++ (c ++ (d ++ (e ++ (f ++ g))))))
+seven old a b c d e f g = simp append_assoc
 
-pub in_six : (old a b c d e f : List ℕ) {t1 t2 t3 t4 t5 t6 : List ℕ} → t1 ≡ old ++ a → t2 ≡ t1 ++ b → t3 ≡ t2 ++ c → t4 ≡ t3 ++ d → t5 ≡ t4 ++ e → t6 ≡ t5 ++ f → t6 ≡ old ++ (a ++ (b ++ (c ++ (d ++ (e ++ f)))))
-in_six old a b c d e f p1 p2 p3 p4 p5 p6 =
-    p6 ∙ ap (λ (t : List ℕ). t ++ f) (p5 ∙ ap (λ (t : List ℕ). t ++ e) (p4 ∙ ap (λ (t : List ℕ). t ++ d) (p3 ∙ ap (λ (t : List ℕ). t ++ c) (p2 ∙ ap (λ (t : List ℕ). t ++ b) p1)))) ∙ six old a b c d e f
+pub in_seven : (old a b c d e f g : List ℕ) {t1 t2 t3 t4 t5 t6 t7 : List ℕ} → t1 ≡ old ++ a → t2 ≡ t1 ++ b → t3 ≡ t2 ++ c → t4 ≡ t3 ++ d → t5 ≡ t4 ++ e → t6 ≡ t5 ++ f → t7 ≡ t6 ++ g → t7 ≡ old ++ (a ++ (b ++ (c ++ (d ++ (e ++ (f ++ g))))))
+in_seven old a b c d e f g p1 p2 p3 p4 p5 p6 p7 =
+    p7 ∙ ap (λ (t : List ℕ). t ++ g) (p6 ∙ ap (λ (t : List ℕ). t ++ f) (p5 ∙ ap (λ (t : List ℕ). t ++ e) (p4 ∙ ap (λ (t : List ℕ). t ++ d) (p3 ∙ ap (λ (t : List ℕ). t ++ c) (p2 ∙ ap (λ (t : List ℕ). t ++ b) p1))))) ∙ seven old a b c d e f g
 
 -- what stands between the first and the last of four pieces of a text
 pub with_two : (empty a style more b : List ℕ) {first second third fourth : List ℕ} → empty ≡ [] → first ≡ empty ++ a → second ≡ first ++ style → third ≡ second ++ more → fourth ≡ third ++ b → (s : List ℕ) × (fourth ≡ a ++ (s ++ b))

@@ -1,11 +1,12 @@
 -- A page: what stands in it, from its head to its end, but for its style.
-use Rattle.std.specs.Prelude.{◌≡◌, ℕ, ◌+◌, ◌-◌, ◌*◌, Bool, List, [], ◌∷◌, String, codes, flat_map, length, option_map, string_bytes, if◌then◌else◌}
+use Rattle.std.specs.Prelude.{◌≡◌, ℕ, ◌+◌, ◌-◌, ◌*◌, ◌==◌, ◌&&◌, Bool, List, [], ◌∷◌, Option, Some, None, String, codes, flat_map, length, option_map, string_bytes, if◌then◌else◌}
 use Rattle.std.specs.Fmt.{decimal}
 use Rattle.std.specs.Global.{Global}
 use Rattle.racp_json.specs.declared.curve.Step.{Step}
 use Rattle.racp_calendar.specs.Dates.{time_text}
 use Rattle.racp_calendar.specs.declared.calendar.Calendar.{Calendar}
-use Rattle.racp_charts.specs.Texts.{◌⋅◌}
+use Rattle.std.specs.Str.Lines.{lines}
+use Rattle.racp_charts.specs.Texts.{◌⋅◌, escaped}
 use Rattle.racp_charts.specs.declared.choice.Choice.{Choice}
 use Rattle.racp_report.specs.declared.report.Report.{Report}
 use Rattle.racp_show.specs.declared.task.Task.{Task}
@@ -169,11 +170,47 @@ abbrev pub cost_section : Calendar → ℕ → List Step → List ℕ
 cost_section calendar deadline [] = []
 cost_section calendar deadline (step ∷ steps) = cost_table calendar deadline (step ∷ steps)
 
+-- what stands before the first `: ` of a line, and what stands behind it; none if there is no `: `
+abbrev pub halves : List ℕ → Option (List ℕ × List ℕ)
+halves [] = None
+halves (byte ∷ []) = None
+halves (byte ∷ next ∷ rest) =
+    if byte == 58 && next == 32 then Some ([], rest) else option_map (λ found. (byte ∷ found.0, found.1)) (halves (next ∷ rest))
+
+-- the row of a change and of what becomes of it
+unfoldable pub change_cells : List ℕ → List ℕ → List ℕ
+change_cells change outcome =
+    codes "<tr><th scope=\"row\">" ⋅ escaped change ⋅ codes "</th><td class=\"left\">" ⋅ escaped outcome
+    ⋅ codes "</td></tr>\n"
+
+-- nothing if there is no change
+abbrev pub cells_of : Option (List ℕ × List ℕ) → List ℕ
+cells_of None = []
+cells_of (Some found) = change_cells found.0 found.1
+
+-- the row of a line, if it tells a change
+abbrev pub change_row : List ℕ → List ℕ
+change_row line = cells_of (halves line)
+
+-- what changes would cost, from their lines
+unfoldable pub change_table : List ℕ → List ℕ
+change_table changes =
+    (codes "<h2>What changes would cost</h2>\n<p>Each row has the cheapest plan with one term of the order changed, "
+    ⋅ codes "beside this one. Times are numbers of time units.</p>\n<div class=\"wide\"><table>\n<thead><tr>"
+    ⋅ codes "<th class=\"left\">Change</th><th class=\"left\">What becomes of it</th></tr></thead>\n<tbody>\n")
+    ⋅ flat_map change_row (lines changes) ⋅ codes "</tbody></table></div>\n"
+
+-- nothing is said of them without lines
+abbrev pub change_section : List ℕ → List ℕ
+change_section [] = []
+change_section (byte ∷ bytes) = change_table (byte ∷ bytes)
+
 -- all of a page that stands behind its style
 unfoldable pub body_of : Report → List ℕ
 body_of report =
     heading_element report.plan ⋅ choice_table report ⋅ charts report ⋅ task_table report
-    ⋅ cost_section report.plan.calendar report.plan.deadline report.costs.items ⋅ checking_element
+    ⋅ cost_section report.plan.calendar report.plan.deadline report.costs.items ⋅ change_section report.changes.now
+    ⋅ checking_element
 
 -- a page of a report: its beginning, some style, and its body
 abbrev pub IsPage : Report → String Global → Type 0

@@ -3,6 +3,7 @@
 ghost use Rattle.std.specs.Prelude.{◌≡◌, ◌++◌, IfOk, OnOk, string_bytes};
 ghost use Rattle.racp_report.specs.Pages.{IsPage, body_of, charts, choice_table, task_table};
 
+use crate::change_table::push_changes;
 use crate::chart::push_chart;
 use crate::choice_table::{push_choices, push_total};
 use crate::cost_table::push_curve;
@@ -16,8 +17,8 @@ use racp_charts::{STYLE, Span};
 use std::alloc::{AllocError, Global};
 
 /// A report as a page in HTML, in UTF-8, which needs nothing from elsewhere. No name stands in it with a character that
-/// means something else in HTML. Its length grows with the jobs, the pairs, the resources and the lines of a curve, and
-/// not with the deadline.
+/// means something else in HTML. Its length grows with the jobs, the pairs, the resources, the lines of a curve and
+/// those of changes, and not with the deadline.
 ///
 /// # Errors
 ///
@@ -42,6 +43,7 @@ fn push_body(alloc: Global, text: &mut String, report: &Report<'_>) -> Result<()
     push_charts(alloc, text, report)?;
     push_task_table(text, report)?;
     push_curve(alloc, text, report)?;
+    push_changes(text, report.changes)?;
     push_checking(text)?;
     Ok(())
 }

@@ -20,9 +20,20 @@ pub struct Report<'a> {
     pub plan: Drawing<'a>,
     /// The steps of a curve; none if there is no curve.
     pub costs: Vec<Step>,
+    /// The lines of what changes would cost; empty if there are none.
+    pub changes: &'a str,
 }
 
-/// What a page says of a plan that fits the order, with these names and the text of a curve, which may be empty.
+/// What is told beside a plan.
+#[derive(Clone, Copy)]
+pub struct Beside<'a> {
+    /// The text of a curve; empty if there is none.
+    pub curve: &'a str,
+    /// The lines of what changes would cost; empty if there are none.
+    pub changes: &'a str,
+}
+
+/// What a page says of a plan that fits the order, with these names and what is told beside it.
 ///
 /// # Errors
 ///
@@ -33,14 +44,19 @@ pub fn report_of<'a>(
     order: &Order,
     plan: &Plan,
     names: &'a Names,
-    curve: &str,
+    beside: Beside<'a>,
 ) -> Result<Report<'a>, AllocError>
     requires terms { AreTermsOf net.now order.now }
     requires capacities { length plan.now.capacities ≡ net.now.resources }
     requires fits { FitsTerms net.now order.now plan.now.capacities plan.now.starts }
-    ensures { IfOk result (IsReport net.now order.now plan.now names.now curve.now) }
+    ensures { IfOk result (IsReport net.now order.now plan.now names.now
+        beside.entry.curve.now beside.entry.changes.now) }
 {
-    let costs = steps_of(alloc, curve)?;
+    let costs = steps_of(alloc, beside.curve)?;
     let plan = drawing_of(alloc, net, order, plan, names)?;
-    Ok(Report { plan, costs })
+    Ok(Report {
+        plan,
+        costs,
+        changes: beside.changes,
+    })
 }

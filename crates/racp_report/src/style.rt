@@ -24,6 +24,7 @@ tbody th { font-weight: 400; text-align: left; white-space: normal; overflow-wra
 th:first-child, .left { text-align: left }
 td.left { white-space: normal; min-width: 5rem }
 td.left:last-child { min-width: 9rem; width: 30% }
+tbody th + td.left:last-child { width: 60%; overflow-wrap: anywhere }
 tbody td:first-child { width: 3rem }
 thead th { color: var(--soft); vertical-align: bottom }
 tbody tr:nth-child(even) { background: var(--stripe) }

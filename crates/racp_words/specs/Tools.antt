@@ -31,9 +31,13 @@ abbrev pub show : App
 show = telling (with_rule (with_rule (dated (with_rule show_in_letters (flag_rule (codes "links")))) (flag_rule (codes "json")))
     (flag_rule (codes "csv")))
 
--- `report NET ORDER PLAN [--names FILE] [--curve FILE] [--start-date DATE] [--unit UNIT] [--explain] [--quiet]`
+-- `report NET ORDER PLAN [--names FILE] [--curve FILE]`
+abbrev pub report_of_curve : App
+report_of_curve = with_rule (with_rule (of_plan (codes "report")) (text_rule (codes "names"))) (text_rule (codes "curve"))
+
+-- `report NET ORDER PLAN [--names FILE] [--curve FILE] [--whatif FILE] [--start-date DATE] [--unit UNIT] [--explain] [--quiet]`
 abbrev pub report : App
-report = telling (dated (with_rule (with_rule (of_plan (codes "report")) (text_rule (codes "names"))) (text_rule (codes "curve"))))
+report = telling (dated (with_rule report_of_curve (text_rule (codes "whatif"))))
 
 -- `curve NET ORDER [-j N | --workers N] [--turns N] [--memory MIB] [--time-limit S]`
 abbrev pub curve_timed : App
@@ -155,6 +159,7 @@ IsToolOf command (Report files options) =
     (command.0 ≡ codes "report") × ArePlanFiles command.1 files ×
     (option_map (λ word. word.now) options.names ≡ first_of (codes "names") command.1) ×
     (option_map (λ word. word.now) options.curve ≡ first_of (codes "curve") command.1) ×
+    (option_map (λ word. word.now) options.changes ≡ first_of (codes "whatif") command.1) ×
     AreDates command.1 options.dates
 IsToolOf command (Curve files memory crew is_drawn) =
     (command.0 ≡ codes "curve") × AreOrderFiles command.1 files ×

@@ -156,6 +156,7 @@ fn tool_named<'a>(name: &str, words: &ArgMatches<'a>) -> Option<Tool<'a>>
         let options = ReportWords {
             names: text_of(words, "names"),
             curve: text_of(words, "curve"),
+            changes: text_of(words, "whatif"),
             dates: dates_of(words),
         };
         Some(Tool::Report(plan_files(words), options))

@@ -17,7 +17,7 @@
 //! racp verify a.sm a4.toml p q             Verify with the paths a.sm, a4.toml, p and q, and None: no limit of time
 //! racp verify a.sm a4.toml p q --time-limit 5  the same, and the word 5 for the limit
 //! racp show a.sm a4.toml p --svg           Tool, Show with these paths, no names, no width and the form Svg
-//! racp report a.sm a4.toml p --names n     Tool, Report with these paths, the names n and no curve
+//! racp report a.sm a4.toml p --names n     Tool, Report with these paths, the names n, no curve, no changes
 //! racp curve b.sm b3.toml                  Tool, Curve with these paths, 1,024 MiB, one thread, and no picture
 //! racp curve b.sm b3.toml --workers 4      the same, and a CrewOptions of 4 workers
 //! racp whatif a.sm a4.toml p               Tool, WhatIf with these paths, 1,024 MiB, one thread, and no names

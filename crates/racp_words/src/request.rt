@@ -90,6 +90,8 @@ pub struct ReportWords<'a> {
     pub names: Option<&'a str>,
     /// The path of what each deadline costs, if there is one.
     pub curve: Option<&'a str>,
+    /// The path of what changes cost, if there is one.
+    pub changes: Option<&'a str>,
     /// How times are told.
     pub dates: Dates<'a>,
 }

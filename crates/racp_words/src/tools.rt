@@ -69,6 +69,7 @@ pub(crate) const TOOLS: &[Line] = &[
                 "FILE",
                 "What each deadline costs, as curve prints it",
             ),
+            Word::Text("whatif", "FILE", "What changes cost, as whatif prints it"),
             START_DATE,
             UNIT,
             EXPLAIN,

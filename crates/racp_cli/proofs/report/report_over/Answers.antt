@@ -1,4 +1,4 @@
-use Rattle.std.proofs.Common.{◌≡◌, ℕ, Err, [], ◌∷◌, Option, option_map, List, IfOk, inl, inr, refl, sym, subst, rules}
+use Rattle.std.proofs.Common.{◌≡◌, ℕ, Err, [], ◌∷◌, Option, List, IfOk, inl, inr, refl, sym, subst, rules}
 use Rattle.std.specs.Prelude.{Result}
 use Rattle.std.specs.Io.KnownBytes.{Keeps}
 use Rattle.racp_cli.specs.ReportAnswers.{IsReportAnswer, IsReportRun}
@@ -20,11 +20,11 @@ returns g c =
     let third : Reader = record { unread = g.P.Read.remaining c.args.plan.now; left = g.P.Read.remaining c.read_whole-3.new.reader } in
     let fourth : Reader = record { unread = g.M.Read.remaining c.args.names.now; left = g.M.Read.remaining c.read_whole-4.new.reader } in
     let are : AreInputs (first ∷ (second ∷ (third ∷ (fourth ∷ [])))) (net ∷ (order ∷ (plan ∷ (names ∷ [])))) = (c.in_ok-net.ensures, (c.in_ok-order.ensures, (c.in_ok-plan.ensures, (c.in_ok-names.ensures, tt)))) in
-    let made : IfOk c.answer.result (λ answer. IsReportAnswer c.args.page.calendar (option_map (λ curve. curve.now) c.args.page.curve) net order plan names answer.0 answer.1.items) =
+    let made : IfOk c.answer.result (λ answer. IsReportAnswer c.args.page net order plan names answer.0 answer.1.items) =
     rw (← c.deref.ensures.value, ← c.deref-2.ensures.value, ← c.deref-3.ensures.value, ← c.deref-4.ensures.value) c.answer.ensures in
-    let memory : IsReportAnswer c.args.page.calendar (option_map (λ curve. curve.now) c.args.page.curve) net order plan names 6 memory_line = inr (record { fault = OutOfMemory; right = tt; with_status = refl; with_text = refl }) in
-    run_answered (ToFour (IsReportAnswer c.args.page.calendar (option_map (λ curve. curve.now) c.args.page.curve))) (first ∷ (second ∷ (third ∷ (fourth ∷ [])))) (net ∷ (order ∷ (plan ∷ (names ∷ [])))) _ _ c.respond.result are
-    (answered_as _ (IsReportAnswer c.args.page.calendar (option_map (λ curve. curve.now) c.args.page.curve) net order plan names) _ _ c.respond.result (made_right (IsReportAnswer c.args.page.calendar (option_map (λ curve. curve.now) c.args.page.curve) net order plan names) c.answer.result made memory) c.respond.ensures)
+    let memory : IsReportAnswer c.args.page net order plan names 6 memory_line = inr (record { fault = OutOfMemory; right = tt; with_status = refl; with_text = refl }) in
+    run_answered (ToFour (IsReportAnswer c.args.page)) (first ∷ (second ∷ (third ∷ (fourth ∷ [])))) (net ∷ (order ∷ (plan ∷ (names ∷ [])))) _ _ c.respond.result are
+    (answered_as _ (IsReportAnswer c.args.page net order plan names) _ _ c.respond.result (made_right (IsReportAnswer c.args.page net order plan names) c.answer.result made memory) c.respond.ensures)
 
 pub returns-in_err-names : goal.returns-in_err-names
 returns-in_err-names g c =
@@ -38,5 +38,5 @@ returns-in_err-names g c =
     inr (c.in_ok-net.net.items, c.in_ok-net.ensures, inr (c.in_ok-order.order.items, c.in_ok-order.ensures, inr (c.in_ok-plan.plan.items, c.in_ok-plan.ensures, inl (c.in_err-names.ensures, tt)))) in
     let keeps : Keeps out out = search rules in
     let is : c.from_residual-in_err-names.result ≡ Err fault = search rules in
-    subst (λ (r : Result ℕ StreamFault). IsReportRun c.args.page.calendar (option_map (λ curve. curve.now) c.args.page.curve) first second third fourth out out r) (sym is)
-    (run_stopped (ToFour (IsReportAnswer c.args.page.calendar (option_map (λ curve. curve.now) c.args.page.curve))) (first ∷ (second ∷ (third ∷ (fourth ∷ [])))) out out fault fourth.unread fourth.left c.in_err-names.ensures stopped keeps)
+    subst (λ (r : Result ℕ StreamFault). IsReportRun c.args.page first second third fourth out out r) (sym is)
+    (run_stopped (ToFour (IsReportAnswer c.args.page)) (first ∷ (second ∷ (third ∷ (fourth ∷ [])))) out out fault fourth.unread fourth.left c.in_err-names.ensures stopped keeps)

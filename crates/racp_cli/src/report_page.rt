@@ -1,0 +1,139 @@
+//! The page of `report`, with what stands beside a plan.
+
+ghost use Rattle.std.specs.Prelude.{◌≡◌, ℕ, List, IfOk, length, option_map};
+ghost use Rattle.racp_model.specs.Project.{Project};
+ghost use Rattle.racp_model.specs.Terms.{AreTermsOf, Terms};
+ghost use Rattle.racp_plan.specs.declared.plan.Plan.{Plan};
+ghost use Rattle.racp_report.specs.Reports.{IsReport};
+ghost use Rattle.racp_check.specs.PlanFaults.{IsFitting};
+ghost use Rattle.racp_cli.specs.ReportAnswers.{AreBehind, IsBegun, IsChanged, IsPageOf};
+
+use crate::check::Checked;
+use crate::report::Page;
+use crate::status::{DONE, REFUSED};
+use racp_calendar::Calendar;
+use racp_changes::base_line;
+use racp_charts::Drawing;
+use racp_report::{Beside, Report, report_of, report_text};
+use racp_show::Names;
+use std::alloc::{AllocError, Global};
+
+/// The status and the text for the text of a curve that is right, or empty if there is none.
+#[tactic(auto, unfolding(racp_plan::specs::Texts::line))]
+pub(crate) fn changed(
+    alloc: Global,
+    found: &Checked,
+    names: &Names,
+    curve: &str,
+    page: Page<'_>,
+) -> Result<(u8, Vec<u8>), AllocError>
+    requires terms { AreTermsOf found.now.net found.now.order }
+    requires capacities { length found.now.plan.capacities ≡ found.now.net.resources }
+    requires fitting { IsFitting found.now.net found.now.order found.now.plan }
+    ensures { IfOk result (λ answer. IsChanged page.entry curve.now found.now.net found.now.order found.now.plan
+        names.now answer.0 answer.1.items) }
+{
+    let Some(bytes) = page.changes else {
+        let beside = Beside { curve, changes: "" };
+        let text = page_text(alloc, found, names, beside, page.calendar)?;
+        return Ok((DONE, text));
+    };
+    match std::str::from_utf8(bytes) {
+        Ok(changes) => {
+            let beside = Beside { curve, changes };
+            begun(alloc, found, names, beside, page.calendar)
+        }
+        Err(_) => Ok((REFUSED, b"refused whatif 1 NotUtf8\n".to_vec(alloc)?)),
+    }
+}
+
+/// The status and the text for the text of a curve and the whole text of changes, which has to begin with the line of
+/// the plan.
+#[tactic(auto, unfolding(racp_plan::specs::Texts::line))]
+fn begun(
+    alloc: Global,
+    found: &Checked,
+    names: &Names,
+    beside: Beside<'_>,
+    calendar: Calendar,
+) -> Result<(u8, Vec<u8>), AllocError>
+    requires terms { AreTermsOf found.now.net found.now.order }
+    requires capacities { length found.now.plan.capacities ≡ found.now.net.resources }
+    requires fitting { IsFitting found.now.net found.now.order found.now.plan }
+    ensures { IfOk result (λ answer. IsBegun calendar beside.entry.curve.now beside.entry.changes.now found.now.net
+        found.now.order found.now.plan names.now answer.0 answer.1.items) }
+{
+    let Some(changes) = behind_plan(alloc, found, beside.changes)? else {
+        return Ok((REFUSED, b"refused whatif 2 OtherPlan\n".to_vec(alloc)?));
+    };
+    let curve = beside.curve;
+    let text = page_text(alloc, found, names, Beside { curve, changes }, calendar)?;
+    Ok((DONE, text))
+}
+
+/// What stands behind the line of the plan with which a text of changes begins, if it does.
+fn behind_plan<'a>(
+    alloc: Global,
+    found: &Checked,
+    changes: &'a str,
+) -> Result<Option<&'a str>, AllocError>
+    ensures { IfOk result (λ rest. AreBehind found.now.plan changes.now (option_map (λ rest. rest.now) rest)) }
+{
+    let line = base_line(alloc, &found.plan)?;
+    Ok(changes.strip_prefix(line.as_str()))
+}
+
+/// The page about a plan, with what stands beside it.
+fn page_text(
+    alloc: Global,
+    found: &Checked,
+    names: &Names,
+    beside: Beside<'_>,
+    calendar: Calendar,
+) -> Result<Vec<u8>, AllocError>
+    requires terms { AreTermsOf found.now.net found.now.order }
+    requires capacities { length found.now.plan.capacities ≡ found.now.net.resources }
+    requires fitting { IsFitting found.now.net found.now.order found.now.plan }
+    ensures { IfOk result (λ text. IsPageOf calendar beside.entry.curve.now beside.entry.changes.now found.now.net
+        found.now.order found.now.plan names.now text.items) }
+{
+    let report = report_of(alloc, &found.net, &found.order, &found.plan, names, beside)?;
+    let report = dated(report, calendar);
+    let text = report_text(alloc, &report)?;
+    Ok(text.into_bytes())
+}
+
+/// A report whose times a calendar tells.
+fn dated(report: Report<'_>, calendar: Calendar) -> Report<'_>
+    ensures told { result.plan.calendar ≡ calendar }
+    ensures right { (network : Project) (terms : Terms) (plan : Plan) (names : List (List ℕ)) (curve changes : List ℕ) →
+        IsReport network terms plan names curve changes report.entry →
+        IsReport network terms plan names curve changes result }
+{
+    let Report {
+        plan,
+        costs,
+        changes,
+    } = report;
+    let Drawing {
+        deadline,
+        critical,
+        cost,
+        tasks,
+        choices,
+        ..
+    } = plan;
+    let plan = Drawing {
+        deadline,
+        critical,
+        cost,
+        calendar,
+        tasks,
+        choices,
+    };
+    Report {
+        plan,
+        costs,
+        changes,
+    }
+}
