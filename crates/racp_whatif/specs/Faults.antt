@@ -1,5 +1,5 @@
 -- Why no findings are answered.
-use Rattle.std.specs.Prelude.{List, ℕ, ⊤}
+use Rattle.std.specs.Prelude.{⊤}
 use Rattle.racp_lexfix.specs.declared.answer.PlanStop.{PlanStop}
 use Rattle.racp_lexfix.specs.declared.answer.PlanStop.TheVariants.{Stopped, Memory, NoThread}
 

@@ -111,7 +111,7 @@ pub fn outcome<G: Gate + Sync, P: Stop + Sync, O: Observer, R: Threads + Wait + 
 {
     let task = Task { alloc, net, order };
     match planned(rt, &task, crew) {
-        Ok(answer) => Ok(outcome_of(&task, answer)?),
+        Ok(answer) => outcome_of(&task, answer),
         Err(PlanStop::Stopped { not_before }) => Ok(Outcome::Open {
             least: cost_of(net, order, not_before.as_slice()),
         }),
@@ -121,10 +121,11 @@ pub fn outcome<G: Gate + Sync, P: Stop + Sync, O: Observer, R: Threads + Wait + 
 }
 
 /// What an answer says of an order, with a need above a ceiling if the ceilings leave no plan.
-fn outcome_of(task: &Task<'_>, answer: Answer) -> Result<Outcome, AllocError>
+fn outcome_of(task: &Task<'_>, answer: Answer) -> Result<Outcome, PlanStop>
     requires terms { AreTermsOf task.now.net.now task.now.order.now }
     requires answer { IsAnswer task.now.net.now task.now.order.now answer }
-    ensures { IfOk result (IsOutcome task.now.net.now task.now.order.now) }
+    ensures outcome { IfOk result (IsOutcome task.now.net.now task.now.order.now) }
+    ensures fault { IfErr result IsFault }
 {
     match answer {
         Answer::Plan(plan) => Ok(Outcome::Plan(plan)),
