@@ -1,6 +1,6 @@
 mod Works
 mod Jobs
-mod Crowds
+mod Overloads
 mod Orders
 mod Found
 mod Refuting

@@ -4,8 +4,8 @@ ghost use Rattle.std.specs.Prelude.{◌≡◌, ℕ, ◌<◌, List, IfOk, IfSome,
 ghost use Rattle.racp_needs.specs.Fitting.{AllWorkFits};
 ghost use Rattle.racp_needs.specs.Within.{AreWorkers, IsAbove, IsOver};
 
-use crate::crowd::{crowd, widened};
 use crate::need::{Need, push_job};
+use crate::overload::{overload, widened};
 use crate::work::{Work, part_of};
 use racp_facts::Times;
 use racp_facts::laws::least_work_is_done;
@@ -28,7 +28,7 @@ pub(crate) fn joint_above(
         AllWorkFits net.now window.now k (slice_index ceilings.now k) (length net.now.jobs)) }
 {
     for k in 0..net.resource_count() {
-        if let Some(work) = crowd(net, window, k, ceilings[k]) {
+        if let Some(work) = overload(net, window, k, ceilings[k]) {
             let work = widened(net, window, k, ceilings[k], work);
             return Ok(Some(need_of(alloc, net, window, k, work)?));
         }

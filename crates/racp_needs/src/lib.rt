@@ -21,10 +21,10 @@
 //! no plan. Not proved: that a need has the fewest jobs, and that memory is not refused without need.
 #![tactic(auto)]
 
-mod crowd;
 mod joint;
 pub mod laws;
 mod need;
+mod overload;
 mod single;
 mod work;
 

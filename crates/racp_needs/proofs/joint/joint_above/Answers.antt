@@ -8,7 +8,7 @@ loop-k-preserved c =
     let Fits : ℕ → Type 0 = λ k. AllWorkFits c.args.net.now c.args.window.now k (slice_index c.args.ceilings.now k) (length c.args.net.now.jobs) in
     λ k l. elim (cases_lt k c.loop-k.k) [
       | inl before ↦ c.loop-k.invariant k before
-      | inr at ↦ let same : c.loop-k.k ≡ k = omega (arith, l, at) in subst Fits same (c.crowd.ensures.none c.in_default.is)
+      | inr at ↦ let same : c.loop-k.k ≡ k = omega (arith, l, at) in subst Fits same (c.overload.ensures.none c.in_default.is)
     ]
 
 pub returns-clause-none : goal.returns-clause-none

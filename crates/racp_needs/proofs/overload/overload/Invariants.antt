@@ -1,7 +1,7 @@
 use Rattle.std.proofs.Common.{◌≡◌, IfSome, None}
 use Rattle.racp_needs.specs.Fitting.{AllWorkFits}
 use Rattle.racp_needs.specs.Within.{IsOver}
-use Rattle.racp_needs.proofs.crowd.crowd.Given as goal
+use Rattle.racp_needs.proofs.overload.overload.Given as goal
 
 abbrev pub invariant-loop-i : goal.invariant-loop-i
 invariant-loop-i l = record {

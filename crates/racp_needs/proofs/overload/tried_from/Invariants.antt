@@ -2,7 +2,7 @@ use Rattle.std.proofs.Common.{◌≡◌, ℕ, ◌+◌, ◌<◌, IfSome, None, sl
 use Rattle.racp_model.specs.Project.{duration}
 use Rattle.racp_needs.specs.Fitting.{WorkFits}
 use Rattle.racp_needs.specs.Within.{IsOver}
-use Rattle.racp_needs.proofs.crowd.tried_from.Given as goal
+use Rattle.racp_needs.proofs.overload.tried_from.Given as goal
 
 abbrev pub invariant-loop-j : goal.invariant-loop-j
 invariant-loop-j l = record {

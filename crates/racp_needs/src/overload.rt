@@ -11,7 +11,7 @@ use std::cmp::{max, min};
 
 /// The least work at some times that is more than so many units of a resource can do, of few jobs; or `None` if it is so
 /// at none of the times that are looked at.
-pub(crate) fn crowd(net: &Network, window: &Window, k: usize, units: u32) -> Option<Work>
+pub(crate) fn overload(net: &Network, window: &Window, k: usize, units: u32) -> Option<Work>
     requires resource { k < net.now.resources }
     requires lower { length window.now.lower ≡ length net.now.jobs }
     requires upper { length window.now.upper ≡ length net.now.jobs }

@@ -1,7 +1,7 @@
 use Rattle.std.proofs.Common.{ℕ, ◌-◌, ◌*◌, ◌<◌, inl, inr, IfSome, arith, ap, subst, sym}
 use Rattle.racp_needs.specs.Within.{IsOver}
-use Rattle.racp_needs.proofs.Crowds.{over-found}
-use Rattle.racp_needs.proofs.crowd.tried.Goals as goal
+use Rattle.racp_needs.proofs.Overloads.{over-found}
+use Rattle.racp_needs.proofs.overload.tried.Goals as goal
 
 pub returns-in-Some-clause-over : goal.returns-in-Some-clause-over
 returns-in-Some-clause-over c =

@@ -4,7 +4,7 @@ use Rattle.racp_model.specs.Project.{duration}
 use Rattle.racp_model.specs.Schedule.{roof}
 use Rattle.racp_needs.specs.Fitting.{WorkFitsFrom}
 use Rattle.racp_needs.proofs.Works.{fits-roof}
-use Rattle.racp_needs.proofs.crowd.crowd.Goals as goal
+use Rattle.racp_needs.proofs.overload.overload.Goals as goal
 
 pub returns-then-roof_of-units-clause-none : goal.returns-then-roof_of-units-clause-none
 returns-then-roof_of-units-clause-none c =
