@@ -8,6 +8,7 @@ use crate::failure::{Failure, OptionFault};
 use crate::gathering::gathered;
 use crate::inputs::told;
 use crate::keeping::{Keeping, Lack, name_of};
+use crate::machine::Crewed;
 use crate::making::worker_count;
 use crate::seconds::time_limit;
 use crate::telling::Manner;
@@ -16,10 +17,8 @@ use racp_prices::Factor;
 use racp_rows::{Batch, BatchFault, Case, Ending, File, Multiple, Planning, cases, table_over};
 use racp_words::{BatchWords, Memory};
 use std::alloc::{AllocError, Global};
-use std::rt::{Env, Files};
-use std::sync::Wait;
-use std::thread::Threads;
-use std::time::{Clock, Duration};
+use std::rt::Files;
+use std::time::Duration;
 use std::{fs, io};
 
 /// The most that a unit of a resource costs.
@@ -43,7 +42,7 @@ struct Manufacture<'a> {
 }
 
 /// Writes the table that the words ask for.
-pub(crate) fn batch<R: Clock + Env + Files + Print + Eprint + AllocGlobal + Threads + Wait + Sync>(
+pub(crate) fn batch<R: Crewed>(
     rt: &R,
     words: &BatchWords<'_>,
     memory: Memory,
@@ -128,7 +127,7 @@ fn share_a_name(nets: &[&str]) -> bool {
 }
 
 /// Writes the table of these files with these factors.
-fn table_of<R: Clock + Env + Files + Print + Eprint + AllocGlobal + Threads + Wait + Sync>(
+fn table_of<R: Crewed>(
     rt: &R,
     files: &[File<'_>],
     multiples: &[Multiple<'_>],
@@ -141,7 +140,7 @@ fn table_of<R: Clock + Env + Files + Print + Eprint + AllocGlobal + Threads + Wa
 }
 
 /// Writes the table of these cases.
-fn table_written<R: Clock + Env + Files + Print + Eprint + AllocGlobal + Threads + Wait + Sync>(
+fn table_written<R: Crewed>(
     rt: &R,
     cases: &[Case<'_>],
     making: Manufacture<'_>,

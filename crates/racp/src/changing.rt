@@ -8,6 +8,7 @@ use crate::failure::Failure;
 use crate::inputs::{opened, opened_if, shown, text, whole};
 use crate::limit::Limit;
 use crate::listener::{Kept, Listener};
+use crate::machine::Crewed;
 use crate::making::{Making, one_worker, worker_count};
 use crate::telling::{Manner, end};
 use racp_cli::{StreamFault, WhatIfTexts, whatif_to};
@@ -20,10 +21,7 @@ use std::alloc::{AllocError, Global};
 use std::cell::Cell;
 use std::io;
 use std::io::Write;
-use std::rt::{Env, Files};
-use std::sync::Wait;
-use std::thread::Threads;
-use std::time::Clock;
+use std::rt::Files;
 
 /// The files of what is asked.
 #[derive(Drop)]
@@ -44,7 +42,7 @@ struct Inputs {
 }
 
 /// Writes what becomes of the order in these files if one term is changed, and what is wrong with them.
-pub(crate) fn whatif<R: Clock + Env + Files + Print + Eprint + AllocGlobal + Threads + Wait + Sync>(
+pub(crate) fn whatif<R: Crewed>(
     rt: &R,
     files: OrderFiles<'_>,
     options: WhatIfWords<'_>,
@@ -86,7 +84,7 @@ fn read<R: Files + AllocGlobal>(rt: &R, paths: &Paths<'_>) -> Result<Inputs, Fai
 }
 
 /// Writes what becomes of the order in these texts if one term is changed; to `text`, if it is to be JSON.
-fn written<R: Clock + Env + Files + Print + Eprint + AllocGlobal + Threads + Wait + Sync>(
+fn written<R: Crewed>(
     rt: &R,
     inputs: &Inputs,
     making: Making<'_>,
@@ -103,7 +101,7 @@ fn written<R: Clock + Env + Files + Print + Eprint + AllocGlobal + Threads + Wai
 }
 
 /// Writes what becomes of the order in these texts if one term is changed to `out`, by plans that workers make.
-fn written_to<'a, R: Clock + Env + Files + Eprint + AllocGlobal + Threads + Wait + Sync, W: Write>(
+fn written_to<'a, R: Crewed, W: Write>(
     rt: &R,
     texts: WhatIfTexts<'a>,
     making: Making<'_>,

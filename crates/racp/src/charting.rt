@@ -6,12 +6,13 @@ ghost use Rattle.racp.specs.Statuses.{IsStatusOfTool};
 use crate::dates::calendar_of;
 use crate::failure::Failure;
 use crate::inputs::{opened, text, whole};
+use crate::machine::Machine;
 use crate::telling::{Manner, tell};
 use racp_cli::{Look, StreamFault, show_over};
 use racp_explain::{Input as Text, shown_cause};
 use racp_words::PlanFiles;
 use std::io::Read;
-use std::rt::{Env, Files};
+use std::rt::Env;
 use std::{env, io};
 
 /// The variable of the environment that says how wide the terminal is.
@@ -45,7 +46,7 @@ fn width_of<R: Env + AllocGlobal>(rt: &R, asked: Option<u64>) -> usize {
 }
 
 /// Writes a picture of the plan in these files.
-pub(crate) fn show<'a, R: Env + Files + Print + Eprint + AllocGlobal>(
+pub(crate) fn show<'a, R: Machine>(
     rt: &R,
     files: PlanFiles<'a>,
     look: racp_words::Look<'a>,
@@ -77,7 +78,7 @@ pub(crate) fn show<'a, R: Env + Files + Print + Eprint + AllocGlobal>(
 }
 
 /// Writes a picture of a plan, with the names that are read there.
-fn show_named<R: Files + Print + Eprint + AllocGlobal, M: Read>(
+fn show_named<R: Machine, M: Read>(
     rt: &R,
     asked: &Showing<'_>,
     names: &mut M,

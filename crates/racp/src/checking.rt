@@ -5,6 +5,7 @@ ghost use Rattle.racp.specs.Statuses.{IsStatusOfAnswer};
 
 use crate::failure::Failure;
 use crate::inputs::{opened, text, whole};
+use crate::machine::Machine;
 use crate::telling::{Manner, end};
 use racp_cli::{StreamFault, check_over};
 use racp_explain::{Input as Text, plan_cause};
@@ -13,7 +14,6 @@ use racp_words::PlanFiles;
 use std::alloc::Global;
 use std::io;
 use std::io::{Read, Write};
-use std::rt::Files;
 
 /// Which plan is looked at, and how that is told.
 #[derive(Drop)]
@@ -25,11 +25,7 @@ struct Checking<'a> {
 }
 
 /// Whether the plan in these files is right.
-pub(crate) fn check<R: Files + Print + Eprint + AllocGlobal>(
-    rt: &R,
-    files: PlanFiles<'_>,
-    manner: Manner,
-) -> Result<u8, Failure>
+pub(crate) fn check<R: Machine>(rt: &R, files: PlanFiles<'_>, manner: Manner) -> Result<u8, Failure>
     ensures { IfOk result IsStatusOfAnswer }
 {
     let mut net = opened(rt, files.net)?;

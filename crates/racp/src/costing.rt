@@ -9,6 +9,7 @@ use crate::failure::Failure;
 use crate::inputs::{opened, text, whole};
 use crate::limit::Limit;
 use crate::listener::{Kept, Listener};
+use crate::machine::Crewed;
 use crate::making::{Making, crew_of, progress_of, worker_count};
 use crate::progress::Progress;
 use crate::telling::{Manner, end};
@@ -22,10 +23,6 @@ use std::alloc::{AllocError, Global};
 use std::cell::Cell;
 use std::io;
 use std::io::{Read, Write};
-use std::rt::{Env, Files};
-use std::sync::Wait;
-use std::thread::Threads;
-use std::time::Clock;
 
 /// How a curve is made.
 #[derive(Clone, Copy)]
@@ -37,7 +34,7 @@ pub(crate) struct Costing<'a> {
 }
 
 /// Writes what each deadline up to that of the order in these files costs.
-pub(crate) fn curve<R: Clock + Env + Files + Print + Eprint + AllocGlobal + Threads + Wait + Sync>(
+pub(crate) fn curve<R: Crewed>(
     rt: &R,
     files: OrderFiles<'_>,
     costing: Costing<'_>,
@@ -50,10 +47,7 @@ pub(crate) fn curve<R: Clock + Env + Files + Print + Eprint + AllocGlobal + Thre
 }
 
 /// Writes the curve of these open files, each read whole before the next, and what is wrong with them.
-fn curve_read<
-    R: Clock + Env + Files + Print + Eprint + AllocGlobal + Threads + Wait + Sync,
-    F: Read,
->(
+fn curve_read<R: Crewed, F: Read>(
     rt: &R,
     files: OrderFiles<'_>,
     net: &mut F,
@@ -69,7 +63,7 @@ fn curve_read<
 }
 
 /// Writes the curve of these texts, and what is wrong with them.
-fn curve_told<R: Clock + Env + Files + Print + Eprint + AllocGlobal + Threads + Wait + Sync>(
+fn curve_told<R: Crewed>(
     rt: &R,
     net: &Text<'_>,
     order: &Text<'_>,
@@ -109,7 +103,7 @@ fn curve_told<R: Clock + Env + Files + Print + Eprint + AllocGlobal + Threads + 
 }
 
 /// Writes the curve of these texts; to `text`, if it is to be JSON.
-fn curve_written<R: Clock + Env + Files + Print + Eprint + AllocGlobal + Threads + Wait + Sync>(
+fn curve_written<R: Crewed>(
     rt: &R,
     net: &[u8],
     order: &[u8],
@@ -127,7 +121,7 @@ fn curve_written<R: Clock + Env + Files + Print + Eprint + AllocGlobal + Threads
 
 /// Writes what each deadline up to that of the order of these texts costs, by plans that workers make, if there is a
 /// crew, and else one thread.
-fn curve_of<R: Clock + Env + Files + Eprint + AllocGlobal + Threads + Wait + Sync, W: Write>(
+fn curve_of<R: Crewed, W: Write>(
     rt: &R,
     net: &[u8],
     order: &[u8],
@@ -168,7 +162,7 @@ fn curve_alone<N: Read, O: Read, W: Write>(
 /// Writes what each deadline up to that of the order of these texts costs, by plans that the workers of a crew make. If
 /// that is asked for, it goes to standard error how far they have come, and a file keeps the best plan known for the
 /// deadline of the order.
-fn curve_by<R: Clock + Env + Files + Eprint + AllocGlobal + Threads + Wait + Sync, W: Write>(
+fn curve_by<R: Crewed, W: Write>(
     rt: &R,
     net: &[u8],
     order: &[u8],

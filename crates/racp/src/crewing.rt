@@ -7,6 +7,7 @@ use crate::asks::Asks;
 use crate::best::keep;
 use crate::limit::Limit;
 use crate::listener::{Kept, Listener};
+use crate::machine::Crewed;
 use crate::making::{Making, progress_of, worker_count};
 use racp_askers::Effort;
 use racp_cli::{DONE, STOPPED, StreamFault, crowd_over_by};
@@ -17,10 +18,6 @@ use std::alloc::Global;
 use std::cell::Cell;
 use std::io;
 use std::io::Write;
-use std::rt::{Env, Files};
-use std::sync::Wait;
-use std::thread::Threads;
-use std::time::Clock;
 
 /// What planning came to.
 #[derive(Drop)]
@@ -51,10 +48,7 @@ impl Made {
 
 /// Writes the plan for the texts of a network and an order, or why there is none, made by the workers of a crew; into
 /// memory, if it is to be JSON. The plan is also kept in a file, if that is wanted.
-pub(crate) fn plan_kept<
-    'a,
-    R: Clock + Env + Files + Print + Eprint + AllocGlobal + Threads + Wait + Sync,
->(
+pub(crate) fn plan_kept<'a, R: Crewed>(
     rt: &R,
     net: &'a [u8],
     order: &'a [u8],
@@ -97,11 +91,7 @@ fn with_text<R: Print>(
 /// Writes the plan for the texts of a network and an order to `out`, or why there is none, made by the workers of a crew.
 /// With an answer, the work that was done goes to standard error if that is asked for, and until then how far planning has come. If
 /// it is stopped, standard error tells what is known by then.
-fn plan_by<
-    'a,
-    R: Clock + Env + Files + Print + Eprint + AllocGlobal + Threads + Wait + Sync,
-    W: Write,
->(
+fn plan_by<'a, R: Crewed, W: Write>(
     rt: &R,
     net: &'a [u8],
     order: &'a [u8],

@@ -5,6 +5,7 @@ ghost use Rattle.racp.specs.Statuses.{IsStatusOfAnswer};
 
 use crate::failure::Failure;
 use crate::inputs::{STANDARD_INPUT, opened, text, whole};
+use crate::machine::Machine;
 use crate::telling::{Manner, end};
 use racp_cli::{StreamFault, cpm_over};
 use racp_explain::{Input as Text, network_cause};
@@ -16,7 +17,7 @@ use std::io::{Read, Write};
 use std::rt::Files;
 
 /// The critical length and the early starts of the network that is read there.
-pub(crate) fn cpm<R: Files + Input + Print + Eprint + AllocGlobal>(
+pub(crate) fn cpm<R: Machine + Input>(
     rt: &R,
     network: Source<'_>,
     manner: Manner,

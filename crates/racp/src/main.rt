@@ -63,6 +63,7 @@ mod keeping;
 mod known;
 mod limit;
 mod listener;
+mod machine;
 mod making;
 mod memory;
 mod ordering;

@@ -5,6 +5,7 @@ ghost use Rattle.racp.specs.Statuses.{IsStatusOfTool};
 
 use crate::failure::Failure;
 use crate::inputs::{opened, text, whole};
+use crate::machine::Machine;
 use crate::telling::{Manner, end};
 use racp_cli::{Asked, DONE, REFUSED, StreamFault, Time, order_over};
 use racp_explain::{Input as Text, Numbers, asked_cause};
@@ -12,10 +13,9 @@ use racp_json::{Command, FileNames, Told, Work};
 use std::alloc::Global;
 use std::io;
 use std::io::{Read, Write};
-use std::rt::Files;
 
 /// Writes the order that is asked for, for the network in this file.
-pub(crate) fn order<R: Files + Print + Eprint + AllocGlobal>(
+pub(crate) fn order<R: Machine>(
     rt: &R,
     path: &str,
     asked: Asked,

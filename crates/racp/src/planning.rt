@@ -6,6 +6,7 @@ ghost use Rattle.racp.specs.Statuses.{IsStatusOfAnswer};
 use crate::crewing::{Made, plan_kept};
 use crate::failure::Failure;
 use crate::inputs::{opened, text, whole};
+use crate::machine::Crewed;
 use crate::making::{Making, crew_of};
 use crate::telling::end;
 use racp_cli::{StreamFault, run_over_within};
@@ -14,13 +15,9 @@ use racp_json::{Command, FileNames, Told};
 use racp_words::{Memory, OrderFiles};
 use std::io;
 use std::io::Read;
-use std::rt::{Env, Files};
-use std::sync::Wait;
-use std::thread::Threads;
-use std::time::Clock;
 
 /// The plan of these files.
-pub(crate) fn plan<R: Clock + Env + Files + Print + Eprint + AllocGlobal + Threads + Wait + Sync>(
+pub(crate) fn plan<R: Crewed>(
     rt: &R,
     files: OrderFiles<'_>,
     making: Making<'_>,
@@ -33,10 +30,7 @@ pub(crate) fn plan<R: Clock + Env + Files + Print + Eprint + AllocGlobal + Threa
 }
 
 /// Writes the plan of these open files, each read whole before the next, and what is wrong with them.
-fn plan_read<
-    R: Clock + Env + Files + Print + Eprint + AllocGlobal + Threads + Wait + Sync,
-    F: Read,
->(
+fn plan_read<R: Crewed, F: Read>(
     rt: &R,
     files: OrderFiles<'_>,
     net: &mut F,
@@ -52,7 +46,7 @@ fn plan_read<
 }
 
 /// The plan of these texts: made by workers if there is a crew, and else on one thread.
-fn plan_told<'a, R: Clock + Env + Files + Print + Eprint + AllocGlobal + Threads + Wait + Sync>(
+fn plan_told<'a, R: Crewed>(
     rt: &R,
     net: &Text<'a>,
     order: &Text<'a>,
@@ -89,7 +83,7 @@ fn plan_told<'a, R: Clock + Env + Files + Print + Eprint + AllocGlobal + Threads
 
 /// Writes the plan for the texts of a network and an order, or why there is none: made by workers if there is a crew, and
 /// else on one thread.
-fn plan_of<'a, R: Clock + Env + Files + Print + Eprint + AllocGlobal + Threads + Wait + Sync>(
+fn plan_of<'a, R: Crewed>(
     rt: &R,
     net: &'a [u8],
     order: &'a [u8],

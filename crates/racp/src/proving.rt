@@ -6,6 +6,7 @@ ghost use Rattle.racp.specs.Statuses.{IsStatusOfAnswer};
 use crate::asks::Asks;
 use crate::failure::{Failure, OptionFault};
 use crate::inputs::{opened, text, whole};
+use crate::machine::Machine;
 use crate::seconds::time_limit;
 use crate::shown::Shown;
 use crate::telling::{Manner, tell};
@@ -16,8 +17,7 @@ use racp_search::Stop;
 use racp_words::OrderFiles;
 use std::io;
 use std::io::Read;
-use std::rt::{Env, Files};
-use std::time::{Clock, Duration};
+use std::time::Duration;
 
 /// Which certificate is made, and after what time that stops, if it does.
 #[derive(Drop)]
@@ -52,10 +52,7 @@ impl<'a> Proving<'a> {
 }
 
 /// Writes a certificate for the plan of these files, by clauses if that is asked for, or why there is none.
-pub(crate) fn prove<R: Clock + Env + Files + Print + Eprint + AllocGlobal>(
-    rt: &R,
-    asked: Proving<'_>,
-) -> Result<u8, Failure>
+pub(crate) fn prove<R: Machine>(rt: &R, asked: Proving<'_>) -> Result<u8, Failure>
     ensures { IfOk result IsStatusOfAnswer }
 {
     let mut net = opened(rt, asked.files.net)?;
@@ -64,7 +61,7 @@ pub(crate) fn prove<R: Clock + Env + Files + Print + Eprint + AllocGlobal>(
 }
 
 /// Writes a certificate for the plan of these open files, each read whole before the next, and what is wrong with them.
-fn prove_read<R: Clock + Env + Files + Print + Eprint + AllocGlobal, F: Read>(
+fn prove_read<R: Machine, F: Read>(
     rt: &R,
     asked: Proving<'_>,
     net: &mut F,
@@ -79,7 +76,7 @@ fn prove_read<R: Clock + Env + Files + Print + Eprint + AllocGlobal, F: Read>(
 }
 
 /// Writes a certificate for the plan of these texts, and what is wrong with them.
-fn prove_told<R: Clock + Env + Files + Print + Eprint + AllocGlobal>(
+fn prove_told<R: Machine>(
     rt: &R,
     asked: &Proving<'_>,
     net: &Text<'_>,
@@ -98,7 +95,7 @@ fn prove_told<R: Clock + Env + Files + Print + Eprint + AllocGlobal>(
 
 /// Writes a certificate for the plan of a network and an order that are read there, or why there is none. If it was
 /// stopped, after so much time or by the user, standard error says so.
-fn prove_of<R: Clock + Env + Files + Print + Eprint + AllocGlobal, N: Read, O: Read>(
+fn prove_of<R: Machine, N: Read, O: Read>(
     rt: &R,
     asked: &Proving<'_>,
     net: &mut N,

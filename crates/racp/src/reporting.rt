@@ -6,6 +6,7 @@ ghost use Rattle.racp.specs.Statuses.{IsStatusOfTool};
 use crate::dates::calendar_of;
 use crate::failure::Failure;
 use crate::inputs::{opened, opened_if, text, whole};
+use crate::machine::Machine;
 use crate::telling::{Manner, tell};
 use racp_calendar::Calendar;
 use racp_cli::{Page, StreamFault, report_over};
@@ -36,7 +37,7 @@ struct Inputs {
 }
 
 /// Writes a page about the plan in these files.
-pub(crate) fn report<R: Files + Print + Eprint + AllocGlobal>(
+pub(crate) fn report<R: Machine>(
     rt: &R,
     files: PlanFiles<'_>,
     options: ReportWords<'_>,

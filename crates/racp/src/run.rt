@@ -9,6 +9,7 @@ use crate::checking::check;
 use crate::early::cpm;
 use crate::failure::{Failure, report};
 use crate::inputs::told;
+use crate::machine::Crewed;
 use crate::making::Making;
 use crate::planning::plan;
 use crate::proving::{Proving, prove};
@@ -21,10 +22,7 @@ use racp_words::{Request, Source, Task, Tool, asked};
 use std::alloc::Global;
 use std::env;
 use std::io::ErrorKind;
-use std::rt::{Env, Files};
-use std::sync::Wait;
-use std::thread::Threads;
-use std::time::Clock;
+use std::rt::Env;
 
 /// What a network is read from if standard input is a terminal.
 const HINT: &str = "racp: reading a network from the terminal; racp --help lists the commands";
@@ -43,9 +41,7 @@ pub(crate) struct Terminals {
 }
 
 /// Runs the program, and answers its status.
-pub(crate) fn status<
-    R: Clock + Env + Files + Input + Print + Eprint + AllocGlobal + Threads + Wait + Sync,
->(rt: &R, terminals: Terminals) -> u8
+pub(crate) fn status<R: Crewed + Input>(rt: &R, terminals: Terminals) -> u8
     ensures { IsStatus result }
 {
     match answer(rt, terminals) {
@@ -55,10 +51,7 @@ pub(crate) fn status<
 }
 
 /// Writes the answer to what the command line asks for.
-fn answer<R: Clock + Env + Files + Input + Print + Eprint + AllocGlobal + Threads + Wait + Sync>(
-    rt: &R,
-    terminals: Terminals,
-) -> Result<u8, Failure>
+fn answer<R: Crewed + Input>(rt: &R, terminals: Terminals) -> Result<u8, Failure>
     ensures { IfOk result IsStatusOfAnswer }
 {
     let words = words(rt)?;
@@ -84,11 +77,7 @@ fn is_of_an_order(word: &String) -> bool {
 }
 
 /// Writes the answer to a task, and a hint if a network is read from a terminal.
-fn answer_to<R: Clock + Env + Files + Input + Print + Eprint + AllocGlobal + Threads + Wait + Sync>(
-    rt: &R,
-    task: Task<'_>,
-    terminals: Terminals,
-) -> Result<u8, Failure>
+fn answer_to<R: Crewed + Input>(rt: &R, task: Task<'_>, terminals: Terminals) -> Result<u8, Failure>
     ensures { IfOk result IsStatusOfAnswer }
 {
     let Task {
@@ -128,11 +117,7 @@ fn failure_told(alloc: Global, failure: Failure, manner: Manner) -> Failure {
 }
 
 /// Writes the answer to a request. What is wrong with the inputs is told in this manner.
-fn answered<R: Clock + Env + Files + Input + Print + Eprint + AllocGlobal + Threads + Wait + Sync>(
-    rt: &R,
-    request: Request<'_>,
-    manner: Manner,
-) -> Result<u8, Failure>
+fn answered<R: Crewed + Input>(rt: &R, request: Request<'_>, manner: Manner) -> Result<u8, Failure>
     ensures { IfOk result IsStatusOfAnswer }
 {
     match request {
@@ -158,11 +143,7 @@ fn answered<R: Clock + Env + Files + Input + Print + Eprint + AllocGlobal + Thre
 }
 
 /// Writes the answer to what a command that goes with plans asks for.
-fn answer_of_tool<R: Clock + Env + Files + Print + Eprint + AllocGlobal + Threads + Wait + Sync>(
-    rt: &R,
-    asked: Tool<'_>,
-    manner: Manner,
-) -> Result<u8, Failure>
+fn answer_of_tool<R: Crewed>(rt: &R, asked: Tool<'_>, manner: Manner) -> Result<u8, Failure>
     ensures { IfOk result IsStatusOfAnswer }
 {
     tool(rt, asked, manner)

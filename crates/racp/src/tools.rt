@@ -9,6 +9,7 @@ use crate::charting::show;
 use crate::costing::{Costing, curve};
 use crate::failure::{Failure, OptionFault};
 use crate::importing::import;
+use crate::machine::Crewed;
 use crate::making::Making;
 use crate::ordering::order;
 use crate::reporting::report;
@@ -18,18 +19,10 @@ use racp_cli::{DONE, StreamFault};
 use racp_explain::{explanation, subject_list};
 use racp_words::Tool;
 use std::alloc::Global;
-use std::rt::{Env, Files};
-use std::sync::Wait;
-use std::thread::Threads;
-use std::time::Clock;
 
 /// Writes the answer to what a command that goes with plans asks for. What is wrong with the inputs is told in this
 /// manner.
-pub(crate) fn tool<R: Clock + Env + Files + Print + Eprint + AllocGlobal + Threads + Wait + Sync>(
-    rt: &R,
-    tool: Tool<'_>,
-    manner: Manner,
-) -> Result<u8, Failure>
+pub(crate) fn tool<R: Crewed>(rt: &R, tool: Tool<'_>, manner: Manner) -> Result<u8, Failure>
     ensures { IfOk result IsStatusOfTool }
 {
     match tool {

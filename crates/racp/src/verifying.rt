@@ -6,6 +6,7 @@ ghost use Rattle.racp.specs.Statuses.{IsStatusOfAnswer};
 use crate::asks::Asks;
 use crate::failure::Failure;
 use crate::inputs::{opened, text, whole};
+use crate::machine::Machine;
 use crate::telling::{Manner, end};
 use crate::until::Until;
 use racp_cli::{StreamFault, verify_over_until};
@@ -14,8 +15,7 @@ use racp_json::{Command, FileNames, Told, Work};
 use racp_words::ProofFiles;
 use std::io;
 use std::io::{Read, Write};
-use std::rt::{Env, Files};
-use std::time::{Clock, Duration};
+use std::time::Duration;
 
 /// Which certificate is looked at, and after what time that stops, if it does.
 #[derive(Drop)]
@@ -29,10 +29,7 @@ pub(crate) struct Verifying<'a> {
 }
 
 /// Whether the plan in these files is right, and the certificate proves it.
-pub(crate) fn verify<R: Clock + Env + Files + Print + Eprint + AllocGlobal>(
-    rt: &R,
-    asked: Verifying<'_>,
-) -> Result<u8, Failure>
+pub(crate) fn verify<R: Machine>(rt: &R, asked: Verifying<'_>) -> Result<u8, Failure>
     ensures { IfOk result IsStatusOfAnswer }
 {
     let mut net = opened(rt, asked.files.net)?;
@@ -42,7 +39,7 @@ pub(crate) fn verify<R: Clock + Env + Files + Print + Eprint + AllocGlobal>(
 
 /// Writes whether a plan is right and its certificate proves it, for the open files of the network and of the order;
 /// the files of the plan and of the certificate are opened here.
-fn verify_for<R: Clock + Env + Files + Print + Eprint + AllocGlobal, F: Read>(
+fn verify_for<R: Machine, F: Read>(
     rt: &R,
     asked: Verifying<'_>,
     net: &mut F,
@@ -57,7 +54,7 @@ fn verify_for<R: Clock + Env + Files + Print + Eprint + AllocGlobal, F: Read>(
 
 /// Writes whether the plan in these open files is right and the certificate proves it; the network and the order are
 /// read whole first.
-fn verify_read<R: Clock + Env + Files + Print + Eprint + AllocGlobal, F: Read, C: Read>(
+fn verify_read<R: Machine, F: Read, C: Read>(
     rt: &R,
     asked: Verifying<'_>,
     net: &mut F,
@@ -75,7 +72,7 @@ fn verify_read<R: Clock + Env + Files + Print + Eprint + AllocGlobal, F: Read, C
 
 /// Writes whether the plan and the certificate in two open files, which are read whole, are right for the texts of a
 /// network and an order.
-fn verify_beside<R: Clock + Env + Files + Print + Eprint + AllocGlobal, C: Read>(
+fn verify_beside<R: Machine, C: Read>(
     rt: &R,
     asked: Verifying<'_>,
     net: &Text<'_>,
@@ -96,7 +93,7 @@ fn verify_beside<R: Clock + Env + Files + Print + Eprint + AllocGlobal, C: Read>
 
 /// Whether the plan in these texts is right, and the certificate proves it; it stops after so much time, if that is
 /// asked, or when the user asks for it.
-fn verify_told<R: Clock + Env + Files + Print + Eprint + AllocGlobal>(
+fn verify_told<R: Machine>(
     rt: &R,
     net: &Text<'_>,
     order: &Text<'_>,
@@ -134,7 +131,7 @@ fn verify_told<R: Clock + Env + Files + Print + Eprint + AllocGlobal>(
 }
 
 /// Writes whether the plan in these texts is right, and the certificate proves it; to `text`, if it is to be JSON.
-fn verify_written<R: Clock + Env + Files + Print + Eprint + AllocGlobal>(
+fn verify_written<R: Machine>(
     rt: &R,
     net: &Text<'_>,
     order: &Text<'_>,
@@ -172,14 +169,7 @@ fn verify_written<R: Clock + Env + Files + Print + Eprint + AllocGlobal>(
 
 /// Writes whether the plan that is read there is right, and the certificate shows that no capacities before its own are
 /// enough; or that it was stopped, after so much time or by the user.
-fn verify_of<
-    R: Clock + Env + Files + Eprint + AllocGlobal,
-    N: Read,
-    O: Read,
-    P: Read,
-    C: Read,
-    W: Write,
->(
+fn verify_of<R: Machine, N: Read, O: Read, P: Read, C: Read, W: Write>(
     rt: &R,
     net: &mut N,
     order: &mut O,
