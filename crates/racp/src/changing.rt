@@ -5,7 +5,7 @@ ghost use Rattle.racp.specs.Statuses.{IsStatusOfTool};
 
 use crate::asks::Asks;
 use crate::failure::Failure;
-use crate::inputs::{opened, opened_if, shown, text, whole};
+use crate::inputs::Inputs;
 use crate::limit::Limit;
 use crate::listener::{Kept, Listener};
 use crate::machine::Crewed;
@@ -13,7 +13,7 @@ use crate::making::{Making, one_worker, worker_count};
 use crate::telling::{Manner, end};
 use racp_cli::{StreamFault, WhatIfTexts, whatif_to};
 use racp_desk::Open;
-use racp_explain::{named_cause, shown_cause};
+use racp_explain::{Input as Text, named_cause, shown_cause};
 use racp_json::{Command, FileNames, Told, Work};
 use racp_lexfix::Crew;
 use racp_words::{OrderFiles, WhatIfWords};
@@ -21,24 +21,16 @@ use std::alloc::{AllocError, Global};
 use std::cell::Cell;
 use std::io;
 use std::io::Write;
-use std::rt::Files;
 
-/// The files of what is asked.
-#[derive(Drop)]
-struct Paths<'a> {
-    /// Those of the network and the order.
-    files: OrderFiles<'a>,
-    /// Those of the plan and the names, if there are such.
-    options: WhatIfWords<'a>,
-}
-
-/// The bytes of these files; there are none of names that are not given.
-#[derive(Drop)]
-struct Inputs {
-    net: Vec<u8>,
-    order: Vec<u8>,
-    plan: Option<Vec<u8>>,
-    names: Vec<u8>,
+/// The texts of what is asked.
+#[derive(Clone, Copy)]
+struct Texts<'a> {
+    net: Text<'a>,
+    order: Text<'a>,
+    /// The plan, if there is one.
+    plan: Option<Text<'a>>,
+    /// The names; it is empty if there are none.
+    names: Text<'a>,
 }
 
 /// Writes what becomes of the order in these files if one term is changed, and what is wrong with them.
@@ -50,49 +42,42 @@ pub(crate) fn whatif<R: Crewed>(
 ) -> Result<u8, Failure>
     ensures { IfOk result IsStatusOfTool }
 {
-    let paths = Paths { files, options };
-    let inputs = read(rt, &paths)?;
-    let mut text = Vec::new(rt.alloc());
-    let status = written(rt, &inputs, making, &mut text)?;
-    tell_end(rt, &paths, &inputs, making.manner, status, &text)?;
-    Ok(status)
+    let paths = [
+        Some(files.net),
+        Some(files.order),
+        options.plan,
+        options.names,
+    ];
+    let inputs = Inputs::read(rt, &paths)?;
+    let texts = Texts {
+        net: inputs.text(0),
+        order: inputs.text(1),
+        plan: inputs.text_if(2),
+        names: inputs.text(3),
+    };
+    whatif_told(rt, texts, making)
 }
 
-/// The bytes of the files, which are opened in the order of the words before the first is read.
-fn read<R: Files + AllocGlobal>(rt: &R, paths: &Paths<'_>) -> Result<Inputs, Failure> {
-    let (files, options) = (&paths.files, &paths.options);
-    let mut net = opened(rt, files.net)?;
-    let mut order = opened(rt, files.order)?;
-    let mut planned = opened_if(rt, options.plan)?;
-    let mut named = opened_if(rt, options.names)?;
-    let net = whole(rt.alloc(), &mut net, files.net)?;
-    let order = whole(rt.alloc(), &mut order, files.order)?;
-    let plan = match &mut planned {
-        Some(file) => Some(whole(rt.alloc(), file, options.plan.unwrap_or(""))?),
-        None => None,
-    };
-    let names = match &mut named {
-        Some(file) => whole(rt.alloc(), file, options.names.unwrap_or(""))?,
-        None => Vec::new(rt.alloc()),
-    };
-    Ok(Inputs {
-        net,
-        order,
-        plan,
-        names,
-    })
+/// Writes what becomes of the order in these texts if one term is changed, and what is wrong with them.
+fn whatif_told<R: Crewed>(rt: &R, texts: Texts<'_>, making: Making<'_>) -> Result<u8, Failure>
+    ensures { IfOk result IsStatusOfTool }
+{
+    let mut text = Vec::new(rt.alloc());
+    let status = written(rt, texts, making, &mut text)?;
+    tell_end(rt, texts, making.manner, status, &text)?;
+    Ok(status)
 }
 
 /// Writes what becomes of the order in these texts if one term is changed; to `text`, if it is to be JSON.
 fn written<R: Crewed>(
     rt: &R,
-    inputs: &Inputs,
+    texts: Texts<'_>,
     making: Making<'_>,
     text: &mut Vec<u8>,
 ) -> Result<u8, StreamFault>
     ensures { IfOk result IsStatusOfTool }
 {
-    let texts = texts_of(inputs, making.manner);
+    let texts = bytes_of(texts, making.manner);
     if making.manner.is_json {
         written_to(rt, texts, making, text)
     } else {
@@ -140,13 +125,16 @@ fn written_to<'a, R: Crewed, W: Write>(
     status
 }
 
-/// The texts of what is asked, and how it is told.
-fn texts_of(inputs: &Inputs, manner: Manner) -> WhatIfTexts<'_> {
+/// The bytes of what is asked, and how it is told.
+fn bytes_of<'a>(texts: Texts<'a>, manner: Manner) -> WhatIfTexts<'a> {
     WhatIfTexts {
-        net: &inputs.net,
-        order: &inputs.order,
-        plan: inputs.plan.as_ref().map(|bytes| bytes.as_slice()),
-        names: &inputs.names,
+        net: texts.net.bytes,
+        order: texts.order.bytes,
+        plan: match texts.plan {
+            Some(plan) => Some(plan.bytes),
+            None => None,
+        },
+        names: texts.names.bytes,
         is_json: manner.is_json,
     }
 }
@@ -154,8 +142,7 @@ fn texts_of(inputs: &Inputs, manner: Manner) -> WhatIfTexts<'_> {
 /// Tells on standard error what is wrong, and writes what is to be JSON.
 fn tell_end<R: Print + Eprint + AllocGlobal>(
     rt: &R,
-    paths: &Paths<'_>,
-    inputs: &Inputs,
+    texts: Texts<'_>,
     manner: Manner,
     status: u8,
     text: &[u8],
@@ -167,30 +154,30 @@ fn tell_end<R: Print + Eprint + AllocGlobal>(
         };
     }
     let cause = if manner.looks(status) {
-        cause(rt.alloc(), paths, inputs)
+        cause(rt.alloc(), texts)
     } else {
         Ok(String::new(rt.alloc()))
     };
-    end(rt, manner, &told(paths, inputs, status, text), cause)
+    end(rt, manner, &told(texts, status, text), cause)
 }
 
 /// What was written in place of findings.
-fn told<'a>(paths: &'a Paths<'_>, inputs: &'a Inputs, status: u8, text: &'a [u8]) -> Told<'a> {
+fn told<'a>(texts: Texts<'a>, status: u8, text: &'a [u8]) -> Told<'a> {
+    let (command, plan) = match texts.plan {
+        Some(plan) => (Command::Check, plan.name),
+        None => (Command::Plan, ""),
+    };
     Told {
-        command: if inputs.plan.is_some() {
-            Command::Check
-        } else {
-            Command::Plan
-        },
+        command,
         status,
         text,
-        net: &inputs.net,
-        order: &inputs.order,
+        net: texts.net.bytes,
+        order: texts.order.bytes,
         best: &[],
         files: FileNames {
-            net: shown(paths.files.net),
-            order: shown(paths.files.order),
-            plan: shown(paths.options.plan.unwrap_or("")),
+            net: texts.net.name,
+            order: texts.order.name,
+            plan,
             proof: "",
         },
         work: Work::unknown(),
@@ -198,15 +185,15 @@ fn told<'a>(paths: &'a Paths<'_>, inputs: &'a Inputs, status: u8, text: &'a [u8]
 }
 
 /// What is wrong with the texts.
-fn cause(alloc: Global, paths: &Paths<'_>, inputs: &Inputs) -> Result<String, AllocError> {
-    let net = text(paths.files.net, &inputs.net);
-    let order = text(paths.files.order, &inputs.order);
-    let names = text(paths.options.names.unwrap_or(""), &inputs.names);
-    match &inputs.plan {
-        Some(bytes) => {
-            let plan = text(paths.options.plan.unwrap_or(""), bytes);
-            shown_cause(alloc, &net, &order, &plan, &names)
-        }
+fn cause(alloc: Global, texts: Texts<'_>) -> Result<String, AllocError> {
+    let Texts {
+        net,
+        order,
+        plan,
+        names,
+    } = texts;
+    match plan {
+        Some(plan) => shown_cause(alloc, &net, &order, &plan, &names),
         None => named_cause(alloc, &net, &order, &names),
     }
 }

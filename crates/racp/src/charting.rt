@@ -5,7 +5,7 @@ ghost use Rattle.racp.specs.Statuses.{IsStatusOfTool};
 
 use crate::dates::calendar_of;
 use crate::failure::Failure;
-use crate::inputs::{opened, text, whole};
+use crate::inputs::Inputs;
 use crate::machine::Machine;
 use crate::telling::{Manner, tell};
 use racp_cli::{Look, StreamFault, show_over};
@@ -21,14 +21,10 @@ const VARIABLE: &str = "COLUMNS";
 /// How many columns a line has if nothing says so.
 const DEFAULT_WIDTH: usize = 80;
 
-/// Which plan is shown, and how.
-#[derive(Drop)]
-struct Showing<'a> {
-    /// The paths of its files.
-    files: PlanFiles<'a>,
-    /// The path of the names; empty if there are none.
-    names: &'a str,
-    /// How it is shown.
+/// How a plan is shown.
+#[derive(Clone, Copy)]
+struct Showing {
+    /// As what picture.
     look: Look,
     /// How it is told what is wrong.
     manner: Manner,
@@ -55,8 +51,6 @@ pub(crate) fn show<'a, R: Machine>(
     ensures { IfOk result IsStatusOfTool }
 {
     let asked = Showing {
-        files,
-        names: look.names.unwrap_or(""),
         look: Look {
             width: width_of(rt, look.width),
             form: look.form,
@@ -65,71 +59,21 @@ pub(crate) fn show<'a, R: Machine>(
         },
         manner,
     };
-    match look.names {
-        Some(path) => {
-            let mut names = opened(rt, path)?;
-            show_named(rt, &asked, &mut names)
-        }
-        None => {
-            let mut names: &[u8] = &[];
-            show_named(rt, &asked, &mut names)
-        }
-    }
-}
-
-/// Writes a picture of a plan, with the names that are read there.
-fn show_named<R: Machine, M: Read>(
-    rt: &R,
-    asked: &Showing<'_>,
-    names: &mut M,
-) -> Result<u8, Failure>
-    ensures { IfOk result IsStatusOfTool }
-{
-    let mut net = opened(rt, asked.files.net)?;
-    let mut order = opened(rt, asked.files.order)?;
-    let mut plan = opened(rt, asked.files.plan)?;
-    show_read(rt, asked, &mut net, &mut order, &mut plan, names)
-}
-
-/// Writes a picture of the plan in these open files; the network and the order are read whole first.
-fn show_read<R: Print + Eprint + AllocGlobal, F: Read, M: Read>(
-    rt: &R,
-    asked: &Showing<'_>,
-    net: &mut F,
-    order: &mut F,
-    plan: &mut F,
-    names: &mut M,
-) -> Result<u8, Failure>
-    ensures { IfOk result IsStatusOfTool }
-{
-    let net = whole(rt.alloc(), net, asked.files.net)?;
-    let order = whole(rt.alloc(), order, asked.files.order)?;
-    let (net, order) = (text(asked.files.net, &net), text(asked.files.order, &order));
-    show_beside(rt, asked, &net, &order, plan, names)
-}
-
-/// Writes a picture of the plan in an open file, with the names in another, which are read whole, for the texts of a
-/// network and an order.
-fn show_beside<R: Print + Eprint + AllocGlobal, F: Read, M: Read>(
-    rt: &R,
-    asked: &Showing<'_>,
-    net: &Text<'_>,
-    order: &Text<'_>,
-    plan: &mut F,
-    names: &mut M,
-) -> Result<u8, Failure>
-    ensures { IfOk result IsStatusOfTool }
-{
-    let plan = whole(rt.alloc(), plan, asked.files.plan)?;
-    let names = whole(rt.alloc(), names, asked.names)?;
-    let (plan, names) = (text(asked.files.plan, &plan), text(asked.names, &names));
-    show_told(rt, asked, net, order, &plan, &names)
+    let paths = [
+        look.names,
+        Some(files.net),
+        Some(files.order),
+        Some(files.plan),
+    ];
+    let inputs = Inputs::read(rt, &paths)?;
+    let (net, order, plan) = (inputs.text(1), inputs.text(2), inputs.text(3));
+    show_told(rt, &asked, &net, &order, &plan, &inputs.text(0))
 }
 
 /// Writes a picture of the plan in these texts, and what is wrong with them.
 fn show_told<R: Print + Eprint + AllocGlobal>(
     rt: &R,
-    asked: &Showing<'_>,
+    asked: &Showing,
     net: &Text<'_>,
     order: &Text<'_>,
     plan: &Text<'_>,

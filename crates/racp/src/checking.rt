@@ -4,7 +4,7 @@ ghost use Rattle.std.specs.Prelude.{IfOk};
 ghost use Rattle.racp.specs.Statuses.{IsStatusOfAnswer};
 
 use crate::failure::Failure;
-use crate::inputs::{opened, text, whole};
+use crate::inputs::Inputs;
 use crate::machine::Machine;
 use crate::telling::{Manner, end};
 use racp_cli::{StreamFault, check_over};
@@ -15,54 +15,19 @@ use std::alloc::Global;
 use std::io;
 use std::io::{Read, Write};
 
-/// Which plan is looked at, and how that is told.
-#[derive(Drop)]
-struct Checking<'a> {
-    /// The paths of its files.
-    files: PlanFiles<'a>,
-    /// How it is told.
-    manner: Manner,
-}
-
 /// Whether the plan in these files is right.
 pub(crate) fn check<R: Machine>(rt: &R, files: PlanFiles<'_>, manner: Manner) -> Result<u8, Failure>
     ensures { IfOk result IsStatusOfAnswer }
 {
-    let mut net = opened(rt, files.net)?;
-    let mut order = opened(rt, files.order)?;
-    let mut plan = opened(rt, files.plan)?;
-    let asked = Checking { files, manner };
-    check_read(rt, &asked, &mut net, &mut order, &mut plan)
-}
-
-/// Writes whether the plan in these open files is right; the network and the order are read whole first.
-fn check_read<R: Print + Eprint + AllocGlobal, F: Read>(
-    rt: &R,
-    asked: &Checking<'_>,
-    net: &mut F,
-    order: &mut F,
-    plan: &mut F,
-) -> Result<u8, Failure>
-    ensures { IfOk result IsStatusOfAnswer }
-{
-    let net = whole(rt.alloc(), net, asked.files.net)?;
-    let order = whole(rt.alloc(), order, asked.files.order)?;
-    let (net, order) = (text(asked.files.net, &net), text(asked.files.order, &order));
-    check_beside(rt, asked, &net, &order, plan)
-}
-
-/// Writes whether the plan in a file, which is read whole, is right for the texts of a network and an order.
-fn check_beside<R: Print + Eprint + AllocGlobal, F: Read>(
-    rt: &R,
-    asked: &Checking<'_>,
-    net: &Text<'_>,
-    order: &Text<'_>,
-    plan: &mut F,
-) -> Result<u8, Failure>
-    ensures { IfOk result IsStatusOfAnswer }
-{
-    let plan = whole(rt.alloc(), plan, asked.files.plan)?;
-    check_told(rt, net, order, &text(asked.files.plan, &plan), asked.manner)
+    let paths = [Some(files.net), Some(files.order), Some(files.plan)];
+    let inputs = Inputs::read(rt, &paths)?;
+    check_told(
+        rt,
+        &inputs.text(0),
+        &inputs.text(1),
+        &inputs.text(2),
+        manner,
+    )
 }
 
 /// Whether the plan in these texts is right.

@@ -6,7 +6,7 @@ ghost use Rattle.racp.specs.Statuses.{IsStatusOfTool};
 use crate::asks::Asks;
 use crate::begun::Begun;
 use crate::failure::Failure;
-use crate::inputs::{opened, text, whole};
+use crate::inputs::Inputs;
 use crate::limit::Limit;
 use crate::listener::{Kept, Listener};
 use crate::machine::Crewed;
@@ -41,25 +41,9 @@ pub(crate) fn curve<R: Crewed>(
 ) -> Result<u8, Failure>
     ensures { IfOk result IsStatusOfTool }
 {
-    let mut net = opened(rt, files.net)?;
-    let mut order = opened(rt, files.order)?;
-    curve_read(rt, files, &mut net, &mut order, costing)
-}
-
-/// Writes the curve of these open files, each read whole before the next, and what is wrong with them.
-fn curve_read<R: Crewed, F: Read>(
-    rt: &R,
-    files: OrderFiles<'_>,
-    net: &mut F,
-    order: &mut F,
-    costing: Costing<'_>,
-) -> Result<u8, Failure>
-    ensures { IfOk result IsStatusOfTool }
-{
-    let net = whole(rt.alloc(), net, files.net)?;
-    let order = whole(rt.alloc(), order, files.order)?;
-    let (net, order) = (text(files.net, &net), text(files.order, &order));
-    curve_told(rt, &net, &order, costing)
+    let paths = [Some(files.net), Some(files.order)];
+    let inputs = Inputs::read(rt, &paths)?;
+    curve_told(rt, &inputs.text(0), &inputs.text(1), costing)
 }
 
 /// Writes the curve of these texts, and what is wrong with them.

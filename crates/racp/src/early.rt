@@ -4,7 +4,7 @@ ghost use Rattle.std.specs.Prelude.{IfOk};
 ghost use Rattle.racp.specs.Statuses.{IsStatusOfAnswer};
 
 use crate::failure::Failure;
-use crate::inputs::{STANDARD_INPUT, opened, text, whole};
+use crate::inputs::{STANDARD_INPUT, read_file, text, whole};
 use crate::machine::Machine;
 use crate::telling::{Manner, end};
 use racp_cli::{StreamFault, cpm_over};
@@ -40,7 +40,7 @@ fn network_read<R: Files + Input + AllocGlobal>(
 ) -> Result<Vec<u8>, Failure> {
     match network {
         Source::StandardInput => whole(rt.alloc(), &mut rt.reader(), name),
-        Source::File(path) => whole(rt.alloc(), &mut opened(rt, path)?, name),
+        Source::File(path) => read_file(rt, path),
     }
 }
 

@@ -1,7 +1,7 @@
 //! The networks of a table of results, read before the first plan is made.
 
 use crate::failure::Failure;
-use crate::inputs::{opened, shown, text, whole};
+use crate::inputs::{read_file, shown, text};
 use crate::shown::Shown;
 use crate::telling::Manner;
 use racp_cli::StreamFault;
@@ -46,7 +46,7 @@ fn input_of<R: Files + Eprint + AllocGlobal>(
     path: &str,
     manner: Manner,
 ) -> Result<Input, Failure> {
-    match bytes_of(rt, path) {
+    match read_file(rt, path) {
         Ok(bytes) => input_in(rt, &text(path, &bytes), manner),
         Err(Failure::Told(_, words)) => {
             tell(rt, manner, &words);
@@ -54,11 +54,6 @@ fn input_of<R: Files + Eprint + AllocGlobal>(
         }
         Err(failure) => Err(failure),
     }
-}
-
-/// All bytes of the file with this path.
-fn bytes_of<R: Files + AllocGlobal>(rt: &R, path: &str) -> Result<Vec<u8>, Failure> {
-    whole(rt.alloc(), &mut opened(rt, path)?, path)
 }
 
 /// What this text has.

@@ -5,7 +5,7 @@ ghost use Rattle.racp.specs.Statuses.{IsStatusOfTool};
 
 use crate::failure::{Failure, OptionFault};
 use crate::files::{Output, write_files};
-use crate::inputs::{opened, shown, whole};
+use crate::inputs::{read_file, shown};
 use crate::pricing::order_of;
 use crate::terms::Times;
 use racp_cli::{DONE, StreamFault};
@@ -35,8 +35,7 @@ pub(crate) fn import<R: Files + Print + AllocGlobal>(
     ensures { IfOk result IsStatusOfTool }
 {
     let format = format_of(words.from)?;
-    let mut file = opened(rt, words.file)?;
-    let bytes = whole(rt.alloc(), &mut file, words.file)?;
+    let bytes = read_file(rt, words.file)?;
     let texts = texts_of(rt.alloc(), words, &bytes, format)?;
     write_texts(rt, words.out, texts)?;
     Ok(DONE)

@@ -25,15 +25,87 @@ pub(crate) fn opened<R: Files + AllocGlobal>(rt: &R, path: &str) -> Result<R::Fi
     }
 }
 
-/// The file with this path, if there is a path.
-pub(crate) fn opened_if<R: Files + AllocGlobal>(
-    rt: &R,
-    path: Option<&str>,
-) -> Result<Option<R::File>, Failure> {
-    match path {
-        Some(path) => Ok(Some(opened(rt, path)?)),
-        None => Ok(None),
+/// Files that were read whole, by the places of their paths, from 0 on.
+#[derive(Drop)]
+pub(crate) struct Inputs<'a> {
+    paths: &'a [Option<&'a str>],
+    bytes: Vec<Vec<u8>>,
+}
+
+impl<'a> Inputs<'a> {
+    /// The files with these paths, which are opened in this order before the first is read. Where there is no path, there are
+    /// no bytes.
+    pub(crate) fn read<R: Files + AllocGlobal>(
+        rt: &R,
+        paths: &'a [Option<&'a str>],
+    ) -> Result<Self, Failure> {
+        let mut files = opened_all(rt, paths)?;
+        let bytes = read_all(rt.alloc(), &mut files, paths)?;
+        Ok(Inputs { paths, bytes })
     }
+
+    /// The text of the file at a place.
+    pub(crate) fn text(&self, place: usize) -> Input<'_> {
+        let path = match self.paths.get(place) {
+            Some(path) => path.unwrap_or(""),
+            None => "",
+        };
+        let bytes: &[u8] = match self.bytes.get(place) {
+            Some(bytes) => bytes,
+            None => &[],
+        };
+        text(path, bytes)
+    }
+
+    /// The text of the file at a place, if there is a path.
+    pub(crate) fn text_if(&self, place: usize) -> Option<Input<'_>> {
+        match self.paths.get(place) {
+            Some(Some(_)) => Some(self.text(place)),
+            _ => None,
+        }
+    }
+}
+
+/// The files with these paths, opened in this order.
+fn opened_all<R: Files + AllocGlobal>(
+    rt: &R,
+    paths: &[Option<&str>],
+) -> Result<Vec<Option<R::File>>, Failure> {
+    let mut files = Vec::new(rt.alloc());
+    for path in paths {
+        let file = match path {
+            Some(path) => Some(opened(rt, path)?),
+            None => None,
+        };
+        let Ok(()) = files.push(file) else {
+            return Err(Failure::Stream(StreamFault::Memory));
+        };
+    }
+    Ok(files)
+}
+
+/// All bytes of these files with these paths, read in this order.
+fn read_all<F: Read>(
+    alloc: Global,
+    files: &mut [Option<F>],
+    paths: &[Option<&str>],
+) -> Result<Vec<Vec<u8>>, Failure> {
+    let mut texts = Vec::new(alloc);
+    for (file, path) in files.iter_mut().zip(paths) {
+        let text = match file {
+            Some(file) => whole(alloc, file, path.unwrap_or(""))?,
+            None => Vec::new(alloc),
+        };
+        let Ok(()) = texts.push(text) else {
+            return Err(Failure::Stream(StreamFault::Memory));
+        };
+    }
+    Ok(texts)
+}
+
+/// All bytes of the file with this path.
+pub(crate) fn read_file<R: Files + AllocGlobal>(rt: &R, path: &str) -> Result<Vec<u8>, Failure> {
+    whole(rt.alloc(), &mut opened(rt, path)?, path)
 }
 
 /// A text with this path.

@@ -4,7 +4,7 @@ ghost use Rattle.std.specs.Prelude.{IfOk};
 ghost use Rattle.racp.specs.Statuses.{IsStatusOfTool};
 
 use crate::failure::Failure;
-use crate::inputs::{opened, text, whole};
+use crate::inputs::{read_file, text};
 use crate::machine::Machine;
 use crate::telling::{Manner, end};
 use racp_cli::{Asked, DONE, REFUSED, StreamFault, Time, order_over};
@@ -23,21 +23,7 @@ pub(crate) fn order<R: Machine>(
 ) -> Result<u8, Failure>
     ensures { IfOk result IsStatusOfTool }
 {
-    let mut net = opened(rt, path)?;
-    order_read(rt, path, &mut net, asked, manner)
-}
-
-/// Writes the order that is asked for, for the network in an open file, which is read whole.
-fn order_read<R: Print + Eprint + AllocGlobal, F: Read>(
-    rt: &R,
-    path: &str,
-    net: &mut F,
-    asked: Asked,
-    manner: Manner,
-) -> Result<u8, Failure>
-    ensures { IfOk result IsStatusOfTool }
-{
-    let net = whole(rt.alloc(), net, path)?;
+    let net = read_file(rt, path)?;
     order_told(rt, &text(path, &net), asked, manner)
 }
 

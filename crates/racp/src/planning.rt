@@ -5,7 +5,7 @@ ghost use Rattle.racp.specs.Statuses.{IsStatusOfAnswer};
 
 use crate::crewing::{Made, plan_kept};
 use crate::failure::Failure;
-use crate::inputs::{opened, text, whole};
+use crate::inputs::Inputs;
 use crate::machine::Crewed;
 use crate::making::{Making, crew_of};
 use crate::telling::end;
@@ -24,25 +24,9 @@ pub(crate) fn plan<R: Crewed>(
 ) -> Result<u8, Failure>
     ensures { IfOk result IsStatusOfAnswer }
 {
-    let mut net = opened(rt, files.net)?;
-    let mut order = opened(rt, files.order)?;
-    plan_read(rt, files, &mut net, &mut order, making)
-}
-
-/// Writes the plan of these open files, each read whole before the next, and what is wrong with them.
-fn plan_read<R: Crewed, F: Read>(
-    rt: &R,
-    files: OrderFiles<'_>,
-    net: &mut F,
-    order: &mut F,
-    making: Making<'_>,
-) -> Result<u8, Failure>
-    ensures { IfOk result IsStatusOfAnswer }
-{
-    let net = whole(rt.alloc(), net, files.net)?;
-    let order = whole(rt.alloc(), order, files.order)?;
-    let (net, order) = (text(files.net, &net), text(files.order, &order));
-    plan_told(rt, &net, &order, making)
+    let paths = [Some(files.net), Some(files.order)];
+    let inputs = Inputs::read(rt, &paths)?;
+    plan_told(rt, &inputs.text(0), &inputs.text(1), making)
 }
 
 /// The plan of these texts: made by workers if there is a crew, and else on one thread.

@@ -5,10 +5,9 @@ ghost use Rattle.racp.specs.Statuses.{IsStatusOfAnswer};
 
 use crate::asks::Asks;
 use crate::failure::{Failure, OptionFault};
-use crate::inputs::{opened, text, whole};
+use crate::inputs::Inputs;
 use crate::machine::Machine;
 use crate::seconds::time_limit;
-use crate::shown::Shown;
 use crate::telling::{Manner, tell};
 use crate::until::Until;
 use racp_cli::{CHECK_FAILED, StreamFault, prove_by_clauses_over, prove_over_until};
@@ -55,24 +54,9 @@ impl<'a> Proving<'a> {
 pub(crate) fn prove<R: Machine>(rt: &R, asked: Proving<'_>) -> Result<u8, Failure>
     ensures { IfOk result IsStatusOfAnswer }
 {
-    let mut net = opened(rt, asked.files.net)?;
-    let mut order = opened(rt, asked.files.order)?;
-    prove_read(rt, asked, &mut net, &mut order)
-}
-
-/// Writes a certificate for the plan of these open files, each read whole before the next, and what is wrong with them.
-fn prove_read<R: Machine, F: Read>(
-    rt: &R,
-    asked: Proving<'_>,
-    net: &mut F,
-    order: &mut F,
-) -> Result<u8, Failure>
-    ensures { IfOk result IsStatusOfAnswer }
-{
-    let net = whole(rt.alloc(), net, asked.files.net)?;
-    let order = whole(rt.alloc(), order, asked.files.order)?;
-    let (net, order) = (text(asked.files.net, &net), text(asked.files.order, &order));
-    prove_told(rt, &asked, &net, &order)
+    let paths = [Some(asked.files.net), Some(asked.files.order)];
+    let inputs = Inputs::read(rt, &paths)?;
+    prove_told(rt, &asked, &inputs.text(0), &inputs.text(1))
 }
 
 /// Writes a certificate for the plan of these texts, and what is wrong with them.

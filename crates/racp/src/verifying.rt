@@ -5,7 +5,7 @@ ghost use Rattle.racp.specs.Statuses.{IsStatusOfAnswer};
 
 use crate::asks::Asks;
 use crate::failure::Failure;
-use crate::inputs::{opened, text, whole};
+use crate::inputs::Inputs;
 use crate::machine::Machine;
 use crate::telling::{Manner, end};
 use crate::until::Until;
@@ -32,63 +32,16 @@ pub(crate) struct Verifying<'a> {
 pub(crate) fn verify<R: Machine>(rt: &R, asked: Verifying<'_>) -> Result<u8, Failure>
     ensures { IfOk result IsStatusOfAnswer }
 {
-    let mut net = opened(rt, asked.files.net)?;
-    let mut order = opened(rt, asked.files.order)?;
-    verify_for(rt, asked, &mut net, &mut order)
-}
-
-/// Writes whether a plan is right and its certificate proves it, for the open files of the network and of the order;
-/// the files of the plan and of the certificate are opened here.
-fn verify_for<R: Machine, F: Read>(
-    rt: &R,
-    asked: Verifying<'_>,
-    net: &mut F,
-    order: &mut F,
-) -> Result<u8, Failure>
-    ensures { IfOk result IsStatusOfAnswer }
-{
-    let mut plan = opened(rt, asked.files.plan)?;
-    let mut proof = opened(rt, asked.files.proof)?;
-    verify_read(rt, asked, net, order, &mut plan, &mut proof)
-}
-
-/// Writes whether the plan in these open files is right and the certificate proves it; the network and the order are
-/// read whole first.
-fn verify_read<R: Machine, F: Read, C: Read>(
-    rt: &R,
-    asked: Verifying<'_>,
-    net: &mut F,
-    order: &mut F,
-    plan: &mut C,
-    proof: &mut C,
-) -> Result<u8, Failure>
-    ensures { IfOk result IsStatusOfAnswer }
-{
-    let net = whole(rt.alloc(), net, asked.files.net)?;
-    let order = whole(rt.alloc(), order, asked.files.order)?;
-    let (net, order) = (text(asked.files.net, &net), text(asked.files.order, &order));
-    verify_beside(rt, asked, &net, &order, plan, proof)
-}
-
-/// Writes whether the plan and the certificate in two open files, which are read whole, are right for the texts of a
-/// network and an order.
-fn verify_beside<R: Machine, C: Read>(
-    rt: &R,
-    asked: Verifying<'_>,
-    net: &Text<'_>,
-    order: &Text<'_>,
-    plan: &mut C,
-    proof: &mut C,
-) -> Result<u8, Failure>
-    ensures { IfOk result IsStatusOfAnswer }
-{
-    let plan = whole(rt.alloc(), plan, asked.files.plan)?;
-    let proof = whole(rt.alloc(), proof, asked.files.proof)?;
-    let (plan, proof) = (
-        text(asked.files.plan, &plan),
-        text(asked.files.proof, &proof),
-    );
-    verify_told(rt, net, order, &plan, &proof, &asked)
+    let files = &asked.files;
+    let paths = [
+        Some(files.net),
+        Some(files.order),
+        Some(files.plan),
+        Some(files.proof),
+    ];
+    let inputs = Inputs::read(rt, &paths)?;
+    let (net, order) = (inputs.text(0), inputs.text(1));
+    verify_told(rt, &net, &order, &inputs.text(2), &inputs.text(3), &asked)
 }
 
 /// Whether the plan in these texts is right, and the certificate proves it; it stops after so much time, if that is
