@@ -111,9 +111,10 @@ def broken(text):
         yield f"byte {at} as x", text[:at] + "x" + text[at + 1:]
 
 
-def compare(group, compared, cases):
+def compare(group, compared, cases, least=None):
     """Looks at the cases of a group, several at a time: `compared` gives the name of a case, the kind of answer that is
-    wanted, and what is wrong, or nothing. Prints what is wrong; how many passed and how many failed."""
+    wanted, and what is wrong, or nothing. Prints what is wrong; how many passed and how many failed. It is a failure too if there
+    are fewer cases of a kind than `least` says."""
     began = time.perf_counter()
     kinds = collections.Counter()
     failed = 0
@@ -125,7 +126,10 @@ def compare(group, compared, cases):
                 print(f"failed: {name}\n  {wrong}")
     print(f"{group}: {failed} of {kinds.total()} differ; {time.perf_counter() - began:.1f} s")
     print("  wanted: " + ", ".join(f"{kind} {count}" for kind, count in kinds.most_common()))
-    return kinds.total() - failed, failed
+    few = [kind for kind, count in (least or {}).items() if kinds[kind] < count]
+    for kind in few:
+        print(f"failed: {group}: {kinds[kind]} cases of {kind}, fewer than {least[kind]}")
+    return kinds.total() - failed, failed + len(few)
 
 
 def main(comparisons, usual=None):
