@@ -1,51 +1,35 @@
 //! Questions by chance, and what a search tells of them.
 
+ghost use Rattle.racp_optimum.specs.Optima.{IsTaskOf};
 ghost use Rattle.std.specs.Prelude.{◌≡◌};
-ghost use Rattle.racp_model.specs.Terms.{AreTermsOf};
-ghost use Rattle.racp_facts.specs.Roots.{IsOpen};
 
 use racp_delay::Never;
-use racp_facts::{Clause, Derivation, Domain, Literal, OfProblem};
-use racp_learning::{Reason, Search, Tally, Told};
+use racp_facts::{Clause, Derivation, Literal, OfProblem};
+use racp_learning::{Reason, Search, Told};
 use racp_model::Network;
-use racp_prices::Order;
+use racp_optimum::Task;
 use racp_samples::Random;
-use std::alloc::{AllocError, Global};
+use std::alloc::AllocError;
 
-/// What a search says of a question.
-#[derive(Clone, Copy, Debug, PartialEq)]
-pub enum Answer {
-    Yes,
-    No,
-    Budget,
-    Stopped,
-    Memory,
-}
+/// How many questions are asked of an order.
+pub const QUESTIONS: u32 = 8;
 
-/// The root bounds with up to three of them narrowed by chance: less cost, fewer units, or other starts. They are those
-/// of a derivation, which keeps their places.
-pub fn question<N: OfProblem>(
-    alloc: Global,
-    random: &mut Random,
+/// Narrows up to three bounds by chance: less cost, fewer units, or other starts.
+fn narrow<N: OfProblem>(
     net: &Network,
-    root: &Domain,
-) -> Result<Derivation<N>, AllocError>
-    requires named { net.now ≡ N.problem.network }
-    requires root { root.now ≡ N.problem.root }
-    requires open { IsOpen N.problem }
-{
-    let mut d: Derivation<N> = Derivation::new(alloc, root)?;
+    random: &mut Random,
+    d: &mut Derivation<N>,
+) -> Result<(), AllocError> {
     let jobs = net.job_count();
-    let cost = jobs.saturating_add(net.resource_count());
-    let places = u32::try_from(cost.saturating_add(1)).unwrap_or(1);
+    let cost = jobs.saturating_add(net.resource_count()) as u32;
     for _i in 0..random.below(4) {
-        let mut place = random.below(places);
+        let mut place = random.below(cost.saturating_add(1));
         if random.below(3) == 0 {
-            place = u32::try_from(cost).unwrap_or(0);
+            place = cost;
         }
         let x = place as usize;
         let (low, high) = (d.bounds().lower_at(x), d.bounds().upper_at(x));
-        let width = u32::try_from(high.saturating_sub(low)).unwrap_or(0);
+        let width = high.saturating_sub(low) as u32;
         let value = low.saturating_add(random.below(width) as u64);
         if x < jobs && low < high && random.below(3) == 0 {
             d.suppose(Literal::AtMost(place, value))?;
@@ -53,7 +37,133 @@ pub fn question<N: OfProblem>(
             d.suppose(Literal::AtLeast(place, value.saturating_add(1)))?;
         }
     }
-    Ok(d)
+    Ok(())
+}
+
+/// The root bounds with up to three of them narrowed by chance. They are those of a derivation, which keeps their places.
+pub fn question<N: OfProblem>(
+    task: Task<'_>,
+    random: &mut Random,
+) -> Result<Derivation<N>, AllocError>
+    requires { IsTaskOf N.problem task }
+{
+    let mut d: Derivation<N> = Derivation::new(task.alloc, task.root)?;
+    match narrow(task.net, random, &mut d) {
+        Ok(()) => Ok(d),
+        Err(fault) => {
+            drop(d);
+            Err(fault)
+        }
+    }
+}
+
+/// What a search told of questions: which were answered by starts, which refuted, and which left open since the conflicts
+/// were spent, as bits; how many conflicts it met, how many clauses it lost; and a number that mixes all that it told.
+#[derive(Clone, Copy)]
+pub struct Record {
+    pub found: u32,
+    pub refuted: u32,
+    pub spent: u32,
+    pub conflicts: u64,
+    pub lost: u64,
+    pub mixed: u64,
+}
+
+impl Record {
+    fn mix(&mut self, number: u64) {
+        self.mixed = self
+            .mixed
+            .wrapping_mul(6_364_136_223_846_793_005)
+            .wrapping_add(number);
+    }
+
+    fn mix_each(&mut self, numbers: &[u32]) {
+        for number in numbers {
+            self.mix(*number as u64);
+        }
+    }
+
+    fn mix_literals(&mut self, literals: &[Literal]) {
+        for literal in literals {
+            let (side, x, v) = match literal {
+                Literal::AtLeast(x, v) => (0, *x, *v),
+                Literal::AtMost(x, v) => (1, *x, *v),
+            };
+            self.mix(side);
+            self.mix(x as u64);
+            self.mix(v);
+        }
+    }
+
+    /// Writes down what was told of a question, which is this bit.
+    fn note<N: OfProblem>(&mut self, bit: u32, told: &Told<Clause<N>>) {
+        match told {
+            Told::Found(starts, units) => {
+                self.found |= bit;
+                self.mix_each(starts.as_slice());
+                self.mix_each(units.as_slice());
+            }
+            Told::Refuted(clause) => {
+                self.refuted |= bit;
+                self.mix_literals(clause.literals());
+            }
+            Told::Open(Reason::Budget) => self.spent |= bit,
+            Told::Open(_) => {}
+        }
+    }
+}
+
+/// What a search tells of the next question.
+fn ask_next<N: OfProblem>(
+    task: Task<'_>,
+    search: &mut Search<N>,
+    random: &mut Random,
+    conflicts: u64,
+) -> Result<Told<Clause<N>>, AllocError>
+    requires { IsTaskOf N.problem task }
+{
+    let asked: Derivation<N> = question(task, random)?;
+    let told = search.ask(task.net, task.order, asked.bounds(), conflicts, &Never);
+    drop(asked);
+    told
+}
+
+/// What a search tells of questions, one after the other.
+fn ask_each<N: OfProblem>(
+    task: Task<'_>,
+    search: &mut Search<N>,
+    mut random: Random,
+    conflicts: u64,
+) -> Result<Record, AllocError>
+    requires { IsTaskOf N.problem task }
+{
+    let mut record = Record {
+        found: 0,
+        refuted: 0,
+        spent: 0,
+        conflicts: 0,
+        lost: 0,
+        mixed: 0,
+    };
+    let mut bit = 1u32;
+    for _question in 0..QUESTIONS {
+        let told = ask_next(task, search, &mut random, conflicts)?;
+        record.note(bit, &told);
+        bit = bit.wrapping_mul(2);
+    }
+    let tally = search.tally();
+    record.conflicts = tally.conflicts;
+    record.lost = tally.lost;
+    for number in [
+        tally.decisions,
+        tally.hints,
+        tally.literals,
+        tally.restarts,
+        tally.forgotten,
+    ] {
+        record.mix(number);
+    }
+    Ok(record)
 }
 
 /// Limits of a search.
@@ -64,72 +174,22 @@ pub struct Limits {
     pub seed: u64,
 }
 
-/// What a search told: of each question the answer and its numbers, and at the end what was done.
-#[derive(Drop)]
-pub struct Record {
-    pub answers: Vec<Answer>,
-    pub numbers: Vec<u64>,
-    pub tally: Tally,
-}
-
-/// Writes what was told into a record.
-fn note<N: OfProblem>(record: &mut Record, told: &Told<Clause<N>>) -> Result<(), AllocError> {
-    let answer = match told {
-        Told::Found(starts, units) => {
-            for number in starts.as_slice().iter().chain(units.as_slice()) {
-                record.numbers.push(*number as u64)?;
-            }
-            Answer::Yes
-        }
-        Told::Refuted(clause) => {
-            for literal in clause.literals() {
-                let (side, x, v) = match literal {
-                    Literal::AtLeast(x, v) => (0, *x, *v),
-                    Literal::AtMost(x, v) => (1, *x, *v),
-                };
-                record.numbers.push(side)?;
-                record.numbers.push(x as u64)?;
-                record.numbers.push(v)?;
-            }
-            Answer::No
-        }
-        Told::Open(Reason::Budget) => Answer::Budget,
-        Told::Open(Reason::Stopped) => Answer::Stopped,
-        Told::Open(Reason::Memory) => Answer::Memory,
-    };
-    record.answers.push(answer)?;
-    Ok(())
-}
-
-/// What a new search tells of questions.
+/// What a new search tells of questions that begin with this state of chance.
 pub fn asked<N: OfProblem>(
-    alloc: Global,
-    net: &Network,
-    order: &Order,
-    root: &Domain,
-    questions: &[Derivation<N>],
+    task: Task<'_>,
+    random: Random,
     limits: Limits,
 ) -> Result<Record, AllocError>
-    requires named { net.now ≡ N.problem.network }
-    requires terms { order.now ≡ N.problem.terms }
-    requires root { root.now ≡ N.problem.root }
-    requires open { IsOpen N.problem }
+    requires { IsTaskOf N.problem task }
 {
-    let Limits {
-        conflicts,
-        bytes,
-        seed,
-    } = limits;
-    let mut search: Search<N> = Search::new(alloc, net, order, root, seed, bytes)?;
-    let mut record = Record {
-        answers: Vec::new(alloc),
-        numbers: Vec::new(alloc),
-        tally: search.tally(),
-    };
-    for question in questions {
-        let told = search.ask(net, order, question.bounds(), conflicts, &Never)?;
-        note(&mut record, &told)?;
-    }
-    record.tally = search.tally();
-    Ok(record)
+    let (net, order, root) = (task.net, task.order, task.root);
+    let mut search: Search<N> = Search::new(
+        task.alloc,
+        net,
+        order,
+        root,
+        limits.seed,
+        limits.bytes,
+    )?;
+    ask_each(task, &mut search, random, limits.conflicts)
 }

@@ -1,46 +1,76 @@
-//! Certificates by clauses for the five jobs, whose plan was worked out by hand.
+//! Certificates by clauses for the five jobs, whose plan was worked out by hand, and what is shown without a clause.
 
-ghost use Rattle.std.specs.Prelude.{◌≡◌};
 ghost use Rattle.racp_optimum.specs.Optima.{IsTaskOf};
 ghost use Rattle.racp_model.specs.Terms.{AreTermsOf};
 
 use crate::listener::Listener;
-use racp_check::{Opening, opening_of};
+use crate::sums::Sums;
+use crate::tasks::{Trial, try_order};
 use racp_derivations::establishes_by_text;
-use racp_facts::{OfProblem, root_of};
-use racp_model::Network;
+use racp_established::{establishes, none_stand_before};
+use racp_facts::{Clause, OfProblem};
+use racp_learning::Derivations;
+use racp_model::{Capacities, NetFault, Network, Starts};
 use racp_optimum::{Limits, Task, optimum_recorded};
 use racp_plan::{Plan, read_plan};
-use racp_prices::{Order, read_order};
-use racp_samples::parallel;
+use racp_prices::read_order;
 use racp_samples::texts::{ORDER, PLAN};
+use racp_samples::{Random, network, parallel};
 use racp_trimming::certificate_by_clauses;
 use std::alloc::{AllocError, Global};
-use std::marker::Brand;
 
 /// A plan that fits, and costs a unit more.
 const DEARER: &str =
     "deadline 4\ncritical 3\ncost 40\ncapacity 1 4\nstart 1 0\nstart 2 0\nstart 3 0\nstart 4 0\nstart 5 3\nend\n";
 
-/// What comes of a certificate for a plan.
-#[derive(Clone, Copy, Debug, PartialEq)]
-enum Verdict {
-    /// A text that shows the plan.
-    Shown,
-    /// A text that does not.
-    Wrong,
-    /// No text.
-    None,
-    /// It was not tried.
-    Unfit,
+/// Whether a text shows a plan; none does if there is no text.
+fn shows(task: Task<'_>, plan: &Plan, text: Option<Vec<u8>>) -> Result<Option<bool>, AllocError>
+    requires { AreTermsOf task.net.now task.order.now }
+{
+    let Some(text) = text else {
+        return Ok(None);
+    };
+    let shown = establishes_by_text(task.alloc, task.net, task.order, plan, &text);
+    drop(text);
+    Ok(Some(shown?))
 }
 
-/// What comes of a certificate that is made of a search for the plan of a task.
-fn certified<N: OfProblem>(task: Task<'_>, plan: &Plan) -> Result<Verdict, AllocError>
-    requires is_of { IsTaskOf N.problem task }
-    requires terms { AreTermsOf task.net.now task.order.now }
+/// Whether the certificate that is made of derivations shows a plan, if there is one.
+fn is_certified(
+    task: Task<'_>,
+    plan: &Plan,
+    derivations: &Derivations,
+) -> Result<Option<bool>, AllocError>
+    requires { AreTermsOf task.net.now task.order.now }
 {
-    let listener = Listener::new(task.alloc, u32::MAX);
+    let (alloc, net, order, root) = (task.alloc, task.net, task.order, task.root);
+    let text = certificate_by_clauses(alloc, net, order, root, plan, derivations)?;
+    shows(task, plan, text)
+}
+
+/// Whether the plan in one text has a certificate that shows it, and that in the other one has none.
+fn are_told_apart(task: Task<'_>, derivations: &Derivations) -> Result<bool, AllocError>
+    requires { AreTermsOf task.net.now task.order.now }
+{
+    let Ok(plan) = read_plan(task.alloc, PLAN.as_bytes(), task.net) else {
+        return Ok(false);
+    };
+    let certified = is_certified(task, &plan, derivations);
+    drop(plan);
+    let Ok(dearer) = read_plan(task.alloc, DEARER.as_bytes(), task.net) else {
+        return Ok(false);
+    };
+    let other = is_certified(task, &dearer, derivations);
+    drop(dearer);
+    Ok(certified? == Some(true) && other?.is_none())
+}
+
+/// Whether the plan of the five jobs has a certificate that shows it, and a dearer one has none, as a search for the plan has
+/// recorded it.
+pub fn are_certified<N: OfProblem>(task: Task<'_>) -> Result<bool, AllocError>
+    requires is_of { IsTaskOf N.problem task }
+{
+    let listener = Listener::new(u32::MAX);
     let limits = Limits {
         conflicts: u64::MAX,
         bytes: 1_000_000,
@@ -48,62 +78,57 @@ fn certified<N: OfProblem>(task: Task<'_>, plan: &Plan) -> Result<Verdict, Alloc
         seed: 1,
     };
     let found = optimum_recorded::<N, Listener>(task, limits, 1_000_000, &listener)?;
-    let Some(derivations) = &found.derivations else {
-        return Ok(Verdict::Unfit);
-    };
-    let (alloc, net, order) = (task.alloc, task.net, task.order);
-    match certificate_by_clauses(alloc, net, order, task.root, plan, derivations)? {
-        Some(text) if establishes_by_text(alloc, net, order, plan, &text)? => Ok(Verdict::Shown),
-        Some(_) => Ok(Verdict::Wrong),
-        None => Ok(Verdict::None),
+    match &found.derivations {
+        Some(derivations) => are_told_apart(task, derivations),
+        None => Ok(false),
     }
 }
 
-/// What comes of a certificate for a plan of an order.
-fn verdict_on(
-    alloc: Global,
-    net: &Network,
-    order: &Order,
-    plan: &Plan,
-) -> Result<Verdict, AllocError>
-    requires { AreTermsOf net.now order.now }
+/// Whether the root bounds alone show that no capacities stand before so many units of each resource, and that these are
+/// those of the plan if all jobs start at 0.
+fn are_first<N: OfProblem>(task: Task<'_>, units: u32) -> Result<bool, AllocError>
+    requires { IsTaskOf N.problem task }
 {
-    let Opening::Root { window, .. } = opening_of(alloc, net, order)? else {
-        return Ok(Verdict::Unfit);
-    };
-    let floors = vec![in alloc; 0; net.resource_count()]?;
-    let root = root_of(alloc, net, order, &window, &floors)?;
-    let task = Task {
-        alloc,
-        net,
-        order,
-        window: &window,
-        root: &root,
-    };
-    certified::<Brand>(task, plan)
+    let (alloc, net, order, root) = (task.alloc, task.net, task.order, task.root);
+    let capacities = Capacities::new(vec![in alloc; units; net.resource_count()]?);
+    let starts = Starts::new(vec![in alloc; 0; net.job_count()]?);
+    let none: Vec<Clause<N>> = Vec::new(alloc);
+    let first = none_stand_before(alloc, net, order, root, &capacities, &none);
+    let plan = establishes(alloc, net, order, root, &capacities, &starts, &none);
+    drop((capacities, starts, none));
+    Ok(first? && plan?)
 }
 
-/// What comes of a certificate for the plan in a text.
-fn verdict_of(alloc: Global, plan: &[u8]) -> Verdict {
-    let Ok(net) = parallel(alloc) else {
-        return Verdict::Unfit;
+/// Whether that is so of no unit, and not of one.
+pub fn is_rooted<N: OfProblem>(task: Task<'_>) -> Result<bool, AllocError>
+    requires { IsTaskOf N.problem task }
+{
+    Ok(are_first::<N>(task, 0)? && !are_first::<N>(task, 1)?)
+}
+
+/// Whether a trial of a network is right, with the order for the five jobs.
+fn holds(alloc: Global, net: Result<Network, NetFault>, trial: Trial) -> bool {
+    let Ok(net) = net else {
+        return false;
     };
-    let Ok(order) = read_order(
-        alloc,
-        ORDER.as_bytes(),
-        net.resource_count(),
-        net.job_count(),
-    ) else {
-        return Verdict::Unfit;
+    let (resources, jobs) = (net.resource_count(), net.job_count());
+    let Ok(order) = read_order(alloc, ORDER.as_bytes(), resources, jobs) else {
+        return false;
     };
-    let Ok(plan) = read_plan(alloc, plan, &net) else {
-        return Verdict::Unfit;
-    };
-    verdict_on(alloc, &net, &order, &plan).unwrap_or(Verdict::Unfit)
+    let (mut random, mut sums) = (Random::new(1), Sums::new());
+    let right = try_order(alloc, &net, &order, trial, &mut random, &mut sums);
+    matches!(right, Ok(true)) && sums.unfit == 0
 }
 
 #[test]
 fn the_plan_alone_has_a_certificate(rt: HostRuntime) {
-    assert_eq!(rt; verdict_of(rt.alloc(), PLAN.as_bytes()), Verdict::Shown);
-    assert_eq!(rt; verdict_of(rt.alloc(), DEARER.as_bytes()), Verdict::None);
+    let alloc = rt.alloc();
+    assert!(rt; holds(alloc, parallel(alloc), Trial::Certificates));
+}
+
+#[test]
+fn no_units_need_no_clause(rt: HostRuntime) {
+    let alloc = rt.alloc();
+    let idle = network(alloc, 1, &[(0, &[0]), (0, &[0])], &[(1, 2)]);
+    assert!(rt; holds(alloc, idle, Trial::Rooted));
 }

@@ -1,187 +1,173 @@
 //! Searches that begin anew and forget clauses, on the way down to the least cost of wider random orders.
 
-ghost use Rattle.std.specs.Prelude.{◌≡◌};
-ghost use Rattle.racp_model.specs.Terms.{AreTermsOf};
-ghost use Rattle.racp_facts.specs.Roots.{IsOpen};
+ghost use Rattle.racp_optimum.specs.Optima.{IsTaskOf};
 
-use crate::clauses::cost_of;
-use crate::problems::{root_bounds, wide_network, wide_order};
+use crate::schedules::price;
+use crate::sums::Sums;
+use crate::tasks::{Trial, try_next};
 use racp_delay::Never;
-use racp_facts::{Derivation, Domain, Literal, OfProblem};
+use racp_facts::{Clause, Derivation, Literal, OfProblem};
 use racp_learning::{Reason, Search, Tally, Told};
-use racp_model::{Capacities, Network, Starts};
+use racp_model::Capacities;
+use racp_optimum::Task;
 use racp_prices::Order;
 use racp_samples::Random;
-use std::alloc::{AllocError, Global};
-use std::marker::Brand;
+use std::alloc::AllocError;
 
 /// More conflicts than any of the questions takes where clauses are not forgotten early.
 const ENOUGH: u64 = 4_000;
 
-/// The least cost, if it is known, whether something was not confirmed, and what was done.
+/// What is told of less cost.
 #[derive(Clone, Copy)]
-struct Least {
-    cost: Option<u64>,
-    is_unconfirmed: bool,
-    tally: Tally,
+enum Below {
+    /// There is a plan of this cost.
+    Cheaper(u64),
+    /// There is none.
+    None,
+    /// The conflicts were spent.
+    Spent,
+    /// Something else kept the search from its end.
+    Other,
 }
 
-/// What a schedule costs.
-fn found_cost(
-    alloc: Global,
-    net: &Network,
-    order: &Order,
-    starts: &Starts,
-    units: &Capacities,
-) -> Result<u64, AllocError> {
-    let mut row = Vec::new(alloc);
-    for number in starts.as_slice().iter().chain(units.as_slice()) {
-        row.push(*number as u64)?;
+/// What units cost.
+fn cost_of(order: &Order, units: &Capacities) -> u64 {
+    let mut cost = 0u64;
+    for (k, count) in units.as_slice().iter().enumerate() {
+        cost = cost.saturating_add(price(order, k, *count as u64));
     }
-    Ok(cost_of(net, order, &row))
+    cost
+}
+
+/// What is told, where some bounds are left or none.
+fn below<N: OfProblem>(order: &Order, told: &Told<Clause<N>>, is_empty: bool) -> Below {
+    match told {
+        Told::Found(_, units) if !is_empty => Below::Cheaper(cost_of(order, units)),
+        Told::Open(Reason::Budget) => Below::Spent,
+        Told::Open(_) => Below::Other,
+        _ => Below::None,
+    }
 }
 
 /// The root bounds, with less cost than the best that is known. They are those of a derivation, of which nothing is left
 /// if there is no less cost.
-fn cheaper<N: OfProblem>(
-    alloc: Global,
-    net: &Network,
-    root: &Domain,
-    best: Option<u64>,
-) -> Result<Derivation<N>, AllocError>
-    requires root { root.now ≡ N.problem.root }
-    requires open { IsOpen N.problem }
-    requires named { net.now ≡ N.problem.network }
+fn cheaper<N: OfProblem>(task: Task<'_>, best: Option<u64>) -> Result<Derivation<N>, AllocError>
+    requires { IsTaskOf N.problem task }
 {
-    let mut bounds: Derivation<N> = Derivation::new(alloc, root)?;
-    if let Some(best) = best {
-        let place = net.job_count().saturating_add(net.resource_count());
-        bounds.suppose(Literal::AtLeast(u32::try_from(place).unwrap_or(0), best))?;
+    let mut bounds: Derivation<N> = Derivation::new(task.alloc, task.root)?;
+    let Some(best) = best else {
+        return Ok(bounds);
+    };
+    let place = task
+        .net
+        .job_count()
+        .saturating_add(task.net.resource_count()) as u32;
+    match bounds.suppose(Literal::AtLeast(place, best)) {
+        Ok(()) => Ok(bounds),
+        Err(fault) => {
+            drop(bounds);
+            Err(fault)
+        }
     }
-    Ok(bounds)
+}
+
+/// Asks for less cost.
+fn ask_below<N: OfProblem>(
+    task: Task<'_>,
+    search: &mut Search<N>,
+    best: Option<u64>,
+) -> Result<Below, AllocError>
+    requires { IsTaskOf N.problem task }
+{
+    let bounds: Derivation<N> = cheaper(task, best)?;
+    let told = search.ask(task.net, task.order, bounds.bounds(), ENOUGH, &Never);
+    let is_empty = bounds.is_empty();
+    drop(bounds);
+    Ok(below(task.order, &told?, is_empty))
+}
+
+/// The least cost, if it is known; and whether something was not confirmed.
+#[derive(Clone, Copy)]
+struct Least {
+    cost: Option<u64>,
+    is_unconfirmed: bool,
 }
 
 /// Asks for less and less cost, until that is refuted.
-fn least_cost<N: OfProblem>(
-    alloc: Global,
-    net: &Network,
-    order: &Order,
-    root: &Domain,
-    bytes: u64,
-    seed: u64,
-) -> Result<Least, AllocError>
-    requires named { net.now ≡ N.problem.network }
-    requires terms { order.now ≡ N.problem.terms }
-    requires root { root.now ≡ N.problem.root }
-    requires open { IsOpen N.problem }
+fn go_down<N: OfProblem>(task: Task<'_>, search: &mut Search<N>) -> Result<Least, AllocError>
+    requires { IsTaskOf N.problem task }
 {
-    let mut search: Search<N> = Search::new(alloc, net, order, root, seed, bytes)?;
     let mut best = None;
-    let mut cost = None;
-    let mut is_unconfirmed = false;
     for _i in 0..1_000 {
-        let bounds: Derivation<N> = cheaper(alloc, net, root, best)?;
-        match search.ask(net, order, bounds.bounds(), ENOUGH, &Never)? {
-            Told::Found(starts, units) if !bounds.is_empty() => {
-                best = Some(found_cost(alloc, net, order, &starts, &units)?);
+        match ask_below(task, search, best)? {
+            Below::Cheaper(cost) => best = Some(cost),
+            Below::None => {
+                return Ok(Least {
+                    cost: best,
+                    is_unconfirmed: false,
+                });
             }
-            Told::Open(reason) => {
-                is_unconfirmed = reason != Reason::Budget;
-                break;
-            }
-            _ => {
-                cost = best;
-                break;
+            Below::Spent => break,
+            Below::Other => {
+                return Ok(Least {
+                    cost: None,
+                    is_unconfirmed: true,
+                });
             }
         }
     }
     Ok(Least {
-        cost,
-        is_unconfirmed,
-        tally: search.tally(),
+        cost: None,
+        is_unconfirmed: false,
     })
 }
 
-/// What was done, in all.
-#[derive(Clone, Copy)]
-struct Sums {
-    restarts: u64,
-    forgotten: u64,
-    lost: u64,
-}
-
-impl Sums {
-    /// Adds what was done.
-    fn add(&mut self, tally: &Tally) {
-        self.restarts = self.restarts.saturating_add(tally.restarts);
-        self.forgotten = self.forgotten.saturating_add(tally.forgotten);
-        self.lost = self.lost.saturating_add(tally.lost);
-    }
-}
-
-/// Whether a search with much memory finds the least cost, and one with little the same, or none.
-fn agree<N: OfProblem>(
-    alloc: Global,
-    net: &Network,
-    order: &Order,
-    root: &Domain,
-    sums: &mut Sums,
-) -> Result<bool, AllocError>
-    requires named { net.now ≡ N.problem.network }
-    requires terms { order.now ≡ N.problem.terms }
-    requires root { root.now ≡ N.problem.root }
-    requires open { IsOpen N.problem }
+/// The least cost that a search with so much memory finds, and what it did.
+fn least_cost<N: OfProblem>(
+    task: Task<'_>,
+    bytes: u64,
+    seed: u64,
+) -> Result<(Least, Tally), AllocError>
+    requires { IsTaskOf N.problem task }
 {
-    let much = least_cost::<N>(alloc, net, order, root, 100_000_000, 1)?;
-    let little = least_cost::<N>(alloc, net, order, root, 20_000, 2)?;
-    sums.add(&much.tally);
-    sums.add(&little.tally);
-    let is_same = little.cost.is_none() || much.cost == little.cost;
-    Ok(much.cost.is_some() && is_same && !little.is_unconfirmed)
+    let (net, order, root) = (task.net, task.order, task.root);
+    let mut search: Search<N> = Search::new(task.alloc, net, order, root, seed, bytes)?;
+    let least = go_down(task, &mut search);
+    let tally = search.tally();
+    drop(search);
+    Ok((least?, tally))
 }
 
-/// The same of a random order for a network; none if no starts are in time.
-fn next_agree(
-    alloc: Global,
-    random: &mut Random,
-    net: &Network,
-    sums: &mut Sums,
-) -> Result<Option<bool>, AllocError> {
-    let order = wide_order(alloc, random, net)?;
-    if !order.is_for(net) {
-        return Ok(None);
-    }
-    match root_bounds(alloc, net, &order)? {
-        Some(root) => Ok(Some(agree::<Brand>(alloc, net, &order, &root, sums)?)),
-        None => Ok(None),
-    }
+/// Whether a search with much memory finds the least cost, and one with little the same, or none; and no clause is lost.
+pub fn agree<N: OfProblem>(task: Task<'_>, sums: &mut Sums) -> Result<bool, AllocError>
+    requires { IsTaskOf N.problem task }
+{
+    let (much, one) = least_cost::<N>(task, 100_000_000, 1)?;
+    let (little, other) = least_cost::<N>(task, 20_000, 2)?;
+    sums.restarts = sums
+        .restarts
+        .saturating_add(one.restarts)
+        .saturating_add(other.restarts);
+    sums.forgotten = sums
+        .forgotten
+        .saturating_add(one.forgotten)
+        .saturating_add(other.forgotten);
+    sums.plans = sums.plans.saturating_add(1);
+    let is_same = little.cost.is_none() || much.cost == little.cost;
+    let is_confirmed = !little.is_unconfirmed && one.lost == 0 && other.lost == 0;
+    Ok(much.cost.is_some() && is_same && is_confirmed)
 }
 
 #[test]
 fn forgetful_searches_lose_nothing(rt: HostRuntime) {
-    let mut random = Random::new(17);
-    let mut sums = Sums {
-        restarts: 0,
-        forgotten: 0,
-        lost: 0,
-    };
-    let mut agreed = 0u32;
+    let (mut random, mut sums) = (Random::new(17), Sums::new());
     for round in 0..20 {
-        let Ok(net) = wide_network(rt.alloc(), &mut random) else {
-            continue;
-        };
-        match next_agree(rt.alloc(), &mut random, &net, &mut sums) {
-            Ok(Some(true)) => agreed = agreed.saturating_add(1),
-            Ok(None) => {}
-            _ => assert!(rt; false, "round {round}"),
-        }
+        let is_right = try_next(rt.alloc(), Trial::Descents, &mut random, &mut sums);
+        assert!(rt; is_right, "round {round}");
     }
-    assert!(rt; sums.lost == 0, "{} clauses are lost", sums.lost);
-    assert!(rt; 10 <= agreed, "{agreed} orders");
-    assert!(rt; 10 <= sums.restarts, "{} restarts", sums.restarts);
+    let (plans, restarts, forgotten) = (sums.plans, sums.restarts, sums.forgotten);
     assert!(rt;
-        100 <= sums.forgotten,
-        "{} clauses forgotten",
-        sums.forgotten
+        10 <= plans && 10 <= restarts && 100 <= forgotten,
+        "{plans} orders, {restarts} restarts, {forgotten} clauses forgotten"
     );
 }

@@ -1,5 +1,5 @@
-//! Tests of facts: rules beside slow ones, clauses beside all solutions, plans that follow from clauses, searches beside
-//! all schedules, optima beside plans by definition, and certificates by clauses of what a search has recorded.
+//! Tests of facts: searches that learn beside all schedules, with little memory and with few conflicts, optima beside plans by
+//! definition, certificates by clauses of what a search has recorded, and a stop within the check of such a text.
 #![tactic(auto)]
 
 #[cfg(test)]
@@ -7,24 +7,20 @@ mod asking;
 #[cfg(test)]
 mod certificates;
 #[cfg(test)]
-mod clauses;
-#[cfg(test)]
 mod descents;
 #[cfg(test)]
 mod listener;
 #[cfg(test)]
 mod optima;
 #[cfg(test)]
-mod plans;
-#[cfg(test)]
-mod problems;
-#[cfg(test)]
-mod proving;
-#[cfg(test)]
-mod rules;
+mod orders;
 #[cfg(test)]
 mod schedules;
 #[cfg(test)]
 mod searches;
 #[cfg(test)]
-mod slow;
+mod sums;
+#[cfg(test)]
+mod tasks;
+#[cfg(test)]
+mod texts;

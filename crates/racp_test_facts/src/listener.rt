@@ -2,47 +2,55 @@
 
 use racp_learning::Tally;
 use racp_optimum::Hearer;
-use racp_plan::Plan;
 use racp_schedules::Draft;
-use std::alloc::{AllocError, Global};
-use std::cell::{Cell, RefCell};
+use std::cell::Cell;
 
 /// Keeps what it is told, and stops a search that asks too often.
 #[derive(Drop)]
 pub struct Listener {
-    alloc: Global,
     /// How many times the search may still be asked whether it is to stop.
     left: Cell<u32>,
     /// The greatest lower bound on the cost.
     least: Cell<u64>,
-    /// What each draft costs, and its capacities.
-    drafts: RefCell<Vec<(u64, Vec<u32>)>>,
-    /// Whether something could not be kept.
-    misses: Cell<bool>,
+    /// What the last draft costs, and its capacities as the digits of a number.
+    cost: Cell<u64>,
+    digits: Cell<u64>,
+    /// Whether some draft was told.
+    is_any: Cell<bool>,
+    /// Whether each draft is cheaper than the one before it, or as cheap with a vector that comes before.
+    are_falling: Cell<bool>,
 }
 
 impl Listener {
     /// It lets a search ask so many times.
-    pub fn new(alloc: Global, left: u32) -> Self {
+    pub fn new(left: u32) -> Self {
         Listener {
-            alloc,
             left: Cell::new(left),
             least: Cell::new(0),
-            drafts: RefCell::new(Vec::new(alloc)),
-            misses: Cell::new(false),
+            cost: Cell::new(u64::MAX),
+            digits: Cell::new(u64::MAX),
+            is_any: Cell::new(false),
+            are_falling: Cell::new(true),
         }
     }
 
-    /// Keeps a draft.
-    fn keep(&self, draft: &Draft) -> Result<(), AllocError> {
-        let units = draft.capacities.as_slice().to_vec(self.alloc)?;
-        let Ok(mut drafts) = self.drafts.try_borrow_mut() else {
-            return Err(AllocError);
+    /// Whether what it was told is true of a plan of this cost, or of there being none.
+    pub fn is_told_well(&self, plan: Option<u64>) -> bool {
+        let is_least = match plan {
+            Some(cost) => self.least.get() <= cost,
+            None => !self.is_any.get(),
         };
-        let drafts = &mut *drafts;
-        drafts.push((draft.cost, units))?;
-        Ok(())
+        is_least && self.are_falling.get()
     }
+}
+
+/// Up to five capacities below 1,000 as the digits of a number: of two vectors the first has the less.
+fn digits_of(units: &[u32]) -> u64 {
+    let mut digits = 0u64;
+    for count in units {
+        digits = digits.wrapping_mul(1_000).wrapping_add(*count as u64);
+    }
+    digits
 }
 
 impl Hearer for Listener {
@@ -63,29 +71,15 @@ impl Hearer for Listener {
     }
 
     fn hear_draft(&self, draft: &Draft) {
-        if self.keep(draft).is_err() {
-            self.misses.set(true);
+        let digits = digits_of(draft.capacities.as_slice());
+        let last = self.cost.get();
+        if last < draft.cost || last == draft.cost && self.digits.get() <= digits {
+            self.are_falling.set(false);
         }
+        self.cost.set(draft.cost);
+        self.digits.set(digits);
+        self.is_any.set(true);
     }
 
     fn hear_tally(&self, _tally: Tally) {}
-}
-
-/// Whether each draft is cheaper than the one before it, or as cheap with a vector that comes before.
-fn are_falling(drafts: &[(u64, Vec<u32>)]) -> bool {
-    drafts.iter().zip(drafts.iter().skip(1)).all(|(one, next)| {
-        next.0 < one.0 || next.0 == one.0 && next.1.as_slice() < one.1.as_slice()
-    })
-}
-
-/// Whether what a listener was told is true of a plan.
-pub fn is_told_well(listener: &Listener, plan: Option<&Plan>) -> bool {
-    let Ok(drafts) = listener.drafts.try_borrow() else {
-        return false;
-    };
-    let is_least = match plan {
-        Some(plan) => listener.least.get() <= plan.cost,
-        None => drafts.is_empty(),
-    };
-    is_least && !listener.misses.get() && are_falling(&drafts)
 }

@@ -1,102 +1,121 @@
-//! Optima of small random orders, beside their plans by definition.
+//! Optima of small random orders, beside their plans by definition: without limits, with few conflicts, and stopped early.
 
-ghost use Rattle.std.specs.Prelude.{◌≡◌};
 ghost use Rattle.racp_optimum.specs.Optima.{IsTaskOf};
 
-use crate::listener::{Listener, is_told_well};
-use racp_check::{Opening, opening_of};
-use racp_facts::{OfProblem, root_of};
-use racp_model::Network;
+use crate::listener::Listener;
+use crate::sums::Sums;
+use crate::tasks::{Trial, try_next};
+use racp_facts::OfProblem;
 use racp_optimum::{Limits, Optimum, Task, optimum_of};
 use racp_plan::Plan;
 use racp_reference::{Outcome, plan_by_definition};
-use racp_samples::{Random, random_network, random_order};
-use std::alloc::{AllocError, Global};
-use std::marker::Brand;
+use racp_samples::Random;
+use std::alloc::AllocError;
 
 /// The most pairs of a capacity vector and a start vector that are looked at.
 const MOST: u64 = 100_000;
 
-/// A search that may ask so many times whether it is to stop is not stopped.
-const NEVER: u32 = u32::MAX;
-
-/// What comes of an order.
-#[derive(Clone, Copy, Debug, PartialEq)]
-enum Verdict {
-    /// The plan is found.
-    Plan,
-    /// It is found that there is none.
-    NoPlan,
-    /// Nothing is found.
-    Open,
-    /// There are no root bounds, or too few or too many vectors and starts.
-    Unfit,
-    /// What is found is wrong.
-    Wrong,
-    /// What the listener is told is wrong.
-    Misled,
+/// How long a search looks: its conflicts, how often it may ask whether it is to stop, its rounds, and its seed.
+#[derive(Clone, Copy)]
+struct Effort {
+    conflicts: u64,
+    asks: u32,
+    rounds: u32,
+    seed: u64,
 }
 
-/// What comes of a search for an optimum, where there is a plan or none.
-fn verdict_of<N: OfProblem>(
-    task: Task<'_>,
-    limits: Limits,
-    left: u32,
-    plan: Option<&Plan>,
-) -> Result<Verdict, AllocError>
-    requires { IsTaskOf N.problem task }
-{
-    let listener = Listener::new(task.alloc, left);
-    let found = optimum_of::<N, Listener>(task, limits, &listener)?;
-    if !is_told_well(&listener, plan) {
-        return Ok(Verdict::Misled);
+/// Nothing limits it.
+const WHOLE: Effort = Effort {
+    conflicts: u64::MAX,
+    asks: u32::MAX,
+    rounds: 0,
+    seed: 1,
+};
+
+const EFFORTS: &[Effort] = &[
+    WHOLE,
+    Effort {
+        rounds: 4,
+        seed: 2,
+        ..WHOLE
+    },
+    Effort {
+        conflicts: 0,
+        ..WHOLE
+    },
+    Effort {
+        conflicts: 1,
+        ..WHOLE
+    },
+    Effort {
+        conflicts: 10,
+        ..WHOLE
+    },
+    Effort {
+        asks: 0,
+        rounds: 4,
+        ..WHOLE
+    },
+    Effort { asks: 2, ..WHOLE },
+];
+
+impl Effort {
+    /// Whether a search may end before anything is known.
+    fn is_limited(&self) -> bool {
+        self.conflicts < u64::MAX || self.asks < u32::MAX
     }
-    Ok(match (found, plan) {
-        (Optimum::Plan(capacities, starts), Some(plan))
-            if capacities.as_slice() == plan.capacities.as_slice()
-                && starts.as_slice() == plan.starts.as_slice() => { Verdict::Plan }
-        (Optimum::NoneEnough, None) => Verdict::NoPlan,
-        (Optimum::Open, _) => Verdict::Open,
-        _ => Verdict::Wrong,
-    })
 }
 
-/// What comes of several searches: without limits, with few conflicts, and stopped early.
-fn verdict_on<N: OfProblem>(task: Task<'_>, plan: Option<&Plan>) -> Result<Verdict, AllocError>
+/// Whether what is found is this plan, or that there is none, or nothing if that may be.
+fn is_found(found: &Optimum, plan: Option<&Plan>, may_be_open: bool) -> bool {
+    match (found, plan) {
+        (Optimum::Plan(capacities, starts), Some(plan)) => {
+            capacities.as_slice() == plan.capacities.as_slice()
+                && starts.as_slice() == plan.starts.as_slice()
+        }
+        (Optimum::NoneEnough, None) => true,
+        (Optimum::Open, _) => may_be_open,
+        _ => false,
+    }
+}
+
+/// Whether a search finds the plan, where there is one, and tells the listener what is true of it.
+fn finds<N: OfProblem>(
+    task: Task<'_>,
+    effort: Effort,
+    plan: Option<&Plan>,
+) -> Result<bool, AllocError>
     requires { IsTaskOf N.problem task }
 {
-    let wanted = if plan.is_some() {
-        Verdict::Plan
-    } else {
-        Verdict::NoPlan
+    let listener = Listener::new(effort.asks);
+    let limits = Limits {
+        conflicts: effort.conflicts,
+        bytes: 1_000_000,
+        rounds: effort.rounds,
+        seed: effort.seed,
     };
-    let most = u64::MAX;
-    for (conflicts, left, rounds, seed) in [
-        (most, NEVER, 0, 1),
-        (most, NEVER, 4, 2),
-        (0, NEVER, 0, 1),
-        (1, NEVER, 0, 1),
-        (10, NEVER, 0, 1),
-        (most, 0, 4, 1),
-        (most, 2, 0, 1),
-    ] {
-        let limits = Limits {
-            conflicts,
-            bytes: 1_000_000,
-            rounds,
-            seed,
-        };
-        let is_limited = conflicts < most || left < NEVER;
-        let found = verdict_of::<N>(task, limits, left, plan)?;
-        if found != wanted && !(is_limited && found == Verdict::Open) {
-            return Ok(found);
+    let found = optimum_of::<N, Listener>(task, limits, &listener)?;
+    let cost = match plan {
+        Some(plan) => Some(plan.cost),
+        None => None,
+    };
+    Ok(is_found(&found, plan, effort.is_limited()) && listener.is_told_well(cost))
+}
+
+/// Whether each search finds the plan, where there is one.
+fn find<N: OfProblem>(task: Task<'_>, plan: Option<&Plan>) -> Result<bool, AllocError>
+    requires { IsTaskOf N.problem task }
+{
+    for effort in EFFORTS {
+        if !finds::<N>(task, *effort, plan)? {
+            return Ok(false);
         }
     }
-    Ok(wanted)
+    Ok(true)
 }
 
-/// How many vectors the root bounds leave, and how many start vectors.
-fn sizes(task: Task<'_>) -> (u64, u64) {
+/// Whether the root bounds leave more than 64 vectors, and not too many pairs of a vector and a start vector.
+fn has_size(task: Task<'_>) -> bool {
     let (jobs, resources) = (task.net.job_count(), task.net.resource_count());
     let (mut vectors, mut starts) = (1u64, 1u64);
     for x in 0..jobs.saturating_add(resources) {
@@ -108,69 +127,37 @@ fn sizes(task: Task<'_>) -> (u64, u64) {
             vectors = vectors.saturating_mul(width);
         }
     }
-    (vectors, starts)
+    64 < vectors && vectors.saturating_mul(starts) <= MOST
 }
 
-/// What comes of a task, if it has some size, and can be done by definition.
-fn judged<N: OfProblem>(task: Task<'_>) -> Result<Verdict, AllocError>
+/// Whether the optimum of a task is found, if it has some size, and can be done by definition.
+pub fn is_optimum<N: OfProblem>(task: Task<'_>, sums: &mut Sums) -> Result<bool, AllocError>
     requires { IsTaskOf N.problem task }
 {
-    let (vectors, starts) = sizes(task);
-    if vectors <= 64 || MOST < vectors.saturating_mul(starts) {
-        return Ok(Verdict::Unfit);
+    if !has_size(task) {
+        sums.unfit = sums.unfit.saturating_add(1);
+        return Ok(true);
     }
     match plan_by_definition(task.alloc, task.net, task.order)? {
-        Outcome::Plan(plan) => verdict_on::<N>(task, Some(&plan)),
-        Outcome::OverCeilings => verdict_on::<N>(task, None),
-        _ => Ok(Verdict::Wrong),
+        Outcome::Plan(plan) => {
+            sums.plans = sums.plans.saturating_add(1);
+            find::<N>(task, Some(&plan))
+        }
+        Outcome::OverCeilings => {
+            sums.none = sums.none.saturating_add(1);
+            find::<N>(task, None)
+        }
+        _ => Ok(false),
     }
-}
-
-/// What comes of a random order for a network.
-fn next_verdict(alloc: Global, random: &mut Random, net: &Network) -> Result<Verdict, AllocError> {
-    let order = random_order(alloc, random, net)?;
-    if !order.is_for(net) {
-        return Ok(Verdict::Unfit);
-    }
-    let Opening::Root { window, .. } = opening_of(alloc, net, &order)? else {
-        return Ok(Verdict::Unfit);
-    };
-    let floors = vec![in alloc; 0; net.resource_count()]?;
-    let root = root_of(alloc, net, &order, &window, &floors)?;
-    let task = Task {
-        alloc,
-        net,
-        order: &order,
-        window: &window,
-        root: &root,
-    };
-    judged::<Brand>(task)
 }
 
 #[test]
 fn optima_are_plans(rt: HostRuntime) {
-    let mut random = Random::new(13);
-    let mut counts: [u32; 3] = [0; 3];
+    let (mut random, mut sums) = (Random::new(13), Sums::new());
     for round in 0..4_000 {
-        let resources = random.below(3).saturating_add(3) as usize;
-        let jobs = random.below(3).saturating_add(2);
-        let Ok(net) = random_network(rt.alloc(), &mut random, resources, jobs) else {
-            continue;
-        };
-        let verdict = next_verdict(rt.alloc(), &mut random, &net).unwrap_or(Verdict::Wrong);
-        let place: usize = match verdict {
-            Verdict::Plan => 0,
-            Verdict::NoPlan => 1,
-            Verdict::Unfit => 2,
-            _ => 3,
-        };
-        assert!(rt; place < 3, "round {round}: {verdict:?}");
-        counts[place] = counts[place].saturating_add(1);
+        let is_right = try_next(rt.alloc(), Trial::Optima, &mut random, &mut sums);
+        assert!(rt; is_right, "round {round}");
     }
-    assert!(rt;
-        300 <= counts[0] && 30 <= counts[1],
-        "{} plans, {} without",
-        counts[0],
-        counts[1]
-    );
+    let (plans, none) = (sums.plans, sums.none);
+    assert!(rt; 300 <= plans && 30 <= none, "{plans} plans, {none} without");
 }

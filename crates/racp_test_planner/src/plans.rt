@@ -1,22 +1,17 @@
-//! Plans of small orders by their definition, and planning compared with them.
+//! Plans of small orders by their definition.
 
-ghost use Rattle.std.specs.Prelude.{◌≡◌};
 ghost use Rattle.racp_model.specs.Terms.{AreTermsOf};
 
-use racp_askers::Alone;
-use racp_check::{Opening, opening_of};
-use racp_lexfix::{Answer, PlanStop, plan, root_bounds};
-use racp_model::{NetFault, Network, OfNetwork};
+use racp_model::{NetFault, Network};
 use racp_plan::Plan;
 use racp_prices::{Order, read_order};
 use racp_reference::{Outcome, plan_by_definition};
-use racp_samples::{Random, chained, crossed, network, parallel, random_network, random_order};
-use std::alloc::{AllocError, Global};
-use std::marker::Brand;
+use racp_samples::{chained, crossed, network, parallel};
+use std::alloc::Global;
 
 /// A small network.
 #[derive(Clone, Copy)]
-enum Sample {
+pub(crate) enum Sample {
     /// 2, 3 and 4, of 3, 2 and 2 time units and 2, 1 and 1 units of one resource, between 1 and 5.
     Parallel,
     /// 2 and 3, of a unit of the first resource, before 4 and 5, of one of the second, between 1 and 6.
@@ -28,7 +23,7 @@ enum Sample {
 }
 
 /// The network of a sample.
-fn sampled(alloc: Global, sample: Sample) -> Result<Network, NetFault> {
+pub(crate) fn sampled(alloc: Global, sample: Sample) -> Result<Network, NetFault> {
     match sample {
         Sample::Parallel => parallel(alloc),
         Sample::Crossed => crossed(alloc),
@@ -213,132 +208,4 @@ fn plans_by_definition(rt: HostRuntime) {
     for (place, row) in ROWS.iter().enumerate() {
         assert!(rt; holds(rt.alloc(), row), "row {place}");
     }
-}
-
-/// What stands for an answer that is not the outcome by definition.
-const OTHER: usize = 4;
-
-/// Of which of the four kinds an answer is, if it is the outcome by definition.
-fn same_kind(answer: &Answer, outcome: &Outcome) -> usize {
-    let (same, kind) = match (answer, outcome) {
-        (Answer::Plan(plan), Outcome::Plan(wanted)) => {
-            let (capacities, starts) = (wanted.capacities.as_slice(), wanted.starts.as_slice());
-            let same = is_plan(plan, wanted.critical, wanted.cost, capacities, starts);
-            (same && plan.deadline == wanted.deadline, 0)
-        }
-        (Answer::Impossible { longest }, Outcome::TooLong { critical }) => (longest == critical, 1),
-        (Answer::Due { job }, Outcome::TooLate { job: wanted }) => (job == wanted, 2),
-        (Answer::Ceiling, Outcome::OverCeilings) => (true, 3),
-        _ => (false, OTHER),
-    };
-    if same { kind } else { OTHER }
-}
-
-/// The answer that the calling thread finds.
-fn planned<N: OfNetwork>(alloc: Global, net: &Network, order: &Order) -> Result<Answer, PlanStop>
-    requires named { net.now ≡ N.network }
-    requires terms { AreTermsOf net.now order.now }
-{
-    let mut alone: Alone<N> = Alone::new(alloc, net)?;
-    plan(alloc, net, order, &mut alone)
-}
-
-/// Of which kind the answer to an order is, if it is the outcome by definition.
-fn kind_of<N: OfNetwork>(alloc: Global, net: &Network, order: &Order) -> usize
-    requires named { net.now ≡ N.network }
-    requires terms { AreTermsOf net.now order.now }
-{
-    match planned::<N>(alloc, net, order) {
-        Ok(answer) => kind_beside(alloc, net, order, &answer),
-        Err(_) => OTHER,
-    }
-}
-
-/// Of which kind an answer is, if it is the outcome by definition of the order.
-fn kind_beside(alloc: Global, net: &Network, order: &Order, answer: &Answer) -> usize
-    requires { AreTermsOf net.now order.now }
-{
-    match plan_by_definition(alloc, net, order) {
-        Ok(outcome) => same_kind(answer, &outcome),
-        Err(_) => OTHER,
-    }
-}
-
-/// Of which kind the answer to the next random order for a network is.
-fn next_order(alloc: Global, random: &mut Random, net: &Network) -> usize {
-    match random_order(alloc, random, net) {
-        Ok(order) if order.is_for(net) => kind_of::<Brand>(alloc, net, &order),
-        _ => OTHER,
-    }
-}
-
-/// Of which kind the answer to the next random network and order is.
-fn next_kind(alloc: Global, random: &mut Random) -> usize {
-    let resources = random.below(2).saturating_add(1) as usize;
-    let jobs = random.below(4).saturating_add(1);
-    match random_network(alloc, random, resources, jobs) {
-        Ok(net) => next_order(alloc, random, &net),
-        Err(_) => OTHER,
-    }
-}
-
-#[test]
-fn plans_as_by_definition(rt: HostRuntime) {
-    let mut random = Random::new(1);
-    let mut counts: [u32; OTHER] = [0; OTHER];
-    for round in 0..200 {
-        let kind = next_kind(rt.alloc(), &mut random);
-        assert!(rt; kind < OTHER, "round {round}");
-        counts[kind] = counts[kind].saturating_add(1);
-    }
-    assert!(rt; counts.iter().all(|count| 10 <= *count));
-}
-
-/// The most pairs of a capacity vector and a start vector that are looked at.
-const MOST: u64 = 100_000;
-
-/// Whether an order leaves more than 64 vectors, so that facts are looked for, and not too many for plans by definition.
-fn is_large(alloc: Global, net: &Network, order: &Order) -> Result<bool, AllocError>
-    requires { AreTermsOf net.now order.now }
-{
-    let Opening::Root { window, .. } = opening_of(alloc, net, order)? else {
-        return Ok(false);
-    };
-    let Some(root) = root_bounds(alloc, net, order, &window)? else {
-        return Ok(false);
-    };
-    let mut pairs = 1u64;
-    for x in 0..net.job_count().saturating_add(net.resource_count()) {
-        let (low, high) = (root.bounds.lower_at(x), root.bounds.upper_at(x));
-        pairs = pairs.saturating_mul(high.saturating_sub(low).saturating_add(1));
-    }
-    Ok(!root.is_small && pairs <= MOST)
-}
-
-/// Of which kind the answer to the next random order is, if that leaves many vectors.
-fn next_large(alloc: Global, random: &mut Random) -> Option<usize> {
-    let resources = random.below(3).saturating_add(3) as usize;
-    let jobs = random.below(3).saturating_add(2);
-    let net = random_network(alloc, random, resources, jobs).ok()?;
-    let order = random_order(alloc, random, &net).ok()?;
-    if order.is_for(&net) && is_large(alloc, &net, &order).unwrap_or(false) {
-        return Some(kind_of::<Brand>(alloc, &net, &order));
-    }
-    None
-}
-
-#[test]
-fn plans_of_many_vectors_as_by_definition(rt: HostRuntime) {
-    let mut random = Random::new(29);
-    let mut counts: [u32; OTHER] = [0; OTHER];
-    for round in 0..40_000 {
-        if 500 <= counts[0] {
-            break;
-        }
-        if let Some(kind) = next_large(rt.alloc(), &mut random) {
-            assert!(rt; kind < OTHER, "round {round}");
-            counts[kind] = counts[kind].saturating_add(1);
-        }
-    }
-    assert!(rt; 500 <= counts[0], "{} plans", counts[0]);
 }

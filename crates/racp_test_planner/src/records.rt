@@ -310,15 +310,17 @@ enum Step {
     Below(usize),
 }
 
-/// Steps in turn, and what they show.
+/// Steps in turn, also by each of two threads over one board, and what they show.
 struct Script {
     shows: &'static str,
+    by_two: bool,
     steps: &'static [Step],
 }
 
 const SCRIPTS: &[Script] = &[
     Script {
         shows: "a record that is kept, until it is taken out",
+        by_two: false,
         steps: &[
             Keep(2, 0),
             Find(1, 0, true),
@@ -331,6 +333,7 @@ const SCRIPTS: &[Script] = &[
     },
     Script {
         shows: "records until they are forgotten",
+        by_two: false,
         steps: &[
             KeepLater(3),
             Forget(3),
@@ -352,6 +355,7 @@ const SCRIPTS: &[Script] = &[
     },
     Script {
         shows: "a record in the place of one that it covers, unless that is among the first ones",
+        by_two: false,
         steps: &[
             Keep(1, 0),
             Find(1, 0, true),
@@ -372,6 +376,7 @@ const SCRIPTS: &[Script] = &[
     },
     Script {
         shows: "of many with the same started jobs the newest, but not the oldest; then one that is kept anew",
+        by_two: false,
         steps: &[
             KeepLater(40),
             Below(40),
@@ -385,6 +390,7 @@ const SCRIPTS: &[Script] = &[
     },
     Script {
         shows: "the newest of many on the board",
+        by_two: false,
         steps: &[Find(1, 0, false), PushLater(200), Find(1, 199, true)],
     },
 ];
@@ -560,24 +566,53 @@ fn follows<N: OfNetwork, R: Wait>(
     true
 }
 
-/// Whether each step is answered as it is to be, over a board of its own.
-fn is_shown<N: OfNetwork, R: Wait>(rt: &R, alloc: Global, net: &Network, steps: &[Step]) -> bool
+/// Two threads that do the steps over one board, and whether each step is answered to both as it is to be.
+fn follow_both<N: OfNetwork + Send + Sync, R: Threads + Wait + Sync>(
+    rt: &R,
+    alloc: Global,
+    net: &Network,
+    board: &Board<N>,
+    steps: &[Step],
+) -> bool
     requires named { net.now ≡ N.network }
 {
-    match Board::<N>::new(alloc, net) {
-        Ok(board) => {
-            let followed = follows(rt, alloc, net, &board, steps);
-            drop(board);
-            followed
-        }
-        Err(_) => false,
-    }
+    let (one, two) = thread::join(
+        rt,
+        || -> bool
+            requires { net.now ≡ N.network }
+        { follows(rt, alloc, net, board, steps) },
+        || -> bool
+            requires { net.now ≡ N.network }
+        { follows(rt, alloc, net, board, steps) },
+    );
+    one && two
+}
+
+/// Whether each step of a script is answered as it is to be, over a board of its own.
+fn is_shown<N: OfNetwork + Send + Sync, R: Threads + Wait + Sync>(
+    rt: &R,
+    alloc: Global,
+    net: &Network,
+    script: &Script,
+) -> bool
+    requires named { net.now ≡ N.network }
+{
+    let Ok(board) = Board::<N>::new(alloc, net) else {
+        return false;
+    };
+    let followed = if script.by_two {
+        follow_both(rt, alloc, net, &board, script.steps)
+    } else {
+        follows(rt, alloc, net, &board, script.steps)
+    };
+    drop(board);
+    followed
 }
 
 /// Whether each step of a script is answered as it is to be, with records of the five jobs.
-fn is_found<R: Wait>(rt: &R, alloc: Global, script: &Script) -> bool {
+fn is_found<R: Threads + Wait + Sync>(rt: &R, alloc: Global, script: &Script) -> bool {
     match parallel(alloc) {
-        Ok(net) => is_shown::<Brand, R>(rt, alloc, &net, script.steps),
+        Ok(net) => is_shown::<Brand, R>(rt, alloc, &net, script),
         Err(_) => false,
     }
 }
@@ -589,56 +624,14 @@ fn finds_kept_records(rt: HostRuntime) {
     }
 }
 
-/// Thirty records are pushed, and one that covers the window with a unit is found after each.
-const THIRTY: &[Step] = &[PushAndFind(30)];
-
-/// Two threads push thirty records each on one board; each finds one after each push.
-fn push_in_threads<N: OfNetwork + Send + Sync, R: Threads + Wait + Sync>(
-    rt: &R,
-    alloc: Global,
-    net: &Network,
-    board: &Board<N>,
-) -> bool
-    requires named { net.now ≡ N.network }
-{
-    let (one, two) = thread::join(
-        rt,
-        || -> bool
-            requires { net.now ≡ N.network }
-        { follows(rt, alloc, net, board, THIRTY) },
-        || -> bool
-            requires { net.now ≡ N.network }
-        { follows(rt, alloc, net, board, THIRTY) },
-    );
-    one && two
-}
-
-/// Two threads push thirty records each on a board of the five jobs; each finds one after each push.
-fn push_sixty<N: OfNetwork + Send + Sync, R: Threads + Wait + Sync>(
-    rt: &R,
-    alloc: Global,
-    net: &Network,
-) -> bool
-    requires named { net.now ≡ N.network }
-{
-    match Board::<N>::new(alloc, net) {
-        Ok(board) => {
-            let pushed = push_in_threads(rt, alloc, net, &board);
-            drop(board);
-            pushed
-        }
-        Err(_) => false,
-    }
-}
-
-fn is_shared<R: Threads + Wait + Sync>(rt: &R, alloc: Global) -> bool {
-    match parallel(alloc) {
-        Ok(net) => push_sixty::<Brand, R>(rt, alloc, &net),
-        Err(_) => false,
-    }
-}
+/// Thirty records are pushed by each of two threads, and one that covers the window with a unit is found after each.
+const SIXTY: Script = Script {
+    shows: "records that two threads push on one board",
+    by_two: true,
+    steps: &[PushAndFind(30)],
+};
 
 #[test]
 fn shares_a_board(rt: HostRuntime) {
-    assert!(rt; is_shared(&rt, rt.alloc()));
+    assert!(rt; is_found(&rt, rt.alloc(), &SIXTY));
 }

@@ -1,129 +1,76 @@
 //! Searches of small questions, whole and in parts.
 
-ghost use Rattle.std.specs.Prelude.{◌≡◌};
+ghost use Rattle.std.specs.Prelude.{◌≡◌, IfSome};
 ghost use Rattle.racp_model.specs.Formed.{IsFormed};
 
+use crate::plans::{Sample, sampled};
 use racp_cutset::{Board, Local};
 use racp_model::{NetFault, Network, OfNetwork, Question, Window};
-use racp_samples::{chained, crossed, network, parallel, question, root_window};
+use racp_samples::{network, parallel, question, root_window};
 use racp_search::{Finding, Never, Piece, Rest, Stop, decide, explore};
 use std::alloc::{AllocError, Global};
 use std::cell::Cell;
 use std::marker::Brand;
 
-/// A network of the table of vectors.
-#[derive(Clone, Copy)]
-enum Small {
-    Parallel,
-    Crossed,
-    Chained,
-}
+/// A network with a deadline, a vector between the floor and the roof, and whether this admits an answer.
+type Vector = (Sample, u32, &'static [u32], bool);
 
-/// Vectors between the floor and the roof of a deadline: those that admit no answer, and those that admit one.
-struct Vectors {
-    of: Small,
-    deadline: u32,
-    no: &'static [&'static [u32]],
-    yes: &'static [&'static [u32]],
-}
-
-const VECTORS: &[Vectors] = &[
-    Vectors {
-        of: Small::Parallel,
-        deadline: 3,
-        no: &[&[3]],
-        yes: &[&[4]],
-    },
-    Vectors {
-        of: Small::Parallel,
-        deadline: 4,
-        no: &[&[2]],
-        yes: &[&[3], &[4]],
-    },
-    Vectors {
-        of: Small::Parallel,
-        deadline: 5,
-        no: &[],
-        yes: &[&[2], &[3], &[4]],
-    },
-    Vectors {
-        of: Small::Crossed,
-        deadline: 2,
-        no: &[&[1, 2]],
-        yes: &[&[2, 2]],
-    },
-    Vectors {
-        of: Small::Crossed,
-        deadline: 3,
-        no: &[&[1, 1]],
-        yes: &[&[1, 2], &[2, 1], &[2, 2]],
-    },
-    Vectors {
-        of: Small::Crossed,
-        deadline: 4,
-        no: &[],
-        yes: &[&[1, 1]],
-    },
-    Vectors {
-        of: Small::Chained,
-        deadline: 8,
-        no: &[&[1]],
-        yes: &[&[2], &[3], &[4], &[5]],
-    },
+const VECTORS: &[Vector] = &[
+    (Sample::Parallel, 3, &[3], false),
+    (Sample::Parallel, 3, &[4], true),
+    (Sample::Parallel, 4, &[2], false),
+    (Sample::Parallel, 4, &[3], true),
+    (Sample::Parallel, 4, &[4], true),
+    (Sample::Parallel, 5, &[2], true),
+    (Sample::Parallel, 5, &[3], true),
+    (Sample::Parallel, 5, &[4], true),
+    (Sample::Crossed, 2, &[1, 2], false),
+    (Sample::Crossed, 2, &[2, 2], true),
+    (Sample::Crossed, 3, &[1, 1], false),
+    (Sample::Crossed, 3, &[1, 2], true),
+    (Sample::Crossed, 3, &[2, 1], true),
+    (Sample::Crossed, 3, &[2, 2], true),
+    (Sample::Crossed, 4, &[1, 1], true),
+    (Sample::Chained, 8, &[1], false),
+    (Sample::Chained, 8, &[2], true),
+    (Sample::Chained, 8, &[3], true),
+    (Sample::Chained, 8, &[4], true),
+    (Sample::Chained, 8, &[5], true),
 ];
 
-fn sample(alloc: Global, which: Small) -> Result<Network, NetFault> {
-    match which {
-        Small::Parallel => parallel(alloc),
-        Small::Crossed => crossed(alloc),
-        Small::Chained => chained(alloc),
-    }
+/// The question of units in the root window of a deadline; or `None` if there is none, or memory is refused.
+pub(crate) fn asked_of(
+    alloc: Global,
+    net: &Network,
+    deadline: u32,
+    units: &[u32],
+) -> Option<Question>
+    ensures { IfSome result (IsFormed net.now) }
+{
+    let window = root_window(alloc, net, deadline).ok()?;
+    question(alloc, net, units, window.lower(), window.upper()).ok()
 }
 
-/// Whether some starts in the window answer with these capacities, or none do, as the search decides it.
-fn admits(alloc: Global, net: &Network, units: &[u32], window: &Window, yes: bool) -> bool {
-    let Ok(asked) = question(alloc, net, units, window.lower(), window.upper()) else {
-        return false;
-    };
-    match decide(alloc, net, &asked) {
-        Ok(found) => found.is_some() == yes,
-        Err(_) => false,
-    }
+/// Whether starts answer the question of a vector, as the search decides it; or `None` as there.
+fn is_admitted(alloc: Global, net: &Network, deadline: u32, units: &[u32]) -> Option<bool> {
+    let asked = asked_of(alloc, net, deadline, units)?;
+    let found = decide(alloc, net, &asked).ok()?;
+    Some(found.is_some())
 }
 
-/// Whether each of these vectors admits an answer in the window, or none does.
-fn all_admit(alloc: Global, net: &Network, window: &Window, list: &[&[u32]], yes: bool) -> bool {
-    for units in list {
-        if !admits(alloc, net, units, window, yes) {
-            return false;
-        }
-    }
-    true
-}
-
-/// Whether the vectors of a row admit answers in a network as they are to.
-fn are_decided(alloc: Global, net: &Network, row: &Vectors) -> bool {
-    match root_window(alloc, net, row.deadline) {
-        Ok(window) => {
-            all_admit(alloc, net, &window, row.no, false)
-                && all_admit(alloc, net, &window, row.yes, true)
-        }
-        Err(_) => false,
-    }
-}
-
-/// Whether the vectors of a row admit answers in the network of the row as they are to.
-fn is_decided(alloc: Global, row: &Vectors) -> bool {
-    match sample(alloc, row.of) {
-        Ok(net) => are_decided(alloc, &net, row),
+/// Whether a vector admits an answer as it is to.
+fn is_decided(alloc: Global, vector: &Vector) -> bool {
+    let (of, deadline, units, wanted) = *vector;
+    match sampled(alloc, of) {
+        Ok(net) => is_admitted(alloc, &net, deadline, units) == Some(wanted),
         Err(_) => false,
     }
 }
 
 #[test]
 fn decides_the_vectors_between_floors_and_roofs(rt: HostRuntime) {
-    for row in VECTORS {
-        assert!(rt; is_decided(rt.alloc(), row), "deadline {}", row.deadline);
+    for (place, vector) in VECTORS.iter().enumerate() {
+        assert!(rt; is_decided(rt.alloc(), vector), "vector {place}");
     }
 }
 

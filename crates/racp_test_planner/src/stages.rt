@@ -1,120 +1,74 @@
-//! Stages of planning for a small network with two resources: sharpened floors and refuted pairs, and what is told if
-//! an asker gives up.
+//! The first stage of planning for a small network with two resources: sharpened floors and refuted pairs, also if an asker
+//! gives up.
 
 ghost use Rattle.std.specs.Prelude.{◌≡◌, ◌<◌, ◌≤◌, ℕ, length, slice_index, IsTrue, IfOk};
 ghost use Rattle.racp_model.specs.Formed.{HasBounds};
-ghost use Rattle.racp_model.specs.Terms.{AreTermsOf};
 ghost use Rattle.racp_model.specs.Window.{IsYes};
 
 use crate::tired::Tired;
 use racp_bounds::{Sharp, roofs, sharpen};
-use racp_lexfix::{PlanStop, plan};
 use racp_model::{Capacities, Network, OfNetwork, Question, Window};
-use racp_prices::{Order, read_order};
 use racp_questions::AskStop;
 use racp_reference::decide_by_definition;
 use racp_samples::{crossed, root_window};
 use std::alloc::{AllocError, Global};
 use std::marker::Brand;
 
-/// From these floors on, by an asker that gives up after this many series: the floors that come out, and the pairs, or
-/// none if it gives up.
-struct Sharpening {
+/// A deadline of the six jobs. From these floors on, by an asker that gives up after this many series: the floors that
+/// come out, and the pairs, or none if it gives up.
+struct Row {
+    deadline: u32,
     least: [u32; 2],
     series: u32,
     floors: [u32; 2],
     pairs: Option<&'static [(u32, u32)]>,
 }
 
-/// What comes out of a stage.
-enum Stage {
-    Sharpened(Sharpening),
-    /// By an asker that gives up after this many series: the capacities that are told.
-    Told(u32, [u32; 2]),
-}
+/// An asker that never gives up.
+const LASTING: Row = Row {
+    deadline: 3,
+    least: [1, 1],
+    series: 100,
+    floors: [1, 1],
+    pairs: Some(&[(1, 2)]),
+};
 
-/// The text of an order, and what comes out of a stage.
-struct Row {
-    order: &'static [u8],
-    stage: Stage,
-}
+/// One that does, from floors of 0 on.
+const TIRED: Row = Row {
+    least: [0, 0],
+    pairs: None,
+    ..LASTING
+};
 
 const ROWS: &[Row] = &[
     Row {
-        order: b"deadline = 2\nprices = [1, 1]",
-        stage: Stage::Sharpened(Sharpening {
-            least: [2, 2],
-            series: 100,
-            floors: [2, 2],
-            pairs: Some(&[]),
-        }),
+        deadline: 2,
+        least: [2, 2],
+        floors: [2, 2],
+        pairs: Some(&[]),
+        ..LASTING
+    },
+    LASTING,
+    Row {
+        deadline: 4,
+        pairs: Some(&[]),
+        ..LASTING
     },
     Row {
-        order: b"deadline = 3\nprices = [1, 1]",
-        stage: Stage::Sharpened(Sharpening {
-            least: [1, 1],
-            series: 100,
-            floors: [1, 1],
-            pairs: Some(&[(1, 2)]),
-        }),
+        least: [0, 0],
+        ..LASTING
     },
     Row {
-        order: b"deadline = 4\nprices = [1, 1]",
-        stage: Stage::Sharpened(Sharpening {
-            least: [1, 1],
-            series: 100,
-            floors: [1, 1],
-            pairs: Some(&[]),
-        }),
+        series: 0,
+        floors: [0, 0],
+        ..TIRED
     },
     Row {
-        order: b"deadline = 3\nprices = [1, 1]",
-        stage: Stage::Sharpened(Sharpening {
-            least: [0, 0],
-            series: 100,
-            floors: [1, 1],
-            pairs: Some(&[(1, 2)]),
-        }),
+        series: 1,
+        floors: [1, 0],
+        ..TIRED
     },
-    Row {
-        order: b"deadline = 3\nprices = [1, 1]",
-        stage: Stage::Sharpened(Sharpening {
-            least: [0, 0],
-            series: 0,
-            floors: [0, 0],
-            pairs: None,
-        }),
-    },
-    Row {
-        order: b"deadline = 3\nprices = [1, 1]",
-        stage: Stage::Sharpened(Sharpening {
-            least: [0, 0],
-            series: 1,
-            floors: [1, 0],
-            pairs: None,
-        }),
-    },
-    Row {
-        order: b"deadline = 3\nprices = [1, 1]",
-        stage: Stage::Sharpened(Sharpening {
-            least: [0, 0],
-            series: 2,
-            floors: [1, 1],
-            pairs: None,
-        }),
-    },
-    Row {
-        order: b"deadline = 3\nprices = [1, 1]",
-        stage: Stage::Told(0, [1, 1]),
-    },
-    Row {
-        order: b"deadline = 3\nprices = [1, 1]",
-        stage: Stage::Told(3, [1, 1]),
-    },
-    Row {
-        order: b"deadline = 3\nprices = [1, 1]",
-        stage: Stage::Told(4, [1, 2]),
-    },
+    Row { series: 2, ..TIRED },
 ];
 
 /// The question of capacities and a window.
@@ -156,7 +110,7 @@ fn are_bounds(low: &[u32], high: &[u32]) -> bool
 }
 
 /// Whether sharpening ends so.
-fn is_sharp(found: &Result<Sharp, (Capacities, AskStop)>, wanted: &Sharpening) -> bool {
+fn is_sharp(found: &Result<Sharp, (Capacities, AskStop)>, wanted: &Row) -> bool {
     let floors = wanted.floors.as_slice();
     match (found, wanted.pairs) {
         (Ok(sharp), Some(pairs)) => {
@@ -173,7 +127,7 @@ fn sharpens<N: OfNetwork>(
     net: &Network,
     window: &Window,
     most: &Capacities,
-    wanted: &Sharpening,
+    wanted: &Row,
 ) -> bool
     requires named { net.now ≡ N.network }
     requires window { HasBounds net.now window.now }
@@ -198,35 +152,8 @@ fn sharpens<N: OfNetwork>(
     }
 }
 
-/// Whether planning stops if the asker gives up after this many series, and tells these capacities.
-fn tells<N: OfNetwork>(
-    alloc: Global,
-    net: &Network,
-    order: &Order,
-    series: u32,
-    units: &[u32],
-) -> bool
-    requires named { net.now ≡ N.network }
-    requires terms { AreTermsOf net.now order.now }
-{
-    let Ok(mut asker) = Tired::<N>::new(alloc, net, series) else {
-        return false;
-    };
-    let planned = plan(alloc, net, order, &mut asker);
-    drop(asker);
-    match planned {
-        Err(PlanStop::Stopped { not_before }) => not_before.as_slice() == units,
-        _ => false,
-    }
-}
-
 /// Whether the floors of a row are sharpened so in a window. Its roofs are enough.
-fn sharpens_in<N: OfNetwork>(
-    alloc: Global,
-    net: &Network,
-    window: &Window,
-    wanted: &Sharpening,
-) -> bool
+fn sharpens_in<N: OfNetwork>(alloc: Global, net: &Network, window: &Window, wanted: &Row) -> bool
     requires named { net.now ≡ N.network }
     requires window { HasBounds net.now window.now }
 {
@@ -238,34 +165,13 @@ fn sharpens_in<N: OfNetwork>(
     }
 }
 
-/// Whether a stage of an order ends as it has to.
-fn ends<N: OfNetwork>(alloc: Global, net: &Network, order: &Order, stage: &Stage) -> bool
-    requires named { net.now ≡ N.network }
-    requires terms { AreTermsOf net.now order.now }
-{
-    match stage {
-        Stage::Sharpened(wanted) => match root_window(alloc, net, order.deadline) {
-            Ok(window) => sharpens_in::<N>(alloc, net, &window, wanted),
-            Err(_) => false,
-        },
-        Stage::Told(series, units) => tells::<N>(alloc, net, order, *series, units),
-    }
-}
-
-/// Whether a row holds.
-fn holds<N: OfNetwork>(alloc: Global, net: &Network, row: &Row) -> bool
-    requires { net.now ≡ N.network }
-{
-    match read_order(alloc, row.order, net.resource_count(), net.job_count()) {
-        Ok(order) => ends::<N>(alloc, net, &order, &row.stage),
-        Err(_) => false,
-    }
-}
-
-/// Whether a row holds for the six jobs.
-fn holds_of_six(alloc: Global, row: &Row) -> bool {
-    match crossed(alloc) {
-        Ok(net) => holds::<Brand>(alloc, &net, row),
+/// Whether the floors of a row are sharpened so for the six jobs.
+fn holds(alloc: Global, row: &Row) -> bool {
+    let Ok(net) = crossed(alloc) else {
+        return false;
+    };
+    match root_window(alloc, &net, row.deadline) {
+        Ok(window) => sharpens_in::<Brand>(alloc, &net, &window, row),
         Err(_) => false,
     }
 }
@@ -273,6 +179,6 @@ fn holds_of_six(alloc: Global, row: &Row) -> bool {
 #[test]
 fn stages_end_as_they_have_to(rt: HostRuntime) {
     for (place, row) in ROWS.iter().enumerate() {
-        assert!(rt; holds_of_six(rt.alloc(), row), "row {place}");
+        assert!(rt; holds(rt.alloc(), row), "row {place}");
     }
 }

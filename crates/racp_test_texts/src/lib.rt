@@ -1,21 +1,8 @@
-//! Tests of the readers of networks, orders, plans and tables of tasks, of the check of plans, of the commands over any streams, and of answers as JSON.
+//! Tests of what no text of the program shows: a flush that fails behind a whole answer, capacities of another network, and pairs of
+//! jobs that are not there.
 #![tactic(auto)]
 
 #[cfg(test)]
-mod answers;
+mod flushes;
 #[cfg(test)]
-mod commands;
-#[cfg(test)]
-mod crowds;
-#[cfg(test)]
-mod devices;
-#[cfg(test)]
-mod networks;
-#[cfg(test)]
-mod orders;
-#[cfg(test)]
-mod plans;
-#[cfg(test)]
-mod sayings;
-#[cfg(test)]
-mod tables;
+mod refusals;

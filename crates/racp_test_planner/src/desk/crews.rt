@@ -1,16 +1,10 @@
 //! Any number of workers finds the first yes, in whichever order they hand in what they found.
 
-ghost use Rattle.std.specs.Prelude.{◌≡◌, ◌≤◌};
-
-use crate::desk::runs::{ALL_TURNS, Ended, Numbers, ROWS, run_with};
+use crate::desk::runs::{ALL_TURNS, Ended, Numbers, ROWS, run_six};
 use racp_desk::Gate;
-use racp_model::{Network, OfNetwork};
-use racp_samples::crossed;
 use racp_search::Never;
 use std::alloc::Global;
-use std::marker::Brand;
 use std::sync::Wait;
-use std::sync::atomic::{AtomicU64, Ordering};
 use std::thread;
 use std::thread::Threads;
 
@@ -61,124 +55,69 @@ const CREWS: &[Crew] = &[
     },
 ];
 
-/// How often a worker looks that is held up.
+/// How often a worker that is held up lets others go first.
 const HELD: u64 = 3000;
 
 /// Holds up the workers of some pieces, so that others hand in before them.
-#[derive(Drop)]
+#[derive(Clone, Copy)]
 struct Seeded {
     seed: u64,
-    looks: AtomicU64,
 }
 
 impl Gate for Seeded {
     fn enter(&self, _seat: usize, number: u64) {
         if (self.seed >> (number % 64)) & 1 == 1 {
             for _look in 0..HELD {
-                self.looks.fetch_add(1, Ordering::SeqCst);
                 thread::yield_now();
             }
         }
     }
 }
 
-/// This many workers, or the nearest number that a run may have.
-fn in_range(workers: usize) -> usize
-    ensures some { 1 ≤ result }
-    ensures few { result ≤ 64 }
-{
-    if workers == 0 {
-        return 1;
-    }
-    if 64 < workers {
-        return 64;
-    }
-    workers
-}
-
 /// Whether this many workers, of which some are held up, find the first yes of each row in pieces of this many nodes.
-fn finds_each<N: OfNetwork + Send + Sync, R: Threads + Wait + Sync>(
+fn find_each<R: Threads + Wait + Sync>(
     rt: &R,
     alloc: Global,
-    net: &Network,
     workers: usize,
     quantum: u64,
-    gate: &Seeded,
-) -> bool
-    requires named { net.now ≡ N.network }
-    requires some_nodes { 1 ≤ quantum }
-    requires quantum { quantum ≤ 1000000 }
-{
+    gate: Seeded,
+) -> bool {
     for &(second, yes) in ROWS {
         let numbers = Numbers {
             second,
-            workers: in_range(workers),
+            workers,
             quantum,
             turns: ALL_TURNS,
         };
-        let ended = run_with::<N, Seeded, Never, R>(rt, alloc, net, numbers, gate, &Never);
         let wanted = Ended {
             yes,
             open: None,
             halted: None,
         };
-        if ended != Some(wanted) {
+        if run_six(rt, alloc, numbers, &gate, &Never) != Some(wanted) {
             return false;
         }
     }
     true
 }
 
-/// Whether a crew finds the first yes with a seed, in small pieces and in large ones.
-fn finds_with<N: OfNetwork + Send + Sync, R: Threads + Wait + Sync>(
-    rt: &R,
-    alloc: Global,
-    net: &Network,
-    workers: usize,
-    seed: u64,
-) -> bool
-    requires { net.now ≡ N.network }
-{
-    let gate = Seeded {
-        seed,
-        looks: AtomicU64::new(0),
-    };
-    finds_each::<N, R>(rt, alloc, net, workers, 1, &gate)
-        && finds_each::<N, R>(rt, alloc, net, workers, 1000, &gate)
-}
-
-/// Whether a crew finds the first yes with each of its seeds.
-fn finds_with_each<N: OfNetwork + Send + Sync, R: Threads + Wait + Sync>(
-    rt: &R,
-    alloc: Global,
-    net: &Network,
-    crew: &Crew,
-) -> bool
-    requires { net.now ≡ N.network }
-{
+/// Whether a crew finds the first yes with each of its seeds, in small pieces and in large ones.
+fn finds_with_each<R: Threads + Wait + Sync>(rt: &R, alloc: Global, crew: &Crew) -> bool {
     for &seed in crew.seeds {
-        if !finds_with::<N, R>(rt, alloc, net, crew.workers, seed) {
+        let gate = Seeded { seed };
+        if !find_each(rt, alloc, crew.workers, 1, gate)
+            || !find_each(rt, alloc, crew.workers, 1000, gate)
+        {
             return false;
         }
     }
     true
-}
-
-/// Whether a crew finds the first yes of the six jobs with each of its seeds.
-fn finds_of_six<R: Threads + Wait + Sync>(rt: &R, alloc: Global, crew: &Crew) -> bool {
-    match crossed(alloc) {
-        Ok(net) => finds_with_each::<Brand, R>(rt, alloc, &net, crew),
-        Err(_) => false,
-    }
 }
 
 #[test]
 fn any_crew_finds_the_first_yes(rt: HostRuntime) {
     for crew in CREWS {
-        assert!(rt;
-            finds_of_six(&rt, rt.alloc(), crew),
-            "{} workers",
-            crew.workers
-        );
+        let finds = finds_with_each(&rt, rt.alloc(), crew);
+        assert!(rt; finds, "{} workers", crew.workers);
     }
 }

@@ -1,86 +1,42 @@
 //! Runs that are halted: no turn is left, or a stop is asked for.
 
-ghost use Rattle.std.specs.Prelude.{◌≡◌};
-
-use crate::desk::runs::{ALL_TURNS, Ended, Numbers, ROWS, run_with};
+use crate::desk::runs::{ALL_TURNS, Ended, Numbers, ROWS, run_six};
 use crate::desk::stops::AtCall;
 use racp_desk::{Cause, Open};
-use racp_model::{Network, OfNetwork};
-use racp_samples::crossed;
 use racp_search::Never;
 use std::alloc::Global;
-use std::marker::Brand;
 use std::sync::Wait;
 use std::thread::Threads;
 
-/// The question that one worker leaves open which has used up this many turns, from 0 on, beside one unit of the second
-/// resource. By the third turn the first yes is found, of the question at place 2.
-const OPEN: &[Option<usize>] = &[Some(0), Some(1), Some(2), None];
+/// How many turns one worker takes, beside one unit of the second resource, and the question that is left open then. By
+/// the third turn the first yes is found, of the question at place 2.
+const OPEN: &[(u64, Option<usize>)] = &[(0, Some(0)), (1, Some(1)), (2, Some(2)), (3, None)];
 
-/// Whether a run by one worker with this many turns leaves that question open, or finds the first yes.
-fn run_out<N: OfNetwork + Send + Sync, R: Threads + Wait + Sync>(
+/// Whether a run about the six jobs by one worker with this many turns leaves that question open, or finds the first yes.
+fn runs_out<R: Threads + Wait + Sync>(
     rt: &R,
     alloc: Global,
-    net: &Network,
     turns: u64,
     open: Option<usize>,
-) -> bool
-    requires { net.now ≡ N.network }
-{
+) -> bool {
     let numbers = Numbers {
         second: 1,
         workers: 1,
         quantum: 1000,
-        turns: turns.min(ALL_TURNS),
+        turns,
     };
     let (yes, halted) = match open {
         Some(_) => (None, Some(Cause::Turns)),
         None => (Some(2), None),
     };
-    let ended = run_with::<N, Open, Never, R>(rt, alloc, net, numbers, &Open, &Never);
-    ended == Some(Ended { yes, open, halted })
-}
-
-/// Whether a run by one worker leaves a question about the six jobs open after `turns` turns, or finds the first yes.
-fn run_out_of_six<R: Threads + Wait + Sync>(
-    rt: &R,
-    alloc: Global,
-    turns: usize,
-    open: Option<usize>,
-) -> bool {
-    match crossed(alloc) {
-        Ok(net) => run_out::<Brand, R>(rt, alloc, &net, turns as u64, open),
-        Err(_) => false,
-    }
+    run_six(rt, alloc, numbers, &Open, &Never) == Some(Ended { yes, open, halted })
 }
 
 #[test]
 fn turns_run_out(rt: HostRuntime) {
-    for (turns, open) in OPEN.iter().enumerate() {
-        assert!(rt;
-            run_out_of_six(&rt, rt.alloc(), turns, *open),
-            "{turns} turns"
-        );
+    for &(turns, open) in OPEN {
+        assert!(rt; runs_out(&rt, rt.alloc(), turns, open), "{turns} turns");
     }
-}
-
-/// How a run by two workers beside this many units of the second resource ends.
-fn ended_by_two<N: OfNetwork + Send + Sync, R: Threads + Wait + Sync>(
-    rt: &R,
-    alloc: Global,
-    net: &Network,
-    second: u32,
-    stop: &AtCall,
-) -> Option<Ended>
-    requires { net.now ≡ N.network }
-{
-    let numbers = Numbers {
-        second,
-        workers: 2,
-        quantum: 1000,
-        turns: ALL_TURNS,
-    };
-    run_with::<N, Open, AtCall, R>(rt, alloc, net, numbers, &Open, stop)
 }
 
 /// Whether a run of a series of four questions, of which the first yes is this one, may end so if a stop came, or
@@ -94,22 +50,30 @@ fn may_end(ended: Ended, yes: Option<usize>, came: bool) -> bool {
     answered && ended.halted == halted
 }
 
-/// Whether the run of each row ends as it may if a stop is asked for at the call of this number.
-fn end_as_they_may<N: OfNetwork + Send + Sync, R: Threads + Wait + Sync>(
+/// How a run about the six jobs by two workers beside this many units of the second resource ends.
+fn ended_by_two<R: Threads + Wait + Sync>(
     rt: &R,
     alloc: Global,
-    net: &Network,
-    number: u64,
-) -> bool
-    requires { net.now ≡ N.network }
-{
+    second: u32,
+    stop: &AtCall,
+) -> Option<Ended> {
+    let numbers = Numbers {
+        second,
+        workers: 2,
+        quantum: 1000,
+        turns: ALL_TURNS,
+    };
+    run_six(rt, alloc, numbers, &Open, stop)
+}
+
+/// Whether the run of each row ends as it may if a stop is asked for at the call of this number.
+fn end_as_they_may<R: Threads + Wait + Sync>(rt: &R, alloc: Global, number: u64) -> bool {
     for &(second, yes) in ROWS {
         let stop = AtCall::once(number);
-        let may = match ended_by_two::<N, R>(rt, alloc, net, second, &stop) {
-            Some(ended) => may_end(ended, yes, stop.came()),
-            None => false,
+        let Some(ended) = ended_by_two(rt, alloc, second, &stop) else {
+            return false;
         };
-        if !may {
+        if !may_end(ended, yes, stop.came()) {
             return false;
         }
     }
@@ -117,39 +81,17 @@ fn end_as_they_may<N: OfNetwork + Send + Sync, R: Threads + Wait + Sync>(
 }
 
 /// Whether a stop that is asked for at each call decides nothing.
-fn decides_nothing<N: OfNetwork + Send + Sync, R: Threads + Wait + Sync>(
-    rt: &R,
-    alloc: Global,
-    net: &Network,
-) -> bool
-    requires { net.now ≡ N.network }
-{
-    match ended_by_two::<N, R>(rt, alloc, net, 1, &AtCall::each(true)) {
+fn decides_nothing<R: Threads + Wait + Sync>(rt: &R, alloc: Global) -> bool {
+    match ended_by_two(rt, alloc, 1, &AtCall::each(true)) {
         Some(ended) => ended.open == Some(0) && ended.halted == Some(Cause::Stop),
         None => false,
-    }
-}
-
-/// Whether runs of the six jobs end as they may if a stop is asked for at the call of this number.
-fn end_of_six<R: Threads + Wait + Sync>(rt: &R, alloc: Global, number: u64) -> bool {
-    match crossed(alloc) {
-        Ok(net) => end_as_they_may::<Brand, R>(rt, alloc, &net, number),
-        Err(_) => false,
-    }
-}
-
-/// Whether a stop at each call decides nothing of the six jobs.
-fn nothing_of_six<R: Threads + Wait + Sync>(rt: &R, alloc: Global) -> bool {
-    match crossed(alloc) {
-        Ok(net) => decides_nothing::<Brand, R>(rt, alloc, &net),
-        Err(_) => false,
     }
 }
 
 #[test]
 fn stops_leave_questions_open(rt: HostRuntime) {
     for number in 1..21 {
-        assert!(rt; end_of_six(&rt, rt.alloc(), number), "call {number}");
+        assert!(rt; end_as_they_may(&rt, rt.alloc(), number), "call {number}");
     }
-    assert!(rt; nothing_of_six(&rt, rt.alloc()));
+    assert!(rt; decides_nothing(&rt, rt.alloc()));
 }

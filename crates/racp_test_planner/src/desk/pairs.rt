@@ -1,15 +1,13 @@
 //! Two pieces that are at work at once, of a desk alone and of a plan that is made by workers.
 
-ghost use Rattle.std.specs.Prelude.{◌≡◌, ◌≤◌};
+ghost use Rattle.std.specs.Prelude.{◌≤◌};
 
-use crate::desk::runs::{ALL_TURNS, Ended, Numbers, run_with};
-use racp_desk::{Gate, Open};
+use crate::desk::runs::{ALL_TURNS, Ended, Numbers, run_six};
+use racp_desk::Gate;
 use racp_lexfix::plan_crowd;
-use racp_model::{Network, OfNetwork};
-use racp_samples::{crossed, texts};
+use racp_samples::texts;
 use racp_search::Never;
 use std::alloc::Global;
-use std::marker::Brand;
 use std::sync::Wait;
 use std::sync::atomic::{AtomicU64, Ordering};
 use std::thread;
@@ -67,17 +65,8 @@ impl Gate for Pair {
     }
 }
 
-/// Whether two of this many workers search at once, and find the first yes.
-fn are_two_at_once<N: OfNetwork + Send + Sync, R: Threads + Wait + Sync>(
-    rt: &R,
-    alloc: Global,
-    net: &Network,
-    workers: usize,
-) -> bool
-    requires named { net.now ≡ N.network }
-    requires some_workers { 1 ≤ workers }
-    requires workers { workers ≤ 64 }
-{
+/// Whether two of this many workers search the six jobs at once, and find the first yes.
+fn are_two_at_once<R: Threads + Wait + Sync>(rt: &R, alloc: Global, workers: usize) -> bool {
     let gate = Pair::new();
     let numbers = Numbers {
         second: 1,
@@ -85,54 +74,16 @@ fn are_two_at_once<N: OfNetwork + Send + Sync, R: Threads + Wait + Sync>(
         quantum: 1000,
         turns: ALL_TURNS,
     };
-    let ended = run_with::<N, Pair, Never, R>(rt, alloc, net, numbers, &gate, &Never);
     let wanted = Ended {
         yes: Some(2),
         open: None,
         halted: None,
     };
-    ended == Some(wanted) && gate.both()
-}
-
-/// Whether two of this many workers search the six jobs at once, and find the first yes.
-fn are_two_of_six<R: Threads + Wait + Sync>(rt: &R, alloc: Global, workers: usize) -> bool
-    requires some_workers { 1 ≤ workers }
-    requires workers { workers ≤ 64 }
-{
-    match crossed(alloc) {
-        Ok(net) => are_two_at_once::<Brand, R>(rt, alloc, &net, workers),
-        Err(_) => false,
-    }
+    run_six(rt, alloc, numbers, &gate, &Never) == Some(wanted) && gate.both()
 }
 
 /// An order for the six jobs, of which `texts::TWO` is the plan.
 const ORDER: &[u8] = b"deadline = 3\nprices = [1, 1]\n";
-
-/// Whether this many workers, who enter the gate, print the plan of the six jobs.
-fn is_printed<G: Gate + Sync, R: Threads + Wait + Sync>(
-    rt: &R,
-    alloc: Global,
-    workers: usize,
-    gate: &G,
-) -> bool
-    requires some_workers { 1 ≤ workers }
-    requires workers { workers ≤ 64 }
-{
-    let printed = plan_crowd(
-        rt,
-        alloc,
-        texts::CROSSED,
-        ORDER,
-        workers,
-        ALL_TURNS,
-        gate,
-        &Never,
-    );
-    match printed {
-        Ok((printed, _)) => printed.status == 0 && printed.text.as_slice() == texts::TWO.as_bytes(),
-        Err(_) => false,
-    }
-}
 
 /// Whether two of this many workers search at once, and print the plan of the six jobs.
 fn is_printed_by_two<R: Threads + Wait + Sync>(rt: &R, alloc: Global, workers: usize) -> bool
@@ -140,20 +91,19 @@ fn is_printed_by_two<R: Threads + Wait + Sync>(rt: &R, alloc: Global, workers: u
     requires workers { workers ≤ 64 }
 {
     let gate = Pair::new();
-    is_printed(rt, alloc, workers, &gate) && gate.both()
+    let net = texts::CROSSED;
+    let printed = plan_crowd(rt, alloc, net, ORDER, workers, ALL_TURNS, &gate, &Never);
+    let is_plan = match printed {
+        Ok((printed, _)) => printed.status == 0 && printed.text.as_slice() == texts::TWO.as_bytes(),
+        Err(_) => false,
+    };
+    is_plan && gate.both()
 }
 
 #[test]
 fn two_pieces_at_once(rt: HostRuntime) {
-    assert!(rt; are_two_of_six(&rt, rt.alloc(), 2));
-    assert!(rt; are_two_of_six(&rt, rt.alloc(), 8));
+    assert!(rt; are_two_at_once(&rt, rt.alloc(), 2));
+    assert!(rt; are_two_at_once(&rt, rt.alloc(), 8));
     assert!(rt; is_printed_by_two(&rt, rt.alloc(), 2));
     assert!(rt; is_printed_by_two(&rt, rt.alloc(), 8));
-}
-
-#[test]
-fn any_number_of_workers_prints_the_plan(rt: HostRuntime) {
-    assert!(rt; is_printed(&rt, rt.alloc(), 1, &Open));
-    assert!(rt; is_printed(&rt, rt.alloc(), 2, &Open));
-    assert!(rt; is_printed(&rt, rt.alloc(), 8, &Open));
 }

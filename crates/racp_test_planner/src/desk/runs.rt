@@ -1,14 +1,16 @@
 //! Runs of a desk with workers on threads of their own, and how they end.
 
-ghost use Rattle.std.specs.Prelude.{◌≡◌, ◌≤◌};
+ghost use Rattle.std.specs.Prelude.{◌≡◌};
 
 use crate::desk::series::units_of_the_first;
 use racp_core::Outcome;
 use racp_cutset::Board;
 use racp_desk::{Cause, Closed, Entry, Gate, run};
 use racp_model::{Network, OfNetwork};
+use racp_samples::crossed;
 use racp_search::Stop;
 use std::alloc::{AllocError, Global};
+use std::marker::Brand;
 use std::sync::Wait;
 use std::thread::Threads;
 
@@ -51,38 +53,56 @@ fn end_of(closed: &Closed) -> Ended {
     Ended { yes, open, halted }
 }
 
-/// How a run with these numbers ends; `None` if memory or a thread was refused.
-pub(crate) fn run_with<
-    N: OfNetwork + Send + Sync,
-    G: Gate + Sync,
-    P: Stop + Sync,
-    R: Threads + Wait + Sync,
->(rt: &R, alloc: Global, net: &Network, numbers: Numbers, gate: &G, stop: &P) -> Option<Ended>
+/// How a run with these numbers ends; `None` if one of them is out of its range, or memory or a thread was refused.
+fn run_with<N: OfNetwork + Send + Sync, G: Gate + Sync, P: Stop + Sync, R: Threads + Wait + Sync>(
+    rt: &R,
+    alloc: Global,
+    net: &Network,
+    numbers: Numbers,
+    gate: &G,
+    stop: &P,
+) -> Option<Ended>
     requires named { net.now ≡ N.network }
-    requires some_workers { 1 ≤ numbers.workers }
-    requires workers { numbers.workers ≤ 64 }
-    requires some_nodes { 1 ≤ numbers.quantum }
-    requires quantum { numbers.quantum ≤ 1000000 }
-    requires turns { numbers.turns ≤ 1000000000000 }
 {
-    let Some(series) = units_of_the_first(alloc, net, numbers.second) else {
-        return None;
-    };
-    let Ok(board): Result<Board<N>, AllocError> = Board::new(alloc, net) else {
-        return None;
-    };
     let Numbers {
+        second,
         workers,
         quantum,
         turns,
-        second: _,
     } = numbers;
+    if workers < 1 || 64 < workers {
+        return None;
+    }
+    if quantum < 1 || 1_000_000 < quantum {
+        return None;
+    }
+    if ALL_TURNS < turns {
+        return None;
+    }
+    let series = units_of_the_first(alloc, net, second)?;
+    let Ok(board): Result<Board<N>, AllocError> = Board::new(alloc, net) else {
+        return None;
+    };
     let closed = run(
         rt, alloc, net, series, workers, quantum, turns, &board, gate, stop,
     );
     drop(board);
     match closed {
         Ok(closed) => Some(end_of(&closed)),
+        Err(_) => None,
+    }
+}
+
+/// How a run about the six jobs ends, or `None` as there.
+pub(crate) fn run_six<G: Gate + Sync, P: Stop + Sync, R: Threads + Wait + Sync>(
+    rt: &R,
+    alloc: Global,
+    numbers: Numbers,
+    gate: &G,
+    stop: &P,
+) -> Option<Ended> {
+    match crossed(alloc) {
+        Ok(net) => run_with::<Brand, G, P, R>(rt, alloc, &net, numbers, gate, stop),
         Err(_) => None,
     }
 }
