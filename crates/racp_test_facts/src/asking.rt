@@ -21,7 +21,7 @@ fn narrow<N: OfProblem>(
     d: &mut Derivation<N>,
 ) -> Result<(), AllocError> {
     let jobs = net.job_count();
-    let cost = jobs.saturating_add(net.resource_count()) as u32;
+    let cost = u32::try_from(jobs.saturating_add(net.resource_count())).unwrap_or(0);
     for _i in 0..random.below(4) {
         let mut place = random.below(cost.saturating_add(1));
         if random.below(3) == 0 {
@@ -29,7 +29,7 @@ fn narrow<N: OfProblem>(
         }
         let x = place as usize;
         let (low, high) = (d.bounds().lower_at(x), d.bounds().upper_at(x));
-        let width = high.saturating_sub(low) as u32;
+        let width = u32::try_from(high.saturating_sub(low)).unwrap_or(0);
         let value = low.saturating_add(random.below(width) as u64);
         if x < jobs && low < high && random.below(3) == 0 {
             d.suppose(Literal::AtMost(place, value))?;

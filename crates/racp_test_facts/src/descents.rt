@@ -40,7 +40,7 @@ fn cost_of(order: &Order, units: &Capacities) -> u64 {
 }
 
 /// What is told, where some bounds are left or none.
-fn below<N: OfProblem>(order: &Order, told: &Told<Clause<N>>, is_empty: bool) -> Below {
+fn told_of<N: OfProblem>(order: &Order, told: &Told<Clause<N>>, is_empty: bool) -> Below {
     match told {
         Told::Found(_, units) if !is_empty => Below::Cheaper(cost_of(order, units)),
         Told::Open(Reason::Budget) => Below::Spent,
@@ -83,7 +83,7 @@ fn ask_below<N: OfProblem>(
     let told = search.ask(task.net, task.order, bounds.bounds(), ENOUGH, &Never);
     let is_empty = bounds.is_empty();
     drop(bounds);
-    Ok(below(task.order, &told?, is_empty))
+    Ok(told_of(task.order, &told?, is_empty))
 }
 
 /// The least cost, if it is known; and whether something was not confirmed.

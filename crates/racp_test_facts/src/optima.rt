@@ -154,7 +154,7 @@ pub fn is_optimum<N: OfProblem>(task: Task<'_>, sums: &mut Sums) -> Result<bool,
 #[test]
 fn optima_are_plans(rt: HostRuntime) {
     let (mut random, mut sums) = (Random::new(13), Sums::new());
-    for round in 0..4_000 {
+    for round in 0..5_000 {
         let is_right = try_next(rt.alloc(), Trial::Optima, &mut random, &mut sums);
         assert!(rt; is_right, "round {round}");
     }
