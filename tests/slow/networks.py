@@ -8,10 +8,12 @@ import collections
 # which the second succeeds the first. All count from 0.
 Network = collections.namedtuple("Network", "resources durations requests pairs")
 
-# Those of examples/a.sm and examples/b.sm.
+# Those of examples/a.sm, examples/b.sm and examples/c.sm.
 FIVE_JOBS = Network(1, [0, 3, 2, 2, 0], [[0], [2], [1], [1], [0]], {(0, 1), (0, 2), (0, 3), (1, 4), (2, 4), (3, 4)})
 SIX_JOBS = Network(2, [0, 1, 1, 1, 1, 0], [[0, 0], [1, 0], [1, 0], [0, 1], [0, 1], [0, 0]],
                    {(0, 1), (0, 2), (1, 3), (1, 4), (2, 3), (2, 4), (3, 5), (4, 5)})
+
+CHAIN = Network(1, [0, 4, 1, 3, 4, 0], [[0], [1], [1], [2], [1], [0]], {(0, 1), (0, 2), (1, 5), (2, 3), (3, 4), (4, 5)})
 
 
 def random_network(chance, most_jobs):

@@ -4,7 +4,7 @@ the bounds that slow rules leave. Made from 'The certificate by clauses' in docs
 import collections
 import random
 
-from slow.derivations import Checker, Literal
+from slow.derivations import Checker, Literal, wanted_of
 from slow.derivations_to_check import literal_words, random_derivation
 from slow.rules import Rules
 
@@ -74,8 +74,10 @@ def step_of(case, lines, line, bounds, moved):
 
 
 def random_steps(seed):
-    """A few steps for the network and the order of a certificate."""
+    """A few steps for the network and the order of a certificate that is right."""
     chance, case = random.Random(seed), random_derivation(seed)
+    if wanted_of(case).status != 0:
+        return
     root = Checker(case.network, case.order).root
     literals, bounds = random_literals(chance, {variable: (root.lower[variable], root.upper[variable]) for variable in root.lower})
     lines = [literal_words(literal) for literal in literals]

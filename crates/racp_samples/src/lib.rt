@@ -2,14 +2,13 @@
 //!
 //! Jobs and resources are numbered from 1; their places in lists count from 0. Times are whole time units from 0 on.
 //!
-//! The three networks of examples/ are here as texts (`texts`) and as values, so that a test of one crate takes no
-//! reader:
+//! The three networks of examples/ are here as values, so that a test of one crate takes no reader:
 //!
 //! ```text
-//! function      text         jobs of examples/    shape
-//! parallel      PARALLEL     a.sm                 2, 3 and 4 between 1 and 5
-//! crossed       CROSSED      b.sm                 2 and 3, then 4 and 5, between 1 and 6; two resources
-//! chained       CHAINED      c.sm                 2 beside the chain 3, 4, 5, between 1 and 6
+//! function      jobs of examples/    shape
+//! parallel      a.sm                 2, 3 and 4 between 1 and 5
+//! crossed       b.sm                 2 and 3, then 4 and 5, between 1 and 6; two resources
+//! chained       c.sm                 2 beside the chain 3, 4, 5, between 1 and 6
 //! ```
 //!
 //! Their jobs, each with its duration and its requests; the first and the last have duration 0 and request nothing:
@@ -19,6 +18,8 @@
 //! crossed       2: 1, 1 0    3: 1, 1 0    4: 1, 0 1    5: 1, 0 1
 //! chained       2: 4, 1      3: 1, 1      4: 3, 2      5: 4, 1
 //! ```
+//!
+//! `texts` has the second network as a text, and an order and plans.
 //!
 //! `network(alloc, 1, &[(3, &[2]), (2, &[1])], &[(1, 2)])` makes any other small network: here of one resource and two
 //! jobs, the first before the second. `question`, `window` and `root_window` make what a test asks about a network.

@@ -114,12 +114,15 @@ pub fn random_order(
     } else {
         random.list(alloc, jobs, 7)?
     };
+    let prices = random.list(alloc, resources, 4)?;
+    let owned = random.list(alloc, resources, 3)?;
+    let release = random.list(alloc, jobs, 3)?;
     Ok(Order {
         deadline,
-        prices: random.list(alloc, resources, 4)?,
-        owned: random.list(alloc, resources, 3)?,
+        prices,
+        owned,
         ceilings,
-        release: random.list(alloc, jobs, 3)?,
+        release,
         due,
     })
 }

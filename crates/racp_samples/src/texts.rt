@@ -1,46 +1,5 @@
 //! Texts of networks, orders and plans.
 
-/// Five jobs with one resource: 2, 3 and 4 come after 1 and before 5.
-pub const PARALLEL: &[u8] =
-    b"************************************************************************
-file with basedata            : A.BAS
-initial value random generator: 1
-************************************************************************
-projects                      :  1
-jobs (incl. supersource/sink ):  5
-horizon                       :  7
-RESOURCES
-  - renewable                 :  1   R
-  - nonrenewable              :  0   N
-  - doubly constrained        :  0   D
-************************************************************************
-PROJECT INFORMATION:
-pronr.  #jobs rel.date duedate tardcost  MPM-Time
-    1      3      0        3        0        3
-************************************************************************
-PRECEDENCE RELATIONS:
-jobnr.    #modes  #successors   successors
-   1        1          3           2   3   4
-   2        1          1           5
-   3        1          1           5
-   4        1          1           5
-   5        1          0
-************************************************************************
-REQUESTS/DURATIONS:
-jobnr. mode duration  R 1
-------------------------------------------------------------------------
-  1      1     0       0
-  2      1     3       2
-  3      1     2       1
-  4      1     2       1
-  5      1     0       0
-************************************************************************
-RESOURCEAVAILABILITIES:
-  R 1
-    4
-************************************************************************
-";
-
 /// Six jobs with two resources: after 1 come 2 and 3, after each of them 4 and 5, then 6.
 pub const CROSSED: &[u8] =
     b"************************************************************************
@@ -84,37 +43,12 @@ RESOURCEAVAILABILITIES:
 ************************************************************************
 ";
 
-/// Six jobs with one resource: after 1 come 2, and a chain of 3, 4 and 5; 6 is the last.
-pub const CHAINED: &[u8] = b"jobs: 6
-- renewable: 1 R
-PRECEDENCE RELATIONS:
-jobnr. #modes #successors successors
-1 1 2 2 3
-2 1 1 6
-3 1 1 4
-4 1 1 5
-5 1 1 6
-6 1 0
-REQUESTS/DURATIONS:
-jobnr. mode duration R 1
-1 1 0 0
-2 1 4 1
-3 1 1 1
-4 1 3 2
-5 1 4 1
-6 1 0 0
-";
-
 /// An order for the five jobs.
 pub const ORDER: &str = "deadline = 4\nprices = [10]\n";
 
 /// The plan of the five jobs for that order.
 pub const PLAN: &str =
     "deadline 4\ncritical 3\ncost 30\ncapacity 1 3\nstart 1 0\nstart 2 0\nstart 3 0\nstart 4 2\nstart 5 4\nend\n";
-
-/// The plan of the five jobs with the deadline 5.
-pub const LATER: &str =
-    "deadline 5\ncritical 3\ncost 20\ncapacity 1 2\nstart 1 0\nstart 2 0\nstart 3 3\nstart 4 3\nstart 5 5\nend\n";
 
 /// The plan of the six jobs with two resources, the deadline 3 and the prices 1 and 1.
 pub const TWO: &str =

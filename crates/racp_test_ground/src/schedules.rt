@@ -6,7 +6,7 @@ use racp_delay::{Never, Steps, Stop};
 use racp_model::Network;
 use racp_prices::{Order, due_times};
 use racp_samples::{Random, random_network, random_order};
-use racp_schedules::{Draft, Effort, draft_of};
+use racp_schedules::{Effort, draft_of};
 use std::alloc::{AllocError, Global};
 
 /// What an order says, each list up to its last number that is not as in an order of the first version.
@@ -162,40 +162,89 @@ const WISHES: &[Wish] = &[
     },
 ];
 
-/// A list of this many numbers: those given, and then the same one.
-fn filled(alloc: Global, first: &[u32], rest: u32, count: usize) -> Result<Vec<u32>, AllocError> {
-    let mut list = Vec::new(alloc);
+/// Puts this many numbers into a list: those given, and then the same one.
+fn fill(list: &mut Vec<u32>, first: &[u32], rest: u32, count: usize) -> Result<(), AllocError> {
     for i in 0..count {
         list.push(first.get(i).copied().unwrap_or(rest))?;
     }
-    Ok(list)
+    Ok(())
+}
+
+/// The ceilings of a wish.
+fn ceilings(alloc: Global, first: &[u32], count: usize) -> Result<Vec<u32>, AllocError> {
+    let mut list = Vec::new(alloc);
+    match fill(&mut list, first, 0, count) {
+        Ok(()) => Ok(list),
+        Err(fault) => {
+            drop(list);
+            Err(fault)
+        }
+    }
+}
+
+/// Puts what a wish says into an order.
+fn fill_order(
+    alloc: Global,
+    net: &Network,
+    wish: &Wish,
+    order: &mut Order,
+) -> Result<(), AllocError> {
+    let (resources, jobs) = (net.resource_count(), net.job_count());
+    fill(&mut order.prices, wish.prices, 0, resources)?;
+    fill(&mut order.owned, wish.owned, 0, resources)?;
+    fill(&mut order.release, wish.release, 0, jobs)?;
+    fill(&mut order.due, wish.due, wish.deadline, jobs)?;
+    if let Some(first) = wish.ceilings {
+        order.ceilings = Some(ceilings(alloc, first, resources)?);
+    }
+    Ok(())
+}
+
+/// An order of a deadline without entries.
+pub fn empty_order(alloc: Global, deadline: u32) -> Order {
+    Order {
+        deadline,
+        prices: Vec::new(alloc),
+        owned: Vec::new(alloc),
+        ceilings: None,
+        release: Vec::new(alloc),
+        due: Vec::new(alloc),
+    }
 }
 
 /// The order that a wish is.
 fn ordered(alloc: Global, net: &Network, wish: &Wish) -> Result<Order, AllocError> {
-    let (resources, jobs) = (net.resource_count(), net.job_count());
-    Ok(Order {
-        deadline: wish.deadline,
-        prices: filled(alloc, wish.prices, 0, resources)?,
-        owned: filled(alloc, wish.owned, 0, resources)?,
-        ceilings: match wish.ceilings {
-            Some(ceilings) => Some(filled(alloc, ceilings, 0, resources)?),
-            None => None,
-        },
-        release: filled(alloc, wish.release, 0, jobs)?,
-        due: filled(alloc, wish.due, wish.deadline, jobs)?,
-    })
+    let mut order = empty_order(alloc, wish.deadline);
+    match fill_order(alloc, net, wish, &mut order) {
+        Ok(()) => Ok(order),
+        Err(fault) => {
+            drop(order);
+            Err(fault)
+        }
+    }
 }
 
 /// What came of an order.
-#[derive(Drop)]
+#[derive(Clone, Copy, PartialEq)]
 enum Outcome {
     /// There is no root window.
     Late,
     /// No draft was made.
     Nothing,
-    /// A draft.
-    Made(Draft),
+    /// A draft of this cost, with a number that mixes its starts and capacities.
+    Made(u64, u64),
+}
+
+/// A number that mixes starts and capacities.
+fn mixed(starts: &[u32], units: &[u32]) -> u64 {
+    let mut mixed = 0u64;
+    for number in starts {
+        mixed = mixed.wrapping_mul(1_000_003).wrapping_add(*number as u64);
+    }
+    for number in units {
+        mixed = mixed.wrapping_mul(1_000_003).wrapping_add(*number as u64);
+    }
+    mixed
 }
 
 /// The effort of these tests.
@@ -223,28 +272,33 @@ fn tried<S: Stop>(
         return Ok(Outcome::Late);
     };
     match draft_of(alloc, net, order, &window, effort, stop)? {
-        Some(draft) => Ok(Outcome::Made(draft)),
+        Some(draft) => {
+            let number = mixed(draft.starts.as_slice(), draft.capacities.as_slice());
+            Ok(Outcome::Made(draft.cost, number))
+        }
         None => Ok(Outcome::Nothing),
     }
 }
 
-/// What the draft of a wish costs, if there is one.
-fn wished(alloc: Global, net: &Network, wish: &Wish) -> Result<Option<u64>, AllocError> {
+/// What comes of a wish.
+fn wished(alloc: Global, net: &Network, wish: &Wish) -> Result<Outcome, AllocError> {
     let order = ordered(alloc, net, wish)?;
-    match tried(alloc, net, &order, EFFORT, &Never)? {
-        Outcome::Made(draft) => Ok(Some(draft.cost)),
-        _ => Ok(None),
+    tried(alloc, net, &order, EFFORT, &Never)
+}
+
+/// What comes of a wish for its network, or nothing if memory is refused.
+fn outcome_of(alloc: Global, wish: &Wish) -> Outcome {
+    match sampled(alloc, wish.sample) {
+        Ok(net) => wished(alloc, &net, wish).unwrap_or(Outcome::Nothing),
+        Err(_) => Outcome::Nothing,
     }
 }
 
 /// Whether the draft of a wish costs what is known by hand.
 fn holds(alloc: Global, wish: &Wish) -> bool {
-    match sampled(alloc, wish.sample) {
-        Ok(net) => match wished(alloc, &net, wish) {
-            Ok(cost) => cost == wish.cost,
-            Err(_) => false,
-        },
-        Err(_) => false,
+    match outcome_of(alloc, wish) {
+        Outcome::Made(cost, _) => wish.cost == Some(cost),
+        _ => wish.cost.is_none(),
     }
 }
 
@@ -255,25 +309,15 @@ const SHOWN_CAPACITIES: &[u32] = &[3];
 
 /// Whether the draft of a wish is the one that is shown.
 fn is_shown(alloc: Global, wish: &Wish) -> bool {
-    let Ok(net) = sampled(alloc, wish.sample) else {
-        return false;
-    };
-    let Ok(order) = ordered(alloc, &net, wish) else {
-        return false;
-    };
-    match tried(alloc, &net, &order, EFFORT, &Never) {
-        Ok(Outcome::Made(draft)) => {
-            draft.starts.as_slice() == SHOWN_STARTS
-                && draft.capacities.as_slice() == SHOWN_CAPACITIES
-        }
-        _ => false,
-    }
+    outcome_of(alloc, wish) == Outcome::Made(30, mixed(SHOWN_STARTS, SHOWN_CAPACITIES))
 }
 
 #[test]
 fn drafts_the_shown_order(rt: HostRuntime) {
-    let first = WISHES.first();
-    assert!(rt; first.is_some_and(|wish| is_shown(rt.alloc(), wish)));
+    match WISHES.first() {
+        Some(wish) => assert!(rt; is_shown(rt.alloc(), wish)),
+        None => assert!(rt; false),
+    }
 }
 
 #[test]
@@ -293,32 +337,36 @@ fn loose_order(alloc: Global, random: &mut Random, net: &Network) -> Result<Orde
     Ok(order)
 }
 
-/// Whether the same seed makes the same draft again.
-fn is_made_again(alloc: Global, net: &Network, order: &Order, draft: &Draft) -> bool {
-    match tried(alloc, net, order, EFFORT, &Never) {
-        Ok(Outcome::Made(again)) => again.starts.as_slice() == draft.starts.as_slice(),
+/// Whether these may come of an order, and of the same one with a stop before the first round: a draft where there is a root
+/// window and there are no ceilings, and with the stop none that costs less.
+fn may_come(made: Outcome, listed: Outcome, has_ceilings: bool) -> bool {
+    match (made, listed) {
+        (Outcome::Late, Outcome::Late) => true,
+        (Outcome::Made(cost, _), Outcome::Made(other, _)) => cost <= other,
+        (_, Outcome::Nothing) => has_ceilings,
         _ => false,
     }
 }
 
-/// Whether a random order has a draft where it has a root window and no ceilings, and a stop before the first round
-/// gives none that costs less.
-fn is_drafted(alloc: Global, random: &mut Random) -> bool {
-    let Ok(net) = random_network(alloc, random, 2, 7) else {
-        return false;
-    };
-    let Ok(order) = loose_order(alloc, random, &net) else {
-        return false;
-    };
-    let made = tried(alloc, &net, &order, EFFORT, &Never);
-    let listed = tried(alloc, &net, &order, EFFORT, &Steps::new(0));
-    match (made, listed) {
-        (Ok(Outcome::Late), Ok(Outcome::Late)) => true,
-        (Ok(Outcome::Made(made)), Ok(Outcome::Made(listed))) => {
-            made.cost <= listed.cost && is_made_again(alloc, &net, &order, &made)
-        }
-        (Ok(_), Ok(Outcome::Nothing)) => order.ceilings.is_some(),
-        _ => false,
+/// Whether an order has the draft that it may have, and with the same seed the same one again.
+fn is_drafted(alloc: Global, net: &Network, order: &Order) -> Result<bool, AllocError> {
+    let made = tried(alloc, net, order, EFFORT, &Never)?;
+    let again = tried(alloc, net, order, EFFORT, &Never)?;
+    let listed = tried(alloc, net, order, EFFORT, &Steps::new(0))?;
+    Ok(made == again && may_come(made, listed, order.ceilings.is_some()))
+}
+
+/// Whether that is so of a random order for a network.
+fn is_order_drafted(alloc: Global, random: &mut Random, net: &Network) -> Result<bool, AllocError> {
+    let order = loose_order(alloc, random, net)?;
+    is_drafted(alloc, net, &order)
+}
+
+/// Whether that is so of a random order for a random network.
+fn is_next_drafted(alloc: Global, random: &mut Random) -> bool {
+    match random_network(alloc, random, 2, 7) {
+        Ok(net) => is_order_drafted(alloc, random, &net).unwrap_or(false),
+        Err(_) => false,
     }
 }
 
@@ -326,6 +374,6 @@ fn is_drafted(alloc: Global, random: &mut Random) -> bool {
 fn drafts_random_orders(rt: HostRuntime) {
     let mut random = Random::new(64);
     for i in 0..200 {
-        assert!(rt; is_drafted(rt.alloc(), &mut random), "{i}");
+        assert!(rt; is_next_drafted(rt.alloc(), &mut random), "{i}");
     }
 }

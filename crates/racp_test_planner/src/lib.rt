@@ -1,4 +1,5 @@
-//! Tests of series of questions, of the search, of records of refuted nodes, of the collector, of workers and of plans.
+//! Tests of series of questions, of the search, of records of refuted nodes, of the collector, of workers, and of refusals that no
+//! text of the program shows.
 #![tactic(auto)]
 
 #[cfg(test)]
@@ -6,11 +7,11 @@ mod collector;
 #[cfg(test)]
 mod desk;
 #[cfg(test)]
-mod plans;
-#[cfg(test)]
-mod questions;
+mod flushes;
 #[cfg(test)]
 mod records;
+#[cfg(test)]
+mod refusals;
 #[cfg(test)]
 mod refuting;
 #[cfg(test)]

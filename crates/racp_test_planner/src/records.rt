@@ -403,10 +403,11 @@ struct Bounds {
 }
 
 fn later(time: u32) -> Bounds {
-    let after = |start: u32| start.saturating_add(time);
+    let (one, two) = (time.saturating_add(1), time.saturating_add(2));
+    let (three, four) = (time.saturating_add(3), time.saturating_add(4));
     Bounds {
-        lower: [after(0), after(0), after(0), after(0), after(3)],
-        upper: [after(1), after(1), after(2), after(2), after(4)],
+        lower: [time, time, time, time, three],
+        upper: [one, one, two, two, four],
     }
 }
 

@@ -1,14 +1,13 @@
 //! Lines of trees that refute questions.
 
-use crate::searches::asked_of;
-use racp_samples::parallel;
+use racp_samples::{parallel, question};
 use racp_search::{Step, refute};
 use std::alloc::Global;
 
-/// A deadline of the five jobs that run in parallel, units, and the lines that show that these are not enough, each a letter
+/// When each of the five jobs starts at the latest, units, and the lines that show that these are not enough, each a letter
 /// with its number; no lines where they are.
 struct Row {
-    deadline: u32,
+    latest: &'static [u32],
     units: u32,
     lines: &'static [(u8, u32)],
 }
@@ -16,22 +15,22 @@ struct Row {
 /// At the time 0 the jobs 2, 3 and 4 need 2, 1 and 1 units. They take 3, 2 and 2 time units.
 const ROWS: &[Row] = &[
     Row {
-        deadline: 3,
+        latest: &[0, 0, 1, 1, 3],
         units: 3,
         lines: &[(b'D', 0), (b'L', 2), (b'L', 3), (b'L', 4)],
     },
     Row {
-        deadline: 4,
+        latest: &[1, 1, 2, 2, 4],
         units: 2,
         lines: &[(b'D', 0), (b'L', 2), (b'L', 3)],
     },
     Row {
-        deadline: 4,
+        latest: &[1, 1, 2, 2, 4],
         units: 3,
         lines: &[],
     },
     Row {
-        deadline: 5,
+        latest: &[2, 2, 3, 3, 5],
         units: 2,
         lines: &[],
     },
@@ -57,7 +56,7 @@ fn is_refuted(alloc: Global, row: &Row) -> bool {
     let Ok(net) = parallel(alloc) else {
         return false;
     };
-    let Some(asked) = asked_of(alloc, &net, row.deadline, &[row.units]) else {
+    let Ok(asked) = question(alloc, &net, &[row.units], &[0, 0, 0, 0, 3], row.latest) else {
         return false;
     };
     match refute(alloc, &net, &asked) {
@@ -69,11 +68,7 @@ fn is_refuted(alloc: Global, row: &Row) -> bool {
 
 #[test]
 fn writes_down_why_units_are_not_enough(rt: HostRuntime) {
-    for row in ROWS {
-        let (deadline, units) = (row.deadline, row.units);
-        assert!(rt;
-            is_refuted(rt.alloc(), row),
-            "deadline {deadline}, {units} units"
-        );
+    for (place, row) in ROWS.iter().enumerate() {
+        assert!(rt; is_refuted(rt.alloc(), row), "row {place}");
     }
 }

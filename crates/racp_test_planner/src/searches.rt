@@ -1,78 +1,15 @@
 //! Searches of small questions, whole and in parts.
 
-ghost use Rattle.std.specs.Prelude.{◌≡◌, IfSome};
+ghost use Rattle.std.specs.Prelude.{◌≡◌};
 ghost use Rattle.racp_model.specs.Formed.{IsFormed};
 
-use crate::plans::{Sample, sampled};
 use racp_cutset::{Board, Local};
 use racp_model::{NetFault, Network, OfNetwork, Question, Window};
-use racp_samples::{network, parallel, question, root_window};
+use racp_samples::{network, parallel, question};
 use racp_search::{Finding, Never, Piece, Rest, Stop, decide, explore};
-use std::alloc::{AllocError, Global};
+use std::alloc::Global;
 use std::cell::Cell;
 use std::marker::Brand;
-
-/// A network with a deadline, a vector between the floor and the roof, and whether this admits an answer.
-type Vector = (Sample, u32, &'static [u32], bool);
-
-const VECTORS: &[Vector] = &[
-    (Sample::Parallel, 3, &[3], false),
-    (Sample::Parallel, 3, &[4], true),
-    (Sample::Parallel, 4, &[2], false),
-    (Sample::Parallel, 4, &[3], true),
-    (Sample::Parallel, 4, &[4], true),
-    (Sample::Parallel, 5, &[2], true),
-    (Sample::Parallel, 5, &[3], true),
-    (Sample::Parallel, 5, &[4], true),
-    (Sample::Crossed, 2, &[1, 2], false),
-    (Sample::Crossed, 2, &[2, 2], true),
-    (Sample::Crossed, 3, &[1, 1], false),
-    (Sample::Crossed, 3, &[1, 2], true),
-    (Sample::Crossed, 3, &[2, 1], true),
-    (Sample::Crossed, 3, &[2, 2], true),
-    (Sample::Crossed, 4, &[1, 1], true),
-    (Sample::Chained, 8, &[1], false),
-    (Sample::Chained, 8, &[2], true),
-    (Sample::Chained, 8, &[3], true),
-    (Sample::Chained, 8, &[4], true),
-    (Sample::Chained, 8, &[5], true),
-];
-
-/// The question of units in the root window of a deadline; or `None` if there is none, or memory is refused.
-pub(crate) fn asked_of(
-    alloc: Global,
-    net: &Network,
-    deadline: u32,
-    units: &[u32],
-) -> Option<Question>
-    ensures { IfSome result (IsFormed net.now) }
-{
-    let window = root_window(alloc, net, deadline).ok()?;
-    question(alloc, net, units, window.lower(), window.upper()).ok()
-}
-
-/// Whether starts answer the question of a vector, as the search decides it; or `None` as there.
-fn is_admitted(alloc: Global, net: &Network, deadline: u32, units: &[u32]) -> Option<bool> {
-    let asked = asked_of(alloc, net, deadline, units)?;
-    let found = decide(alloc, net, &asked).ok()?;
-    Some(found.is_some())
-}
-
-/// Whether a vector admits an answer as it is to.
-fn is_decided(alloc: Global, vector: &Vector) -> bool {
-    let (of, deadline, units, wanted) = *vector;
-    match sampled(alloc, of) {
-        Ok(net) => is_admitted(alloc, &net, deadline, units) == Some(wanted),
-        Err(_) => false,
-    }
-}
-
-#[test]
-fn decides_the_vectors_between_floors_and_roofs(rt: HostRuntime) {
-    for (place, vector) in VECTORS.iter().enumerate() {
-        assert!(rt; is_decided(rt.alloc(), vector), "vector {place}");
-    }
-}
 
 /// Stops a search at one of its looks.
 #[derive(Drop)]

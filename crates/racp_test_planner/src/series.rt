@@ -223,11 +223,18 @@ fn series_of(alloc: Global, parts: Parts, root: &Window) -> Option<Vectors> {
     Vectors::new(alloc, &order, floors, roofs, pairs, root).ok()
 }
 
+/// Whether a question has these capacities, if any are given.
+fn has_units(question: &Question, units: Option<&[u32]>) -> bool {
+    match units {
+        Some(units) => question.capacities.as_slice() == units,
+        None => false,
+    }
+}
+
 /// Whether a question has these capacities, or there is none if none are given; or `None` if memory is refused.
 fn is_asked(next: Result<Option<Question>, AllocError>, units: Option<&[u32]>) -> Option<bool> {
     match next {
-        Ok(Some(question)) => Some(units.is_some_and(|units| question.capacities.as_slice()
-            == units)),
+        Ok(Some(question)) => Some(has_units(&question, units)),
         Ok(None) => Some(units.is_none()),
         Err(_) => None,
     }

@@ -85,19 +85,34 @@ fn are_two_at_once<R: Threads + Wait + Sync>(rt: &R, alloc: Global, workers: usi
 /// An order for the six jobs, of which `texts::TWO` is the plan.
 const ORDER: &[u8] = b"deadline = 3\nprices = [1, 1]\n";
 
+/// Whether this many workers, who enter the gate, print the plan of the six jobs.
+fn is_printed<R: Threads + Wait + Sync>(rt: &R, alloc: Global, workers: usize, gate: &Pair) -> bool
+    requires some_workers { 1 ≤ workers }
+    requires workers { workers ≤ 64 }
+{
+    let printed = plan_crowd(
+        rt,
+        alloc,
+        texts::CROSSED,
+        ORDER,
+        workers,
+        ALL_TURNS,
+        gate,
+        &Never,
+    );
+    match printed {
+        Ok((printed, _)) => printed.status == 0 && printed.text.as_slice() == texts::TWO.as_bytes(),
+        Err(_) => false,
+    }
+}
+
 /// Whether two of this many workers search at once, and print the plan of the six jobs.
 fn is_printed_by_two<R: Threads + Wait + Sync>(rt: &R, alloc: Global, workers: usize) -> bool
     requires some_workers { 1 ≤ workers }
     requires workers { workers ≤ 64 }
 {
     let gate = Pair::new();
-    let net = texts::CROSSED;
-    let printed = plan_crowd(rt, alloc, net, ORDER, workers, ALL_TURNS, &gate, &Never);
-    let is_plan = match printed {
-        Ok((printed, _)) => printed.status == 0 && printed.text.as_slice() == texts::TWO.as_bytes(),
-        Err(_) => false,
-    };
-    is_plan && gate.both()
+    is_printed(rt, alloc, workers, &gate) && gate.both()
 }
 
 #[test]

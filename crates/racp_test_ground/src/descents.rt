@@ -2,7 +2,7 @@
 
 ghost use Rattle.racp_optimum.specs.Optima.{IsTaskOf};
 
-use crate::schedules::price;
+use crate::all_schedules::price;
 use crate::sums::Sums;
 use crate::tasks::{Trial, try_next};
 use racp_delay::Never;

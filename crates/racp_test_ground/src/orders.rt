@@ -1,5 +1,6 @@
 //! Networks and orders by chance.
 
+use crate::schedules::empty_order;
 use racp_model::{Job, NetFault, Network};
 use racp_prices::Order;
 use racp_samples::Random;
@@ -34,20 +35,29 @@ fn fill(
     Ok(())
 }
 
+/// Draws the prices and the owned units of an order, which has the same times for all jobs.
+fn fill_order(
+    alloc: Global,
+    random: &mut Random,
+    net: &Network,
+    order: &mut Order,
+) -> Result<(), AllocError> {
+    let (resources, jobs) = (net.resource_count(), net.job_count());
+    order.prices = random.list(alloc, resources, 4)?;
+    order.owned = random.list(alloc, resources, 3)?;
+    order.release = vec![in alloc; 0; jobs]?;
+    order.due = vec![in alloc; order.deadline; jobs]?;
+    Ok(())
+}
+
 /// A random order by a late deadline, with nothing else that limits it.
 pub fn wide_order(alloc: Global, random: &mut Random, net: &Network) -> Result<Order, AllocError> {
-    let (resources, jobs) = (net.resource_count(), net.job_count());
-    let deadline = random.below(8).saturating_add(12);
-    let prices = random.list(alloc, resources, 4)?;
-    let owned = random.list(alloc, resources, 3)?;
-    let release = vec![in alloc; 0; jobs]?;
-    let due = vec![in alloc; deadline; jobs]?;
-    Ok(Order {
-        deadline,
-        prices,
-        owned,
-        ceilings: None,
-        release,
-        due,
-    })
+    let mut order = empty_order(alloc, random.below(8).saturating_add(12));
+    match fill_order(alloc, random, net, &mut order) {
+        Ok(()) => Ok(order),
+        Err(fault) => {
+            drop(order);
+            Err(fault)
+        }
+    }
 }

@@ -2,8 +2,8 @@
 
 ghost use Rattle.racp_optimum.specs.Optima.{IsTaskOf};
 
+use crate::all_schedules::is_any_within;
 use crate::asking::{Limits, QUESTIONS, Record, asked, question};
-use crate::schedules::is_any_within;
 use crate::sums::Sums;
 use crate::tasks::{Trial, try_next};
 use racp_facts::{Derivation, OfProblem};

@@ -1,8 +1,0 @@
-//! Tests of what no text of the program shows: a flush that fails behind a whole answer, capacities of another network, and pairs of
-//! jobs that are not there.
-#![tactic(auto)]
-
-#[cfg(test)]
-mod flushes;
-#[cfg(test)]
-mod refusals;
