@@ -1,6 +1,6 @@
-"""Slow rules of the certificate by clauses: they look at each start of each job, at each time, and at each value of the variable that
-a rule moves. Made from the table of lines of 'The certificate by clauses' in docs/FORMATS.md, and from what a rule has to leave: the
-values that are not ruled out. So they share nothing with the bounds of derivations.py."""
+"""Slow rules of the certificate by clauses: they look at each start of each job, at each time, and at each value of the variable
+that a rule moves. Made from the table of lines of 'The certificate by clauses' in docs/FORMATS.md, and from what a rule has to
+leave: the values that are not ruled out. So they share nothing with the bounds of derivations.py."""
 
 from slow.derivations import COST, start, units
 

@@ -1,5 +1,6 @@
-"""All solutions of small orders, one by one, and the clauses of a certificate beside them; and certificates with clauses of random
-literals. Made from 'The certificate by clauses' in docs/FORMATS.md: a clause says that some literal of it is true of each solution."""
+"""All solutions of small orders, one by one, and the clauses of a certificate beside them; and certificates with clauses of
+random literals. Made from 'The certificate by clauses' in docs/FORMATS.md: a clause says that some literal of it is true of each
+solution."""
 
 import contextlib
 import itertools

@@ -1,5 +1,5 @@
 //! Calls of a collector of four questions and more.
 
 mod scripts;
-mod series;
-mod trial;
+pub(crate) mod series;
+pub(crate) mod trial;

@@ -152,24 +152,6 @@ pub(crate) struct Parts {
     pub(crate) pairs: Vec<(u32, u32)>,
 }
 
-/// An order of these prices and owned units; or `None` if memory is refused.
-fn order_of(alloc: Global, prices: &[u32], owned: &[u32]) -> Option<Order> {
-    let Ok(prices) = prices.to_vec(alloc) else {
-        return None;
-    };
-    let Ok(owned) = owned.to_vec(alloc) else {
-        return None;
-    };
-    Some(Order {
-        deadline: 0,
-        prices,
-        owned,
-        ceilings: None,
-        release: Vec::new(alloc),
-        due: Vec::new(alloc),
-    })
-}
-
 /// This many units; or `None` if memory is refused.
 fn capacities(alloc: Global, units: &[u32]) -> Option<Capacities> {
     match units.to_vec(alloc) {
@@ -178,19 +160,38 @@ fn capacities(alloc: Global, units: &[u32]) -> Option<Capacities> {
     }
 }
 
+/// Puts what a row says into the parts of a box.
+fn fill(alloc: Global, row: &Boxed, parts: &mut Parts) -> Result<(), AllocError> {
+    parts.order.prices = row.prices.to_vec(alloc)?;
+    parts.order.owned = row.owned.to_vec(alloc)?;
+    parts.floors = Capacities::new(row.floors.to_vec(alloc)?);
+    parts.roofs = Capacities::new(row.roofs.to_vec(alloc)?);
+    parts.pairs = row.pairs.to_vec(alloc)?;
+    Ok(())
+}
+
 /// The parts of a box; or `None` if memory is refused.
 pub(crate) fn parts_of(alloc: Global, row: &Boxed) -> Option<Parts> {
-    let order = order_of(alloc, row.prices, row.owned)?;
-    let floors = capacities(alloc, row.floors)?;
-    let roofs = capacities(alloc, row.roofs)?;
-    match row.pairs.to_vec(alloc) {
-        Ok(pairs) => Some(Parts {
-            order,
-            floors,
-            roofs,
-            pairs,
-        }),
-        Err(_) => None,
+    let order = Order {
+        deadline: 0,
+        prices: Vec::new(alloc),
+        owned: Vec::new(alloc),
+        ceilings: None,
+        release: Vec::new(alloc),
+        due: Vec::new(alloc),
+    };
+    let mut parts = Parts {
+        order,
+        floors: Capacities::new(Vec::new(alloc)),
+        roofs: Capacities::new(Vec::new(alloc)),
+        pairs: Vec::new(alloc),
+    };
+    match fill(alloc, row, &mut parts) {
+        Ok(()) => Some(parts),
+        Err(_) => {
+            drop(parts);
+            None
+        }
     }
 }
 

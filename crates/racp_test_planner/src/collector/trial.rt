@@ -122,7 +122,7 @@ fn ask<N: OfNetwork>(core: &mut Core<N, Vectors>) -> Heard {
     }
 }
 
-fn of_asked(asked: Asked) -> Heard {
+pub(crate) fn of_asked(asked: Asked) -> Heard {
     match asked {
         Asked::Question(index) => Heard::Question(index),
         Asked::End => Heard::End,
@@ -132,7 +132,7 @@ fn of_asked(asked: Asked) -> Heard {
 }
 
 /// Makes room for a piece.
-fn has_room(pieces: &mut Vec<Held>) -> bool {
+pub(crate) fn has_room(pieces: &mut Vec<Held>) -> bool {
     pieces.reserve(1).is_ok() || pieces.reserve(1).is_ok()
 }
 
@@ -151,7 +151,7 @@ fn take<N: OfNetwork>(trial: &mut Trial<N>, seat: usize) -> Heard {
 }
 
 /// What a reply tells. Its piece is kept, for which there is room.
-fn told_of<N: OfNetwork>(reply: Reply<Piece<N>>, pieces: &mut Vec<Held>) -> Heard {
+pub(crate) fn told_of<N: OfNetwork>(reply: Reply<Piece<N>>, pieces: &mut Vec<Held>) -> Heard {
     match reply {
         Reply::Piece(piece) => kept(piece, pieces),
         Reply::Nothing => Heard::Nothing,
@@ -175,7 +175,7 @@ fn kept<N: OfNetwork>(piece: Piece<N>, pieces: &mut Vec<Held>) -> Heard {
 }
 
 /// The piece, with a change; or `None` if memory is refused.
-fn piece<N: OfNetwork>(
+pub(crate) fn piece<N: OfNetwork>(
     alloc: Global,
     net: &Network,
     held: &Held,
@@ -296,7 +296,7 @@ fn give_back<N: OfNetwork>(
     of_merged(trial.core.give_back(given))
 }
 
-fn of_merged(merged: Merged) -> Heard {
+pub(crate) fn of_merged(merged: Merged) -> Heard {
     match merged {
         Merged::Taken => Heard::Taken,
         Merged::Stale => Heard::Stale,

@@ -3,11 +3,12 @@
 ghost use Rattle.std.specs.Prelude.{◌≡◌, ◌<◌};
 ghost use Rattle.racp_model.specs.Formed.{AreFormed};
 
+use crate::collector::trial::Heard;
 use crate::desk::series::units_of_the_first;
 use crate::desk::trial::Call::{Ask, GiveBack, Halt, Hand, Take};
 use crate::desk::trial::How::{NextSeat, Stopped, Whole};
-use crate::desk::trial::{Call, Heard, make};
-use racp_candidates::Singles;
+use crate::desk::trial::{Call, make};
+use racp_candidates::Vectors;
 use racp_core::Outcome;
 use racp_desk::{Closed, RunNames, State};
 use racp_model::{Network, OfNetwork};
@@ -32,16 +33,16 @@ const SCRIPTS: &[Script] = &[
         second: 1,
         rows: &[
             (Ask, Heard::Question(0)),
-            (Take(1), Heard::Piece(0)),
+            (Take(1), Heard::Piece(0, 0)),
             (Hand(0, NextSeat), Heard::Stale),
             (Hand(0, Stopped), Heard::Taken),
             (Hand(0, Whole), Heard::Stale),
-            (Take(2), Heard::Piece(1)),
+            (Take(2), Heard::Piece(1, 0)),
             (Hand(1, Whole), Heard::Taken),
             (Hand(1, Whole), Heard::Stale),
             (GiveBack(1), Heard::Stale),
             (Ask, Heard::Question(1)),
-            (Take(1), Heard::Piece(2)),
+            (Take(1), Heard::Piece(2, 1)),
             (GiveBack(2), Heard::Taken),
             (Halt, Heard::Halted),
             (Halt, Heard::Halted),
@@ -58,8 +59,8 @@ const SCRIPTS: &[Script] = &[
         rows: &[
             (Ask, Heard::Question(0)),
             (Ask, Heard::Question(1)),
-            (Take(0), Heard::Piece(0)),
-            (Take(1), Heard::Piece(1)),
+            (Take(0), Heard::Piece(0, 0)),
+            (Take(1), Heard::Piece(1, 1)),
             (Hand(1, Whole), Heard::Taken),
             (Ask, Heard::Enough),
             (Hand(0, Whole), Heard::Taken),
@@ -89,7 +90,7 @@ fn ends(closed: &Closed, script: &Script) -> bool {
 fn follows<N: OfNetwork, M: RunNames>(
     alloc: Global,
     net: &Network,
-    state: &mut State<N, M, Singles>,
+    state: &mut State<N, M, Vectors>,
     mine: &mut Share<M>,
     rows: &[(Call, Heard)],
 ) -> bool
@@ -111,7 +112,7 @@ fn follows<N: OfNetwork, M: RunNames>(
 fn plays<N: OfNetwork, M: RunNames>(
     alloc: Global,
     net: &Network,
-    series: Singles,
+    series: Vectors,
     script: &Script,
     blank: Blank,
 ) -> bool
@@ -124,7 +125,7 @@ fn plays<N: OfNetwork, M: RunNames>(
     requires one { blank.parts ≡ 1 }
 {
     let (total, mut all) = blank.open::<M>();
-    let made: Result<State<N, M, Singles>, AllocError> = State::new(alloc, net, series, total);
+    let made: Result<State<N, M, Vectors>, AllocError> = State::new(alloc, net, series, total);
     let Ok(mut state) = made else {
         return false;
     };

@@ -1,15 +1,14 @@
 //! Calls of a desk on one thread, told one by one.
 
-ghost use Rattle.std.specs.Prelude.{◌≡◌, ◌<◌, ◌≤◌, length, IfOk, IfSome};
+ghost use Rattle.std.specs.Prelude.{◌≡◌, ◌<◌, ◌≤◌, IfSome};
 
+use crate::collector::trial::{Change, Heard, Held, has_room, of_asked, of_merged, piece, told_of};
 use crate::desk::stops::AtCall;
-use racp_candidates::Singles;
-use racp_core::{Asked, Merged, Reply};
+use racp_candidates::Vectors;
 use racp_cutset::{Board, Local};
 use racp_desk::{Cause, RunNames, State};
-use racp_model::{Network, OfNetwork, Question};
-use racp_samples::{SampleFault, question};
-use racp_search::{Collector, Finding, Piece, explore};
+use racp_model::{Network, OfNetwork};
+use racp_search::{Finding, explore};
 use std::alloc::Global;
 use std::sync::ledger::Share;
 
@@ -34,38 +33,11 @@ pub(crate) enum Call {
     Halt,
 }
 
-/// What a call answers: the place of a question, the number of a piece, or why there is none, also if memory was
-/// refused.
-#[derive(Clone, Copy, PartialEq)]
-pub(crate) enum Heard {
-    Question(usize),
-    End,
-    Enough,
-    Piece(u64),
-    Nothing,
-    Done,
-    Taken,
-    Stale,
-    Halted,
-    Refused,
-}
-
-/// A piece that was taken, by its parts.
-#[derive(Drop)]
-pub(crate) struct Held {
-    number: u64,
-    seat: usize,
-    index: u64,
-    question: Question,
-}
-
-impl Collector for Held {}
-
 /// Makes a call. A piece that was never taken is stale.
 pub(crate) fn make<N: OfNetwork, M: RunNames>(
     alloc: Global,
     net: &Network,
-    state: &mut State<N, M, Singles>,
+    state: &mut State<N, M, Vectors>,
     mine: &mut Share<M>,
     pieces: &mut Vec<Held>,
     call: Call,
@@ -87,21 +59,18 @@ pub(crate) fn make<N: OfNetwork, M: RunNames>(
     }
 }
 
-fn ask<N: OfNetwork, M: RunNames>(state: &mut State<N, M, Singles>, mine: &mut Share<M>) -> Heard
+fn ask<N: OfNetwork, M: RunNames>(state: &mut State<N, M, Vectors>, mine: &mut Share<M>) -> Heard
     requires { 0 < mine.old.parts }
     ensures { mine.new.parts ≡ mine.old.parts }
 {
     match state.ask(mine) {
-        Ok(Asked::Question(index)) => Heard::Question(index),
-        Ok(Asked::End) => Heard::End,
-        Ok(Asked::Enough) => Heard::Enough,
-        Ok(Asked::Halted) => Heard::Halted,
+        Ok(asked) => of_asked(asked),
         Err(_) => Heard::Refused,
     }
 }
 
 fn take<N: OfNetwork, M: RunNames>(
-    state: &mut State<N, M, Singles>,
+    state: &mut State<N, M, Vectors>,
     mine: &mut Share<M>,
     pieces: &mut Vec<Held>,
     seat: usize,
@@ -113,45 +82,13 @@ fn take<N: OfNetwork, M: RunNames>(
     if state.pieces() >= 100 {
         return Heard::Nothing;
     }
+    if !has_room(pieces) {
+        return Heard::Refused;
+    }
     match state.take(seat, mine) {
-        Ok(Reply::Piece(piece)) => keep(piece, pieces),
-        Ok(Reply::Nothing) => Heard::Nothing,
-        Ok(Reply::Done) => Heard::Done,
-        Ok(Reply::Halted) => Heard::Halted,
+        Ok(reply) => told_of(reply, pieces),
         Err(_) => Heard::Refused,
     }
-}
-
-/// Keeps the parts of a piece.
-fn keep<N: OfNetwork>(piece: Piece<N>, pieces: &mut Vec<Held>) -> Heard {
-    let (number, seat, index) = (piece.number(), piece.seat(), piece.index());
-    let question = piece.into_question::<Held>();
-    let held = Held {
-        number,
-        seat,
-        index,
-        question,
-    };
-    match pieces.push(held) {
-        Ok(()) => Heard::Piece(number),
-        Err(_) => Heard::Refused,
-    }
-}
-
-/// The piece once more, of a worker at this seat.
-fn again<N: OfNetwork>(
-    alloc: Global,
-    net: &Network,
-    held: &Held,
-    seat: usize,
-) -> Result<Piece<N>, SampleFault>
-    ensures capacities { IfOk result (λ piece. length piece.question.capacities ≡ net.now.resources) }
-    ensures lower { IfOk result (λ piece. length piece.question.window.lower ≡ length net.now.jobs) }
-    ensures upper { IfOk result (λ piece. length piece.question.window.upper ≡ length net.now.jobs) }
-{
-    let (units, window) = (held.question.capacities.as_slice(), &held.question.window);
-    let asked = question(alloc, net, units, window.lower(), window.upper())?;
-    Ok(Piece::new(held.number, seat, held.index, asked))
 }
 
 /// What a search of the piece finds; or `None` if memory is refused.
@@ -163,15 +100,15 @@ fn explored<N: OfNetwork>(alloc: Global, net: &Network, held: &Held, how: How) -
         return None;
     };
     let mut local: Local<N> = Local::new(alloc, net);
-    let seat = match how {
-        How::NextSeat => held.seat.wrapping_add(1),
-        How::Whole | How::Stopped => held.seat,
+    let change = match how {
+        How::NextSeat => Change::Seat,
+        How::Whole | How::Stopped => Change::Nothing,
     };
     let stop = AtCall::each(matches!(how, How::Stopped));
     let most = Some(1_000_000);
-    let finding = match again(alloc, net, held, seat) {
-        Ok(piece) => Some(explore(alloc, net, piece, most, &board, &mut local, &stop)),
-        Err(_) => None,
+    let finding = match piece(alloc, net, held, change) {
+        Some(piece) => Some(explore(alloc, net, piece, most, &board, &mut local, &stop)),
+        None => None,
     };
     drop((local, board));
     finding
@@ -180,7 +117,7 @@ fn explored<N: OfNetwork>(alloc: Global, net: &Network, held: &Held, how: How) -
 fn hand<N: OfNetwork, M: RunNames>(
     alloc: Global,
     net: &Network,
-    state: &mut State<N, M, Singles>,
+    state: &mut State<N, M, Vectors>,
     mine: &mut Share<M>,
     pieces: &[Held],
     at: usize,
@@ -200,7 +137,7 @@ fn hand<N: OfNetwork, M: RunNames>(
 }
 
 fn hand_in<N: OfNetwork, M: RunNames>(
-    state: &mut State<N, M, Singles>,
+    state: &mut State<N, M, Vectors>,
     mine: &mut Share<M>,
     finding: Finding<N>,
 ) -> Heard
@@ -220,7 +157,7 @@ fn hand_in<N: OfNetwork, M: RunNames>(
 fn give_back<N: OfNetwork, M: RunNames>(
     alloc: Global,
     net: &Network,
-    state: &mut State<N, M, Singles>,
+    state: &mut State<N, M, Vectors>,
     mine: &mut Share<M>,
     pieces: &[Held],
     at: usize,
@@ -231,15 +168,8 @@ fn give_back<N: OfNetwork, M: RunNames>(
     let Some(held) = pieces.get(at) else {
         return Heard::Stale;
     };
-    match again(alloc, net, held, held.seat) {
-        Ok(piece) => of_merged(state.give_back(piece, mine)),
-        Err(_) => Heard::Refused,
-    }
-}
-
-fn of_merged(merged: Merged) -> Heard {
-    match merged {
-        Merged::Taken => Heard::Taken,
-        Merged::Stale => Heard::Stale,
+    match piece(alloc, net, held, Change::Nothing) {
+        Some(piece) => of_merged(state.give_back(piece, mine)),
+        None => Heard::Refused,
     }
 }
