@@ -12,6 +12,7 @@ use racp_samples::{parallel, root_window};
 use std::alloc::{AllocError, Global};
 
 /// A box of capacity vectors, and its vectors: all of them, or the first ones.
+#[derive(Clone, Copy)]
 pub(crate) struct Boxed {
     pub(crate) prices: &'static [u32],
     pub(crate) owned: &'static [u32],
