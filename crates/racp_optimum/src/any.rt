@@ -29,8 +29,8 @@ impl<P: OfProblem> Descent<P> {
         let task = tasks.part;
         let x = task.net.job_count() + task.net.resource_count();
         let most = task.root.upper_at(x);
-        if let Heard::None(clause) = self.ask(search, tasks, hearer, x, most)? {
-            self.close(task, hearer, clause)?;
+        if let Heard::None = self.ask(search, tasks, hearer, x, most)? {
+            self.close_last(task, hearer)?;
         }
         Ok(())
     }
@@ -41,13 +41,21 @@ impl<P: OfProblem> Descent<P> {
         ensures { IfOk result (IsFeasible P.problem.network P.problem.terms) }
     {
         let Descent { best, clauses, .. } = self;
-        let Some(draft) = best else {
-            return Ok(none_fits(&clauses));
-        };
-        match Draft::of_starts(task.alloc, task.net, task.order, draft.starts)? {
-            Some(draft) => Ok(Feasible::Fits(draft)),
-            None => Ok(Feasible::Unknown),
+        match best {
+            Some(draft) => fits::<P>(task, draft),
+            None => Ok(none_fits(&clauses)),
         }
+    }
+}
+
+/// That the starts of a draft fit, if they do.
+fn fits<P: OfProblem>(task: Task<'_>, draft: Draft) -> Result<Feasible, AllocError>
+    requires { IsTaskOf P.problem task }
+    ensures { IfOk result (IsFeasible P.problem.network P.problem.terms) }
+{
+    match Draft::of_starts(task.alloc, task.net, task.order, draft.starts)? {
+        Some(draft) => Ok(Feasible::Fits(draft)),
+        None => Ok(Feasible::Unknown),
     }
 }
 

@@ -1,5 +1,6 @@
 //! What is asked on the way down.
 
+ghost use Rattle.racp_facts.specs.Roots.{IsPartOf};
 ghost use Rattle.racp_facts.specs.Solutions.{HasPlaces};
 ghost use Rattle.racp_optimum.specs.Optima.{AreTasksOf, IsTaskOf, MayBeTold};
 
@@ -18,13 +19,13 @@ use std::alloc::AllocError;
 /// The hearer is told what was done once in so many conflicts.
 const SLICE: u64 = 1_000;
 
-/// What comes of a question, where `C` are the clauses.
-#[derive(Drop)]
-pub(crate) enum Heard<C> {
+/// What comes of a question.
+#[derive(Clone, Copy)]
+pub(crate) enum Heard {
     /// The best draft is a better one.
     Less,
-    /// This clause shows that there is nothing less.
-    None(C),
+    /// There is nothing less; the clause that shows it is the last one.
+    None,
     /// Nothing is known.
     Open,
 }
@@ -38,19 +39,29 @@ impl<P: OfProblem> Descent<P> {
         hearer: &H,
         x: usize,
         most: u64,
-    ) -> Result<Heard<Clause<P>>, AllocError>
+    ) -> Result<Heard, AllocError>
         requires are_of { AreTasksOf N.problem P.problem tasks }
         requires may { MayBeTold P.problem H.may_hear_cost H.may_hear_draft }
     {
         self.bound(x, most);
         match self.told(search, tasks, hearer)? {
             Told::Found(starts, _) => self.better(tasks.part, hearer, starts, x, most),
-            Told::Refuted(clause) => Ok(match taken_over(tasks.part, clause)? {
-                Some(clause) => Heard::None(clause),
-                None => Heard::Open,
-            }),
+            Told::Refuted(clause) => self.take(tasks.part, clause),
             Told::Open(_) => Ok(Heard::Open),
         }
+    }
+
+    /// Takes over a clause of the whole order as the last one, if it can be.
+    fn take<N: OfProblem>(&mut self, part: Task<'_>, clause: Clause<N>) -> Result<Heard, AllocError>
+        requires of_part { IsTaskOf P.problem part }
+        requires is_part { IsPartOf P.problem N.problem }
+    {
+        self.last = taken_over(part, clause)?;
+        Ok(if self.last.is_some() {
+            Heard::None
+        } else {
+            Heard::Open
+        })
     }
 
     /// What the search tells of whatever is still of interest.
@@ -69,8 +80,22 @@ impl<P: OfProblem> Descent<P> {
             ..
         } = tasks.part;
         let bounds = bounds_of(alloc, root, variable_count(net), &self.most)?;
+        self.ask_through(search, tasks.whole, hearer, &bounds)
+    }
+
+    /// Asks whether something lies within bounds, and tells the hearer from time to time what was done.
+    fn ask_through<N: OfProblem, H: Hearer>(
+        &mut self,
+        search: &mut Search<N>,
+        whole: Task<'_>,
+        hearer: &H,
+        bounds: &Domain,
+    ) -> Result<Told<Clause<N>>, AllocError>
+        requires is_of { IsTaskOf N.problem whole }
+        requires places { HasPlaces N.problem.network bounds.now }
+    {
         for _i in 0..u64::MAX {
-            match self.ask_on(search, tasks.whole, hearer, &bounds)? {
+            match self.ask_on(search, whole, hearer, bounds)? {
                 Told::Open(Reason::Budget) if self.left > 0 => hearer.hear_tally(search.tally()),
                 told => return Ok(told),
             }
@@ -112,7 +137,7 @@ impl<P: OfProblem> Descent<P> {
         starts: Starts,
         x: usize,
         most: u64,
-    ) -> Result<Heard<Clause<P>>, AllocError>
+    ) -> Result<Heard, AllocError>
         requires is_of { IsTaskOf P.problem task }
         requires may { MayBeTold P.problem H.may_hear_cost H.may_hear_draft }
     {

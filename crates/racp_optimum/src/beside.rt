@@ -28,9 +28,39 @@ fn help<N: OfProblem, R: Wait>(
     seat: usize,
 ) -> Result<Descent<N>, AllocError> {
     let mut worker = Worker::new(common, seat, None)?;
-    worker.tell(rt, common, &Quiet { common })?;
-    worker.work(rt, common, &Quiet { common })?;
-    Ok(worker.descent)
+    match follow(rt, common, &mut worker) {
+        Ok(()) => Ok(worker.into_descent()),
+        Err(refused) => {
+            // By a call: else each part is dropped here.
+            drop(worker);
+            Err(refused)
+        }
+    }
+}
+
+/// Begins with what the others have found so far, and searches.
+fn follow<N: OfProblem, R: Wait>(
+    rt: &R,
+    common: &Common<'_, N>,
+    worker: &mut Worker<N>,
+) -> Result<(), AllocError> {
+    let hearer = Quiet { common };
+    worker.tell(rt, common, &hearer)?;
+    worker.work(rt, common, &hearer)
+}
+
+/// Starts the search in a seat on a thread of its own, if one can be had.
+fn start_one<'s, E, N: OfProblem + Send + Sync + 's, R: Threads + Wait + Sync + 's>(
+    scope: &'s Scope<'s, E>,
+    rt: &'s R,
+    common: &'s Common<'s, N>,
+    seat: usize,
+) -> Option<JoinHandle<Result<Descent<N>, AllocError>>> {
+    let job = move || -> Result<Descent<N>, AllocError> { help(rt, common, seat) };
+    match scope.spawn(job) {
+        Ok(handle) => Some(handle),
+        Err(_) => None,
+    }
 }
 
 /// Starts so many searches but the first, each on a thread of its own. Where one cannot be started, there are fewer.
@@ -42,70 +72,96 @@ fn start<'s, E, N: OfProblem + Send + Sync + 's, R: Threads + Wait + Sync + 's>(
 ) -> Result<Vec<JoinHandle<Result<Descent<N>, AllocError>>>, AllocError> {
     let mut handles = Vec::with_capacity(common.task.alloc, workers)?;
     for seat in 1..workers {
-        let job = move || -> Result<Descent<N>, AllocError> { help(rt, common, seat) };
-        match scope.spawn(job) {
-            Ok(handle) => handles.push_reserved(handle),
-            Err(_) => break,
-        }
+        let Some(handle) = start_one(scope, rt, common, seat) else {
+            break;
+        };
+        handles.push_reserved(handle);
     }
     Ok(handles)
 }
 
-/// Joins searches, and gives what one that has finished has found, if another has not.
+/// Joins searches, and takes what one that has finished has found, if nothing that is finished is there.
 fn join_all<N: OfProblem, R: Threads + Wait>(
     rt: &R,
     task: Task<'_>,
     handles: Vec<JoinHandle<Result<Descent<N>, AllocError>>>,
-    mine: Descent<N>,
-) -> Descent<N> {
-    let mut found = mine;
+    found: &mut Descent<N>,
+) {
     for handle in handles {
         if let Ok(other) = handle.join(rt) {
-            if !found.is_finished(task) {
-                found = other;
-            }
+            take_finished(task, found, other);
         }
     }
-    found
+}
+
+/// Takes what another search has found, if nothing that is finished is there.
+fn take_finished<N: OfProblem>(task: Task<'_>, found: &mut Descent<N>, other: Descent<N>) {
+    if found.is_finished(task) {
+        drop(other);
+    } else {
+        *found = other;
+    }
 }
 
 /// Searches on the calling thread, and lets the others stop.
 fn lead<N: OfProblem, H: Hearer, R: Wait>(
     rt: &R,
     common: &Common<'_, N>,
-    worker: Worker<N>,
+    worker: &mut Worker<N>,
     hearer: &H,
-) -> Result<Descent<N>, AllocError>
+) -> Result<(), AllocError>
     requires may { MayBeTold N.problem H.may_hear_cost H.may_hear_draft }
 {
-    let mut worker = worker;
     let done = worker.work(rt, common, &Loud { common, hearer });
     common.finish();
-    done?;
-    Ok(worker.descent)
+    done
 }
 
-/// Searches on the calling thread with others beside it, and gives what one of them that has finished has found.
-fn in_scope<'a, N: OfProblem + Send + Sync, H: Hearer, R: Threads + Wait + Sync>(
+/// Searches on the calling thread with others beside it, and takes what one of them that has finished has found.
+fn in_scope<'a, 'b, N: OfProblem + Send + Sync, H: Hearer, R: Threads + Wait + Sync>(
     rt: &'a R,
     common: &'a Common<'a, N>,
-    worker: Worker<N>,
+    worker: &'b mut Worker<N>,
     workers: usize,
     hearer: &'a H,
-) -> Result<Descent<N>, AllocError>
+) -> Result<(), AllocError>
     requires may { MayBeTold N.problem H.may_hear_cost H.may_hear_draft }
 {
     thread::scope(
         thread::scope_env(),
         rt,
-        move |scope| -> Result<Descent<N>, AllocError>
+        move |scope| -> Result<(), AllocError>
             requires { MayBeTold N.problem H.may_hear_cost H.may_hear_draft }
         {
             let handles = start(scope, rt, common, workers)?;
-            let mine = lead(rt, common, worker, hearer)?;
-            Ok(join_all(rt, common.task, handles, mine))
+            lead(rt, common, worker, hearer)?;
+            join_all(rt, common.task, handles, &mut worker.descent);
+            Ok(())
         },
     )
+}
+
+/// Searches alone for so many conflicts, and then with others beside.
+fn search_all<'a, 'b, N: OfProblem + Send + Sync, H: Hearer, R: Threads + Wait + Sync>(
+    rt: &'a R,
+    common: &'a Common<'a, N>,
+    worker: &'b mut Worker<N>,
+    workers: usize,
+    hearer: &'a H,
+) -> Result<(), AllocError>
+    requires may { MayBeTold N.problem H.may_hear_cost H.may_hear_draft }
+{
+    worker.descent.left = ALONE.min(common.limits.conflicts);
+    let task = common.task;
+    let tasks = Tasks {
+        whole: task,
+        part: task,
+    };
+    worker.descent.go_down(&mut worker.search, tasks, hearer)?;
+    if worker.descent.is_finished(task) || worker.descent.left > 0 {
+        return Ok(());
+    }
+    in_scope(rt, common, worker, workers, hearer)
 }
 
 /// The plan of an order, or that no capacities are enough; or neither: as `optimum_of` finds it, by so many searches, 1 to 64,
@@ -136,15 +192,12 @@ pub fn optimum_beside<N: OfProblem + Send + Sync, H: Hearer, R: Threads + Wait +
     let draft = first_draft::<N, H>(task, limits, hearer)?;
     let common: Common<'_, N> = Common::new(task, own, share)?;
     let mut worker = Worker::new(&common, 0, draft)?;
-    worker.descent.left = ALONE.min(limits.conflicts);
-    let tasks = Tasks {
-        whole: task,
-        part: task,
-    };
-    worker.descent.go_down(&mut worker.search, tasks, hearer)?;
-    if worker.descent.is_finished(task) || worker.descent.left > 0 {
-        return worker.descent.into_optimum(task);
+    match search_all(rt, &common, &mut worker, workers, hearer) {
+        Ok(()) => worker.into_descent().into_optimum(task),
+        Err(refused) => {
+            // By a call: else each part is dropped here.
+            drop(worker);
+            Err(refused)
+        }
     }
-    let descent = in_scope(rt, &common, worker, workers, hearer)?;
-    descent.into_optimum(task)
 }

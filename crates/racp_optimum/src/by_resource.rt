@@ -37,11 +37,13 @@ pub(crate) struct Parts {
 impl Parts {
     /// Nothing is known yet of so many resources.
     pub(crate) fn new(alloc: Global, first: usize, resources: usize) -> Result<Self, AllocError> {
+        let for_cost = Vec::from_elem(alloc, 0, resources)?;
+        let for_units = Vec::from_elem(alloc, 0, resources)?;
         Ok(Parts {
             first,
             rises: false,
-            for_cost: Vec::from_elem(alloc, 0, resources)?,
-            for_units: Vec::from_elem(alloc, 0, resources)?,
+            for_cost,
+            for_units,
         })
     }
 
@@ -94,15 +96,18 @@ impl<P: OfProblem> Descent<P> {
             self.unbound(task);
             match heard {
                 Heard::Less => {}
-                Heard::None(_) => {
-                    if let Some(parts) = &mut self.parts {
-                        parts.raise(aim, k, most.saturating_add(1));
-                    }
-                }
+                Heard::None => self.raise(aim, k, most.saturating_add(1)),
                 Heard::Open => return Ok(false),
             }
         }
         Ok(true)
+    }
+
+    /// From now on less than so many units of a resource are too few.
+    fn raise(&mut self, aim: Aim, k: usize, floor: u64) {
+        if let Some(parts) = &mut self.parts {
+            parts.raise(aim, k, floor);
+        }
     }
 
     /// The resource that is asked for next, and how many units of it.

@@ -45,10 +45,11 @@ impl<'a, N: OfProblem> Common<'a, N> {
     pub(crate) fn new(task: Task<'a>, limits: Limits, most_bytes: u64) -> Result<Self, AllocError>
         requires { IsTaskOf N.problem task }
     {
+        let board = boxcar::Vec::new(task.alloc)?;
         Ok(Common {
             task,
             limits,
-            board: boxcar::Vec::new(task.alloc)?,
+            board,
             bytes: AtomicU64::new(0),
             most_bytes,
             best: Mutex::new(None),
@@ -69,14 +70,19 @@ impl<'a, N: OfProblem> Common<'a, N> {
     /// Shows the others the short clauses that a search has learned.
     pub(crate) fn show<R: Wait>(&self, rt: &R, seat: usize, search: &mut Search<N>) {
         for clause in search.take_short() {
-            let literals = clause.literals().len() as u64;
-            let bytes = CLAUSE_BYTES.saturating_add(LITERAL_BYTES.saturating_mul(literals));
-            let before = self.bytes.fetch_add(bytes, Ordering::SeqCst);
-            if before < self.most_bytes {
-                let _ = self.board.push(rt, Note { seat, clause });
-            } else {
-                self.bytes.fetch_sub(bytes, Ordering::SeqCst);
-            }
+            self.show_clause(rt, Note { seat, clause });
+        }
+    }
+
+    /// Shows the others a clause, if there is room for it.
+    fn show_clause<R: Wait>(&self, rt: &R, note: Note<N>) {
+        let literals = note.clause.literals().len() as u64;
+        let bytes = CLAUSE_BYTES.saturating_add(LITERAL_BYTES.saturating_mul(literals));
+        let before = self.bytes.fetch_add(bytes, Ordering::SeqCst);
+        if before < self.most_bytes {
+            drop(self.board.push(rt, note));
+        } else {
+            self.bytes.fetch_sub(bytes, Ordering::SeqCst);
         }
     }
 
@@ -105,18 +111,31 @@ impl<'a, N: OfProblem> Common<'a, N> {
         mine: &Option<Draft>,
     ) -> Result<Option<Draft>, AllocError> {
         let mut best = self.best.lock(rt);
-        match (&*best, mine) {
-            (Some(other), Some(draft)) if is_less(other, draft) => Ok(Some(copy_of(
-                self.task.alloc,
-                other,
-            )?)),
-            (Some(other), None) => Ok(Some(copy_of(self.task.alloc, other)?)),
-            (_, Some(draft)) => {
-                *best = Some(copy_of(self.task.alloc, draft)?);
-                Ok(None)
-            }
-            _ => Ok(None),
-        }
+        exchanged(self.task.alloc, &mut *best, mine)
+    }
+}
+
+/// The better one of the best draft of all and one of a search, if that is not its own; else its own is the best from now on.
+fn exchanged(
+    alloc: Global,
+    best: &mut Option<Draft>,
+    mine: &Option<Draft>,
+) -> Result<Option<Draft>, AllocError> {
+    let Some(draft) = mine else {
+        return copy_of_some(alloc, best);
+    };
+    if is_better(best, draft) {
+        return copy_of_some(alloc, best);
+    }
+    *best = Some(copy_of(alloc, draft)?);
+    Ok(None)
+}
+
+/// Whether there is a draft, and it is less than another.
+fn is_better(best: &Option<Draft>, draft: &Draft) -> bool {
+    match best {
+        Some(best) => is_less(best, draft),
+        None => false,
     }
 }
 
@@ -128,11 +147,21 @@ fn is_less(one: &Draft, other: &Draft) -> bool {
             && (a < b || a == b && one.starts.as_slice() < other.starts.as_slice())
 }
 
+/// A copy of a draft, if there is one.
+fn copy_of_some(alloc: Global, draft: &Option<Draft>) -> Result<Option<Draft>, AllocError> {
+    match draft {
+        Some(draft) => Ok(Some(copy_of(alloc, draft)?)),
+        None => Ok(None),
+    }
+}
+
 /// A copy of a draft.
 fn copy_of(alloc: Global, draft: &Draft) -> Result<Draft, AllocError> {
+    let starts = draft.starts.as_slice().to_vec(alloc)?;
+    let capacities = draft.capacities.copy()?;
     Ok(Draft {
-        starts: Starts::new(draft.starts.as_slice().to_vec(alloc)?),
-        capacities: draft.capacities.copy()?,
+        starts: Starts::new(starts),
+        capacities,
         cost: draft.cost,
     })
 }

@@ -1,17 +1,13 @@
 //! From the best solution that is known down to the least one, variable by variable.
 
-ghost use Rattle.std.specs.Prelude.{IfOk};
-ghost use Rattle.racp_facts.specs.Roots.{IsOpen};
-ghost use Rattle.racp_optimum.specs.Optima.{AreTasksOf, IsOptimum, IsTaskOf, MayBeTold};
+ghost use Rattle.racp_optimum.specs.Optima.{AreTasksOf, IsTaskOf, MayBeTold};
 
 use crate::asking::Heard;
 use crate::by_resource::{Aim, Parts};
 use crate::hearer::Hearer;
-use crate::optimum::Optimum;
 use crate::places::{place_in_turn, value_of, variable_count};
 use crate::serial::serial_starts;
 use crate::task::{Task, Tasks};
-use racp_established::{establishes, leaves_none};
 use racp_facts::{Clause, OfProblem};
 use racp_learning::Search;
 use racp_schedules::Draft;
@@ -24,6 +20,8 @@ pub(crate) struct Descent<P: OfProblem> {
     /// What each variable is at most in whatever is still of interest.
     pub(crate) most: Vec<u64>,
     pub(crate) clauses: Vec<Clause<P>>,
+    /// The clause of the last question that was refuted, if it is still of use.
+    pub(crate) last: Option<Clause<P>>,
     /// How many conflicts are left.
     pub(crate) left: u64,
     /// For how many variables nothing less is left.
@@ -41,20 +39,12 @@ impl<P: OfProblem> Descent<P> {
     ) -> Result<Self, AllocError>
         requires { IsTaskOf P.problem task }
     {
-        let Task {
-            alloc,
-            net,
-            root,
-            ..
-        } = task;
-        let mut most = Vec::new(alloc);
-        for x in 0..variable_count(net) {
-            most.push(root.upper_at(x))?;
-        }
+        let most = uppers(task)?;
         Ok(Descent {
             best,
             most,
-            clauses: Vec::new(alloc),
+            clauses: Vec::new(task.alloc),
+            last: None,
             left: conflicts,
             settled: 0,
             parts: None,
@@ -132,7 +122,7 @@ impl<P: OfProblem> Descent<P> {
     {
         let task = tasks.part;
         let mut least = task.root.lower_at(x);
-        let mut closing = None;
+        self.last = None;
         for turn in 0..u64::MAX {
             let value = self.value(task, x);
             if value <= least {
@@ -141,23 +131,33 @@ impl<P: OfProblem> Descent<P> {
             let most = below(least, value, is_halved(task, x, turn));
             match self.ask(search, tasks, hearer, x, most)? {
                 Heard::Less => {}
-                Heard::None(clause) => {
-                    least = most.saturating_add(1);
-                    closing = Some(clause);
-                }
+                Heard::None => least = most.saturating_add(1),
                 Heard::Open => return Ok(false),
             }
         }
         let value = self.value(task, x);
         self.bound(x, value);
-        if let Some(clause) = closing {
-            self.close(task, hearer, clause)?;
-        }
+        self.close_last(task, hearer)?;
         Ok(true)
     }
 
+    /// Keeps the clause of the last question that was refuted, if there is one: it shows that nothing is less.
+    pub(crate) fn close_last<H: Hearer>(
+        &mut self,
+        task: Task<'_>,
+        hearer: &H,
+    ) -> Result<(), AllocError>
+        requires is_of { IsTaskOf P.problem task }
+        requires may { MayBeTold P.problem H.may_hear_cost H.may_hear_draft }
+    {
+        match self.last.take() {
+            Some(clause) => self.close(task, hearer, clause),
+            None => Ok(()),
+        }
+    }
+
     /// Keeps a clause that shows that nothing is less.
-    pub(crate) fn close<H: Hearer>(
+    fn close<H: Hearer>(
         &mut self,
         task: Task<'_>,
         hearer: &H,
@@ -187,36 +187,15 @@ impl<P: OfProblem> Descent<P> {
             *place = most;
         }
     }
-
-    /// The plan, if the clauses show it; or that no capacities are enough, if they show that.
-    pub(crate) fn into_optimum(self, task: Task<'_>) -> Result<Optimum, AllocError>
-        requires { IsTaskOf P.problem task }
-        ensures { IfOk result (IsOptimum P.problem.network P.problem.terms) }
-    {
-        let Descent { best, clauses, .. } = self;
-        let Some(draft) = best else {
-            return Ok(without_draft(&clauses));
-        };
-        let (capacities, starts) = (&draft.capacities, &draft.starts);
-        let is_shown = establishes(
-            task.alloc, task.net, task.order, task.root, capacities, starts, &clauses,
-        )?;
-        if is_shown {
-            return Ok(Optimum::Plan(draft.capacities, draft.starts));
-        }
-        Ok(Optimum::Open)
-    }
 }
 
-/// That no capacities are enough, if the last clause shows it.
-fn without_draft<P: OfProblem>(clauses: &[Clause<P>]) -> Optimum
-    requires { IsOpen P.problem }
-    ensures { IsOptimum P.problem.network P.problem.terms result }
-{
-    match clauses.last() {
-        Some(clause) if leaves_none(clause) => Optimum::NoneEnough,
-        _ => Optimum::Open,
+/// What each variable is at most at the root.
+fn uppers(task: Task<'_>) -> Result<Vec<u64>, AllocError> {
+    let mut row = Vec::new(task.alloc);
+    for x in 0..variable_count(task.net) {
+        row.push(task.root.upper_at(x))?;
     }
+    Ok(row)
 }
 
 /// What the parts of a question ask for before its turn.

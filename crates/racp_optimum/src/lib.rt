@@ -49,6 +49,7 @@ mod beside;
 mod by_resource;
 mod common;
 mod descent;
+mod ending;
 mod feasible;
 mod hearer;
 mod hearing;

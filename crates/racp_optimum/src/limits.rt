@@ -1,7 +1,7 @@
 //! How long an optimum is looked for.
 
 /// How long an optimum is looked for, and by which numbers of chance.
-#[derive(Clone, Copy, Debug)]
+#[derive(Clone, Copy)]
 pub struct Limits {
     /// After how many conflicts the search gives up.
     pub conflicts: u64,

@@ -12,7 +12,7 @@ use crate::limits::Limits;
 use crate::optimum::Optimum;
 use crate::task::{Task, Tasks};
 use racp_facts::OfProblem;
-use racp_learning::Search;
+use racp_learning::{Derivations, Search};
 use racp_schedules::{Draft, Effort, draft_of};
 use std::alloc::AllocError;
 
@@ -42,6 +42,31 @@ impl<N: OfProblem> Optimizer<N> {
         } = whole;
         let search = Search::new(alloc, net, order, root, limits.seed, limits.bytes)?;
         Ok(Optimizer { search, limits })
+    }
+
+    /// An optimizer that keeps what its clauses are derived from, in at most so many bytes, about.
+    pub(crate) fn recording(
+        whole: Task<'_>,
+        limits: Limits,
+        most_bytes: usize,
+    ) -> Result<Self, AllocError>
+        requires { IsTaskOf N.problem whole }
+    {
+        let mut optimizer: Optimizer<N> = Optimizer::new(whole, limits)?;
+        match optimizer.search.record(whole.net, whole.root, most_bytes) {
+            Ok(()) => Ok(optimizer),
+            Err(refused) => {
+                // By a call: else each part is dropped here.
+                drop(optimizer);
+                Err(refused)
+            }
+        }
+    }
+
+    /// What its clauses were derived from, if that was kept.
+    pub(crate) fn into_derivations(self) -> Option<Derivations> {
+        let Optimizer { search, .. } = self;
+        search.into_derivations()
     }
 
     /// The optimum of a part of the order, as `optimum_of` finds it; neither is known where the root bounds of the part do

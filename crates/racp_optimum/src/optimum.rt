@@ -44,5 +44,8 @@ pub fn optimum_of<N: OfProblem, H: Hearer>(
         whole: task,
         part: task,
     };
-    optimizer.below::<N, H>(tasks, draft, hearer)
+    let found = optimizer.below::<N, H>(tasks, draft, hearer);
+    // By a call: else each part is dropped here.
+    drop(optimizer);
+    found
 }

@@ -3,14 +3,13 @@
 ghost use Rattle.std.specs.Prelude.{IfOk};
 ghost use Rattle.racp_optimum.specs.Optima.{IsOptimum, IsTaskOf, MayBeTold};
 
-use crate::descent::Descent;
 use crate::hearer::Hearer;
 use crate::limits::Limits;
-use crate::optimizer::first_draft;
+use crate::optimizer::{Optimizer, first_draft};
 use crate::optimum::Optimum;
 use crate::task::{Task, Tasks};
 use racp_facts::OfProblem;
-use racp_learning::{Derivations, Search};
+use racp_learning::Derivations;
 use std::alloc::AllocError;
 
 /// What is found of the plan of an order, and what the clauses that show it were derived from.
@@ -39,36 +38,16 @@ pub fn optimum_recorded<N: OfProblem, H: Hearer>(
     ensures { IfOk result (λ found. IsOptimum N.problem.network N.problem.terms found.optimum) }
 {
     let draft = first_draft::<N, H>(task, limits, hearer)?;
-    let mut descent: Descent<N> = Descent::new(task, limits.conflicts, draft)?;
-    let mut search = recording_search::<N>(task, limits, most_bytes)?;
+    let mut optimizer: Optimizer<N> = Optimizer::recording(task, limits, most_bytes)?;
     let tasks = Tasks {
         whole: task,
         part: task,
     };
-    descent.go_down::<N, H>(&mut search, tasks, hearer)?;
-    let optimum = descent.into_optimum(task)?;
+    let found = optimizer.below::<N, H>(tasks, draft, hearer);
+    let derivations = optimizer.into_derivations();
+    let optimum = found?;
     Ok(Recorded {
         optimum,
-        derivations: search.into_derivations(),
+        derivations,
     })
-}
-
-/// A search that keeps what its clauses are derived from.
-fn recording_search<N: OfProblem>(
-    task: Task<'_>,
-    limits: Limits,
-    most_bytes: usize,
-) -> Result<Search<N>, AllocError>
-    requires { IsTaskOf N.problem task }
-{
-    let Task {
-        alloc,
-        net,
-        order,
-        root,
-        ..
-    } = task;
-    let mut search = Search::new(alloc, net, order, root, limits.seed, limits.bytes)?;
-    search.record(net, root, most_bytes)?;
-    Ok(search)
 }

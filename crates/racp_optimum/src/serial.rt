@@ -33,17 +33,25 @@ pub(crate) fn serial_starts(
         starts: Vec::new(task.alloc),
         left: MOST_STEPS,
     };
-    for job in 0..task.net.job_count() {
-        let earliest = placed.earliest(task.window.lower(), job);
-        match placed.place(job, earliest) {
-            Some(time) => placed.starts.push(time)?,
-            None => return Ok(None),
-        }
+    if !placed.place_all(task.window.lower())? {
+        return Ok(None);
     }
     Ok(Some(Starts::new(placed.starts)))
 }
 
 impl Placed<'_, '_> {
+    /// Places all jobs, and says whether each one has a place.
+    fn place_all(&mut self, lower: &[u32]) -> Result<bool, AllocError> {
+        for job in 0..self.net.job_count() {
+            let earliest = self.earliest(lower, job);
+            match self.place(job, earliest) {
+                Some(time) => self.starts.push(time)?,
+                None => return Ok(false),
+            }
+        }
+        Ok(true)
+    }
+
     /// When a job can start by its lower bound and by the placed jobs before it.
     fn earliest(&self, lower: &[u32], job: usize) -> u64 {
         let mut earliest = lower.get(job).copied().unwrap_or(0) as u64;

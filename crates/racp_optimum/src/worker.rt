@@ -6,10 +6,10 @@ use crate::by_resource::Parts;
 use crate::common::Common;
 use crate::descent::Descent;
 use crate::hearer::Hearer;
-use crate::limits::Limits;
 use crate::task::{Task, Tasks};
 use racp_facts::OfProblem;
 use racp_learning::Search;
+use racp_model::Starts;
 use racp_schedules::Draft;
 use std::alloc::AllocError;
 use std::sync::Wait;
@@ -37,12 +37,6 @@ impl<N: OfProblem> Worker<N> {
         seat: usize,
         draft: Option<Draft>,
     ) -> Result<Self, AllocError> {
-        let Limits {
-            seed,
-            bytes,
-            conflicts,
-            ..
-        } = common.limits;
         let Task {
             alloc,
             net,
@@ -50,19 +44,27 @@ impl<N: OfProblem> Worker<N> {
             root,
             ..
         } = common.task;
-        let seed = seed.wrapping_add(seat as u64);
-        let mut search = Search::new(alloc, net, order, root, seed, bytes)?;
+        let descent = parted(common, seat, draft)?;
+        let seed = common.limits.seed.wrapping_add(seat as u64);
+        let mut search = Search::new(alloc, net, order, root, seed, common.limits.bytes)?;
         search.share();
-        let mut descent = Descent::new(common.task, conflicts, draft)?;
-        let mut parts = Parts::new(alloc, seat, net.resource_count())?;
-        parts.rises = seat == RISING;
-        descent.parts = Some(parts);
         Ok(Worker {
             search,
             descent,
             seat,
             read: 0,
         })
+    }
+
+    /// What it has found. What it has learned is gone.
+    pub(crate) fn into_descent(self) -> Descent<N> {
+        let Worker {
+            search,
+            descent,
+            ..
+        } = self;
+        drop(search);
+        descent
     }
 
     /// Searches, and tells the others and learns from them, until it has finished, or is to stop.
@@ -113,18 +115,45 @@ impl<N: OfProblem> Worker<N> {
     {
         common.show(rt, self.seat, &mut self.search);
         self.read = common.read(self.seat, self.read, &mut self.search)?;
-        if let Some(draft) = common.better(rt, &self.descent.best)? {
-            let Task {
-                alloc,
-                net,
-                order,
-                ..
-            } = common.task;
-            if let Some(draft) = Draft::of_starts(alloc, net, order, draft.starts)? {
-                hearer.hear_draft(&draft);
-                self.descent.best = Some(draft);
-            }
+        match common.better(rt, &self.descent.best)? {
+            Some(draft) => self.take(common, hearer, draft.starts),
+            None => Ok(()),
+        }
+    }
+
+    /// Takes starts that another search has found as the best draft.
+    fn take<H: Hearer>(
+        &mut self,
+        common: &Common<'_, N>,
+        hearer: &H,
+        starts: Starts,
+    ) -> Result<(), AllocError>
+        requires may { MayBeTold N.problem H.may_hear_cost H.may_hear_draft }
+    {
+        let Task {
+            alloc,
+            net,
+            order,
+            ..
+        } = common.task;
+        if let Some(draft) = Draft::of_starts(alloc, net, order, starts)? {
+            hearer.hear_draft(&draft);
+            self.descent.best = Some(draft);
         }
         Ok(())
     }
+}
+
+/// A descent from a draft on, for the search in a seat, whose questions are parted by resources.
+fn parted<N: OfProblem>(
+    common: &Common<'_, N>,
+    seat: usize,
+    draft: Option<Draft>,
+) -> Result<Descent<N>, AllocError> {
+    let Task { alloc, net, .. } = common.task;
+    let mut parts = Parts::new(alloc, seat, net.resource_count())?;
+    parts.rises = seat == RISING;
+    let mut descent = Descent::new(common.task, common.limits.conflicts, draft)?;
+    descent.parts = Some(parts);
+    Ok(descent)
 }

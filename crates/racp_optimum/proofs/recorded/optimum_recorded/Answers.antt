@@ -1,8 +1,8 @@
 use Rattle.racp_optimum.proofs.Parts.{part_of_itself}
 use Rattle.racp_optimum.proofs.recorded.optimum_recorded.Goals as goal
 
-pub go_down-requires-clause-are_of : goal.go_down-requires-clause-are_of
-go_down-requires-clause-are_of g c = record {
+pub below-found-requires-clause-are_of : goal.below-found-requires-clause-are_of
+below-found-requires-clause-are_of g c = record {
   of_whole = c.requires.is_of;
   of_part = c.requires.is_of;
   is_part = part_of_itself g.N.OfProblem.problem;
