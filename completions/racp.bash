@@ -18,7 +18,7 @@ _racp() {
         report) options="--names --curve --whatif --start-date --unit --explain --quiet" ;;
         curve) options="--workers --turns --memory --time-limit --progress --best --svg --json --explain --quiet" ;;
         whatif) options="--names --workers --turns --memory --time-limit --json --explain --quiet" ;;
-        order) options="--factor --deadline --prices --owned --ceiling --json --explain --quiet" ;;
+        order) options="--names --factor --deadline --prices --owned --ceiling --json --explain --quiet" ;;
         batch) options="--factors --price --time-limit --memory --jobs --out --quiet" ;;
         import) options="--out --from --prices --factor --deadline --owned --ceiling --quiet" ;;
         explain)

@@ -57,6 +57,7 @@ complete -c racp -n "__fish_seen_subcommand_from whatif" -l time-limit -x -d sec
 complete -c racp -n "__fish_seen_subcommand_from whatif" -l json -d JSON
 complete -c racp -n "__fish_seen_subcommand_from whatif" -l explain -d "say what is wrong"
 complete -c racp -n "__fish_seen_subcommand_from whatif" -l quiet -d "say nothing of what is wrong"
+complete -c racp -n "__fish_seen_subcommand_from order" -l names -r -d "names of jobs and resources"
 complete -c racp -n "__fish_seen_subcommand_from order" -l factor -x -d "deadline by the critical length"
 complete -c racp -n "__fish_seen_subcommand_from order" -l deadline -x -d deadline
 complete -c racp -n "__fish_seen_subcommand_from order" -l prices -x -d prices

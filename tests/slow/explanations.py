@@ -87,6 +87,8 @@ TOLD = [
     ([A_SM, A_ORDER, ""], ["PLAN:1: plan 1 Syntax", "there:  no line"]),
     ([A_SM, A_ORDER, A_PLAN[:-1]], ["PLAN:10: plan 1 Syntax", "there:  'end' without a line feed"]),
     ([A_SM, A_ORDER, with_line(A_PLAN, 1, "deadline 4\r")], ["PLAN:1: plan 1 Syntax", "there:  'deadline 4' with a carriage return behind it"]),
+    ([A_SM, A_ORDER, with_line(A_PLAN, 1, "\ufeffdeadline 4")], ["PLAN:1: plan 1 Syntax", "there:  'deadline 4' after a byte order mark (BOM); save the file as UTF-8 without BOM"]),
+    ([A_SM, A_ORDER, "stopped 3\n"], ["PLAN:1: plan 1 Syntax", "there:  'stopped 3'; planning was stopped, so there is no plan in this file"]),
     ([A_SM, A_ORDER, with_line(A_PLAN, 1, "deadline 5")], ["PLAN: fault head", "deadline 4 and critical 3", "deadline 5 and critical 3"]),
     ([A_SM, A_ORDER, with_line(A_PLAN, 3, "cost 31")], ["PLAN: fault cost", "cost 30", "cost 31"]),
     ([A_SM, A_ORDER, with_line(A_PLAN, 9, "start 5 9")], ["PLAN: fault late", "job 5 ends by 4", "it ends at 9"]),

@@ -1,7 +1,7 @@
 -- The status of a plan, and that of a certificate, is that of an answer.
 use Rattle.std.proofs.Common.{ℕ, Bool, true, false, List, [], ◌∷◌, Option, Ok, Err, IfOk, inl, inr}
 use Rattle.std.specs.Prelude.{Result}
-use Rattle.racp_askers.specs.declared.crowd.Effort.{Effort}
+use Rattle.racp_by_questions.specs.declared.crowd.Effort.{Effort}
 use Rattle.racp_cli.specs.Crowds.{IsCrowdAnswer, IsCrowdRun}
 use Rattle.racp_cli.specs.Plans.{IsPlanAnswer}
 use Rattle.racp_cli.specs.Proofs.{IsProofAnswerUntil, IsProofRunUntil}
@@ -64,17 +64,17 @@ proved_by_clauses net order old new (Ok status) run = with_clauses run.0 status 
 proved_by_clauses net order old new (Err fault) run = tt
 
 -- what is answered to a certificate
-of_certificate : (inputs : List (List ℕ)) (status : ℕ) (text : List ℕ) → ToFour (IsVerifyAnswerUntil false) inputs status text → IsStatusOfAnswer status
-of_certificate [] status text answer = absurd answer
-of_certificate (net ∷ []) status text answer = absurd answer
-of_certificate (net ∷ (order ∷ [])) status text answer = absurd answer
-of_certificate (net ∷ (order ∷ (plan ∷ []))) status text answer = absurd answer
-of_certificate (net ∷ (order ∷ (plan ∷ (proof ∷ [])))) status text answer = inr (inr (inr (inr (inl (net, order, plan, proof, text, answer)))))
-of_certificate (net ∷ (order ∷ (plan ∷ (proof ∷ (other ∷ inputs))))) status text answer = absurd answer
+of_certificate : (quiet : Bool) (inputs : List (List ℕ)) (status : ℕ) (text : List ℕ) → ToFour (IsVerifyAnswerUntil quiet) inputs status text → IsStatusOfAnswer status
+of_certificate quiet [] status text answer = absurd answer
+of_certificate quiet (net ∷ []) status text answer = absurd answer
+of_certificate quiet (net ∷ (order ∷ [])) status text answer = absurd answer
+of_certificate quiet (net ∷ (order ∷ (plan ∷ []))) status text answer = absurd answer
+of_certificate quiet (net ∷ (order ∷ (plan ∷ (proof ∷ [])))) status text answer = inr (inr (inr (inr (inl (quiet, net, order, plan, proof, text, answer)))))
+of_certificate quiet (net ∷ (order ∷ (plan ∷ (proof ∷ (other ∷ inputs))))) status text answer = absurd answer
 
-pub verified : (net order plan proof : Reader) (old new : Option (List ℕ)) (result : Result ℕ StreamFault) → IsVerifyRunUntil false net order plan proof old new result → IfOk result IsStatusOfAnswer
-verified net order plan proof old new (Ok status) run = of_certificate run.0 status run.2.0 run.2.1
-verified net order plan proof old new (Err fault) run = tt
+pub verified : (quiet : Bool) (net order plan proof : Reader) (old new : Option (List ℕ)) (result : Result ℕ StreamFault) → IsVerifyRunUntil quiet net order plan proof old new result → IfOk result IsStatusOfAnswer
+verified quiet net order plan proof old new (Ok status) run = of_certificate quiet run.0 status run.2.0 run.2.1
+verified quiet net order plan proof old new (Err fault) run = tt
 
 -- what is shown of a plan
 of_picture : (look : Look) (inputs : List (List ℕ)) (status : ℕ) (text : List ℕ) → ToFour (IsShowAnswer look) inputs status text → IsStatusOfTool status
@@ -103,30 +103,30 @@ reported page net order plan names old new (Ok status) run = of_report page run.
 reported page net order plan names old new (Err fault) run = tt
 
 -- what one thread tells of deadlines is what workers may tell
-told_alone : (is_drawn : Bool) (net order : List ℕ) (status : ℕ) (text : List ℕ) → IsCurveAnswer is_drawn net order status text → IsCurveCrowdAnswer is_drawn net order status text
-told_alone is_drawn net order status text (inl (network, terms, are, told)) = inl (network, terms, are, inl told)
-told_alone is_drawn net order status text (inr other) = inr other
+told_alone : (turns : ℕ) (quiet is_drawn : Bool) (net order : List ℕ) (status : ℕ) (text : List ℕ) → IsCurveAnswer is_drawn net order status text → IsCurveCrowdAnswer turns quiet is_drawn net order status text
+told_alone turns quiet is_drawn net order status text (inl (network, terms, are, told)) = inl (network, terms, are, inl told)
+told_alone turns quiet is_drawn net order status text (inr other) = inr other
 
 -- what is told of deadlines
-of_curve : (is_drawn : Bool) (inputs : List (List ℕ)) (status : ℕ) (text : List ℕ) → ToTwo (IsCurveCrowdAnswer is_drawn) inputs status text → IsStatusOfTool status
-of_curve is_drawn [] status text answer = absurd answer
-of_curve is_drawn (net ∷ []) status text answer = absurd answer
-of_curve is_drawn (net ∷ (order ∷ [])) status text answer = inr (inl (is_drawn, net, order, text, answer))
-of_curve is_drawn (net ∷ (order ∷ (other ∷ inputs))) status text answer = absurd answer
+of_curve : (turns : ℕ) (quiet is_drawn : Bool) (inputs : List (List ℕ)) (status : ℕ) (text : List ℕ) → ToTwo (IsCurveCrowdAnswer turns quiet is_drawn) inputs status text → IsStatusOfTool status
+of_curve turns quiet is_drawn [] status text answer = absurd answer
+of_curve turns quiet is_drawn (net ∷ []) status text answer = absurd answer
+of_curve turns quiet is_drawn (net ∷ (order ∷ [])) status text answer = inr (inl (turns, quiet, is_drawn, net, order, text, answer))
+of_curve turns quiet is_drawn (net ∷ (order ∷ (other ∷ inputs))) status text answer = absurd answer
 
-alone : (is_drawn : Bool) (inputs : List (List ℕ)) (status : ℕ) (text : List ℕ) → ToTwo (IsCurveAnswer is_drawn) inputs status text → ToTwo (IsCurveCrowdAnswer is_drawn) inputs status text
-alone is_drawn [] status text answer = absurd answer
-alone is_drawn (net ∷ []) status text answer = absurd answer
-alone is_drawn (net ∷ (order ∷ [])) status text answer = told_alone is_drawn net order status text answer
-alone is_drawn (net ∷ (order ∷ (other ∷ inputs))) status text answer = absurd answer
+alone : (turns : ℕ) (quiet is_drawn : Bool) (inputs : List (List ℕ)) (status : ℕ) (text : List ℕ) → ToTwo (IsCurveAnswer is_drawn) inputs status text → ToTwo (IsCurveCrowdAnswer turns quiet is_drawn) inputs status text
+alone turns quiet is_drawn [] status text answer = absurd answer
+alone turns quiet is_drawn (net ∷ []) status text answer = absurd answer
+alone turns quiet is_drawn (net ∷ (order ∷ [])) status text answer = told_alone turns quiet is_drawn net order status text answer
+alone turns quiet is_drawn (net ∷ (order ∷ (other ∷ inputs))) status text answer = absurd answer
 
 pub curved : (is_drawn : Bool) (net order : Reader) (old new : Option (List ℕ)) (result : Result ℕ StreamFault) → IsCurveRun is_drawn net order old new result → IfOk result IsStatusOfTool
-curved is_drawn net order old new (Ok status) run = of_curve is_drawn run.0 status run.2.0 (alone is_drawn run.0 status run.2.0 run.2.1)
+curved is_drawn net order old new (Ok status) run = of_curve 0 true is_drawn run.0 status run.2.0 (alone 0 true is_drawn run.0 status run.2.0 run.2.1)
 curved is_drawn net order old new (Err fault) run = tt
 
-pub curved_by : (is_drawn : Bool) (net order : Reader) (old new : Option (List ℕ)) (result : Result ℕ StreamFault) → IsCurveCrowdRun is_drawn net order old new result → IfOk result IsStatusOfTool
-curved_by is_drawn net order old new (Ok status) run = of_curve is_drawn run.0 status run.2.0 run.2.1
-curved_by is_drawn net order old new (Err fault) run = tt
+pub curved_by : (turns : ℕ) (quiet is_drawn : Bool) (net order : Reader) (old new : Option (List ℕ)) (result : Result ℕ StreamFault) → IsCurveCrowdRun turns quiet is_drawn net order old new result → IfOk result IsStatusOfTool
+curved_by turns quiet is_drawn net order old new (Ok status) run = of_curve turns quiet is_drawn run.0 status run.2.0 run.2.1
+curved_by turns quiet is_drawn net order old new (Err fault) run = tt
 
 -- what is written as an order
 of_order : (asked : Asked) (inputs : List (List ℕ)) (status : ℕ) (text : List ℕ) → ToOne (IsOrderAnswer asked) inputs status text → IsStatusOfTool status

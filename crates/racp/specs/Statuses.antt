@@ -1,5 +1,5 @@
 -- The status that tells why no answer is written.
-use Rattle.std.specs.Prelude.{◌≡◌, ◌⊎◌, ℕ, Bool, false, List, Option, Some, None, Result, Ok, Err, if◌then◌else◌}
+use Rattle.std.specs.Prelude.{◌≡◌, ◌⊎◌, ℕ, Bool, List, Option, Some, None, Result, Ok, Err, if◌then◌else◌}
 use Rattle.clap.specs.Words.{kind_of}
 use Rattle.clap.specs.declared.error.kind.ErrorKind.{ErrorKind}
 use Rattle.clap.specs.declared.error.kind.ErrorKind.TheVariants.{DisplayHelp, DisplayVersion, OutOfMemory}
@@ -19,12 +19,12 @@ use Rattle.racp_cli.specs.ClauseProofs.{IsClauseProofAnswer}
 use Rattle.racp_cli.specs.Verifies.{IsVerifyAnswerUntil}
 use Rattle.racp_cli.specs.Streams.{fault_status}
 use Rattle.racp_cli.specs.declared.fault.StreamFault.TheVariants as stream
-use Rattle.racp_rows.specs.declared.batch.BatchFault.{BatchFault}
-use Rattle.racp_rows.specs.declared.batch.Ending.{Ending}
+use Rattle.racp_batch.specs.declared.batch.BatchFault.{BatchFault}
+use Rattle.racp_batch.specs.declared.batch.Ending.{Ending}
 use Rattle.racp.specs.declared.keeping.Lack.{Lack}
 use Rattle.racp.specs.declared.keeping.Lack.TheVariants.{Memory, Thread, Write}
 use Rattle.racp.specs.declared.failure.Failure.{Failure}
-use Rattle.racp.specs.declared.failure.Failure.TheVariants.{Words, NotText, Option as OptionIs, Stream, Told, Refused}
+use Rattle.racp.specs.declared.failure.Failure.TheVariants.{Words, NotText, Option as OptionIs, Value, Stream, Told, Refused}
 
 -- the status if the library of the command line stops: help and the version are written, or writing them fails; memory
 -- runs out; or the words are refused
@@ -39,6 +39,7 @@ abbrev pub IsStatusOf : Failure → ℕ → Type 0
 IsStatusOf (Words error) status = IsStatusOfKind (kind_of error) status
 IsStatusOf NotText status = status ≡ 2
 IsStatusOf (OptionIs fault) status = status ≡ 2
+IsStatusOf (Value words) status = status ≡ 2
 IsStatusOf (Stream fault) status = status ≡ fault_status fault
 IsStatusOf (Told fault words) status = status ≡ fault_status fault
 IsStatusOf (Refused words) status = status ≡ 5
@@ -60,7 +61,8 @@ IsStatusOfTable (Err fault) lack status = ⊥
 abbrev pub IsStatusOfTool : ℕ → Type 0
 IsStatusOfTool status =
     ((net order plan names : List ℕ) × (look : Look) × (text : List ℕ) × IsShowAnswer look net order plan names status text) ⊎
-    ((is_drawn : Bool) × (net order : List ℕ) × (text : List ℕ) × IsCurveCrowdAnswer is_drawn net order status text) ⊎
+    ((turns : ℕ) × (quiet is_drawn : Bool) × (net order : List ℕ) × (text : List ℕ) ×
+    IsCurveCrowdAnswer turns quiet is_drawn net order status text) ⊎
     ((asked : Asked) × (net : List ℕ) × (text : List ℕ) × IsOrderAnswer asked net status text) ⊎
     ((page : Page) × (net order plan names : List ℕ) × (text : List ℕ) ×
     IsReportAnswer page net order plan names status text) ⊎
@@ -77,7 +79,8 @@ IsStatusOfAnswer status =
     ((net order plan : List ℕ) × (text : List ℕ) × IsCheckAnswer net order plan status text) ⊎
     ((quiet : Bool) × (net order : List ℕ) × (text : List ℕ) ×
     (IsProofAnswerUntil quiet net order status text ⊎ IsClauseProofAnswer net order status text)) ⊎
-    ((net order plan proof : List ℕ) × (text : List ℕ) × IsVerifyAnswerUntil false net order plan proof status text) ⊎
+    ((quiet : Bool) × (net order plan proof : List ℕ) × (text : List ℕ) ×
+    IsVerifyAnswerUntil quiet net order plan proof status text) ⊎
     IsStatusOfTool status
 
 -- some answer, or some reason why there is none, has this status

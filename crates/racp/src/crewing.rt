@@ -9,7 +9,7 @@ use crate::limit::Limit;
 use crate::listener::{Kept, Listener};
 use crate::machine::Crewed;
 use crate::making::{Making, progress_of, worker_count};
-use racp_askers::Effort;
+use racp_by_questions::Effort;
 use racp_cli::{DONE, STOPPED, StreamFault, crowd_over_by};
 use racp_desk::Open;
 use racp_json::Work;

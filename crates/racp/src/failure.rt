@@ -29,9 +29,6 @@ pub(crate) enum OptionFault {
     /// The deadline is no whole number.
     #[error("--deadline has to be a whole number from 0 to 10,000,000")]
     Deadline,
-    /// Prices, owned units or ceilings are no whole numbers.
-    #[error("--prices, --owned and --ceiling have to be whole numbers such as 3,5")]
-    Numbers,
     /// The limit of time is no number of seconds, or out of its range.
     #[error("--time-limit has to be a number of seconds such as 60 or 0.5, above 0 and up to 1,000,000,000")]
     TimeLimit,
@@ -50,9 +47,6 @@ pub(crate) enum OptionFault {
     /// A table has release or due times, and there are no words for an order.
     #[error("a table with a column 'earliest' or 'due' makes an order too, which has to have --prices, and one of --factor and --deadline")]
     Times,
-    /// Prices by name name another thing than each resource once.
-    #[error("--prices has to name each resource once, as in Masons=9,Cranes=30, or none")]
-    PriceNames,
     /// A factor of a table is no decimal.
     #[error("--factors has to be decimals such as 1.0,1.2")]
     Factors,
@@ -75,6 +69,8 @@ pub(crate) enum Failure {
     NotText,
     /// The options for an order or for a time are refused, or the words for a fault.
     Option(OptionFault),
+    /// The word of an option that lists values of the resources is refused, and these words say why.
+    Value(String),
     /// A file or a stream failed, or memory ran out.
     Stream(StreamFault),
     /// A file or a stream failed, and these words say which, and why.
@@ -128,6 +124,10 @@ pub(crate) fn report<R: Print + Eprint>(rt: &R, failure: Failure) -> u8
         }
         Failure::Option(fault) => {
             let _ = rt.eprintln(format_args!("error: {fault}"));
+            WORDS_REFUSED
+        }
+        Failure::Value(words) => {
+            let _ = rt.eprintln(format_args!("error: {}", Shown::of(&words)));
             WORDS_REFUSED
         }
         Failure::Stream(fault) => report_fault(rt, fault),

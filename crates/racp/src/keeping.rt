@@ -2,9 +2,9 @@
 
 use crate::asks::Asks;
 use crate::best::keep;
-use racp_changes::Outcome;
+use racp_batch::{Case, Host, Row};
 use racp_plan::{Plan, write_plan};
-use racp_rows::{Case, Host, Row};
+use racp_whatif::Outcome;
 use std::alloc::{AllocError, Global};
 use std::cell::Cell;
 use std::rt::Files;
@@ -66,6 +66,10 @@ impl<'a, R: Files + Eprint + AllocGlobal + Drop> Keeping<'a, R> {
 }
 
 impl<'a, R: Files + Eprint + AllocGlobal + Drop> Host for Keeping<'a, R> {
+    ghost use Rattle.std.specs.Prelude.{is_none};
+
+    ghost is_quiet = { λ keeping. is_none keeping.asks };
+
     fn hear(&self, case: &Case<'_>, row: &Row) {
         match row {
             Row::Answered(answered) => {

@@ -1,11 +1,13 @@
 //! When a command is stopped by the clock or by the user, and planning told of until then.
 
+ghost use Rattle.std.specs.Prelude.{IsFalse, IsTrue, is_none};
+
 use crate::asks::Asks;
 use crate::begun::Begun;
 use crate::known::Known;
 use crate::progress::Progress;
 use racp_json::Work;
-use racp_search::Stop;
+use racp_model::Stop;
 use std::time::{Clock, Duration};
 
 /// Stops a command when so much time has passed since it was made, or when the user asks so; without either it never does.
@@ -71,7 +73,9 @@ impl<C: Clock + Eprint + Drop> Limit<C> {
     }
 
     /// Whether the limit is over when so much time has passed.
-    fn is_over(&self, passed: Option<Duration>) -> bool {
+    fn is_over(&self, passed: Option<Duration>) -> bool
+        ensures { IsTrue (is_none self.now.limit) → IsFalse result }
+    {
         match (self.limit, passed) {
             (None, _) => false,
             (Some(limit), Some(passed)) => limit <= passed,
@@ -81,14 +85,19 @@ impl<C: Clock + Eprint + Drop> Limit<C> {
 }
 
 impl<C: Clock + Eprint + Drop> Stop for Limit<C> {
-    ghost use Rattle.std.specs.Prelude.{false};
+    ghost use Rattle.std.specs.Prelude.{◌&&◌, false, is_none};
+    ghost use Rattle.std.proofs.Common.{rules};
 
     ghost QUIET = { false };
+
+    ghost is_quiet = { λ limit. is_none limit.limit && is_none limit.asks };
+
+    ghost all_quiet = { Prim.search rules };
 
     const QUIET: bool = false;
 
     fn asked(&self) -> bool {
-        if self.known.is_asked() {
+        if self.asks.is_some() && self.known.is_asked() {
             return true;
         }
         if self.limit.is_none() && self.progress.is_none() {

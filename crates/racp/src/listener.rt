@@ -5,7 +5,7 @@ use crate::best::keep;
 use crate::known::Known;
 use crate::memory::mebibytes_used;
 use crate::progress::Progress;
-use racp_askers::Observer;
+use racp_by_questions::Observer;
 use racp_cli::known_text;
 use std::cell::Cell;
 use std::rt::Files;

@@ -72,6 +72,7 @@ mod pricing;
 mod progress;
 mod proving;
 mod reporting;
+mod resources;
 mod run;
 mod seconds;
 mod shown;

@@ -4,27 +4,52 @@ ghost use Rattle.std.specs.Prelude.{IfOk};
 ghost use Rattle.racp.specs.Statuses.{IsStatusOfTool};
 
 use crate::failure::Failure;
-use crate::inputs::{read_file, text};
+use crate::inputs::Inputs;
 use crate::machine::Machine;
-use crate::telling::{Manner, end};
+use crate::resources::{refused_names, resource_names};
+use crate::telling::{Manner, end, tell};
+use crate::terms::{Times, asked_order};
 use racp_cli::{Asked, DONE, REFUSED, StreamFault, Time, order_over};
-use racp_explain::{Input as Text, Numbers, asked_cause};
+use racp_explain::{Input as Text, Listed, Numbers, asked_cause};
 use racp_json::{Command, FileNames, Told, Work};
+use racp_words::{NamedNet, Terms};
 use std::alloc::Global;
 use std::io;
 use std::io::{Read, Write};
 
-/// Writes the order that is asked for, for the network in this file.
+/// Writes the order that the words for its terms ask for, for the network in a file.
 pub(crate) fn order<R: Machine>(
     rt: &R,
-    path: &str,
-    asked: Asked,
+    files: NamedNet<'_>,
+    terms: &Terms<'_>,
     manner: Manner,
 ) -> Result<u8, Failure>
     ensures { IfOk result IsStatusOfTool }
 {
-    let net = read_file(rt, path)?;
-    order_told(rt, &text(path, &net), asked, manner)
+    let paths = [files.names, Some(files.net)];
+    let inputs = Inputs::read(rt, &paths)?;
+    let (net, names) = (inputs.text(1), inputs.text_if(0));
+    match asked_of(rt.alloc(), &net, names, terms)? {
+        Some(asked) => order_told(rt, &net, asked, manner),
+        None => {
+            tell(rt, manner, refused_names(rt.alloc(), &net, names));
+            Err(Failure::Refused(String::new(rt.alloc())))
+        }
+    }
+}
+
+/// What the words for the terms of an order ask for, for the text of a network and perhaps one of names; `None` if that of
+/// the names is refused.
+fn asked_of(
+    alloc: Global,
+    net: &Text<'_>,
+    names: Option<Text<'_>>,
+    terms: &Terms<'_>,
+) -> Result<Option<Asked>, Failure> {
+    match resource_names(alloc, net, names)? {
+        Some(names) => Ok(Some(asked_order(alloc, terms, &names, Times::none())?)),
+        None => Ok(None),
+    }
 }
 
 /// Writes the order that is asked for, for the text of a network, and what is wrong with what is asked.
@@ -93,7 +118,7 @@ fn order_of<N: Read, W: Write>(
     order_over(alloc, net, asked, out)
 }
 
-/// How long the lists of what is asked are, and by what its deadline is told.
+/// What is asked, as far as it is told what is wrong with it.
 pub(crate) fn numbers_of(asked: &Asked) -> Numbers {
     let (deadline, factor) = match asked.time {
         Time::Deadline(deadline) => (Some(deadline), None),
@@ -102,16 +127,16 @@ pub(crate) fn numbers_of(asked: &Asked) -> Numbers {
     Numbers {
         deadline,
         factor,
-        prices: asked.prices.len(),
-        owned: count_of(&asked.owned),
-        ceilings: count_of(&asked.ceilings),
+        prices: Listed::of(&asked.prices),
+        owned: listed_of(&asked.owned),
+        ceilings: listed_of(&asked.ceilings),
     }
 }
 
-/// How long a list is, if there is one.
-fn count_of(list: &Option<Vec<u32>>) -> Option<usize> {
+/// What is told of a list, if there is one.
+fn listed_of(list: &Option<Vec<u32>>) -> Option<Listed> {
     match list {
-        Some(list) => Some(list.len()),
+        Some(list) => Some(Listed::of(list)),
         None => None,
     }
 }

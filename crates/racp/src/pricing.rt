@@ -21,15 +21,14 @@ pub(crate) fn order_of(
     let Some(prices) = words.prices else {
         return no_order(words, &times);
     };
-    let prices = prices_of(alloc, prices, resources)?;
     let terms = Terms {
         factor: words.factor,
         deadline: words.deadline,
-        prices: prices.as_str(),
+        prices,
         owned: words.owned,
         ceiling: words.ceiling,
     };
-    let asked = asked_order(alloc, &terms, times)?;
+    let asked = asked_order(alloc, &terms, resources, times)?;
     Ok(Some(order_text(alloc, words.file, network, asked)?))
 }
 
@@ -73,51 +72,4 @@ fn order_written(
         Err(StreamFault::Write) => Err(StreamFault::Memory),
         status => status,
     }
-}
-
-/// The prices between commas, of a word that has them so, or that names the resource of each.
-fn prices_of(alloc: Global, word: &str, resources: &[String]) -> Result<String, Failure> {
-    if !word.contains('=') {
-        return Ok(String::from_str(alloc, word)?);
-    }
-    if word.split(',').any(|part| !is_of_resource(part, resources)) {
-        return Err(Failure::Option(OptionFault::PriceNames));
-    }
-    let mut prices = String::new(alloc);
-    for resource in resources {
-        let Some(price) = price_of(word, resource.as_str()) else {
-            return Err(Failure::Option(OptionFault::PriceNames));
-        };
-        if !prices.is_empty() {
-            prices.push(',')?;
-        }
-        prices.push_str(price)?;
-    }
-    Ok(prices)
-}
-
-/// Whether a part of a word names one of the resources.
-fn is_of_resource(part: &str, resources: &[String]) -> bool {
-    match part.split_once('=') {
-        Some((name, _)) => resources
-            .iter()
-            .any(|resource| resource.as_str() == name.trim()),
-        None => false,
-    }
-}
-
-/// The price of a resource, by a word with prices by name, if it has one for it.
-fn price_of<'a>(word: &'a str, resource: &str) -> Option<&'a str> {
-    let mut price = None;
-    for part in word.split(',') {
-        if let Some((name, number)) = part.split_once('=')
-            && name.trim() == resource
-        {
-            if price.is_some() {
-                return None;
-            }
-            price = Some(number.trim());
-        }
-    }
-    price
 }

@@ -12,7 +12,7 @@ use crate::telling::{Manner, tell};
 use crate::until::Until;
 use racp_cli::{CHECK_FAILED, StreamFault, prove_by_clauses_over, prove_over_until};
 use racp_explain::{Input as Text, order_cause};
-use racp_search::Stop;
+use racp_model::Stop;
 use racp_words::OrderFiles;
 use std::io;
 use std::io::Read;

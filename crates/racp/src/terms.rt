@@ -1,10 +1,38 @@
 //! What an order is to say, by the words for its terms.
 
 use crate::failure::{Failure, OptionFault};
-use racp_cli::{Asked, Time};
-use racp_prices::{Factor, numbers_of};
+use racp_cli::{Asked, StreamFault, Time};
+use racp_prices::Factor;
+use racp_values::{Quantity, ValueFault, values_of};
 use racp_words::Terms;
 use std::alloc::Global;
+
+/// An option that lists values of the resources.
+#[derive(Clone, Copy)]
+struct ListOption {
+    /// Its name, as it is written.
+    name: &'static str,
+    /// What it lists.
+    quantity: Quantity,
+}
+
+/// The option for prices.
+const PRICES: ListOption = ListOption {
+    name: "--prices",
+    quantity: Quantity::Price,
+};
+
+/// The option for owned units.
+const OWNED: ListOption = ListOption {
+    name: "--owned",
+    quantity: Quantity::Units,
+};
+
+/// The option for ceilings.
+const CEILING: ListOption = ListOption {
+    name: "--ceiling",
+    quantity: Quantity::Units,
+};
 
 /// The times from which and by which jobs run, by place from 0, as far as they are said.
 #[derive(Drop)]
@@ -30,16 +58,17 @@ impl Times {
     }
 }
 
-/// What an order is to say, by the words for its terms, and with these times.
+/// What an order is to say, by the words for its terms, for resources with these names, and with these times.
 pub(crate) fn asked_order(
     alloc: Global,
     terms: &Terms<'_>,
+    names: &[String],
     times: Times,
 ) -> Result<Asked, Failure> {
     let time = time_of(terms.factor, terms.deadline)?;
-    let prices = listed(alloc, terms.prices)?;
-    let owned = optional_list(alloc, terms.owned)?;
-    let ceilings = optional_list(alloc, terms.ceiling)?;
+    let prices = listed(alloc, terms.prices, names, PRICES)?;
+    let owned = optional_list(alloc, terms.owned, names, OWNED)?;
+    let ceilings = optional_list(alloc, terms.ceiling, names, CEILING)?;
     let Times { release, due } = times;
     Ok(Asked {
         time,
@@ -66,18 +95,43 @@ fn time_of(factor: Option<&str>, deadline: Option<&str>) -> Result<Time, OptionF
     }
 }
 
-/// The numbers that a word lists.
-fn listed(alloc: Global, word: &str) -> Result<Vec<u32>, Failure> {
-    match numbers_of(alloc, word)? {
-        Some(numbers) => Ok(numbers),
-        None => Err(Failure::Option(OptionFault::Numbers)),
+/// The values that the word of an option gives to resources with these names. Where there are no names, since the network is
+/// refused, none are given by name.
+fn listed(
+    alloc: Global,
+    word: &str,
+    names: &[String],
+    option: ListOption,
+) -> Result<Vec<u32>, Failure> {
+    if names.is_empty() && word.contains('=') {
+        return Ok(Vec::new(alloc));
+    }
+    match values_of(alloc, word, names, option.quantity) {
+        Ok(values) => Ok(values),
+        Err(fault) => Err(refused(alloc, option, &fault)),
     }
 }
 
-/// The numbers that a word lists, if there is one.
-fn optional_list(alloc: Global, word: Option<&str>) -> Result<Option<Vec<u32>>, Failure> {
+/// The values that the word of an option gives, if there is one.
+fn optional_list(
+    alloc: Global,
+    word: Option<&str>,
+    names: &[String],
+    option: ListOption,
+) -> Result<Option<Vec<u32>>, Failure> {
     match word {
-        Some(word) => Ok(Some(listed(alloc, word)?)),
+        Some(word) => Ok(Some(listed(alloc, word, names, option)?)),
         None => Ok(None),
+    }
+}
+
+/// The failure of the word of an option.
+fn refused(alloc: Global, option: ListOption, fault: &ValueFault) -> Failure {
+    if matches!(fault, ValueFault::Memory) {
+        return Failure::Stream(StreamFault::Memory);
+    }
+    match format!(in alloc; "{}: {fault}", option.name) {
+        Ok(words) => Failure::Value(words),
+        Err(_) => Failure::Stream(StreamFault::Memory),
     }
 }

@@ -14,7 +14,6 @@ use crate::making::Making;
 use crate::ordering::order;
 use crate::reporting::report;
 use crate::telling::Manner;
-use crate::terms::{Times, asked_order};
 use racp_cli::{DONE, StreamFault};
 use racp_explain::{explanation, subject_list};
 use racp_words::Tool;
@@ -38,10 +37,7 @@ pub(crate) fn tool<R: Crewed>(rt: &R, tool: Tool<'_>, manner: Manner) -> Result<
         Tool::WhatIf(files, options, memory, crew) => {
             whatif(rt, files, options, Making::of(memory, crew, manner)?)
         }
-        Tool::Order(net, terms) => {
-            let asked = asked_order(rt.alloc(), &terms, Times::none())?;
-            order(rt, net, asked, manner)
-        }
+        Tool::Order(files, terms) => order(rt, files, &terms, manner),
         Tool::Batch(words, memory) => batch(rt, &words, memory, manner),
         Tool::Import(words) => import(rt, &words),
         Tool::Explain(format, fault) => explain(rt, format, fault),

@@ -1,8 +1,10 @@
 //! When a command of one thread is stopped by the clock or by the user.
 
+ghost use Rattle.std.specs.Prelude.{IsFalse, IsTrue, is_none};
+
 use crate::asks::Asks;
 use crate::begun::Begun;
-use racp_search::Stop;
+use racp_model::Stop;
 use std::rt::Files;
 use std::sync::atomic::{AtomicBool, AtomicU64, Ordering};
 use std::time::{Clock, Duration};
@@ -50,7 +52,9 @@ impl<R: Clock + Files + Drop> Until<R> {
     }
 
     /// Whether the limit is over when so much time has passed.
-    fn is_over(&self, passed: Option<Duration>) -> bool {
+    fn is_over(&self, passed: Option<Duration>) -> bool
+        ensures { IsTrue (is_none self.now.limit) → IsFalse result }
+    {
         match (self.limit, passed) {
             (None, _) => false,
             (Some(limit), Some(passed)) => limit <= passed,
@@ -75,9 +79,14 @@ impl<R: Clock + Files + Drop> Until<R> {
 }
 
 impl<R: Clock + Files + Drop> Stop for Until<R> {
-    ghost use Rattle.std.specs.Prelude.{false};
+    ghost use Rattle.std.specs.Prelude.{◌&&◌, false, is_none};
+    ghost use Rattle.std.proofs.Common.{rules};
 
     ghost QUIET = { false };
+
+    ghost is_quiet = { λ until. is_none until.limit && is_none until.asks };
+
+    ghost all_quiet = { Prim.search rules };
 
     const QUIET: bool = false;
 
@@ -87,7 +96,7 @@ impl<R: Clock + Files + Drop> Stop for Until<R> {
         }
         let passed = self.begun.passed(&self.host);
         self.look(passed);
-        let stops = self.is_asked() || self.is_over(passed);
+        let stops = (self.asks.is_some() && self.is_asked()) || self.is_over(passed);
         if stops {
             self.has_stopped.store(true, Ordering::SeqCst);
         }

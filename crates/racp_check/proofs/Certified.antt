@@ -13,7 +13,7 @@ use Rattle.racp_model.specs.Formed.{HasBounds}
 use Rattle.racp_model.proofs.lemmas.Relations.{member_cases, member_first, member_later, no_member}
 use Rattle.racp_cpm.specs.Laws.{CriticalIsGreatestFinish}
 use Rattle.racp_prices.specs.Units.{AreMostUnits}
-use Rattle.racp_refutation.specs.Trees.{node_count, divided}
+use Rattle.racp_trees.specs.Trees.{node_count, divided}
 use Rattle.racp_trees.specs.Texts.{Block}
 use Rattle.racp_trees.specs.Certificates.{AllHold, HasBlocks, rows_of, vectors_of, IsCertificate}
 use Rattle.racp_trees.specs.Enough.{AreEnoughBlocks}

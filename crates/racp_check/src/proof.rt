@@ -10,8 +10,7 @@ ghost use Rattle.racp_check.specs.Leastness.{HasNoneEnoughBefore, IsLongEnough};
 
 use crate::opening::{Opening, opening_of};
 use racp_cpm::laws::critical_is_greatest_finish;
-use racp_delay::{Never, Stop, Unfound};
-use racp_model::{Network, Window};
+use racp_model::{Network, Never, Stop, Unfound, Window};
 use racp_plan::Plan;
 use racp_prices::{Order, most_units};
 use racp_trees::laws::certificate_proves;
@@ -65,7 +64,7 @@ pub fn check_proof_until<S: Stop>(
     ensures exact { IfOk result (λ yes. IsTrue yes ↔ IsCertificate net.now order.now plan.now.capacities bytes.now) }
     ensures leastness { IfOk result (λ yes. IsTrue yes → HasNoneEnoughBefore net.now order.now plan.now.capacities) }
     ensures in_time { IfOk result (λ yes. IsTrue yes → IsLongEnough net.now order.now) }
-    ensures quiet { IsTrue S.QUIET → IsErrOf result Unfound.Stopped → ⊥ }
+    ensures quiet { IsTrue (S.is_quiet stop.now) → IsErrOf result Unfound.Stopped → ⊥ }
 {
     certificate_proves();
     critical_is_greatest_finish();
@@ -86,7 +85,7 @@ fn is_certificate<S: Stop>(
     requires terms { AreTermsOf net.now order.now }
     requires capacities { length capacities.now ≡ net.now.resources }
     ensures exact { IfOk result (λ yes. IsTrue yes ↔ IsCertificate net.now order.now capacities.now text.now) }
-    ensures quiet { IsTrue S.QUIET → IsErrOf result Unfound.Stopped → ⊥ }
+    ensures quiet { IsTrue (S.is_quiet stop.now) → IsErrOf result Unfound.Stopped → ⊥ }
 {
     critical_is_greatest_finish();
     prove!(net.job_count() == net.job_count());
@@ -118,7 +117,7 @@ fn holds_in<S: Stop>(
     requires roofs { AreMostUnits claim.now.net.now claim.now.order.now claim.now.roofs.now }
     requires root { IsRootWindow claim.now.net.now (release_of claim.now.order.now) (due_of claim.now.order.now) root.now }
     ensures exact { IfOk result (λ yes. IsTrue yes ↔ IsCertificate claim.now.net.now claim.now.order.now claim.now.capacities.now text.now) }
-    ensures quiet { IsTrue S.QUIET → IsErrOf result Unfound.Stopped → ⊥ }
+    ensures quiet { IsTrue (S.is_quiet stop.now) → IsErrOf result Unfound.Stopped → ⊥ }
 {
     prove!(claim.net.job_count() == claim.net.job_count());
     let Some(blocks) = block_vectors_until(alloc, claim.net, root, text, stop)? else {

@@ -2,7 +2,7 @@
 use Rattle.std.proofs.Common.{◌≡◌, ◌≢◌, ◌∙◌, ◌++◌, List, ℕ, Option, Some, None, ap, option_map, subst, sym}
 use Rattle.std.specs.Prelude.{MatchOption}
 use Rattle.std.specs.Str.Pattern.{FindsTextPrefix, StripsPrefix}
-use Rattle.racp_changes.specs.Lines.{base_line}
+use Rattle.racp_whatif.specs.Lines.{base_line}
 use Rattle.racp_plan.specs.declared.plan.Plan.{Plan}
 use Rattle.racp_cli.specs.ReportAnswers.{AreBehind}
 use denote.Ref.{Bor}

@@ -8,7 +8,7 @@ use Rattle.racp_model.specs.Terms.{Terms}
 use Rattle.racp_model.specs.Plan.{IsPlan}
 use Rattle.racp_text.specs.Cuts.{is_line_feed}
 use Rattle.racp_plan.specs.declared.plan.Plan.{Plan}
-use Rattle.racp_delay.specs.declared.following.Unfound.{Unfound}
+use Rattle.racp_model.specs.declared.stop.Unfound.{Unfound}
 use Rattle.racp_trees.specs.Certificates.{IsCertificate}
 use Rattle.racp_derivations.specs.Texts.{IsDerivationText}
 use Rattle.racp_check.specs.Leastness.{HasNoneEnoughBefore, IsLongEnough}

@@ -3,9 +3,9 @@ use Rattle.std.specs.Prelude.{◌≡◌, ◌≢◌, ◌⊎◌, ℕ, Bool, List, 
 use Rattle.racp_model.specs.Project.{Project}
 use Rattle.racp_model.specs.Terms.{Terms}
 use Rattle.racp_lexfix.specs.Answers.{IsNotAfterEnough, AreAboveFloors}
-use Rattle.racp_askers.specs.Crowds.{MayStop}
+use Rattle.racp_by_questions.specs.Crowds.{MayStop}
 use Rattle.racp_lexfix.specs.Printing.{AreTextsOf}
-use Rattle.racp_askers.specs.declared.crowd.Effort.{Effort}
+use Rattle.racp_by_questions.specs.declared.crowd.Effort.{Effort}
 use Rattle.racp_cli.specs.Texts.{stopped_line, no_thread_line}
 use Rattle.racp_cli.specs.Plans.{IsPlanAnswer}
 use Rattle.racp_cli.specs.Streams.{Reader, IsRun, ToTwo}

@@ -2,6 +2,7 @@
 use Rattle.std.specs.Prelude.{◌≡◌, ◌⊎◌, ℕ, ◌+◌, Bool, true, false, List, [], ◌∷◌, ◌++◌, Option, Result, map}
 use Rattle.racp_model.specs.Project.{Project}
 use Rattle.racp_model.specs.Terms.{Terms}
+use Rattle.racp_by_questions.specs.Crowds.{MayStop}
 use Rattle.racp_lexfix.specs.Answers.{IsAnswer}
 use Rattle.racp_lexfix.specs.Laws.{IsNoPlan}
 use Rattle.racp_lexfix.specs.Printing.{AreTextsOf}
@@ -62,30 +63,31 @@ abbrev pub stopped_text : Bool → List Step → List ℕ → List ℕ
 stopped_text false steps capacities = step_lines steps ++ stopped_line capacities
 stopped_text true steps capacities = stopped_line capacities
 
--- workers were stopped: the steps so far, and capacities before which none stand that are enough for a deadline before the first of
--- these steps
-pub record IsTextOfStop (is_drawn : Bool) (network : Project) (terms : Terms) (status : ℕ) (text : List ℕ) : Type 0 where
+-- workers were stopped, which may stop: the steps so far, and capacities before which none stand that are enough for a deadline
+-- before the first of these steps
+pub record IsTextOfStop (turns : ℕ) (quiet is_drawn : Bool) (network : Project) (terms : Terms) (status : ℕ) (text : List ℕ) : Type 0 where
   pub steps : List Step
   pub not_before : List ℕ
+  pub may_stop : MayStop network quiet turns
   pub are_steps : AreSteps network terms steps
   pub none : AreNotAfterEnough network terms (first_deadline (terms.deadline + 1) steps) not_before
   pub with_text : text ≡ stopped_text is_drawn steps not_before
   pub with_status : status ≡ 4
 
 -- what workers tell: what is told on one thread; or that they were stopped; or that one could not be started
-abbrev pub IsToldByCrowd : Bool → Project → Terms → ℕ → List ℕ → Type 0
-IsToldByCrowd is_drawn network terms status text =
+abbrev pub IsToldByCrowd : ℕ → Bool → Bool → Project → Terms → ℕ → List ℕ → Type 0
+IsToldByCrowd turns quiet is_drawn network terms status text =
     IsToldCurve is_drawn network terms status text ⊎
-    (IsTextOfStop is_drawn network terms status text ⊎ IsNoThreadLine status text)
+    (IsTextOfStop turns quiet is_drawn network terms status text ⊎ IsNoThreadLine status text)
 
 -- the curve of the order by workers, or why there is no plan, or why they ended early
-abbrev pub IsCurveCrowdAnswer : Bool → List ℕ → List ℕ → ℕ → List ℕ → Type 0
-IsCurveCrowdAnswer is_drawn = IsAnswerAbout (IsToldByCrowd is_drawn)
+abbrev pub IsCurveCrowdAnswer : ℕ → Bool → Bool → List ℕ → List ℕ → ℕ → List ℕ → Type 0
+IsCurveCrowdAnswer turns quiet is_drawn = IsAnswerAbout (IsToldByCrowd turns quiet is_drawn)
 
 -- a run of `curve`
 abbrev pub IsCurveRun : Bool → Reader → Reader → Option (List ℕ) → Option (List ℕ) → Result ℕ StreamFault → Type 0
 IsCurveRun is_drawn net order = IsRun (ToTwo (IsCurveAnswer is_drawn)) (net ∷ (order ∷ []))
 
 -- a run of `curve` by workers
-abbrev pub IsCurveCrowdRun : Bool → Reader → Reader → Option (List ℕ) → Option (List ℕ) → Result ℕ StreamFault → Type 0
-IsCurveCrowdRun is_drawn net order = IsRun (ToTwo (IsCurveCrowdAnswer is_drawn)) (net ∷ (order ∷ []))
+abbrev pub IsCurveCrowdRun : ℕ → Bool → Bool → Reader → Reader → Option (List ℕ) → Option (List ℕ) → Result ℕ StreamFault → Type 0
+IsCurveCrowdRun turns quiet is_drawn net order = IsRun (ToTwo (IsCurveCrowdAnswer turns quiet is_drawn)) (net ∷ (order ∷ []))

@@ -7,7 +7,7 @@ use Rattle.racp_plan.specs.declared.plan.Plan.{Plan}
 use Rattle.racp_plan.specs.Texts.{line}
 use Rattle.racp_check.specs.PlanFaults.{IsChecked}
 use Rattle.racp_calendar.specs.declared.calendar.Calendar.{Calendar}
-use Rattle.racp_changes.specs.Lines.{base_line}
+use Rattle.racp_whatif.specs.Lines.{base_line}
 use Rattle.racp_report.specs.Pages.{IsPage}
 use Rattle.racp_report.specs.Reports.{IsReport}
 use Rattle.racp_report.specs.declared.report.Report.{Report}

@@ -5,20 +5,20 @@ use Rattle.racp_model.specs.Project.{Project}
 use Rattle.racp_model.specs.Terms.{Terms}
 use Rattle.racp_plan.specs.declared.plan.Plan.{Plan}
 use Rattle.racp_plan.specs.Plans.{IsPlanOf}
-use Rattle.racp_askers.specs.Crowds.{MayStop}
+use Rattle.racp_by_questions.specs.Crowds.{MayStop}
 use Rattle.racp_lexfix.specs.Answers.{IsNotAfterEnough}
 use Rattle.racp_check.specs.PlanFaults.{IsChecked}
 use Rattle.racp_show.specs.Called.{are_names_for, names_of}
-use Rattle.racp_changes.specs.Lines.{findings_text}
-use Rattle.racp_changes.specs.Outcomes.{AreFindings, is_known}
-use Rattle.racp_changes.specs.declared.outcome.Finding.{Finding}
+use Rattle.racp_whatif.specs.Lines.{findings_text}
+use Rattle.racp_whatif.specs.Outcomes.{AreFindings, is_known}
+use Rattle.racp_whatif.specs.declared.outcome.Finding.{Finding}
 use Rattle.racp_cli.specs.Checks.{AreRead, HasRightHead}
 use Rattle.racp_cli.specs.Crowds.{IsNoThreadLine}
 use Rattle.racp_cli.specs.CurveAnswers.{IsAnswerAbout, IsTextOfReason}
 use Rattle.racp_cli.specs.ShowAnswers.{IsFaulty, count_line, names_line}
 use Rattle.racp_cli.specs.Texts.{stopped_line}
 
--- the lines that tell findings beside a plan; nothing is said here of JSON, whose values racp_changes speaks of
+-- the lines that tell findings beside a plan; nothing is said here of JSON, whose values racp_whatif speaks of
 abbrev pub IsFindingsText : Bool → List (List ℕ) → ℕ → Plan → List Finding → List ℕ → Type 0
 IsFindingsText false names jobs base findings text = text ≡ findings_text names jobs base findings
 IsFindingsText true names jobs base findings text = ⊤
@@ -27,18 +27,19 @@ IsFindingsText true names jobs base findings text = ⊤
 abbrev pub findings_status : List Finding → ℕ
 findings_status findings = if list_all is_known findings then 0 else 4
 
--- beside a plan: a finding for each change that is asked about the order and the plan's capacities
-pub record IsToldBeside (is_json : Bool) (network : Project) (terms : Terms) (base : Plan) (names : List (List ℕ)) (status : ℕ)
+-- beside a plan: a finding for each change that is asked about the order and the plan's capacities; one is left open only where
+-- planning may stop
+pub record IsToldBeside (turns : ℕ) (quiet is_json : Bool) (network : Project) (terms : Terms) (base : Plan) (names : List (List ℕ)) (status : ℕ)
     (text : List ℕ) : Type 0 where
   pub findings : List Finding
-  pub right : AreFindings network terms base.capacities findings
+  pub right : AreFindings (MayStop network quiet turns) network terms base.capacities findings
   pub with_status : status ≡ findings_status findings
   pub with_text : IsFindingsText is_json names (length network.jobs) base findings text
 
 -- the same, or that a worker could not be started
-abbrev pub IsBeside : Bool → Project → Terms → Plan → List (List ℕ) → ℕ → List ℕ → Type 0
-IsBeside is_json network terms base names status text =
-    IsToldBeside is_json network terms base names status text ⊎ IsNoThreadLine status text
+abbrev pub IsBeside : ℕ → Bool → Bool → Project → Terms → Plan → List (List ℕ) → ℕ → List ℕ → Type 0
+IsBeside turns quiet is_json network terms base names status text =
+    IsToldBeside turns quiet is_json network terms base names status text ⊎ IsNoThreadLine status text
 
 -- the plan of the order was not made, by workers that may stop: the line tells capacities before which none are enough
 pub record IsTextOfStop (turns : ℕ) (quiet : Bool) (network : Project) (terms : Terms) (status : ℕ) (text : List ℕ) : Type 0 where
@@ -51,7 +52,7 @@ pub record IsTextOfStop (turns : ℕ) (quiet : Bool) (network : Project) (terms 
 -- beside the plan of the order; or why there is none, or why it was not made
 abbrev pub IsBesideOwn : ℕ → Bool → Bool → Project → Terms → List (List ℕ) → ℕ → List ℕ → Type 0
 IsBesideOwn turns quiet is_json network terms names status text =
-    ((base : Plan) × IsPlanOf network terms base × IsBeside is_json network terms base names status text) ⊎
+    ((base : Plan) × IsPlanOf network terms base × IsBeside turns quiet is_json network terms base names status text) ⊎
     (IsTextOfReason network terms status text ⊎
     (IsTextOfStop turns quiet network terms status text ⊎ IsNoThreadLine status text))
 
@@ -60,7 +61,7 @@ abbrev pub IsBesideGiven : ℕ → Bool → Bool → Project → Terms → Optio
 IsBesideGiven turns quiet is_json network terms None names status text =
     IsBesideOwn turns quiet is_json network terms names status text
 IsBesideGiven turns quiet is_json network terms (Some base) names status text =
-    IsBeside is_json network terms base names status text
+    IsBeside turns quiet is_json network terms base names status text
 
 -- the same, if there are no names or one for each job and resource
 abbrev pub IsBesideCounted : ℕ → Bool → Bool → Project → Terms → Option Plan → List (List ℕ) → ℕ → List ℕ → Type 0

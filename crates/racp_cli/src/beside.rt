@@ -1,9 +1,10 @@
 //! What is told beside a plan: what becomes of its order if one term is changed.
 
-ghost use Rattle.std.specs.Prelude.{◌≡◌, IfOk, IfSome, length, option_map};
+ghost use Rattle.std.specs.Prelude.{◌≡◌, ℕ, Bool, IfOk, IfSome, length, option_map};
 ghost use Rattle.racp_model.specs.Project.{Project};
 ghost use Rattle.racp_model.specs.Terms.{AreTermsOf};
-ghost use Rattle.racp_changes.specs.Outcomes.{AreFindings};
+ghost use Rattle.racp_by_questions.specs.Crowds.{MayStop};
+ghost use Rattle.racp_whatif.specs.Outcomes.{AreFindings};
 ghost use Rattle.racp_lexfix.specs.Answers.{IsAnswer};
 ghost use Rattle.racp_lexfix.specs.Laws.{IsNoPlan};
 ghost use Rattle.racp_cli.specs.CurveAnswers.{IsTextOfReason};
@@ -13,15 +14,14 @@ ghost use Rattle.racp_cli.specs.WhatIfAnswers.{IsBeside, IsBesideCounted, IsBesi
 use crate::lines::stopped_line;
 use crate::status::{DONE, IMPOSSIBLE, REFUSED, STOPPED, STREAM_FAILED};
 use crate::whatif::WhatIfTexts;
-use racp_askers::Observer;
-use racp_changes::{Called, Finding, are_known, findings_json, findings_text};
+use racp_by_questions::Observer;
 use racp_desk::Gate;
-use racp_lexfix::{Answer, Crew, PlanStop, answer_lines};
+use racp_lexfix::{Answer, Crew, PlanStop, Task, answer_lines, plan_by_crew};
+use racp_model::Stop;
 use racp_plan::Plan;
 use racp_prices::Order;
-use racp_search::Stop;
 use racp_show::Names;
-use racp_whatif::{Task, findings, planned};
+use racp_whatif::{Called, Finding, are_known, findings, findings_json, findings_text};
 use std::alloc::{AllocError, Global};
 use std::sync::Wait;
 use std::thread::Threads;
@@ -37,7 +37,7 @@ pub(crate) fn named<G: Gate + Sync, P: Stop + Sync, B: Observer, R: Threads + Wa
     requires terms { AreTermsOf task.now.net.now task.now.order.now }
     requires capacities { IfSome given (λ plan. length plan.now.capacities ≡ task.now.net.now.resources) }
     ensures { IfOk result (λ answer.
-        IsBesideNamed crew.now.turns P.QUIET texts.entry.is_json task.now.net.now task.now.order.now
+        IsBesideNamed crew.now.turns (P.is_quiet crew.now.stop.now) texts.entry.is_json task.now.net.now task.now.order.now
         (option_map (λ plan. plan.now) given.entry) texts.entry.names.now answer.0 answer.1.items) }
 {
     match Names::read(task.alloc, texts.names)? {
@@ -59,7 +59,7 @@ fn counted<G: Gate + Sync, P: Stop + Sync, B: Observer, R: Threads + Wait + Sync
     requires terms { AreTermsOf task.now.net.now task.now.order.now }
     requires capacities { IfSome given (λ plan. length plan.now.capacities ≡ task.now.net.now.resources) }
     ensures { IfOk result (λ answer.
-        IsBesideCounted crew.now.turns P.QUIET is_json task.now.net.now task.now.order.now
+        IsBesideCounted crew.now.turns (P.is_quiet crew.now.stop.now) is_json task.now.net.now task.now.order.now
         (option_map (λ plan. plan.now) given.entry) names.now answer.0 answer.1.items) }
 {
     let net = task.net;
@@ -82,9 +82,9 @@ fn planned_first<G: Gate + Sync, P: Stop + Sync, B: Observer, R: Threads + Wait 
 ) -> Result<(u8, Vec<u8>), AllocError>
     requires terms { AreTermsOf task.now.net.now task.now.order.now }
     ensures { IfOk result (λ answer.
-        IsBesideOwn crew.now.turns P.QUIET is_json task.now.net.now task.now.order.now names.now answer.0 answer.1.items) }
+        IsBesideOwn crew.now.turns (P.is_quiet crew.now.stop.now) is_json task.now.net.now task.now.order.now names.now answer.0 answer.1.items) }
 {
-    match planned(rt, task, crew) {
+    match plan_by_crew(rt, task, crew) {
         Ok(answer) => beside_answer(rt, task, answer, names, is_json, crew),
         Err(stop) => stop_told(task.alloc, stop),
     }
@@ -102,7 +102,7 @@ fn beside_answer<G: Gate + Sync, P: Stop + Sync, B: Observer, R: Threads + Wait 
     requires terms { AreTermsOf task.now.net.now task.now.order.now }
     requires answer { IsAnswer task.now.net.now task.now.order.now answer }
     ensures { IfOk result (λ answer.
-        IsBesideOwn crew.now.turns P.QUIET is_json task.now.net.now task.now.order.now names.now answer.0 answer.1.items) }
+        IsBesideOwn crew.now.turns (P.is_quiet crew.now.stop.now) is_json task.now.net.now task.now.order.now names.now answer.0 answer.1.items) }
 {
     match answer {
         Answer::Plan(base) => beside(rt, task, &base, names, is_json, crew),
@@ -147,7 +147,7 @@ fn beside<G: Gate + Sync, P: Stop + Sync, B: Observer, R: Threads + Wait + Sync>
     requires terms { AreTermsOf task.now.net.now task.now.order.now }
     requires capacities { length base.now.capacities ≡ task.now.net.now.resources }
     ensures { IfOk result (λ answer.
-        IsBeside is_json task.now.net.now task.now.order.now base.now names.now answer.0 answer.1.items) }
+        IsBeside crew.now.turns (P.is_quiet crew.now.stop.now) is_json task.now.net.now task.now.order.now base.now names.now answer.0 answer.1.items) }
 {
     match findings(rt, task, base.capacities.as_slice(), crew) {
         Ok(findings) => told(task, base, &findings, names, is_json),
@@ -164,9 +164,10 @@ fn told(
     names: &Names,
     is_json: bool,
 ) -> Result<(u8, Vec<u8>), AllocError>
-    ensures { AreFindings task.now.net.now task.now.order.now base.now.capacities findings.now →
-        IfOk result (λ answer.
-        IsToldBeside is_json task.now.net.now task.now.order.now base.now names.now answer.0 answer.1.items) }
+    ensures { (turns : ℕ) (quiet : Bool) →
+        AreFindings (MayStop task.now.net.now quiet turns) task.now.net.now task.now.order.now base.now.capacities
+        findings.now → IfOk result (λ answer. IsToldBeside turns quiet is_json task.now.net.now task.now.order.now base.now
+        names.now answer.0 answer.1.items) }
 {
     let called = Called {
         names,

@@ -9,11 +9,11 @@ use crate::fault::StreamFault;
 use crate::refusal::refused;
 use crate::respond::respond;
 use crate::streams::read_whole;
-use racp_askers::{Effort, Observer, Unheard};
+use racp_by_questions::{Effort, Observer, Unheard};
 use racp_cutset::DEFAULT_MEMORY;
 use racp_desk::Gate;
 use racp_lexfix::{Crew, Printed, Refusal, plan_crowd_by};
-use racp_search::Stop;
+use racp_model::Stop;
 use std::alloc::{AllocError, Global};
 use std::io::{Read, Write};
 use std::sync::Wait;
@@ -51,7 +51,7 @@ pub fn crowd_over<
     requires some_workers { 1 ≤ workers }
     requires workers { workers ≤ 64 }
     requires turns { turns ≤ 1000000000000 }
-    ensures run { IsCrowdRun turns P.QUIET (record { unread = N.remaining net.old; left = N.remaining net.new })
+    ensures run { IsCrowdRun turns (P.is_quiet stop.now) (record { unread = N.remaining net.old; left = N.remaining net.new })
         (record { unread = O.remaining order.old; left = O.remaining order.new })
         (W.contents out.old) (W.contents out.new) result }
     ensures effort { IfOk result (λ done. IsEffortOf done.0 done.1) }
@@ -95,7 +95,7 @@ pub fn crowd_over_by<
     order: &mut O,
     out: &mut W,
 ) -> Result<(u8, Option<Effort>), StreamFault>
-    ensures run { IsCrowdRun crew.entry.turns P.QUIET (record { unread = N.remaining net.old; left = N.remaining net.new })
+    ensures run { IsCrowdRun crew.entry.turns (P.is_quiet crew.entry.stop.now) (record { unread = N.remaining net.old; left = N.remaining net.new })
         (record { unread = O.remaining order.old; left = O.remaining order.new })
         (W.contents out.old) (W.contents out.new) result }
     ensures effort { IfOk result (λ done. IsEffortOf done.0 done.1) }

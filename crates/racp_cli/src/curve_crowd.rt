@@ -2,7 +2,7 @@
 
 ghost use Rattle.std.specs.Prelude.{◌≡◌, ℕ, ◌≤◌, Bool, IfErr, IfOk, ⊤};
 ghost use Rattle.racp_model.specs.Project.{Project};
-ghost use Rattle.racp_askers.specs.Crowds.{MayStop};
+ghost use Rattle.racp_by_questions.specs.Crowds.{MayStop};
 ghost use Rattle.racp_curve.specs.Curves.{IsCurveAnswer as IsAnswerOfCurve, IsCurveStop};
 ghost use Rattle.racp_cli.specs.CurveAnswers.{IsCurveCrowdAnswer, IsCurveCrowdRun, IsToldByCrowd, stopped_text};
 ghost use Rattle.racp_cli.specs.Responses.{IsEndedText};
@@ -14,12 +14,12 @@ use crate::respond::respond;
 use crate::status::{STOPPED, STREAM_FAILED};
 use crate::streams::read_whole;
 use crate::texts::read_texts;
-use racp_askers::Observer;
+use racp_by_questions::Observer;
 use racp_curve::{CurveAnswer, CurveStop, Step, curve_crowd, step_lines};
 use racp_desk::Gate;
 use racp_lexfix::{Crew, PlanStop};
+use racp_model::Stop;
 use racp_prices::Order;
-use racp_search::Stop;
 use std::alloc::{AllocError, Global};
 use std::io::{Read, Write};
 use std::sync::Wait;
@@ -56,7 +56,7 @@ pub fn curve_crowd_over<
     requires workers { crew.workers ≤ 64 }
     requires turns { crew.turns ≤ 1000000000000 }
     requires memory { crew.memory ≤ 1048576 }
-    ensures { IsCurveCrowdRun is_drawn (record { unread = N.remaining net.old; left = N.remaining net.new })
+    ensures { IsCurveCrowdRun crew.entry.turns (P.is_quiet crew.entry.stop.now) is_drawn (record { unread = N.remaining net.old; left = N.remaining net.new })
         (record { unread = O.remaining order.old; left = O.remaining order.new })
         (W.contents out.old) (W.contents out.new) result }
 {
@@ -77,7 +77,8 @@ fn answer<G: Gate + Sync, P: Stop + Sync, B: Observer, R: Threads + Wait + Sync>
     requires workers { crew.workers ≤ 64 }
     requires turns { crew.turns ≤ 1000000000000 }
     requires memory { crew.memory ≤ 1048576 }
-    ensures { IfOk result (λ answer. IsCurveCrowdAnswer is_drawn net.now order.now answer.0 answer.1.items) }
+    ensures { IfOk result (λ answer. IsCurveCrowdAnswer crew.entry.turns (P.is_quiet crew.entry.stop.now) is_drawn net.now
+        order.now answer.0 answer.1.items) }
 {
     match read_texts(alloc, net, order) {
         Ok((net, order)) => {
@@ -98,7 +99,7 @@ fn told(
 ) -> Result<(u8, Vec<u8>), AllocError>
     ensures { (network : Project) (turns : ℕ) (quiet : Bool) → IfOk curve (IsAnswerOfCurve network order.now) →
         IfErr curve (λ end. IsCurveStop network order.now (MayStop network quiet turns) ⊤ end.steps.items end.stop) →
-        IfOk result (λ answer. IsToldByCrowd is_drawn network order.now answer.0 answer.1.items) }
+        IfOk result (λ answer. IsToldByCrowd turns quiet is_drawn network order.now answer.0 answer.1.items) }
 {
     match curve {
         Ok(answer) => curve_answer(alloc, order, answer, is_drawn),

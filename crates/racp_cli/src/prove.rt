@@ -7,8 +7,8 @@ use crate::fault::StreamFault;
 use crate::refusal::refused;
 use crate::respond::respond;
 use crate::streams::read_whole;
-use racp_delay::Stop;
 use racp_lexfix::{prove_alone, prove_until};
+use racp_model::Stop;
 use std::alloc::{AllocError, Global};
 use std::io::{Read, Write};
 
@@ -49,7 +49,7 @@ pub fn prove_over_until<N: Read, O: Read, W: Write, S: Stop>(
     out: &mut W,
     stop: &S,
 ) -> Result<u8, StreamFault>
-    ensures { IsProofRunUntil S.QUIET (record { unread = N.remaining net.old; left = N.remaining net.new })
+    ensures { IsProofRunUntil (S.is_quiet stop.now) (record { unread = N.remaining net.old; left = N.remaining net.new })
         (record { unread = O.remaining order.old; left = O.remaining order.new })
         (W.contents out.old) (W.contents out.new) result }
 {
@@ -75,7 +75,7 @@ fn answer_until<S: Stop>(
     order: &[u8],
     stop: &S,
 ) -> Result<(u8, Vec<u8>), AllocError>
-    ensures { IfOk result (λ answer. IsProofAnswerUntil S.QUIET net.now order.now answer.0 answer.1.items) }
+    ensures { IfOk result (λ answer. IsProofAnswerUntil (S.is_quiet stop.now) net.now order.now answer.0 answer.1.items) }
 {
     match prove_until(alloc, net, order, stop) {
         Ok(printed) => Ok((printed.status, printed.text)),

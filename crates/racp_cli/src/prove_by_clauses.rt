@@ -7,8 +7,8 @@ use crate::fault::StreamFault;
 use crate::refusal::refused;
 use crate::respond::respond;
 use crate::streams::read_whole;
-use racp_delay::Stop;
 use racp_lexfix::prove_by_clauses;
+use racp_model::Stop;
 use std::alloc::{AllocError, Global};
 use std::io::{Read, Write};
 

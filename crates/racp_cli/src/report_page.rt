@@ -12,10 +12,10 @@ use crate::check::Checked;
 use crate::report::Page;
 use crate::status::{DONE, REFUSED};
 use racp_calendar::Calendar;
-use racp_changes::base_line;
 use racp_charts::Drawing;
 use racp_report::{Beside, Report, report_of, report_text};
 use racp_show::Names;
+use racp_whatif::base_line;
 use std::alloc::{AllocError, Global};
 
 /// The status and the text for the text of a curve that is right, or empty if there is none.

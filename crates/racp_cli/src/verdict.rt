@@ -8,8 +8,8 @@ ghost use Rattle.racp_cli.specs.Verifies.{IsVerdict, is_by_clauses};
 
 use crate::check::Checked;
 use racp_check::check_proof_until;
-use racp_delay::{Stop, Unfound};
 use racp_derivations::establishes_by_text_until;
+use racp_model::{Stop, Unfound};
 use racp_text::cut_at;
 use std::alloc::Global;
 
@@ -23,7 +23,7 @@ pub(crate) fn is_proved<S: Stop>(
     requires terms { AreTermsOf found.now.net found.now.order }
     requires capacities { length found.now.plan.capacities ≡ found.now.net.resources }
     ensures verdict { IfOk result (IsVerdict found.now.net found.now.order found.now.plan proof.now) }
-    ensures quiet { IsTrue S.QUIET → IsErrOf result Unfound.Stopped → ⊥ }
+    ensures quiet { IsTrue (S.is_quiet stop.now) → IsErrOf result Unfound.Stopped → ⊥ }
 {
     let Checked { net, order, plan } = found;
     if is_by_clauses(proof) {

@@ -12,7 +12,7 @@ use crate::respond::respond;
 use crate::status::{CHECK_FAILED, DONE, STOPPED};
 use crate::streams::read_whole;
 use crate::verdict::is_proved;
-use racp_delay::{Never, Stop, Unfound};
+use racp_model::{Never, Stop, Unfound};
 use std::alloc::{AllocError, Global};
 use std::io::{Read, Write};
 
@@ -61,7 +61,7 @@ pub fn verify_over_until<N: Read, O: Read, P: Read, C: Read, W: Write, S: Stop>(
     out: &mut W,
     stop: &S,
 ) -> Result<u8, StreamFault>
-    ensures { IsVerifyRunUntil S.QUIET (record { unread = N.remaining net.old; left = N.remaining net.new })
+    ensures { IsVerifyRunUntil (S.is_quiet stop.now) (record { unread = N.remaining net.old; left = N.remaining net.new })
         (record { unread = O.remaining order.old; left = O.remaining order.new })
         (record { unread = P.remaining plan.old; left = P.remaining plan.new })
         (record { unread = C.remaining proof.old; left = C.remaining proof.new }) (W.contents out.old)
@@ -83,7 +83,7 @@ fn answer<S: Stop>(
     proof: &[u8],
     stop: &S,
 ) -> Result<(u8, Vec<u8>), AllocError>
-    ensures { IfOk result (λ answer. IsVerifyAnswerUntil S.QUIET net.now order.now plan.now proof.now answer.0 answer.1.items) }
+    ensures { IfOk result (λ answer. IsVerifyAnswerUntil (S.is_quiet stop.now) net.now order.now plan.now proof.now answer.0 answer.1.items) }
 {
     let outcome = verify(alloc, net, order, plan, proof, stop);
     Ok((status_of(&outcome), line_of(alloc, &outcome)?))
@@ -99,7 +99,7 @@ fn verify<S: Stop>(
     proof: &[u8],
     stop: &S,
 ) -> Result<Option<bool>, CheckFault>
-    ensures { IsVerifyUntil S.QUIET net.now order.now plan.now proof.now result }
+    ensures { IsVerifyUntil (S.is_quiet stop.now) net.now order.now plan.now proof.now result }
 {
     let found = read_checked(alloc, net, order, plan)?;
     let proved = is_proved(alloc, &found, proof, stop);

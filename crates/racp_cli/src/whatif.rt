@@ -9,11 +9,10 @@ use crate::check::read_checked;
 use crate::fault::StreamFault;
 use crate::respond::respond;
 use crate::texts::read_texts;
-use racp_askers::Observer;
+use racp_by_questions::Observer;
 use racp_desk::Gate;
-use racp_lexfix::Crew;
-use racp_search::Stop;
-use racp_whatif::Task;
+use racp_lexfix::{Crew, Task};
+use racp_model::Stop;
 use std::alloc::{AllocError, Global};
 use std::io::Write;
 use std::sync::Wait;
@@ -54,7 +53,7 @@ pub fn whatif_to<R: Threads + Wait + Sync, G: Gate + Sync, P: Stop + Sync, B: Ob
     out: &mut W,
 ) -> Result<u8, StreamFault>
     ensures { IsAnswerWritten
-        (IsWhatIfAnswer crew.entry.turns P.QUIET texts.entry.is_json texts.entry.net.now texts.entry.order.now
+        (IsWhatIfAnswer crew.entry.turns (P.is_quiet crew.entry.stop.now) texts.entry.is_json texts.entry.net.now texts.entry.order.now
         (option_map (λ plan. plan.now) texts.entry.plan) texts.entry.names.now)
         (W.contents out.old) (W.contents out.new) result }
 {
@@ -69,7 +68,7 @@ fn answer<G: Gate + Sync, P: Stop + Sync, B: Observer, R: Threads + Wait + Sync>
     crew: &Crew<'_, G, P, B>,
 ) -> Result<(u8, Vec<u8>), AllocError>
     ensures { IfOk result (λ answer.
-        IsWhatIfAnswer crew.now.turns P.QUIET texts.entry.is_json texts.entry.net.now texts.entry.order.now
+        IsWhatIfAnswer crew.now.turns (P.is_quiet crew.now.stop.now) texts.entry.is_json texts.entry.net.now texts.entry.order.now
         (option_map (λ plan. plan.now) texts.entry.plan) texts.entry.names.now answer.0 answer.1.items) }
 {
     match texts.plan {
@@ -87,7 +86,7 @@ fn beside_given<G: Gate + Sync, P: Stop + Sync, B: Observer, R: Threads + Wait +
     crew: &Crew<'_, G, P, B>,
 ) -> Result<(u8, Vec<u8>), AllocError>
     ensures { IfOk result (λ answer.
-        IsWhatIfAnswer crew.now.turns P.QUIET texts.entry.is_json texts.entry.net.now texts.entry.order.now (Some plan.now)
+        IsWhatIfAnswer crew.now.turns (P.is_quiet crew.now.stop.now) texts.entry.is_json texts.entry.net.now texts.entry.order.now (Some plan.now)
         texts.entry.names.now answer.0 answer.1.items) }
 {
     match read_checked(alloc, texts.net, texts.order, plan) {
@@ -114,7 +113,7 @@ fn beside_own<G: Gate + Sync, P: Stop + Sync, B: Observer, R: Threads + Wait + S
     crew: &Crew<'_, G, P, B>,
 ) -> Result<(u8, Vec<u8>), AllocError>
     ensures { IfOk result (λ answer.
-        IsWhatIfAnswer crew.now.turns P.QUIET texts.entry.is_json texts.entry.net.now texts.entry.order.now None
+        IsWhatIfAnswer crew.now.turns (P.is_quiet crew.now.stop.now) texts.entry.is_json texts.entry.net.now texts.entry.order.now None
         texts.entry.names.now answer.0 answer.1.items) }
 {
     match read_texts(alloc, texts.net, texts.order) {

@@ -4,8 +4,8 @@ use Rattle.racp_model.specs.Project.{Project}
 use Rattle.racp_model.specs.Schedule.{EndsBy}
 use Rattle.racp_model.specs.Terms.{Terms, IsWithinCeilings}
 use Rattle.racp_model.specs.Plan.{FitsTerms, NoneIsEnough}
-use Rattle.racp_schedules.specs.Drafts.{IsDraft}
-use Rattle.racp_schedules.specs.declared.draft.Draft.{Draft}
+use Rattle.racp_drafts.specs.Drafts.{IsDraft}
+use Rattle.racp_drafts.specs.declared.draft.Draft.{Draft}
 use Rattle.racp_curve.specs.Curves.{order_by}
 use Rattle.racp_curve.specs.Following.{order_within, IsSooner}
 use Rattle.racp_curve.proofs.Deadlines.{enough_by}

@@ -3,7 +3,7 @@ use Rattle.std.specs.Prelude.{◌≡◌, ◌≢◌, ℕ, ◌+◌, ◌<◌, ◌�
 use Rattle.racp_model.specs.Project.{Project}
 use Rattle.racp_model.specs.Terms.{Terms, cost, IsBefore}
 use Rattle.racp_model.specs.Plan.{IsLeast, IsEnough, NoneIsEnough}
-use Rattle.racp_schedules.specs.Drafts.{AreFitting}
+use Rattle.racp_plan.specs.Fitting.{AreFitting}
 use Rattle.racp_lexfix.specs.Answers.{IsAnswer, IsPlanStop}
 use Rattle.racp_lexfix.specs.Laws.{IsNoPlan}
 use Rattle.racp_lexfix.specs.Stages.{AreFloorsOfEnough, IsLeastOfEnough}

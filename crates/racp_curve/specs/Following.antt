@@ -9,7 +9,7 @@ use Rattle.racp_plan.specs.Plans.{IsPlanOf}
 use Rattle.racp_lexfix.specs.declared.answer.Answer.{Answer}
 use Rattle.racp_lexfix.specs.declared.answer.Answer.TheVariants.{Plan as ThePlan, Impossible, Due, Ceiling}
 use Rattle.racp_curve.specs.Curves.{order_by, first_deadline, AreOthersThanFirst, AreSteps, IsCurve, MayHearCost, MayHearFloors, MayHearPlans}
-use Rattle.racp_facts.specs.Solutions.{Problem}
+use Rattle.racp_clauses.specs.Solutions.{Problem}
 use Rattle.racp_curve.specs.declared.ground.Ground.{Ground}
 use Rattle.racp_curve.specs.declared.step.Step.{Step}
 

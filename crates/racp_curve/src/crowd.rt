@@ -5,21 +5,20 @@ ghost use Rattle.racp_model.specs.Formed.{AreFormed};
 ghost use Rattle.racp_model.specs.Terms.{AreTermsOf};
 ghost use Rattle.racp_candidates.specs.AnySeries.{any_questions};
 ghost use Rattle.racp_desk.specs.Closing.{IsRunClosed};
-ghost use Rattle.racp_askers.specs.Crowds.{MayStop};
+ghost use Rattle.racp_by_questions.specs.Crowds.{MayStop};
 ghost use Rattle.racp_curve.specs.Curves.{IsCurveAnswer, IsCurveStop};
 
 use crate::dated::Dated;
 use crate::following::{curve, out_of_memory};
 use crate::ground::Ground;
 use crate::step::{CurveAnswer, CurveStop};
-use racp_askers::{Crowd, Observer, OfTurns, Pricing};
+use racp_by_questions::{Crowd, Observer, OfTurns, Pricing};
 use racp_candidates::AnySeries;
 use racp_cutset::MemoryLimit;
 use racp_desk::{Closed, DeskFault, Gate, Records, RunLimits};
 use racp_lexfix::Crew;
-use racp_model::{Network, OfNetwork};
+use racp_model::{Network, OfNetwork, Stop};
 use racp_prices::Order;
-use racp_search::Stop;
 use std::alloc::Global;
 use std::marker::Brand;
 use std::sync::Wait;
@@ -42,7 +41,8 @@ pub fn curve_crowd<G: Gate + Sync, P: Stop + Sync, O: Observer, R: Threads + Wai
 ) -> Result<CurveAnswer, CurveStop>
     requires terms { AreTermsOf net.now order.now }
     ensures curve { IfOk result (IsCurveAnswer net.now order.now) }
-    ensures stop { IfErr result (λ end. IsCurveStop net.now order.now (MayStop net.now P.QUIET crew.entry.turns) ⊤
+    ensures stop { IfErr result (λ end. IsCurveStop net.now order.now
+        (MayStop net.now (P.is_quiet crew.entry.stop.now) crew.entry.turns) ⊤
         end.steps.items end.stop) }
 {
     let at = AtomicU32::new(order.deadline);
@@ -55,7 +55,8 @@ pub fn curve_crowd<G: Gate + Sync, P: Stop + Sync, O: Observer, R: Threads + Wai
     curve_by::<Brand, Brand, G, P, O, R>(rt, &ground, crew)
 }
 
-/// The curve of an order, made by these workers, for the network that `N` names, with the turns that `M` names.
+/// The curve of an order, made by these workers, for the network that `N` names, with the turns and as quiet a stop as
+/// `M` says.
 fn curve_by<
     N: OfNetwork + Send + Sync,
     M: OfTurns,
@@ -66,9 +67,10 @@ fn curve_by<
 >(rt: &R, ground: &Ground, crew: Crew<'_, G, P, O>) -> Result<CurveAnswer, CurveStop>
     requires named { ground.now.net.now ≡ N.network }
     requires named_turns { crew.turns ≡ M.turns }
+    requires named_quiet { P.is_quiet crew.stop.now ≡ M.quiet }
     ensures curve { IfOk result (IsCurveAnswer ground.now.net.now ground.now.order.now) }
     ensures stop { IfErr result (λ end. IsCurveStop ground.now.net.now ground.now.order.now
-        (MayStop ground.now.net.now P.QUIET M.turns) ⊤ end.steps.items end.stop) }
+        (MayStop ground.now.net.now M.quiet M.turns) ⊤ end.steps.items end.stop) }
 {
     let Ground {
         alloc,
@@ -100,7 +102,8 @@ fn curve_by<
         dated,
         |series: AnySeries, limits: RunLimits| -> Result<Closed, DeskFault>
             requires { (net.now ≡ N.network) × AreFormed net.now (any_questions series) }
-            ensures { IfOk result (IsRunClosed net.entry.now (any_questions series) limits.turns P.QUIET) }
+            ensures { IfOk result (IsRunClosed net.entry.now (any_questions series) limits.turns
+                (P.is_quiet stop.entry.now)) }
         { records.run(rt, alloc, net, series, limits, gate, stop) },
     );
     let mut crowd = crowd.with_search(leeway, stop);

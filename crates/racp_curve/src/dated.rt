@@ -1,6 +1,6 @@
 //! Who is told for which deadline a plan is made.
 
-use racp_askers::Observer;
+use racp_by_questions::Observer;
 use std::sync::atomic::{AtomicU32, Ordering};
 
 /// Tells another observer what it is told of plans, and before it each time the deadline that stands here.

@@ -9,7 +9,7 @@ use crate::facts::Facts;
 use crate::ground::Ground;
 use racp_candidates::AnySeries;
 use racp_check::{Opening, opening_of};
-use racp_facts::OfProblem;
+use racp_clauses::OfProblem;
 use racp_lexfix::{Answer, PlanStop, plan};
 use racp_model::{Capacities, Window};
 use racp_plan::Plan;

@@ -14,12 +14,12 @@ ghost use Rattle.racp_curve.specs.Following.{IsGroundOf, IsShortest, IsSooner};
 use crate::deadline::{root_by, with_ceilings};
 use crate::facts::Facts;
 use crate::ground::Ground;
+use racp_by_clauses::Feasible;
 use racp_candidates::AnySeries;
+use racp_clauses::OfProblem;
 use racp_cpm::last_end;
-use racp_facts::OfProblem;
 use racp_lexfix::PlanStop;
 use racp_model::{Capacities, Network, Question, Starts, Window};
-use racp_optimum::Feasible;
 use racp_questions::{Asker, Probe};
 use std::alloc::AllocError;
 

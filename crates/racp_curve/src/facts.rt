@@ -4,20 +4,20 @@ ghost use Rattle.std.specs.Prelude.{IfOk, IfSome};
 ghost use Rattle.std.proofs.Props.{props};
 ghost use Rattle.racp_model.specs.Terms.{AreTermsOf};
 ghost use Rattle.racp_lexfix.specs.Stages.{MayBeTold};
-ghost use Rattle.racp_optimum.specs.Optima.{IsFeasible, IsTaskOf};
+ghost use Rattle.racp_by_clauses.specs.Optima.{IsFeasible, IsTaskOf};
 ghost use Rattle.racp_curve.specs.Following.{IsGroundOf, IsPlanOrNone, IsVariantOf};
 
 use crate::ground::Ground;
+use racp_by_clauses::{Feasible, Hearer, Optimizer, Optimum, Task};
 use racp_candidates::AnySeries;
 use racp_check::{Opening, opening_of};
-use racp_facts::OfProblem;
+use racp_clauses::OfProblem;
+use racp_drafts::Draft;
 use racp_learning::Tally;
 use racp_lexfix::{Relay, root_bounds};
-use racp_optimum::{Feasible, Hearer, Optimizer, Optimum, Task};
 use racp_plan::Plan;
 use racp_prices::{Order, cost_of};
 use racp_questions::Asker;
-use racp_schedules::Draft;
 use std::alloc::AllocError;
 use std::marker::Brand;
 

@@ -23,7 +23,7 @@
 //! Then the plan for the deadline before it is made, and so on, down to a deadline for which there is none. So there is
 //! one plan for each step, and the work does not grow with the deadline.
 //!
-//! Where there are more than 64 vectors and the asker leaves room for a search, one search that learns (racp_optimum)
+//! Where there are more than 64 vectors and the asker leaves room for a search, one search that learns (racp_by_clauses)
 //! finds the plans and the ends: a clause that holds for a deadline holds for each earlier one, and with lower
 //! ceilings, so what is learned of one serves the next. Capacities are enough for a deadline if the order with that
 //! deadline has a plan with these capacities as its ceilings. All other questions go to one `Asker`, whose records

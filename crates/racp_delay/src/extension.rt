@@ -7,10 +7,9 @@ ghost use Rattle.racp_delay.specs.Reach.{AreRows};
 
 use crate::choosing::Choice;
 use crate::delaying::some_have_room;
-use crate::following::Unfound;
 use crate::loads::are_within;
 use crate::reach::{Divisors, reach};
-use crate::stop::Stop;
+use racp_model::{Stop, Unfound};
 
 /// Extends `gone` to the first alternative, in lexicographic order, in which its jobs go, and of the undecided those
 /// that have to. Answers whether there is one; else `gone` is as before.
@@ -26,7 +25,7 @@ fn extend<S: Stop>(
     requires rows { AreRows choice.now.net.now choice.now.undecided.now rows.now }
     ensures found { IfOk result (λ found. IsExtended choice.now.net.now choice.now.capacities.now
         (slice_index choice.now.kept) gone.old.items choice.now.undecided.now IsAny found gone.new.items) }
-    ensures quiet { IsTrue S.QUIET → IsErrOf result Unfound.Stopped → ⊥ }
+    ensures quiet { IsTrue (S.is_quiet stop.now) → IsErrOf result Unfound.Stopped → ⊥ }
 {
     if stop.asked() {
         return Err(Unfound::Stopped);
@@ -56,7 +55,7 @@ pub(crate) fn branch<S: Stop>(
     requires over { AreWithin choice.now.net.now choice.now.capacities.now (slice_index choice.now.left) → ⊥ }
     ensures found { IfOk result (λ found. IsExtended choice.now.net.now choice.now.capacities.now
         (slice_index choice.now.kept) gone.old.items choice.now.undecided.now IsAny found gone.new.items) }
-    ensures quiet { IsTrue S.QUIET → IsErrOf result Unfound.Stopped → ⊥ }
+    ensures quiet { IsTrue (S.is_quiet stop.now) → IsErrOf result Unfound.Stopped → ⊥ }
 {
     let Some((job, others)) = choice.undecided.split_first() else {
         return Ok(false);

@@ -12,41 +12,10 @@ use crate::delaying::some_have_room;
 use crate::extension::branch;
 use crate::loads::{are_within, split_free};
 use crate::reach::{Divisors, put_rows, reach};
-use crate::stop::{Steps, Stop};
-use racp_model::{Capacities, JobSet, Network};
-use std::alloc::{AllocError, AllocFailed, Global};
+use crate::stop::Steps;
+use racp_model::{Capacities, JobSet, Network, Stop, Unfound};
+use std::alloc::Global;
 use std::marker::Model;
-
-/// Why it is not known whether there is an alternative.
-#[derive(Clone, Copy)]
-pub enum Unfound {
-    /// Memory was refused.
-    Memory,
-    /// The search was stopped.
-    Stopped,
-}
-
-impl From<AllocError> for Unfound {
-    ghost use Rattle.std.specs.Prelude.{◌≡◌};
-    ghost use Rattle.racp_delay.specs.declared.following.Unfound.TheVariants.{Memory};
-
-    ghost from_gives = { λ _ e. e ≡ Memory };
-
-    fn from(_error: AllocError) -> Unfound {
-        Unfound::Memory
-    }
-}
-
-impl<T: Drop> From<AllocFailed<T>> for Unfound {
-    ghost use Rattle.std.specs.Prelude.{◌≡◌};
-    ghost use Rattle.racp_delay.specs.declared.following.Unfound.TheVariants.{Memory};
-
-    ghost from_gives = { λ _ e. e ≡ Memory };
-
-    fn from(_error: AllocFailed<T>) -> Unfound {
-        Unfound::Memory
-    }
-}
 
 /// How many steps are taken before common divisors are made, which show that more choices lead to nothing.
 const FEW_STEPS: u32 = 1_000;
@@ -66,7 +35,7 @@ fn extend_behind<S: Stop>(
     ensures found { IfOk result (λ found. IsExtended choice.now.net.now choice.now.capacities.now
         (slice_index choice.now.kept) gone.old.items choice.now.undecided.now (IsLexBefore last.now) found
         gone.new.items) }
-    ensures quiet { IsTrue S.QUIET → IsErrOf result Unfound.Stopped → ⊥ }
+    ensures quiet { IsTrue (S.is_quiet stop.now) → IsErrOf result Unfound.Stopped → ⊥ }
 {
     if stop.asked() {
         return Err(Unfound::Stopped);
@@ -97,7 +66,7 @@ fn branch_behind<S: Stop>(
     ensures found { IfOk result (λ found. IsExtended choice.now.net.now choice.now.capacities.now
         (slice_index choice.now.kept) gone.old.items choice.now.undecided.now (IsLexBefore last.now) found
         gone.new.items) }
-    ensures quiet { IsTrue S.QUIET → IsErrOf result Unfound.Stopped → ⊥ }
+    ensures quiet { IsTrue (S.is_quiet stop.now) → IsErrOf result Unfound.Stopped → ⊥ }
 {
     let Some((first, rest)) = last.split_first() else {
         return branch(choice, gone, rows, stop);
@@ -136,7 +105,7 @@ fn look_behind<S: Stop>(
     ensures found { IfOk result (λ found. IsExtended choice.now.net.now choice.now.capacities.now
         (slice_index choice.now.kept) gone.old.items choice.now.undecided.now (IsLexBefore last.now) found
         gone.new.items) }
-    ensures quiet { IsTrue S.QUIET → IsErrOf result Unfound.Stopped → ⊥ }
+    ensures quiet { IsTrue (S.is_quiet stop.now) → IsErrOf result Unfound.Stopped → ⊥ }
 {
     let few = Steps::new(FEW_STEPS);
     let answer = extend_behind(choice, gone, last, &[], &few);
@@ -207,7 +176,7 @@ impl Alternative {
         requires active { All (IsNumber (length net.now.jobs)) active.now }
         ensures found { IfOk result (λ more.
             IsFollowing net.now capacities.now active.now free.now last.now more self.new) }
-        ensures quiet { IsTrue S.QUIET → IsErrOf result Unfound.Stopped → ⊥ }
+        ensures quiet { IsTrue (S.is_quiet stop.now) → IsErrOf result Unfound.Stopped → ⊥ }
     {
         self.gone.clear();
         let (kept, left) = split_free(net, active, free, &mut self.free)?;

@@ -69,6 +69,7 @@ mod stop;
 
 pub use conflicts::{Clash, conflict, conflict_from};
 pub use delaying::{DelayingAlternatives, alternatives, first_end};
-pub use following::{Alternative, Unfound};
+pub use following::Alternative;
 pub use profile::Profile;
-pub use stop::{Never, Steps, Stop};
+pub use racp_model::{Never, Stop, Unfound};
+pub use stop::Steps;

@@ -1,39 +1,7 @@
-//! When a search stops before its end.
+//! A stop after a number of steps.
 
-ghost use Rattle.std.specs.Prelude.{IsTrue, IsFalse};
-
+use racp_model::Stop;
 use std::cell::Cell;
-
-/// Whether a search, of alternatives or of windows, is to stop. A quiet one never says so; another one may answer
-/// anything at any time.
-pub trait Stop {
-    ghost use Rattle.std.specs.Prelude.{Bool};
-
-    ghost QUIET: { Bool };
-
-    /// Whether `asked` always answers false.
-    const QUIET: bool;
-
-    /// Whether the search is to stop now.
-    fn asked(&self) -> bool
-        ensures { IsTrue QUIET → IsFalse result };
-}
-
-/// Never stops a search.
-#[derive(Clone, Copy)]
-pub struct Never;
-
-impl Stop for Never {
-    ghost use Rattle.std.specs.Prelude.{true};
-
-    ghost QUIET = { true };
-
-    const QUIET: bool = true;
-
-    fn asked(&self) -> bool {
-        false
-    }
-}
 
 /// Stops a search that takes too many steps: once it was asked more than so many times.
 #[derive(Drop)]
@@ -59,6 +27,10 @@ impl Stop for Steps {
     ghost use Rattle.std.specs.Prelude.{false};
 
     ghost QUIET = { false };
+
+    ghost is_quiet = { λ _. false };
+
+    ghost all_quiet = { λ _ quiet. quiet };
 
     const QUIET: bool = false;
 

@@ -8,8 +8,8 @@ use Rattle.racp_model.specs.Terms.{Terms, release_of, due_of}
 use Rattle.racp_model.specs.Window.{Bounds, IsRootWindow}
 use Rattle.racp_prices.specs.Units.{AreMostUnits}
 use Rattle.racp_cpm.specs.Ends.{HasNoRoot}
-use Rattle.racp_facts.specs.Solutions.{values}
-use Rattle.racp_facts.specs.Roots.{AreNeeded, IsRootOf}
+use Rattle.racp_clauses.specs.Solutions.{values}
+use Rattle.racp_clauses.specs.Roots.{AreNeeded, IsRootOf}
 use Rattle.racp_derivations.specs.Texts.{IsOrderRoot, ShowsIn, IsDerivationText}
 
 early-one : (p : Project) (release : ℕ → ℕ) (a b : List ℕ) → IsEarly p release a → IsEarly p release b → a ≡ b

@@ -3,11 +3,11 @@ use Rattle.std.specs.Prelude.{ℕ, ◌==◌, Bool, false, nat_lt, if◌then◌el
 use Rattle.racp_model.specs.Project.{Project}
 use Rattle.racp_model.specs.Terms.{Terms}
 use Rattle.racp_model.specs.Window.{Bounds}
-use Rattle.racp_facts.specs.Clauses.{Derived}
-use Rattle.racp_facts.specs.Inferences.{with_inference, with_literal, negation, by_clause}
-use Rattle.racp_facts.specs.Rules.{along_pair, of_job, of_resource, by_time_table, by_energy, by_request, by_units, by_cost}
-use Rattle.racp_facts.specs.declared.literal.Literal.{Literal}
-use Rattle.racp_established.specs.Tests.{clause_at}
+use Rattle.racp_clauses.specs.Clauses.{Derived}
+use Rattle.racp_clauses.specs.Inferences.{with_inference, with_literal, negation, by_clause}
+use Rattle.racp_clauses.specs.Rules.{along_pair, of_job, of_resource, by_time_table, by_energy, by_request, by_units, by_cost}
+use Rattle.racp_clauses.specs.declared.literal.Literal.{Literal}
+use Rattle.racp_clauses.specs.Tests.{clause_at}
 use Rattle.racp_derivations.specs.Words.{◌>>=◌}
 use Rattle.racp_derivations.specs.Lines.{line_of}
 use Rattle.racp_derivations.specs.declared.line.Line.{Line}

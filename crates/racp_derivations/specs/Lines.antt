@@ -1,9 +1,9 @@
 -- What a line of a derivation text says.
 use Rattle.std.specs.Prelude.{ℕ, ◌==◌, ◌&&◌, Bool, if◌then◌else◌, List, length, bytes_eq, codes, position, Option, Some, None}
 use Rattle.racp_model.specs.Project.{Project, number}
-use Rattle.racp_facts.specs.Solutions.{units_place, cost_place}
-use Rattle.racp_facts.specs.declared.literal.Literal.{Literal}
-use Rattle.racp_facts.specs.declared.literal.Literal.TheVariants.{AtLeast, AtMost}
+use Rattle.racp_clauses.specs.Solutions.{units_place, cost_place}
+use Rattle.racp_clauses.specs.declared.literal.Literal.{Literal}
+use Rattle.racp_clauses.specs.declared.literal.Literal.TheVariants.{AtLeast, AtMost}
 use Rattle.racp_derivations.specs.Words.{◌>>=◌, most_number, first_word, behind_word, number_of, place_of}
 use Rattle.racp_derivations.specs.declared.line.Line.{Line}
 use Rattle.racp_derivations.specs.declared.line.Line.TheVariants.{Suppose, Take, Holds, Keep}

@@ -5,11 +5,11 @@ use Rattle.racp_model.specs.Project.{Project}
 use Rattle.racp_model.specs.Terms.{Terms, release_of, due_of}
 use Rattle.racp_model.specs.Window.{Bounds, IsRootWindow}
 use Rattle.racp_text.specs.Cuts.{is_line_feed}
-use Rattle.racp_facts.specs.Solutions.{values, cost_place}
-use Rattle.racp_facts.specs.Roots.{IsRootOf}
-use Rattle.racp_facts.specs.declared.literal.Literal.{Literal}
-use Rattle.racp_schedules.specs.Drafts.{AreFitting}
-use Rattle.racp_established.specs.Tests.{AreAllOut}
+use Rattle.racp_clauses.specs.Solutions.{values, cost_place}
+use Rattle.racp_clauses.specs.Roots.{IsRootOf}
+use Rattle.racp_clauses.specs.declared.literal.Literal.{Literal}
+use Rattle.racp_plan.specs.Fitting.{AreFitting}
+use Rattle.racp_clauses.specs.Tests.{AreAllOut}
 use Rattle.racp_derivations.specs.Checking.{Checked, clauses_of, at_first}
 
 -- the root bounds of an order whose floors are 0

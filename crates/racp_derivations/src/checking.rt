@@ -2,13 +2,13 @@
 
 ghost use Rattle.std.specs.Prelude.{◌≡◌, ◌++◌, ◌∷◌, [], true, false, IfOk, MatchBool, Some, None};
 ghost use Rattle.racp_model.specs.Terms.{AreTermsOf};
-ghost use Rattle.racp_facts.specs.Solutions.{HasPlaces};
+ghost use Rattle.racp_clauses.specs.Solutions.{HasPlaces};
 ghost use Rattle.racp_derivations.specs.Checking.{after, after_line, at_first};
 
 use crate::line::Line;
 use crate::lines::line_of;
 use crate::stepping::{Given, take_step};
-use racp_facts::{Clause, Derivation, Domain, OfProblem};
+use racp_clauses::{Clause, Derivation, Domain, OfProblem};
 use std::alloc::{AllocError, Global};
 use std::marker::Model;
 

@@ -1,9 +1,10 @@
-//! Texts of clauses with their derivations, and whether one shows that a plan is the plan of its order.
+//! Certificates by clauses: texts of clauses with their derivations, whether one shows that a plan is the plan of its
+//! order, and how one is made of what a search has recorded.
 //!
-//! Clauses are those of racp_facts, and what they have to show is told by racp_established. A text is a list of lines,
-//! each of which a derivation takes: a literal that the clause is to have, a step by a rule, or that nothing is left. So
-//! a text is checked line by line, as LRAT's are (Cruz-Filipe, Heule, Hunt, Kaufmann and Schneider-Kamp 2017), and who
-//! made it need not be trusted. docs/FORMATS.md says what each line does, and goes through one text.
+//! What clauses are, and what they have to show, is told by racp_clauses. A text is a list of lines, each of which a
+//! derivation takes: a literal that the clause is to have, a step by a rule, or that nothing is left. So a text is
+//! checked line by line, as LRAT's are (Cruz-Filipe, Heule, Hunt, Kaufmann and Schneider-Kamp 2017), and who made it
+//! need not be trusted. docs/FORMATS.md says what each line does, and goes through one text.
 //!
 //! Two jobs of 3 time units with 1 unit each, from 0 to 4; and the clause that there are at least 2 units:
 //!
@@ -14,15 +15,36 @@
 //! ```
 //!
 //! There are two derivations, `base` with which each one begins, and the present one, and the clauses so far. Lines and
-//! words are slices of the text; memory is taken for the literals of clauses alone. A pair of the precedence relation is
-//! found by halving. Otherwise a line takes as long as its step, which is in proportion to the jobs, the resources or
-//! the literals of the clause that it names; no text takes longer than its bytes times that.
+//! words are slices of the text; memory is taken for the literals of clauses alone. A pair of the precedence relation
+//! is found by halving. Otherwise a line takes as long as its step, which is in proportion to the jobs, the resources
+//! or the literals of the clause that it names; no text takes longer than its bytes times that.
 //!
-//! Proved: `establishes_by_text` says yes exactly where the text has the form, each of its clauses follows by its steps,
-//! each step names what there is and only earlier clauses, the starts fit the capacities, and for each variable in turn
-//! a clause leaves out what is less (`IsDerivationText`); and where it says yes, the capacities and the starts are the
-//! plan of the order (`IsPlan` of racp_model). `establishes_by_text_until` is the same with a stop. Not proved: that a
-//! plan has such a text.
+//! Who makes a text (`certificate_by_clauses`) has what a search recorded. A search that learns (racp_learning) derives
+//! thousands of clauses, and the plan follows from a few of them: one for each variable that could be less. These were
+//! derived from others, and those from others again. So the clauses that are needed are found backwards, as proofs of
+//! satisfiability solvers are trimmed (Goldberg and Novikov 2003; Heule, Hunt and Wetzler 2013), and written forwards
+//! with numbers from 1 on.
+//!
+//! Of five derivations, of which the last shows the plan:
+//!
+//! ```text
+//! ground    energy                      the ground: each later one begins with it, so it stays
+//! 1         pair, times                 needed by 3
+//! 2         times                       needed by none: left out
+//! 3         clause 1, times             needed by the last one, and written as clause 2
+//! 4         clause 3                    the one that shows the plan
+//! ```
+//!
+//! Before a text is given, it is read, as who gets it does.
+//!
+//! Proved of reading: `establishes_by_text` says yes exactly where the text has the form, each of its clauses follows
+//! by its steps, each step names what there is and only earlier clauses, the starts fit the capacities, and for each
+//! variable in turn a clause leaves out what is less (`IsDerivationText`); and where it says yes, the capacities and
+//! the starts are the plan of the order (`IsPlan` of racp_model). `establishes_by_text_until` is the same with a stop.
+//! Not proved: that a plan has such a text.
+//!
+//! Proved of making: a text that is given shows that the plan is the plan of its order (`IsDerivationText`). Not
+//! proved: that one is given.
 #![tactic(auto)]
 
 mod checking;
@@ -32,8 +54,10 @@ mod pairs;
 mod reading;
 mod root;
 mod stepping;
+mod trimming;
 mod verdict;
 mod words;
 
 pub use root::root_bounds;
+pub use trimming::certificate_by_clauses;
 pub use verdict::{establishes_by_text, establishes_by_text_until};

@@ -1,6 +1,6 @@
 //! What a line of a derivation text says.
 
-use racp_facts::Literal;
+use racp_clauses::Literal;
 
 /// What a line says. Jobs, resources and what else is named stand by their places, from 0.
 #[derive(Clone, Copy)]

@@ -6,7 +6,7 @@ ghost use Rattle.racp_derivations.specs.Lines.{bound_by, bound_on, budget_on, ea
 use crate::line::{Line, Step};
 use crate::pairs::pair_at;
 use crate::words::{MOST_NUMBER, behind_word, first_word, number_of, place_of};
-use racp_facts::Literal;
+use racp_clauses::Literal;
 use racp_model::Network;
 
 /// What a line says, or `None` if it is not of its form, or names a job, a resource or a pair that is not there.

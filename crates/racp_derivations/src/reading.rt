@@ -4,14 +4,14 @@ ghost use Rattle.std.specs.Prelude.{◌≡◌, IfOk, IsErrOf, IsTrue, MatchBool,
 ghost use Rattle.std.specs.List.{slice_split};
 ghost use Rattle.racp_model.specs.Terms.{AreTermsOf};
 ghost use Rattle.racp_text.specs.Cuts.{is_line_feed};
-ghost use Rattle.racp_delay.specs.declared.following.Unfound.TheVariants.{Stopped};
+ghost use Rattle.racp_model.specs.declared.stop.Unfound.TheVariants.{Stopped};
 ghost use Rattle.racp_derivations.specs.Checking.{clauses_of};
 ghost use Rattle.racp_derivations.specs.Texts.{clauses_in};
 
 use crate::checking::Checking;
 use crate::stepping::Given;
-use racp_delay::{Stop, Unfound};
-use racp_facts::OfProblem;
+use racp_clauses::OfProblem;
+use racp_model::{Stop, Unfound};
 use racp_text::cut_at;
 use std::alloc::Global;
 
@@ -29,7 +29,7 @@ pub(crate) fn read_text<N: OfProblem, S: Stop>(
     ensures clauses { IfOk result (λ yes. MatchBool yes
         (clauses_in given.now.net.now given.now.order.now checking.old text.now ≡ Some checking.new.clauses)
         (clauses_in given.now.net.now given.now.order.now checking.old text.now ≡ None)) }
-    ensures quiet { IsTrue S.QUIET → IsErrOf result Unfound.Stopped → ⊥ }
+    ensures quiet { IsTrue (S.is_quiet stop.now) → IsErrOf result Unfound.Stopped → ⊥ }
 {
     let Some((first, rest)) = cut_at(text, b'\n') else {
         return Ok(false);
@@ -68,7 +68,7 @@ fn read_lines<N: OfProblem, S: Stop>(
     ensures clauses { IfOk result (λ yes. MatchBool yes
         (clauses_of given.now.net.now given.now.order.now checking.old (slice_split is_line_feed text.now) ≡ Some checking.new.clauses)
         (clauses_of given.now.net.now given.now.order.now checking.old (slice_split is_line_feed text.now) ≡ None)) }
-    ensures quiet { IsTrue S.QUIET → IsErrOf result Unfound.Stopped → ⊥ }
+    ensures quiet { IsTrue (S.is_quiet stop.now) → IsErrOf result Unfound.Stopped → ⊥ }
 {
     let mut rest = text;
     for _ in 0..text.len() {

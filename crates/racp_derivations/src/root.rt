@@ -4,11 +4,11 @@ ghost use Rattle.std.specs.Prelude.{◌≡◌, IfOk, IfSome, MatchOption, length
 ghost use Rattle.racp_model.specs.Terms.{AreTermsOf, release_of, due_of};
 ghost use Rattle.racp_model.specs.Window.{Bounds, IsRootWindow};
 ghost use Rattle.racp_cpm.specs.Ends.{IsRootAnswer};
-ghost use Rattle.racp_facts.specs.Roots.{IsOpen, IsRootOf};
+ghost use Rattle.racp_clauses.specs.Roots.{IsOpen, IsRootOf};
 ghost use Rattle.racp_derivations.specs.Texts.{IsOrderRoot};
 
+use racp_clauses::{Domain, root_of};
 use racp_cpm::root;
-use racp_facts::{Domain, root_of};
 use racp_model::{Network, Window};
 use racp_prices::{Order, due_times};
 use std::alloc::{AllocError, Global};

@@ -6,7 +6,7 @@ ghost use Rattle.racp_derivations.specs.Checking.{stepped};
 ghost use Rattle.racp_derivations.specs.declared.line.Step.TheVariants.{Earlier};
 
 use crate::line::Step;
-use racp_facts::{Clause, Derivation, OfProblem, Times};
+use racp_clauses::{Clause, Derivation, OfProblem, Times};
 use racp_model::Network;
 use racp_prices::Order;
 

@@ -3,17 +3,15 @@
 ghost use Rattle.std.specs.Prelude.{◌≡◌, ◌↔◌, IfOk, IsErrOf, IsTrue, replicate};
 ghost use Rattle.racp_model.specs.Terms.{AreTermsOf};
 ghost use Rattle.racp_model.specs.Plan.{IsPlan};
-ghost use Rattle.racp_facts.specs.Roots.{IsOpen};
+ghost use Rattle.racp_clauses.specs.Roots.{IsOpen};
 ghost use Rattle.racp_derivations.specs.Texts.{IsDerivationText, IsOrderRoot, ShowsIn};
 
 use crate::checking::Checking;
 use crate::reading::read_text;
 use crate::root::root_bounds;
 use crate::stepping::Given;
-use racp_delay::{Never, Stop, Unfound};
-use racp_established::establishes;
-use racp_facts::{Domain, OfProblem};
-use racp_model::Network;
+use racp_clauses::{Domain, OfProblem, establishes};
+use racp_model::{Network, Never, Stop, Unfound};
 use racp_plan::Plan;
 use racp_prices::Order;
 use std::alloc::{AllocError, Global};
@@ -60,7 +58,7 @@ pub fn establishes_by_text_until<S: Stop>(
     requires terms { AreTermsOf net.now order.now }
     ensures exact { IfOk result (λ yes. IsTrue yes ↔ IsDerivationText net.now order.now plan.now.capacities plan.now.starts text.now) }
     ensures plan { IfOk result (λ yes. IsTrue yes → IsPlan net.now order.now plan.now.capacities plan.now.starts) }
-    ensures quiet { IsTrue S.QUIET → IsErrOf result Unfound.Stopped → ⊥ }
+    ensures quiet { IsTrue (S.is_quiet stop.now) → IsErrOf result Unfound.Stopped → ⊥ }
 {
     let Some(root) = root_bounds(alloc, net, order)? else {
         return Ok(false);
@@ -82,7 +80,7 @@ fn establishes_in<S: Stop>(
     requires open { IsOpen (record { network = given.now.net.now; terms = given.now.order.now; root = root.now }) }
     ensures exact { IfOk result (λ yes. IsTrue yes ↔ ShowsIn given.now.net.now given.now.order.now root.now plan.now.capacities plan.now.starts text.now) }
     ensures plan { IfOk result (λ yes. IsTrue yes → IsPlan given.now.net.now given.now.order.now plan.now.capacities plan.now.starts) }
-    ensures quiet { IsTrue S.QUIET → IsErrOf result Unfound.Stopped → ⊥ }
+    ensures quiet { IsTrue (S.is_quiet stop.now) → IsErrOf result Unfound.Stopped → ⊥ }
 {
     establishes_of::<Brand, S>(alloc, given, root, plan, text, stop)
 }
@@ -103,7 +101,7 @@ fn establishes_of<N: OfProblem, S: Stop>(
     requires open { IsOpen N.problem }
     ensures exact { IfOk result (λ yes. IsTrue yes ↔ ShowsIn given.now.net.now given.now.order.now root.now plan.now.capacities plan.now.starts text.now) }
     ensures plan { IfOk result (λ yes. IsTrue yes → IsPlan given.now.net.now given.now.order.now plan.now.capacities plan.now.starts) }
-    ensures quiet { IsTrue S.QUIET → IsErrOf result Unfound.Stopped → ⊥ }
+    ensures quiet { IsTrue (S.is_quiet stop.now) → IsErrOf result Unfound.Stopped → ⊥ }
 {
     let mut checking: Checking<N> = Checking::new(alloc, root)?;
     if !read_text(alloc, given, &mut checking, text, stop)? {

@@ -11,9 +11,8 @@ use crate::gate::Gate;
 use crate::limits::RunLimits;
 use crate::worker::RunSetup;
 use racp_cutset::{Board, Local, MemoryLimit};
-use racp_model::{Network, OfNetwork};
+use racp_model::{Network, OfNetwork, Stop};
 use racp_questions::Series;
-use racp_search::Stop;
 use std::alloc::{AllocError, Global};
 use std::cell::Cell;
 use std::sync::Wait;
@@ -64,7 +63,7 @@ impl<N: OfNetwork + Send + Sync> Records<N> {
     ) -> Result<Closed, DeskFault>
         requires named { net.now ≡ N.network }
         requires formed { AreFormed net.now (S.questions series) }
-        ensures { IfOk result (IsRunClosed net.now (S.questions series) limits.turns P.QUIET) }
+        ensures { IfOk result (IsRunClosed net.now (S.questions series) limits.turns (P.is_quiet stop.now)) }
     {
         let setup = RunSetup {
             alloc,

@@ -15,9 +15,8 @@ use crate::stock::Stock;
 use crate::watch::Hint;
 use crate::worker::{RunSetup, Shared};
 use racp_cutset::Local;
-use racp_model::OfNetwork;
+use racp_model::{OfNetwork, Stop};
 use racp_questions::Series;
-use racp_search::Stop;
 use std::alloc::AllocError;
 use std::marker::Brand;
 use std::mem::replace;
@@ -135,7 +134,7 @@ impl<N: OfNetwork + Send + Sync, G: Gate + Sync, P: Stop + Sync> RunSetup<'_, N,
         locals: &mut Vec<Local<N>>,
     ) -> Result<Closed, DeskFault>
         requires formed { AreFormed N.network (S.questions series) }
-        ensures { IfOk result (IsRunClosed N.network (S.questions series) self.entry.limits.turns P.QUIET) }
+        ensures { IfOk result (IsRunClosed N.network (S.questions series) self.entry.limits.turns (P.is_quiet self.entry.stop.now)) }
     {
         let blank = Blank::new(self.limits.workers as u64 + 1);
         self.run_named::<Brand, S, R>(rt, series, blank, locals)
@@ -152,7 +151,7 @@ impl<N: OfNetwork + Send + Sync, G: Gate + Sync, P: Stop + Sync> RunSetup<'_, N,
         requires formed { AreFormed N.network (S.questions series) }
         requires series { S.questions series ≡ M.series }
         requires turns { self.limits.turns ≡ M.turns }
-        requires quiet { P.QUIET ≡ M.quiet }
+        requires quiet { P.is_quiet self.stop.now ≡ M.quiet }
         requires ledger { blank.name ≡ M.name }
         requires whole { blank.parts ≡ M.parts }
         requires parts { blank.parts ≡ self.limits.workers + 1 }

@@ -10,9 +10,8 @@ use crate::gate::Gate;
 use crate::limits::RunLimits;
 use crate::worker::RunSetup;
 use racp_cutset::Board;
-use racp_model::{Network, OfNetwork};
+use racp_model::{Network, OfNetwork, Stop};
 use racp_questions::Series;
-use racp_search::Stop;
 use std::alloc::Global;
 use std::sync::Wait;
 use std::thread::Threads;
@@ -49,7 +48,7 @@ pub fn run<
     requires some_nodes { 1 ≤ quantum }
     requires quantum { quantum ≤ 1000000 }
     requires turns { turns ≤ 1000000000000 }
-    ensures { IfOk result (IsRunClosed net.now (S.questions series) turns P.QUIET) }
+    ensures { IfOk result (IsRunClosed net.now (S.questions series) turns (P.is_quiet stop.now)) }
 {
     let setup = RunSetup {
         alloc,

@@ -8,10 +8,11 @@ use crate::limits::RunLimits;
 use crate::log::Cause;
 use crate::names::RunNames;
 use crate::state::State;
+use crate::watch::UserAsked;
 use racp_core::{Merged, Reply};
 use racp_model::OfNetwork;
 use racp_questions::Series;
-use racp_search::{Finding, Piece, Stop};
+use racp_search::{Finding, Piece};
 use std::sync::ledger::Share;
 
 /// What a worker is to do next, where `P` are the pieces.
@@ -95,22 +96,21 @@ fn give_up<N: OfNetwork, M: RunNames, S: Series>(
 
 /// Takes a finding in, and halts the desk where memory was refused or the user has asked to stop. Answers whether it
 /// was taken in.
-pub(crate) fn take_in<N: OfNetwork, M: RunNames, S: Series, P: Stop>(
+pub(crate) fn take_in<N: OfNetwork, M: RunNames, S: Series>(
     state: &mut State<N, M, S>,
     finding: Finding<N>,
-    by_user: bool,
+    asked: Option<UserAsked<M>>,
     mine: &mut Share<M>,
 ) -> bool
     requires parts { 0 < mine.old.parts }
     requires nodes { finding.nodes ≤ 1000000 }
-    requires quiet { P.QUIET ≡ M.quiet }
     ensures { mine.new.parts ≡ mine.old.parts }
 {
     let short = finding.short();
     let brought = bring_in(state, finding, mine);
     if short || matches!(brought, Brought::Refused) {
         state.halt(Cause::Fault, mine);
-    } else if by_user && !P::QUIET {
+    } else if asked.is_some() {
         state.halt(Cause::Stop, mine);
     }
     matches!(brought, Brought::Taken)

@@ -1,7 +1,11 @@
 //! When a worker stops searching a piece.
 
-use racp_search::Stop;
+ghost use Rattle.std.specs.Prelude.{◌≡◌, false};
+
+use crate::names::RunNames;
+use racp_model::Stop;
 use std::cell::Cell;
+use std::marker::PhantomData;
 use std::sync::atomic::{AtomicU64, Ordering};
 
 /// A hint to workers that search: the least place of a question of which a yes was merged, or the greatest number.
@@ -36,36 +40,46 @@ pub(crate) trait Reasons {
     fn ask(&self) -> bool;
 }
 
+/// The user has asked to stop the run that `M` names. So its stop is not quiet.
+#[derive(Drop)]
+pub(crate) struct UserAsked<M: RunNames> {
+    of: PhantomData<M>,
+    ghost unquiet: { M.quiet ≡ false },
+}
+
 /// The user's stop, and a yes at this place or before it that was merged.
 #[derive(Drop)]
-pub(crate) struct UserOrHint<'a, P: Stop> {
+pub(crate) struct UserOrHint<'a, M: RunNames, P: Stop> {
     user: &'a P,
     hint: &'a Hint,
     index: u64,
-    by_user: Cell<bool>,
+    asked: Cell<Option<UserAsked<M>>>,
+    ghost quiet_is: { P.is_quiet user.now ≡ M.quiet },
 }
 
-impl<'a, P: Stop> UserOrHint<'a, P> {
+impl<'a, M: RunNames, P: Stop> UserOrHint<'a, M, P> {
     /// Nobody has asked to stop yet.
-    pub(crate) fn new(user: &'a P, hint: &'a Hint, index: u64) -> Self {
+    pub(crate) fn new(user: &'a P, hint: &'a Hint, index: u64) -> Self
+        requires { P.is_quiet user.now ≡ M.quiet }
+    {
         UserOrHint {
             user,
             hint,
             index,
-            by_user: Cell::new(false),
+            asked: Cell::new(None),
         }
     }
 
-    /// Whether the user has asked to stop.
-    pub(crate) fn by_user(&self) -> bool {
-        self.by_user.get()
+    /// That the user has asked to stop, if that is so.
+    pub(crate) fn take_asked(&self) -> Option<UserAsked<M>> {
+        self.asked.replace(None)
     }
 }
 
-impl<'a, P: Stop> Reasons for UserOrHint<'a, P> {
+impl<'a, M: RunNames, P: Stop> Reasons for UserOrHint<'a, M, P> {
     fn ask(&self) -> bool {
         if self.user.asked() {
-            self.by_user.set(true);
+            self.asked.set(Some(UserAsked { of: PhantomData }));
             return true;
         }
         self.hint.least() <= self.index
@@ -82,6 +96,10 @@ impl<T: Reasons> Stop for Watch<T> {
     ghost use Rattle.std.specs.Prelude.{false};
 
     ghost QUIET = { false };
+
+    ghost is_quiet = { λ _. false };
+
+    ghost all_quiet = { λ _ quiet. quiet };
 
     const QUIET: bool = false;
 

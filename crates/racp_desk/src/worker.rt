@@ -9,11 +9,11 @@ use crate::limits::RunLimits;
 use crate::names::RunNames;
 use crate::state::State;
 use crate::turn::{Next, next_of, take_in};
-use crate::watch::{Hint, UserOrHint, Watch};
+use crate::watch::{Hint, UserAsked, UserOrHint, Watch};
 use racp_cutset::{Board, Local};
-use racp_model::{Network, OfNetwork};
+use racp_model::{Network, OfNetwork, Stop};
 use racp_questions::Series;
-use racp_search::{Finding, Piece, Stop, explore, make_room};
+use racp_search::{Finding, Piece, explore, make_room};
 use std::alloc::Global;
 use std::sync::ledger::Share;
 use std::sync::{Condvar, Mutex, Wait};
@@ -38,13 +38,13 @@ pub(crate) struct Shared<'a, N: OfNetwork, M: RunNames, S: Series, G: Gate, P: S
     pub(crate) desk: Mutex<State<N, M, S>>,
     pub(crate) idle: Condvar,
     pub(crate) ghost turns_is: { setup.limits.turns ≡ M.turns },
-    pub(crate) ghost quiet_is: { P.QUIET ≡ M.quiet },
+    pub(crate) ghost quiet_is: { P.is_quiet setup.stop.now ≡ M.quiet },
 }
 
-/// A finding, and whether the user has asked to stop.
-struct Searched<N: OfNetwork> {
+/// A finding, and that the user has asked to stop, if that is so.
+struct Searched<N: OfNetwork, M: RunNames> {
     finding: Finding<N>,
-    by_user: bool,
+    asked: Option<UserAsked<M>>,
     ghost nodes_few: { finding.nodes ≤ 1000000 },
 }
 
@@ -114,7 +114,7 @@ impl<N: OfNetwork, M: RunNames> Worker<N, M> {
         rt: &R,
         shared: &Shared<'a, N, M, S, G, P>,
         piece: Piece<N>,
-    ) -> Searched<N>
+    ) -> Searched<N, M>
         requires { IsFormed N.network piece.question }
         ensures { IsExplored N.network piece (Some shared.now.setup.limits.quantum) result.finding }
     {
@@ -136,8 +136,8 @@ impl<N: OfNetwork, M: RunNames> Worker<N, M> {
             &watch,
         );
         publish(rt, setup.board, &mut self.local);
-        let by_user = watch.reasons.by_user();
-        Searched { finding, by_user }
+        let asked = watch.reasons.take_asked();
+        Searched { finding, asked }
     }
 
     /// Hands a finding in, and tells all that wait.
@@ -145,13 +145,13 @@ impl<N: OfNetwork, M: RunNames> Worker<N, M> {
         &mut self,
         rt: &R,
         shared: &Shared<'a, N, M, S, G, P>,
-        searched: Searched<N>,
+        searched: Searched<N, M>,
     ) {
-        let Searched { finding, by_user } = searched;
+        let Searched { finding, asked } = searched;
         let index = finding.piece().index();
         let found = finding.found().is_some();
         let mut state = shared.desk.lock(rt);
-        let taken = take_in::<N, M, S, P>(&mut *state, finding, by_user, &mut self.share);
+        let taken = take_in(&mut *state, finding, asked, &mut self.share);
         drop(state);
         if taken && found {
             shared.hint.note(index);

@@ -1,2 +1,2 @@
 mod Heads
-mod Listed
+mod InTable

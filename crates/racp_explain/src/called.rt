@@ -2,13 +2,17 @@
 
 use crate::cause::{order_cause, plan_cause};
 use crate::explain::push_title;
+use crate::faults::{THERE, push_changes_finding};
 use crate::finding::{push_more, push_short};
 use crate::input::Input;
 use crate::subject::Subject;
-use racp_fault_words::{THERE, push_changes_finding};
 use racp_model::Network;
+use racp_model::limits::{MOST_JOBS, MOST_RESOURCES};
 use racp_sm::read_sm;
 use std::alloc::{AllocError, Global};
+
+/// The byte order mark.
+const MARK: char = '\u{FEFF}';
 
 /// What is wrong with the texts of a network, an order, a plan and names, in lines that begin with `racp: `; nothing if
 /// the plan is right, and there are no names or one for each job and resource.
@@ -54,13 +58,18 @@ fn or_of_names(
         return Ok(text);
     }
     match read_sm(alloc, net.bytes) {
-        Ok(network) => of_names(alloc, &network, names),
+        Ok(network) => names_cause(alloc, &network, names),
         Err(_) => Ok(text),
     }
 }
 
-/// What is wrong with names for a network.
-fn of_names(alloc: Global, net: &Network, names: &Input<'_>) -> Result<String, AllocError> {
+/// What is wrong with names for a network, in lines that begin with `racp: `; nothing if there are none, or one for each job
+/// and resource.
+///
+/// # Errors
+///
+/// Memory was refused.
+pub fn names_cause(alloc: Global, net: &Network, names: &Input<'_>) -> Result<String, AllocError> {
     let mut text = String::new(alloc);
     push_names(&mut text, net, names)?;
     Ok(text)
@@ -69,7 +78,7 @@ fn of_names(alloc: Global, net: &Network, names: &Input<'_>) -> Result<String, A
 /// Adds what is wrong with names for a network.
 fn push_names(text: &mut String, net: &Network, names: &Input<'_>) -> Result<(), AllocError> {
     match std::str::from_utf8(names.bytes) {
-        Ok(lines) => push_count(text, net, names.name, lines.lines().count()),
+        Ok(lines) => push_count(text, net, names.name, lines),
         Err(_) => push_no_utf8(text, names.name),
     }
 }
@@ -86,14 +95,10 @@ fn push_no_utf8(text: &mut String, name: &str) -> Result<(), AllocError> {
 }
 
 /// Adds how many names there are, if there is neither none nor one for each job and resource.
-fn push_count(
-    text: &mut String,
-    net: &Network,
-    name: &str,
-    lines: usize,
-) -> Result<(), AllocError> {
+fn push_count(text: &mut String, net: &Network, name: &str, names: &str) -> Result<(), AllocError> {
     let (jobs, resources) = (net.job_count(), net.resource_count());
     let wanted = jobs.saturating_add(resources);
+    let lines = line_count(names, wanted);
     if lines == 0 || lines == wanted {
         return Ok(());
     }
@@ -104,6 +109,30 @@ fn push_count(
         "as many lines as {jobs} jobs and {resources} resources need: {wanted}{THERE}so many lines: {lines}"
     )?;
     push_more(text, Subject::NamesCount)
+}
+
+/// How many lines names have: up to the last that is not empty, or, if these are fewer than are wanted, also the empty lines
+/// behind it that are wanted; 0 if all are empty. A byte order mark before them is no part of them.
+fn line_count(names: &str, wanted: usize) -> usize {
+    let mut count = 0usize;
+    let mut named = 0usize;
+    let lines = names.strip_prefix(MARK).unwrap_or(names).lines();
+    for line in lines.take(MOST_JOBS + MOST_RESOURCES + 1) {
+        count = count.saturating_add(1);
+        if line.chars().any(is_shown) {
+            named = count;
+        }
+    }
+    if named == 0 {
+        0
+    } else {
+        named.max(count.min(wanted))
+    }
+}
+
+/// Whether a letter is no control character.
+fn is_shown(letter: char) -> bool {
+    !letter.is_control()
 }
 
 /// What is wrong with the text of a curve for a page, in lines that begin with `racp: `; nothing if a line of it begins

@@ -5,12 +5,12 @@ ghost use Rattle.std.specs.Io.{StartsWith};
 ghost use Rattle.racp_model.specs.Terms.{AreTermsOf};
 ghost use Rattle.racp_explain.specs.Causes.{IsNetworkCause, line_head, line_place, placed_head, network_head, order_head, plan_head};
 
+use crate::faults::{Sizes, THERE, push_network_finding, push_order_finding, push_text_finding};
 use crate::faulty::of_fault;
 use crate::finding::{push_more, push_short};
 use crate::input::Input;
 use crate::opening::of_opening;
 use crate::subject::{Line, Subject};
-use racp_fault_words::{Sizes, THERE, push_network_finding, push_order_finding, push_text_finding};
 use racp_model::Network;
 use racp_plan::{TextFault, read_plan};
 use racp_prices::{Order, OrderFault, read_order};

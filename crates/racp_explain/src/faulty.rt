@@ -3,12 +3,12 @@
 ghost use Rattle.std.specs.Prelude.{◌≡◌, length};
 ghost use Rattle.racp_model.specs.Terms.{AreTermsOf};
 
+use crate::faults::{push_head_finding, push_plan_finding};
 use crate::finding::push_more;
 use crate::opening::push_line;
 use crate::subject::{Line, Subject};
 use racp_check::{PlanFault, check_plan};
 use racp_cpm::longest;
-use racp_fault_words::{push_head_finding, push_plan_finding};
 use racp_model::Network;
 use racp_plan::Plan;
 use racp_prices::Order;

@@ -24,13 +24,13 @@
 //! them are read, `order_cause` says why there is no plan, as far as that is known without a search, and `plan_cause`
 //! says what is wrong with the plan.
 //!
-//! `shown_cause` and `named_cause` also say what is wrong with names, `curve_cause` with a curve, `changes_cause` with a
-//! text of changes, and `asked_cause` with what an order is to say. `one_line` makes one line of a cause: `racp:
+//! `shown_cause` and `named_cause` also say what is wrong with names, `names_cause` with names alone, `curve_cause` with a curve, `changes_cause` with
+//! a text of changes, and `asked_cause` with what an order is to say. `one_line` makes one line of a cause: `racp:
 //! a.sm:25: sm 12 TooFew: a part ends too early; wanted: so many numbers behind this title: 20 (jobs: 5, resources: 1);
 //! there: so many numbers up to the end of the part: 16`. `parts_of` gives its parts.
 //!
 //! The texts are read a second time by the same readers, so the fault is theirs. What was wanted and what is there is
-//! said by racp_fault_words.
+//! said by the module `faults`.
 //!
 //! Proved: `named` answers exactly the subjects of the table that the words name, in its order; `explanation` answers
 //! `None` exactly if they name none. A subject's number and name are those of the fault. In `laws`: each fault, and
@@ -45,6 +45,7 @@ mod brief;
 mod called;
 mod cause;
 mod explain;
+mod faults;
 mod faulty;
 mod finding;
 mod input;
@@ -58,9 +59,9 @@ mod subject;
 mod subjects;
 mod topic;
 
-pub use asked::{Numbers, asked_cause};
+pub use asked::{Listed, Numbers, asked_cause};
 pub use brief::{Parts, one_line, parts_of};
-pub use called::{changes_cause, curve_cause, named_cause, shown_cause};
+pub use called::{changes_cause, curve_cause, named_cause, names_cause, shown_cause};
 pub use cause::{network_cause, order_cause, plan_cause, proof_cause};
 pub use explain::{explanation, subject_list};
 pub use input::Input;

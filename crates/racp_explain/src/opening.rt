@@ -4,10 +4,10 @@ ghost use Rattle.std.specs.Prelude.{◌≡◌};
 ghost use Rattle.racp_model.specs.Terms.{AreTermsOf};
 
 use crate::explain::push_title;
+use crate::faults::{push_no_room, push_too_late, push_too_long};
 use crate::finding::{push_more, push_short};
 use crate::subject::{Line, Subject};
 use racp_check::{Opening, opening_of};
-use racp_fault_words::{push_no_room, push_too_late, push_too_long};
 use racp_model::Network;
 use racp_prices::Order;
 use std::alloc::{AllocError, Global};

@@ -19,11 +19,14 @@ const SYNTAX: Topic = Topic {
     short: "a line is missing or not of its form",
     meaning: "A line of the plan is missing or not of its form, or something stands behind the last line. The lines are
 deadline T, critical C, cost X, then capacity k a for each resource k, then start j s for each job j, then end. There is
-one blank between words and numbers, numbers have no leading zeros, and each line ends with a line feed.",
+one blank between words and numbers, numbers have no leading zeros, and each line ends with a line feed, without a
+carriage return before it. No byte order mark stands at the head.",
     command: READ,
     file: "deadline 4\ncritical 3\ncost 030\n",
     cure: "Write the line that --explain names. Where the plan has more or fewer resources or jobs than the network, it
-is one of another network.",
+is one of another network. Where an editor has put a byte order mark or carriage returns into it, save it as UTF-8
+without BOM and with line ends LF, as on Unix, or run dos2unix on it. A file that begins with stopped has no plan:
+plan --best FILE keeps the cheapest that is known.",
 };
 
 const RANGE: Topic = Topic {

@@ -32,7 +32,8 @@ const NAMES: Topic = Topic {
 /// What is said of names of another number than there are jobs and resources.
 const NAMES_COUNT: Topic = Topic {
     short: "there are too few names, or too many",
-    meaning: "The file of --names has neither no line nor a line for each job and each resource.",
+    meaning: "The file of --names has neither no line nor a line for each job and each resource. Empty lines behind these do
+not count.",
     command: "printf 'Start\\nDig\\n' | racp show examples/a.sm examples/a4.toml examples/a4.plan --names -",
     file: "",
     cure: "Give one name a line: first the jobs, in the order of their numbers, then the resources. A line may be empty.",

@@ -4,8 +4,8 @@ use Rattle.racp_model.specs.Project.{Project}
 use Rattle.racp_model.specs.Schedule.{FitsInTime}
 use Rattle.racp_model.specs.Terms.{Terms}
 use Rattle.racp_model.specs.Window.{Bounds, LiesIn}
-use Rattle.racp_facts.specs.Solutions.{HasPlaces, values, units_place, cost_place}
-use Rattle.racp_facts.proofs.lemmas.Places.{each_place, value-start, value-units, value-cost}
+use Rattle.racp_clauses.specs.Solutions.{HasPlaces, values, units_place, cost_place}
+use Rattle.racp_clauses.proofs.lemmas.Places.{each_place, value-start, value-units, value-cost}
 use Rattle.racp_learning.specs.Answers.{UnitsLie, CostLies, IsAnswer}
 
 pub answer_of : (p : Project) (terms : Terms) (bounds : Bounds) (starts units : List ℕ) (due : ℕ → ℕ) → HasPlaces p bounds →

@@ -3,9 +3,9 @@ use Rattle.std.specs.Prelude.{◌≡◌, ◌⊎◌, ℕ, ◌+◌, ◌<◌, ◌�
 use Rattle.racp_model.specs.Project.{Project}
 use Rattle.racp_model.specs.Terms.{Terms, cost}
 use Rattle.racp_model.specs.Window.{Bounds}
-use Rattle.racp_facts.specs.Solutions.{Problem, IsSchedule, IsWithin, values, units_place, cost_place}
-use Rattle.racp_facts.specs.Clauses.{AreFalseWithin, IsRefuted}
-use Rattle.racp_facts.specs.declared.literal.Literal.{Literal}
+use Rattle.racp_clauses.specs.Solutions.{Problem, IsSchedule, IsWithin, values, units_place, cost_place}
+use Rattle.racp_clauses.specs.Clauses.{AreFalseWithin, IsRefuted}
+use Rattle.racp_clauses.specs.declared.literal.Literal.{Literal}
 use Rattle.racp_learning.specs.declared.told.Tally.{Tally}
 use Rattle.racp_learning.specs.declared.told.Told.{Told}
 use Rattle.racp_learning.specs.declared.told.Told.TheVariants.{Found, Refuted, Open}

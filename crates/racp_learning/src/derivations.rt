@@ -1,7 +1,7 @@
 //! What clauses were derived from: the derivations that a search has taken, one after the other.
 
 use crate::rows::{number_at, set_number, stored};
-use racp_facts::Literal;
+use racp_clauses::Literal;
 use std::alloc::Global;
 
 /// What a literal, a step and a derivation take, about.

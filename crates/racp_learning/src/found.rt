@@ -3,10 +3,10 @@
 ghost use Rattle.std.specs.Prelude.{◌≡◌, ◌↔◌, IsTrue, length};
 ghost use Rattle.racp_model.specs.Terms.{AreTermsOf};
 ghost use Rattle.racp_model.specs.Window.{LiesIn};
-ghost use Rattle.racp_facts.specs.Solutions.{HasPlaces};
+ghost use Rattle.racp_clauses.specs.Solutions.{HasPlaces};
 ghost use Rattle.racp_learning.specs.Answers.{UnitsLie, CostLies, IsAnswer};
 
-use racp_facts::Domain;
+use racp_clauses::Domain;
 use racp_model::{Capacities, Network, Starts, fits};
 use racp_prices::{Order, cost_of};
 

@@ -7,7 +7,7 @@ ghost use Rattle.racp_learning.specs.Answers.{IsTrueOf, IsUnspent, IsUnstopped};
 use crate::search::Search;
 use crate::steps::{apply, apply_entry, literal_of};
 use crate::told::Told;
-use racp_facts::{Clause, Domain, OfProblem};
+use racp_clauses::{Clause, Domain, OfProblem};
 use racp_model::Network;
 use racp_prices::Order;
 use std::alloc::AllocError;

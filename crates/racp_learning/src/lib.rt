@@ -27,14 +27,14 @@
 //!
 //! This one a search knows before any question: at the root it takes in requests and energies too.
 //!
-//! `Search::new(alloc, &net, &order, &root, seed, most_bytes)` makes a search over the problem that `N` names (racp_facts).
+//! `Search::new(alloc, &net, &order, &root, seed, most_bytes)` makes a search over the problem that `N` names (racp_clauses).
 //! `ask(&net, &order, &bounds, conflicts, &stop)` asks a question, and tells starts with their units, a clause that is
 //! false within the bounds, or that the question is left open, with the reason. What it has learned serves the next
 //! question too. Searches over one problem can learn from each other: `take_short` gives short clauses, and `learn_from`
 //! derives one anew where it is of use. After `record` it keeps what its clauses are derived from (`Derivations`), for who
 //! wants to show them.
 //!
-//! Nothing of this has to be trusted. Each clause is derived by the rules of racp_facts from the steps that the search
+//! Nothing of this has to be trusted. Each clause is derived by the rules of racp_clauses from the steps that the search
 //! names, and what is not confirmed is dropped and counted. Starts that are found are tested. So the parts below `Search`
 //! promise nothing, but that they return: rows are read and written at any place, sums wrap, and no loop has to be
 //! measured.
@@ -88,6 +88,6 @@ mod watches;
 mod watching;
 
 pub use derivations::{Derivations, Step};
-pub use racp_delay::Stop;
+pub use racp_model::Stop;
 pub use search::Search;
 pub use told::{Reason, Tally, Told};

@@ -4,7 +4,7 @@ use crate::analysis::Hint;
 use crate::bound::Why;
 use crate::derivations::{Derivations, Step};
 use crate::rows::stored;
-use racp_facts::Literal;
+use racp_clauses::Literal;
 use racp_model::Network;
 
 /// Keeps the derivations of a search, or nothing.

@@ -1,14 +1,14 @@
 //! A search that keeps what its clauses are derived from.
 
 ghost use Rattle.std.specs.Prelude.{◌≡◌};
-ghost use Rattle.racp_facts.specs.Solutions.{HasPlaces};
+ghost use Rattle.racp_clauses.specs.Solutions.{HasPlaces};
 
 use crate::derivations::{Derivations, Step};
 use crate::recorder::Recorder;
 use crate::rows::stored;
 use crate::search::Search;
 use crate::settling::times_of;
-use racp_facts::{Derivation, Domain, OfProblem, Times};
+use racp_clauses::{Derivation, Domain, OfProblem, Times};
 use racp_model::Network;
 use std::alloc::AllocError;
 

@@ -2,7 +2,7 @@
 
 ghost use Rattle.std.specs.Prelude.{◌≡◌, IfOk, IfSome, IsTrue, length};
 ghost use Rattle.racp_model.specs.Terms.{AreTermsOf};
-ghost use Rattle.racp_facts.specs.Solutions.{HasPlaces};
+ghost use Rattle.racp_clauses.specs.Solutions.{HasPlaces};
 ghost use Rattle.racp_learning.specs.Answers.{IsOpenIfSpent, IsTrueOf, IsUnspent, IsUnstopped};
 
 use crate::bound::Bound;
@@ -12,9 +12,8 @@ use crate::problem::Problem;
 use crate::recorder::Recorder;
 use crate::settling::settle;
 use crate::told::{Reason, Tally, Told};
-use racp_delay::Stop;
-use racp_facts::{Clause, Derivation, Domain, OfProblem};
-use racp_model::{Capacities, Network, Starts, peaks};
+use racp_clauses::{Clause, Derivation, Domain, OfProblem};
+use racp_model::{Capacities, Network, Starts, Stop, peaks};
 use racp_prices::Order;
 use std::alloc::{AllocError, Global};
 
@@ -107,7 +106,7 @@ impl<N: OfProblem> Search<N> {
         requires fit { AreTermsOf net.now order.now }
         requires places { HasPlaces net.now bounds.now }
         ensures is_true { IfOk result (IsTrueOf N.problem bounds.now) }
-        ensures quiet { IsTrue S.QUIET → IfOk result IsUnstopped }
+        ensures quiet { IsTrue (S.is_quiet stop.now) → IfOk result IsUnstopped }
         ensures spent { IfOk result (IsOpenIfSpent self.old.tally conflicts self.new.tally) }
     {
         if self.ground.is_empty() {
@@ -143,7 +142,7 @@ impl<N: OfProblem> Search<N> {
         requires fit { AreTermsOf net.now order.now }
         requires places { HasPlaces net.now bounds.now }
         ensures is_true { IfOk result (λ end. IfSome end (IsTrueOf N.problem bounds.now)) }
-        ensures quiet { IsTrue S.QUIET → IfOk result (λ end. IfSome end IsUnstopped) }
+        ensures quiet { IsTrue (S.is_quiet stop.now) → IfOk result (λ end. IfSome end IsUnstopped) }
         ensures unspent { IfOk result (λ end. IfSome end IsUnspent) }
     {
         match self.engine.advance() {

@@ -3,7 +3,7 @@
 ghost use Rattle.std.specs.Prelude.{◌≡◌};
 ghost use Rattle.racp_model.specs.Terms.{AreTermsOf};
 
-use racp_facts::{Derivation, Domain, OfProblem, Times};
+use racp_clauses::{Derivation, Domain, OfProblem, Times};
 use racp_model::Network;
 use racp_prices::Order;
 use std::alloc::{AllocError, Global};

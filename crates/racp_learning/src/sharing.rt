@@ -5,7 +5,7 @@ ghost use Rattle.racp_model.specs.Terms.{AreTermsOf};
 
 use crate::bound::Bound;
 use crate::search::Search;
-use racp_facts::{Clause, Domain, Literal, OfProblem};
+use racp_clauses::{Clause, Domain, Literal, OfProblem};
 use racp_model::Network;
 use racp_prices::Order;
 use std::alloc::AllocError;

@@ -8,7 +8,7 @@ use crate::bound::{Bound, Why};
 use crate::recorder::Recorder;
 use crate::rows::{short, stored};
 use crate::trail::Entry;
-use racp_facts::{Clause, Derivation, Literal, OfProblem, Times};
+use racp_clauses::{Clause, Derivation, Literal, OfProblem, Times};
 use racp_model::Network;
 use racp_prices::Order;
 

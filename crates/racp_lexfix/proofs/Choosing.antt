@@ -19,7 +19,7 @@ use Rattle.racp_prices.proofs.lemmas.Ceilings.{cut-below, most-within}
 use Rattle.racp_candidates.specs.Questions.{question_of}
 use Rattle.racp_questions.specs.FirstYes.{question_at, no_question, IsYesAt, AreNoBefore, IsFirstYes, IsReached}
 use Rattle.racp_candidates.specs.Box.{AreBounds, IsInBox, AreBoxQuestions}
-use Rattle.racp_boxes.proofs.lemmas.AtMost.{at_most-cost, at_most-not_after}
+use Rattle.racp_by_questions.proofs.lemmas.AtMost.{at_most-cost, at_most-not_after}
 use Rattle.racp_bounds.specs.Floors.{AreFloors, AreRoofs}
 use Rattle.racp_bounds.specs.Sharp.{AreSharpened, AreRefutedPairs, AreSharpenedBefore}
 use Rattle.racp_bounds.proofs.lemmas.Above.{admitting_above, roofs_admit}

@@ -7,7 +7,7 @@ use Rattle.racp_model.specs.Window.{Bounds, IsRootWindow}
 use Rattle.racp_prices.specs.Units.{AreMostUnits, cut_to}
 use Rattle.racp_bounds.specs.Floors.{AreFloors}
 use Rattle.racp_candidates.specs.Box.{AreBounds}
-use Rattle.racp_facts.specs.Roots.{AreNeeded}
+use Rattle.racp_clauses.specs.Roots.{AreNeeded}
 use Rattle.racp_lexfix.specs.Stages.{AreFloorsOfEnough}
 use Rattle.racp_lexfix.proofs.Choosing.{first_reached}
 use Rattle.racp_lexfix.proofs.Telling.{reached_floors}

@@ -8,14 +8,13 @@ use Rattle.racp_model.specs.declared.question.Question.{Question}
 use Rattle.racp_model.proofs.lemmas.Cuts.{cut, cut_places}
 use Rattle.racp_bounds.specs.declared.sharp.Sharp.{Sharp}
 use Rattle.racp_bounds.proofs.lemmas.Sharpened.{admitting_above_sharpened, admitting_yes, all_sharpened}
-use Rattle.racp_boxes.specs.Enough.{AreFloorsOf, IsEnoughWithin}
-use Rattle.racp_boxes.proofs.lemmas.AtMost.{at_most-before}
+use Rattle.racp_by_questions.specs.Enough.{AreFloorsOf, IsEnoughWithin}
+use Rattle.racp_by_questions.proofs.lemmas.AtMost.{at_most-before}
 use Rattle.racp_candidates.specs.Questions.{question_of}
 use Rattle.racp_questions.specs.declared.asker.AskStop.{AskStop}
 use Rattle.racp_questions.specs.declared.asker.AskStop.TheVariants.{Stopped as AskStopped, Memory as AskMemory, NoThread as AskNoThread}
 use Rattle.racp_questions.specs.FirstYes.{IsProbeStop, IsReached, IsStop, question_at}
-use Rattle.racp_lexfix.specs.Answers.{IsPlanStop}
-use Rattle.racp_lexfix.specs.Answers.{IsNotAfterEnough}
+use Rattle.racp_lexfix.specs.Answers.{IsPlanStop, IsNotAfterEnough}
 use Rattle.racp_lexfix.specs.Stages.{AreSharpFloorsAndRoofs, IsStoppedInBox, given_up}
 use Rattle.racp_lexfix.proofs.Choosing.{cut_admits, cut_less, cut_within, due_by, reached_first, yes_enough}
 

@@ -11,7 +11,7 @@ use Rattle.racp_prices.specs.Units.{AreMostUnits}
 use Rattle.racp_bounds.specs.Floors.{AreFloors}
 use Rattle.racp_bounds.specs.Sharp.{AreSharpenedBefore}
 use Rattle.racp_bounds.proofs.lemmas.Sharpened.{admitting_above_sharpened, admitting_yes}
-use Rattle.racp_boxes.specs.Enough.{IsLeastCost}
+use Rattle.racp_by_questions.specs.Enough.{IsLeastCost}
 use Rattle.racp_lexfix.specs.Stages.{AreFloorsOfEnough, IsLeastOfEnough}
 use Rattle.racp_lexfix.proofs.Choosing.{cut_admits, cut_less, cut_within, due_by}
 

@@ -4,7 +4,7 @@ use Rattle.std.specs.Prelude.{⊤}
 use Rattle.racp_model.specs.Project.{Project}
 use Rattle.racp_model.specs.Terms.{Terms}
 use Rattle.racp_lexfix.specs.Answers.{IsPlanStop, IsStoppedAt}
-use Rattle.racp_askers.specs.Crowds.{HaveTaken, MayStop}
+use Rattle.racp_by_questions.specs.Crowds.{HaveTaken, MayStop}
 use Rattle.racp_lexfix.specs.Printing.{IsCrowdStop}
 use Rattle.racp_lexfix.specs.declared.answer.PlanStop.{PlanStop}
 use Rattle.racp_lexfix.specs.declared.answer.PlanStop.TheVariants.{Stopped, Memory, NoThread}

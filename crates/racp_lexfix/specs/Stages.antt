@@ -5,14 +5,14 @@ use Rattle.racp_model.specs.Terms.{Terms, cost}
 use Rattle.racp_model.specs.Plan.{IsPlan, IsEnough, NoneIsEnough}
 use Rattle.racp_model.specs.Window.{Bounds, IsYes, IsNo}
 use Rattle.racp_prices.specs.Units.{AreMostUnits}
-use Rattle.racp_schedules.specs.Drafts.{AreFitting}
+use Rattle.racp_plan.specs.Fitting.{AreFitting}
 use Rattle.racp_questions.specs.declared.asker.AskStop.{AskStop}
 use Rattle.racp_questions.specs.declared.asker.AskStop.TheVariants.{Stopped as AskStopped, Memory as AskMemory, NoThread as AskNoThread}
 use Rattle.racp_candidates.specs.Box.{AreBounds}
 use Rattle.racp_bounds.specs.Floors.{AreFloors}
 use Rattle.racp_bounds.specs.Sharp.{IsSharp}
 use Rattle.racp_bounds.specs.declared.sharp.Sharp.{Sharp}
-use Rattle.racp_facts.specs.Roots.{IsOpen}
+use Rattle.racp_clauses.specs.Roots.{IsOpen}
 use Rattle.racp_lexfix.specs.Answers.{IsNotAfterEnough, ceiling_series}
 use Rattle.racp_lexfix.specs.declared.roots.RootBounds.{RootBounds}
 use Rattle.racp_lexfix.specs.declared.answer.PlanStop.{PlanStop}

@@ -3,17 +3,17 @@
 ghost use Rattle.std.specs.Prelude.{IfOk, IfSome};
 ghost use Rattle.racp_model.specs.Terms.{AreTermsOf, release_of, due_of};
 ghost use Rattle.racp_model.specs.Window.{IsRootWindow};
-ghost use Rattle.racp_facts.specs.Roots.{IsOpen};
+ghost use Rattle.racp_clauses.specs.Roots.{IsOpen};
 ghost use Rattle.racp_lexfix.specs.Stages.{IsChosen, MayBeTold};
 
 use crate::facts::{Relay, limits_of};
 use crate::planning::Task;
 use crate::roots::root_bounds;
+use racp_by_clauses::{Optimum, optimum_beside};
 use racp_candidates::AnySeries;
 use racp_check::{Opening, opening_of};
-use racp_facts::Domain;
+use racp_clauses::Domain;
 use racp_model::{Capacities, Starts, Window};
-use racp_optimum::{Optimum, optimum_beside};
 use racp_questions::Asker;
 use std::alloc::AllocError;
 use std::marker::Brand;
@@ -80,7 +80,7 @@ impl Task<'_> {
         requires heard { MayBeTold self.now.net.now self.now.order.now A.may_hear_floors A.may_hear_cost A.may_hear_plan }
         ensures { IfOk result (λ told. IfSome told (IsChosen self.now.net.now self.now.order.now)) }
     {
-        let task = racp_optimum::Task {
+        let task = racp_by_clauses::Task {
             alloc: self.alloc,
             net: self.net,
             order: self.order,

@@ -5,9 +5,9 @@ ghost use Rattle.racp_model.specs.Path.{IsCriticalLength};
 ghost use Rattle.racp_model.specs.Plan.{IsPlan};
 ghost use Rattle.racp_model.specs.Terms.{AreTermsOf, release_of, due_of};
 ghost use Rattle.racp_model.specs.Window.{IsRootWindow};
-ghost use Rattle.racp_facts.specs.Roots.{IsOpen};
+ghost use Rattle.racp_clauses.specs.Roots.{IsOpen};
 ghost use Rattle.racp_sm.specs.Reading.{IsReading};
-ghost use Rattle.racp_optimum.specs.Optima.{IsOptimum};
+ghost use Rattle.racp_by_clauses.specs.Optima.{IsOptimum};
 ghost use Rattle.racp_lexfix.specs.Answers.{IsAnswer};
 ghost use Rattle.racp_lexfix.specs.Proving.{unproved_line};
 ghost use Rattle.racp_lexfix.specs.Showing.{IsAnswerShown, IsShowing};
@@ -19,19 +19,17 @@ use crate::facts::limits_of;
 use crate::planning::Task;
 use crate::printed::{Printed, Refusal, answer_printed};
 use crate::status::{CHECK_FAILED, DONE};
+use racp_by_clauses::{Hearer, Optimum, Recorded, optimum_recorded};
 use racp_check::{Opening, opening_of};
-use racp_derivations::root_bounds;
-use racp_facts::Domain;
+use racp_clauses::Domain;
+use racp_derivations::{certificate_by_clauses, root_bounds};
+use racp_drafts::Draft;
 use racp_learning::{Derivations, Tally};
-use racp_model::{Capacities, Network, Starts, Window};
-use racp_optimum::{Hearer, Optimum, Recorded, optimum_recorded};
+use racp_model::{Capacities, Network, Starts, Stop, Window};
 use racp_plan::Plan;
 use racp_prices::{cost_of, read_order};
 use racp_questions::Leeway;
-use racp_schedules::Draft;
-use racp_search::Stop;
 use racp_sm::read_sm;
-use racp_trimming::certificate_by_clauses;
 use std::alloc::{AllocError, Global};
 use std::marker::Brand;
 
@@ -157,7 +155,7 @@ fn recorded<P: Stop>(
     requires { IsOpen (record { network = given.now.net.now; terms = given.now.order.now; root = root.now }) }
     ensures { IfOk result (λ found. IsOptimum given.now.net.now given.now.order.now found.optimum) }
 {
-    let task = racp_optimum::Task {
+    let task = racp_by_clauses::Task {
         alloc: given.alloc,
         net: given.net,
         order: given.order,

@@ -12,14 +12,13 @@ ghost use Rattle.racp_lexfix.specs.Printing.{IsAnswerPrinted, IsCrowdPrinting, I
 use crate::answer::{Answer, PlanStop};
 use crate::planning::Task;
 use crate::printed::{Printed, Refusal, answer_printed};
-use racp_askers::{Crowd, Effort, Observer, OfTurns, Pricing};
+use racp_by_questions::{Crowd, Effort, Observer, OfTurns, Pricing};
 use racp_candidates::AnySeries;
 use racp_cutset::MemoryLimit;
 use racp_desk::{Closed, DeskFault, Gate, Records, RunLimits};
-use racp_model::{Network, OfNetwork};
+use racp_model::{Network, OfNetwork, Stop};
 use racp_prices::read_order;
 use racp_questions::Leeway;
-use racp_search::Stop;
 use racp_sm::read_sm;
 use std::alloc::Global;
 use std::marker::Brand;
@@ -78,7 +77,7 @@ pub fn plan_crowd_by<G: Gate + Sync, P: Stop + Sync, O: Observer, R: Threads + W
     order_text: &[u8],
     crew: Crew<'_, G, P, O>,
 ) -> Result<(Printed, Effort), Refusal>
-    ensures { IsCrowdPrinting crew.entry.turns P.QUIET net_bytes.now order_text.now result }
+    ensures { IsCrowdPrinting crew.entry.turns (P.is_quiet crew.entry.stop.now) net_bytes.now order_text.now result }
 {
     let net = read_sm(alloc, net_bytes)?;
     answer_order_by(rt, alloc, &net, order_text, &crew)
@@ -93,7 +92,7 @@ fn answer_order_by<G: Gate + Sync, P: Stop + Sync, O: Observer, R: Threads + Wai
     crew: &Crew<'_, G, P, O>,
 ) -> Result<(Printed, Effort), Refusal>
     ensures { (text : List ℕ) → IsReading text (Ok net.now) →
-        IsCrowdPrinting crew.now.turns P.QUIET text order_text.now result }
+        IsCrowdPrinting crew.now.turns (P.is_quiet crew.now.stop.now) text order_text.now result }
 {
     let order = read_order(alloc, order_text, net.resource_count(), net.job_count())?;
     let task = Task {
@@ -116,7 +115,8 @@ fn answer_plan_by<G: Gate + Sync, P: Stop + Sync, O: Observer, R: Threads + Wait
     requires terms { AreTermsOf task.now.net.now task.now.order.now }
     ensures answer { IfOk result (λ done. IsAnswerPrinted task.now.net.now task.now.order.now done.0.text.items
         done.0.status) }
-    ensures stop { IfErr result (IsCrowdStop crew.now.turns P.QUIET task.now.net.now task.now.order.now) }
+    ensures stop { IfErr result (IsCrowdStop crew.now.turns (P.is_quiet crew.now.stop.now) task.now.net.now
+        task.now.order.now) }
 {
     let (answer, effort) = plan_by::<Brand, Brand, G, P, O, R>(rt, task, crew)?;
     let printed = answer_printed(task.alloc, task.order, &answer);
@@ -125,8 +125,29 @@ fn answer_plan_by<G: Gate + Sync, P: Stop + Sync, O: Observer, R: Threads + Wait
     Ok((printed?, effort))
 }
 
+/// The plan of an order, or why there is none, made by these workers: the answer of `plan_alone`, as a value. Their
+/// observer is told for which deadline it is made, and then how far planning has come.
+///
+/// # Errors
+///
+/// No turn is left, or the stop was asked for, which it never is where it is quiet; memory was refused; or a worker could
+/// not be started.
+pub fn plan_by_crew<G: Gate + Sync, P: Stop + Sync, O: Observer, R: Threads + Wait + Sync>(
+    rt: &R,
+    task: &Task,
+    crew: &Crew<'_, G, P, O>,
+) -> Result<Answer, PlanStop>
+    requires terms { AreTermsOf task.now.net.now task.now.order.now }
+    ensures answer { IfOk result (IsAnswer task.now.net.now task.now.order.now) }
+    ensures stop { IfErr result (IsCrowdStop crew.now.turns (P.is_quiet crew.now.stop.now) task.now.net.now
+        task.now.order.now) }
+{
+    let (answer, _) = plan_by::<Brand, Brand, G, P, O, R>(rt, task, crew)?;
+    Ok(answer)
+}
+
 /// The plan of an order, or why there is none, made by workers, and how much work they did: by runs of a desk over one
-/// board of records. The network is the one that `N` names, and the turns are those that `M` names.
+/// board of records. The network is the one that `N` names; the turns, and whether the stop is quiet, are as `M` says.
 fn plan_by<
     N: OfNetwork + Send + Sync,
     M: OfTurns,
@@ -137,9 +158,10 @@ fn plan_by<
 >(rt: &R, task: &Task, crew: &Crew<'_, G, P, O>) -> Result<(Answer, Effort), PlanStop>
     requires named { task.now.net.now ≡ N.network }
     requires turns { crew.now.turns ≡ M.turns }
+    requires quiet { P.is_quiet crew.now.stop.now ≡ M.quiet }
     requires terms { AreTermsOf task.now.net.now task.now.order.now }
     ensures answer { IfOk result (λ done. IsAnswer task.now.net.now task.now.order.now done.0) }
-    ensures stop { IfErr result (IsCrowdStop M.turns P.QUIET task.now.net.now task.now.order.now) }
+    ensures stop { IfErr result (IsCrowdStop M.turns M.quiet task.now.net.now task.now.order.now) }
 {
     let (alloc, net, order) = (task.alloc, task.net, task.order);
     crew.observer.hear_deadline(order.deadline);
@@ -155,7 +177,8 @@ fn plan_by<
         pricing,
         |series: AnySeries, limits: RunLimits| -> Result<Closed, DeskFault>
             requires { (net.now ≡ N.network) × AreFormed net.now (any_questions series) }
-            ensures { IfOk result (IsRunClosed net.entry.now (any_questions series) limits.turns P.QUIET) }
+            ensures { IfOk result (IsRunClosed net.entry.now (any_questions series) limits.turns
+                (P.is_quiet crew.entry.now.stop.now)) }
         { records.run(rt, alloc, net, series, limits, crew.gate, crew.stop) },
     );
     let mut crowd = crowd.with_search(crew.leeway(), crew.stop);

@@ -26,13 +26,13 @@
 //! root window lies in the window so far, or is greater at some job that is fixed and equal before it.
 //!
 //! Where there are more than 64 vectors from the floors to the roofs of stage 2, and the asker leaves room for it
-//! (`leeway`), a search that learns looks for the plan before anything is asked (racp_optimum). If its clauses show the
+//! (`leeway`), a search that learns looks for the plan before anything is asked (racp_by_clauses). If its clauses show the
 //! plan, or that no capacities are enough, that is the answer; if it is left open, the stages go on as without it.
 //!
-//! Where stage 4 has more than 64 vectors, they are not asked in order: the box is searched by halves (racp_boxes), and
+//! Where stage 4 has more than 64 vectors, they are not asked in order: the box is searched by halves (racp_by_questions), and
 //! the vector that this leads to is asked for once more, so that its records serve the starts.
 //!
-//! Each stage asks through `Asker`, so the same planner runs over one thread or more (racp_askers). The vector of the first
+//! Each stage asks through `Asker`, so the same planner runs over one thread or more (racp_by_questions). The vector of the first
 //! yes of stage 4 is not told by the asker: it is the peaks of the starts that were found, since these peaks are enough too,
 //! and none that are stand before it. An asker may be told how far planning has come.
 //!
@@ -43,6 +43,8 @@
 //! at most (racp_cutset), and before that the clauses; the others take 1,024. Where turns are limited, workers leave no
 //! room for a search of planning's own, so that all work is done in turns.
 //!
+//! `plan_by_crew` answers the plan of a network and an order that are at hand, as a value, made by such workers.
+//!
 //! `prove_alone` makes a certificate by trees for the plan, and `prove_by_clauses` one by clauses. `prove_until` does the first
 //! with a stop; where that asks for an end, the line is `unproved`.
 //!
@@ -50,7 +52,7 @@
 //! first reason for which there is none. `plan_alone` prints that answer for what the texts are read as, or tells the
 //! fault of the first text that is refused, or that memory was refused (`IsPrinting`). `plan_crowd` prints the same,
 //! whatever the workers, or tells capacities before which none are enough (`IsCrowdPrinting`): only where runs of desks took
-//! as many pieces as there are turns, or where the stop may ask at all (`MayStop`). Where an asker stops, `plan`
+//! as many pieces as there are turns, or where the stop is not quiet (`MayStop`). Where an asker stops, `plan`
 //! tells capacities before which none are enough: the floors so far, the vector that was reached, or the plan's own.
 //! While it plans, it tells the asker floors that all capacities which are enough are at or above, what these cost at
 //! least, and plans that fit the order; that it tells them in time is tested alone.
@@ -80,12 +82,13 @@ mod vectors;
 
 pub use answer::{Answer, PlanStop};
 pub use by_clauses::prove_by_clauses;
-pub use by_workers::{Crew, plan_crowd_by};
+pub use by_workers::{Crew, plan_by_crew, plan_crowd_by};
 pub use facts::{Relay, limits_of};
 pub use lines::answer_lines;
 pub use one_thread::plan_alone_within;
-pub use planning::plan;
+pub use planning::{Task, plan};
 pub use printed::{Printed, Refusal};
 pub use proving::{prove_alone, prove_until};
+pub use racp_by_questions::{Alone, Crowd};
 pub use roots::{RootBounds, root_bounds};
 pub use signatures::{plan_alone, plan_crowd};

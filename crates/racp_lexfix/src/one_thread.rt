@@ -10,7 +10,7 @@ ghost use Rattle.racp_lexfix.specs.declared.answer.PlanStop.TheVariants.{Memory}
 use crate::answer::{Answer, PlanStop};
 use crate::planning::{Task, plan};
 use crate::printed::{Printed, Refusal, answer_printed};
-use racp_askers::Alone;
+use racp_by_questions::Alone;
 use racp_model::{Network, OfNetwork};
 use racp_prices::read_order;
 use racp_sm::read_sm;

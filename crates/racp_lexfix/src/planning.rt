@@ -4,7 +4,7 @@ ghost use Rattle.std.specs.Prelude.{ℕ, ◌-◌, List, IfOk, IfErr, IfSome};
 ghost use Rattle.racp_model.specs.Path.{IsCriticalLength};
 ghost use Rattle.racp_model.specs.Terms.{AreTermsOf, release_of, due_of};
 ghost use Rattle.racp_model.specs.Window.{IsRootWindow};
-ghost use Rattle.racp_schedules.specs.Drafts.{AreFitting};
+ghost use Rattle.racp_plan.specs.Fitting.{AreFitting};
 ghost use Rattle.racp_lexfix.specs.Answers.{IsAnswer, IsStoppedAt, IsPlanStop};
 ghost use Rattle.racp_lexfix.specs.Stages.{AreFloorsOfEnough, IsChosen, IsLeastOfEnough, MayBeTold};
 
@@ -55,10 +55,13 @@ pub fn plan<A: Asker<AnySeries>>(
 
 /// What a plan is made for: an order, which has an entry for each resource and each job of the network.
 #[derive(Clone, Copy)]
-pub(crate) struct Task<'a> {
-    pub(crate) alloc: Global,
-    pub(crate) net: &'a Network,
-    pub(crate) order: &'a Order,
+pub struct Task<'a> {
+    /// What answers are allocated by.
+    pub alloc: Global,
+    /// The network.
+    pub net: &'a Network,
+    /// The order.
+    pub order: &'a Order,
 }
 
 impl Task<'_> {

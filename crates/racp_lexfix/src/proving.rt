@@ -16,13 +16,12 @@ use crate::hints::hints_of;
 use crate::planning::Task;
 use crate::printed::{Printed, Refusal, answer_printed};
 use crate::status::DONE;
-use racp_askers::Alone;
 use racp_bounds::Sharp;
+use racp_by_questions::{Alone, OfTurns};
 use racp_check::{Opening, opening_of};
-use racp_model::{Network, OfNetwork, Window};
+use racp_model::{Network, Never, OfNetwork, Stop, Window};
 use racp_plan::Plan;
 use racp_prices::{most_units, read_order};
-use racp_search::{Never, Stop};
 use racp_sm::read_sm;
 use racp_trees::{Claim, certificate};
 use std::alloc::{AllocError, Global};
@@ -53,7 +52,7 @@ pub fn prove_until<P: Stop>(
     order_text: &[u8],
     stop: &P,
 ) -> Result<Printed, Refusal>
-    ensures { IsProvingUntil P.QUIET net_bytes.now order_text.now result }
+    ensures { IsProvingUntil (P.is_quiet stop.now) net_bytes.now order_text.now result }
 {
     let net = read_sm(alloc, net_bytes)?;
     prove_order(alloc, &net, order_text, stop)
@@ -66,7 +65,7 @@ fn prove_order<P: Stop>(
     order_text: &[u8],
     stop: &P,
 ) -> Result<Printed, Refusal>
-    ensures { (text : List ℕ) → IsReading text (Ok net.now) → IsProvingUntil P.QUIET text order_text.now result }
+    ensures { (text : List ℕ) → IsReading text (Ok net.now) → IsProvingUntil (P.is_quiet stop.now) text order_text.now result }
 {
     let order = read_order(alloc, order_text, net.resource_count(), net.job_count())?;
     let task = Task {
@@ -83,8 +82,8 @@ fn prove_order<P: Stop>(
 /// A certificate for the plan of an order, or why there is none.
 fn prove_plan<P: Stop>(task: &Task, stop: &P) -> Result<Printed, PlanStop>
     requires terms { AreTermsOf task.now.net.now task.now.order.now }
-    ensures proof { IfOk result (λ printed. IsAnswerProvedUntil P.QUIET task.now.net.now task.now.order.now
-        printed.text.items printed.status) }
+    ensures proof { IfOk result (λ printed. IsAnswerProvedUntil (P.is_quiet stop.now) task.now.net.now
+        task.now.order.now printed.text.items printed.status) }
     ensures stop { IfErr result (λ stop. stop ≡ Memory) }
 {
     let mut sharp = None;
@@ -98,11 +97,11 @@ fn prove_and_keep<P: Stop>(
     stop: &P,
 ) -> Result<Printed, PlanStop>
     requires terms { AreTermsOf task.now.net.now task.now.order.now }
-    ensures proof { IfOk result (λ printed. IsAnswerProvedUntil P.QUIET task.now.net.now task.now.order.now
-        printed.text.items printed.status) }
+    ensures proof { IfOk result (λ printed. IsAnswerProvedUntil (P.is_quiet stop.now) task.now.net.now
+        task.now.order.now printed.text.items printed.status) }
     ensures stop { IfErr result (λ stop. stop ≡ Memory) }
 {
-    match plan_with_floors::<Brand, P>(task, sharp, stop) {
+    match plan_with_floors::<Brand, Brand, P>(task, sharp, stop) {
         Ok(answer) => answer_proof(task, &answer, sharp, stop),
         Err(PlanStop::Stopped { .. }) => Ok(unproved(task)?),
         // It wants no thread, so memory was refused.
@@ -111,20 +110,21 @@ fn prove_and_keep<P: Stop>(
 }
 
 /// The plan of an order, or why there is none; the sharpened floors are kept where they were asked for. The network is
-/// the one that `N` names.
-fn plan_with_floors<N: OfNetwork, P: Stop>(
+/// the one that `N` names, and the stop is as quiet as `M` says.
+fn plan_with_floors<N: OfNetwork, M: OfTurns, P: Stop>(
     task: &Task,
     sharp: &mut Option<Sharp>,
     stop: &P,
 ) -> Result<Answer, PlanStop>
     requires named { task.now.net.now ≡ N.network }
+    requires quiet { P.is_quiet stop.now ≡ M.quiet }
     requires terms { AreTermsOf task.now.net.now task.now.order.now }
     ensures answer { IfOk result (IsAnswer task.now.net.now task.now.order.now) }
-    ensures stop { IfErr result (MayEndPlanning P.QUIET) }
+    ensures stop { IfErr result (MayEndPlanning M.quiet) }
 {
     // A search of its own would not sharpen the floors.
     let alone: Alone<N> = Alone::new(task.alloc, task.net)?.with_conflicts(0);
-    let mut until = alone.until(stop);
+    let mut until = alone.until::<M, P>(stop);
     let planned = task.plan_and_keep(&mut until, sharp, None);
     // Dropped here once, not at each way out.
     drop(until);

@@ -9,7 +9,7 @@ ghost use Rattle.racp_lexfix.specs.Stages.{AreRootBounds};
 use crate::bounds::{is_below, lowest_units};
 use crate::planning::Task;
 use crate::vectors::is_small;
-use racp_facts::{Domain, root_of};
+use racp_clauses::{Domain, root_of};
 use racp_model::{Capacities, Network, Window};
 use racp_prices::{Order, most_units};
 use std::alloc::{AllocError, Global};

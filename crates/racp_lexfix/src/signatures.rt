@@ -7,10 +7,10 @@ ghost use Rattle.racp_lexfix.specs.Printing.{IsCrowdPrinting, IsPrinting};
 use crate::by_workers::{Crew, plan_crowd_by};
 use crate::one_thread::plan_alone_within;
 use crate::printed::{Printed, Refusal};
-use racp_askers::{Effort, Unheard};
+use racp_by_questions::{Effort, Unheard};
 use racp_cutset::DEFAULT_MEMORY;
 use racp_desk::Gate;
-use racp_search::Stop;
+use racp_model::Stop;
 use std::alloc::Global;
 use std::sync::Wait;
 use std::thread::Threads;
@@ -49,7 +49,7 @@ pub fn plan_crowd<G: Gate + Sync, P: Stop + Sync, R: Threads + Wait + Sync>(
     requires some_workers { 1 ≤ workers }
     requires workers { workers ≤ 64 }
     requires turns { turns ≤ 1000000000000 }
-    ensures { IsCrowdPrinting turns P.QUIET net_bytes.now order_text.now result }
+    ensures { IsCrowdPrinting turns (P.is_quiet stop.now) net_bytes.now order_text.now result }
 {
     let memory = DEFAULT_MEMORY;
     let crew = Crew {

@@ -8,7 +8,7 @@ ghost use Rattle.racp_lexfix.specs.Stages.{IsLeastOfEnough};
 use crate::answer::PlanStop;
 use crate::planning::Task;
 use racp_bounds::Sharp;
-use racp_boxes::first_enough;
+use racp_by_questions::first_enough;
 use racp_candidates::{AnySeries, One, Vectors};
 use racp_model::{Capacities, Window, peaks};
 use racp_questions::{Asker, First};

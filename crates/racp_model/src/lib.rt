@@ -38,6 +38,9 @@
 //! `Invariants.antt` of its proof: `ghosts-decide_named a = record { network = a.net.now }`. No type in the signature
 //! of such a function names `N`.
 //!
+//! Whatever searches asks a `Stop` whether to go on. A value of it can be quiet: then it never says stop, and a search
+//! with it cannot be stopped.
+//!
 //! Proved: `Network::new` answers a network of the given jobs and pairs; or `Limit`, `BadJob` or `Cycle`, each exactly
 //! if it holds and none before it does; or `Memory`, only if none of these holds. `fits` is true exactly if the starts
 //! keep precedence, end by the deadline and never use more than the capacities; `peaks` answers the least capacities
@@ -57,6 +60,7 @@ mod named;
 mod network;
 mod question;
 mod starts;
+mod stop;
 mod topology;
 mod usage;
 mod window;
@@ -70,5 +74,6 @@ pub use named::OfNetwork;
 pub use network::Network;
 pub use question::Question;
 pub use starts::Starts;
+pub use stop::{Never, Stop, Unfound};
 pub use usage::{energy_of, peaks, roof_of, usage_at};
 pub use window::Window;

@@ -4,3 +4,4 @@ pub mod PlanReading
 pub mod Steps
 pub mod TextLaws
 pub mod Plans
+pub mod Fitting

@@ -27,12 +27,16 @@
 //! wrong line is found first and lack of memory last. Its definition is not a parser: a text is read as the plan whose
 //! text it is, or else as its first line that is wrong.
 //!
+//! `are_fitting(&net, &order, &capacities, &starts)` tells whether starts fit capacities on the terms of an order,
+//! within its ceilings.
+//!
 //! Proved: `write_plan` gives exactly the text of the plan. `read_plan` answers for every byte text the plan whose text
 //! it is, if its numbers are in range, or exactly the first line that is wrong; `Memory` only if no line is wrong. In
 //! `laws`: no two plans share a text; each text is read as something, and as one thing only; a written plan is read as
-//! itself. Whether a plan can be carried out is not looked at here: racp_check does.
+//! itself. `are_fitting` says yes exactly where starts fit (`AreFitting`). What is wrong with a plan is told by racp_check.
 #![tactic(auto)]
 
+mod fitting;
 pub mod laws;
 pub mod lines;
 pub mod number;
@@ -42,6 +46,7 @@ mod rest;
 mod text_fault;
 mod write;
 
+pub use fitting::are_fitting;
 pub use plan::Plan;
 pub use read::read_plan;
 pub use text_fault::{TextFault, TextFaultKind};

@@ -10,7 +10,7 @@ use Rattle.racp_delay.specs.Laws.{OthersStay, SubsetsGo, ChildIsInside, ChildIsH
 use Rattle.racp_cutset.specs.Covering.{SearchNode}
 use Rattle.racp_search.specs.Children.{IsPutOff}
 use Rattle.racp_model.proofs.lemmas.Relations.{member_cases, no_member}
-use Rattle.racp_refutation.specs.Children.{NoneStays, AreChildrenOf}
+use Rattle.racp_trees.specs.Children.{NoneStays, AreChildrenOf}
 use Rattle.racp_search.specs.DepthFirst.{HasActive, IsBelow}
 use Rattle.racp_search.specs.Refuting.{ArePutOn, IsConflicting, IsPartAnswer}
 use Rattle.racp_search.specs.declared.refuting.Divided.{Divided}

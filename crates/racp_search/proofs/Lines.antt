@@ -13,9 +13,9 @@ use Rattle.racp_model.proofs.lemmas.Relations.{member_cases, member_first, membe
 use Rattle.racp_delay.specs.Alternatives.{AreAlternatives}
 use Rattle.racp_delay.specs.Laws.{SubsetsGo, lower_sum}
 use Rattle.racp_cutset.specs.Covering.{SearchNode}
-use Rattle.racp_refutation.specs.Trees.{Trees, none, tree, lines_of, node_count, divided, Hold, IsNodeOf, IsTooLate, IsDivided}
-use Rattle.racp_refutation.specs.declared.step.Step.{Step}
-use Rattle.racp_refutation.specs.declared.step.Step.TheVariants.{L, D, C}
+use Rattle.racp_trees.specs.Trees.{Trees, none, tree, lines_of, node_count, divided, Hold, IsNodeOf, IsTooLate, IsDivided}
+use Rattle.racp_trees.specs.declared.step.Step.{Step}
+use Rattle.racp_trees.specs.declared.step.Step.TheVariants.{L, D, C}
 use Rattle.racp_search.specs.DepthFirst.{HasActive, Part, IsHigher, most_lists, rank, weight, weights}
 use Rattle.racp_search.specs.DepthFirst.Part.{all_of}
 use Rattle.racp_search.specs.Refuting.{ArePutOn, IsConflicting, IsDividedInto, IsLate, IsLineOf, IsRefutation}

@@ -6,10 +6,10 @@ use Rattle.racp_model.specs.Window.{Bounds, IsYes}
 use Rattle.racp_model.specs.Formed.{HasBounds}
 use Rattle.racp_model.specs.declared.question.Question.{Question}
 use Rattle.racp_cutset.specs.Covering.{SearchNode}
-use Rattle.racp_refutation.specs.Children.{NoneStays, IsChildFor, AreChildrenOf}
-use Rattle.racp_refutation.specs.Trees.{Trees, lines_of, Hold, IsNodeOf, IsTooLate, IsDivided}
-use Rattle.racp_refutation.specs.declared.step.Step.{Step}
-use Rattle.racp_refutation.specs.declared.step.Step.TheVariants.{L, D, C}
+use Rattle.racp_trees.specs.Children.{NoneStays, IsChildFor, AreChildrenOf}
+use Rattle.racp_trees.specs.Trees.{Trees, lines_of, Hold, IsNodeOf, IsTooLate, IsDivided}
+use Rattle.racp_trees.specs.declared.step.Step.{Step}
+use Rattle.racp_trees.specs.declared.step.Step.TheVariants.{L, D, C}
 use Rattle.racp_search.specs.DepthFirst.{IsBelow, weight, weights}
 use Rattle.racp_search.specs.DepthFirst.Part.{all_of}
 use Rattle.racp_search.specs.Glances.{HasConflict}

@@ -13,8 +13,7 @@ use crate::halt::{Halt, Next, Step, is_spent};
 use crate::subject::Subject;
 use crate::workspace::{Spare, Workspace};
 use racp_cutset::{Local, Nogood};
-use racp_delay::Stop;
-use racp_model::{Network, OfNetwork, Starts, Window};
+use racp_model::{Network, OfNetwork, Starts, Stop, Window};
 use racp_timetable::{Tightened, tighten};
 use std::alloc::{AllocError, Global};
 
@@ -31,7 +30,7 @@ pub(crate) fn search<N: OfNetwork, S: Stop>(
     requires quantum { IfSome quantum (λ most. 1 ≤ most) }
     requires nodes { nodes.old ≡ 0 }
     ensures end { IfOk result (IsEnd N.network subject.now.capacities subject.now.window quantum nodes.new) }
-    ensures quiet { IfOk result (λ ended. IsTrue S.QUIET → IsFalse ended.stopped) }
+    ensures quiet { IfOk result (λ ended. IsTrue (S.is_quiet stop.now) → IsFalse ended.stopped) }
     ensures nodes { IfSome quantum (λ most. nodes.new ≤ most) }
     ensures kept { StayKept local.old local.new }
 {
@@ -81,7 +80,7 @@ impl<N: OfNetwork> Stack<N> {
             self.old.frames.items next.window next.from }
         requires nodes { nodes.old ≡ 0 }
         requires quantum { IfSome quantum (λ most. 1 ≤ most) }
-        ensures halt { IfOk result (IsHalt N.network subject.now.capacities subject.now.window quantum nodes.new S.QUIET
+        ensures halt { IfOk result (IsHalt N.network subject.now.capacities subject.now.window quantum nodes.new (S.is_quiet stop.now)
             self.new.frames.items) }
         ensures nodes { IfSome quantum (λ most. nodes.new ≤ most) }
         ensures kept { StayKept (front first local.old) local.new }

@@ -9,8 +9,7 @@ use crate::finding::Finding;
 use crate::piece::Piece;
 use crate::subject::Subject;
 use racp_cutset::{Board, Local};
-use racp_delay::{Never, Stop};
-use racp_model::{Network, OfNetwork, Question, Starts};
+use racp_model::{Network, Never, OfNetwork, Question, Starts, Stop};
 use std::alloc::{AllocError, Global};
 use std::marker::Brand;
 
@@ -34,7 +33,7 @@ pub fn explore<N: OfNetwork, S: Stop>(
     requires named { net.now ≡ N.network }
     requires formed { IsFormed net.now piece.question }
     ensures explored { IsExplored N.network piece quantum result }
-    ensures quiet { IsTrue S.QUIET → IsFalse result.stopped }
+    ensures quiet { IsTrue (S.is_quiet stop.now) → IsFalse result.stopped }
     ensures kept { StayKept local.old local.new }
 {
     if allows_none(quantum) {

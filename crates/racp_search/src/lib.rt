@@ -38,7 +38,7 @@
 //! these left is refuted: then, and at no other time, its node becomes a record. A search that ends early leaves of its
 //! first frames their child windows; or, where at least as many as there are jobs are still to be made, for each active
 //! job the window in which it alone is put off. It leaves as many frames so as make a few windows, and beside these the
-//! window of the next frame, in which all else that is left lies. `refute` writes down why a question is infeasible, as the lines of a tree (racp_refutation); it makes no
+//! window of the next frame, in which all else that is left lies. `refute` writes down why a question is infeasible, as the lines of a tree (racp_trees); it makes no
 //! records and tightens nothing, so it takes longer. A search ends in any case: the place of a frame's last alternative
 //! in lexicographic order rises, and each child window has a greater sum of lower bounds than its parent, at most
 //! 10,000,000 for each job where there is a conflict. Rows and lists are used again, so a node takes memory only where
@@ -73,7 +73,7 @@ mod workspace;
 pub use entry_points::{decide, explore};
 pub use finding::{Finding, Rest};
 pub use piece::{Collector, Piece};
-pub use racp_delay::{Never, Stop};
-pub use racp_refutation::Step;
+pub use racp_model::{Never, Stop};
+pub use racp_trees::Step;
 pub use refuting::refute;
 pub use room::make_room;

@@ -10,7 +10,7 @@ use crate::glance::early_in;
 use crate::workspace::{Spare, Workspace};
 use racp_delay::{Clash, conflict, first_end, laws};
 use racp_model::{Capacities, Network, Question, Starts, Window};
-use racp_refutation::Step;
+use racp_trees::Step;
 use smallvec::SmallVec;
 use std::alloc::{AllocError, Global};
 

@@ -1,6 +1,6 @@
 //! All schedules of small orders, one by one.
 
-use racp_facts::Domain;
+use racp_clauses::Domain;
 use racp_model::Network;
 use racp_prices::Order;
 use std::alloc::{AllocError, Global};

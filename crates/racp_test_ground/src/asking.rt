@@ -1,13 +1,12 @@
 //! Questions by chance, and what a search tells of them.
 
-ghost use Rattle.racp_optimum.specs.Optima.{IsTaskOf};
+ghost use Rattle.racp_by_clauses.specs.Optima.{IsTaskOf};
 ghost use Rattle.std.specs.Prelude.{◌≡◌};
 
-use racp_delay::Never;
-use racp_facts::{Clause, Derivation, Literal, OfProblem};
+use racp_by_clauses::Task;
+use racp_clauses::{Clause, Derivation, Literal, OfProblem};
 use racp_learning::{Reason, Search, Told};
-use racp_model::Network;
-use racp_optimum::Task;
+use racp_model::{Network, Never};
 use racp_samples::Random;
 use std::alloc::AllocError;
 

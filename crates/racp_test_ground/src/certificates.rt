@@ -1,22 +1,20 @@
 //! Certificates by clauses for the five jobs, whose plan was worked out by hand, and what is shown without a clause.
 
-ghost use Rattle.racp_optimum.specs.Optima.{IsTaskOf};
+ghost use Rattle.racp_by_clauses.specs.Optima.{IsTaskOf};
 ghost use Rattle.racp_model.specs.Terms.{AreTermsOf};
 
 use crate::listener::Listener;
 use crate::sums::Sums;
 use crate::tasks::{Trial, try_order};
-use racp_derivations::establishes_by_text;
-use racp_established::{establishes, none_stand_before};
-use racp_facts::{Clause, OfProblem};
+use racp_by_clauses::{Limits, Task, optimum_recorded};
+use racp_clauses::{Clause, OfProblem, establishes, none_stand_before};
+use racp_derivations::{certificate_by_clauses, establishes_by_text};
 use racp_learning::Derivations;
 use racp_model::{Capacities, NetFault, Network, Starts};
-use racp_optimum::{Limits, Task, optimum_recorded};
 use racp_plan::{Plan, read_plan};
 use racp_prices::read_order;
 use racp_samples::texts::{ORDER, PLAN};
 use racp_samples::{Random, network, parallel};
-use racp_trimming::certificate_by_clauses;
 use std::alloc::{AllocError, Global};
 
 /// A plan that fits, and costs a unit more.

@@ -4,10 +4,8 @@ ghost use Rattle.std.specs.Prelude.{◌≡◌, All, length};
 ghost use Rattle.racp_model.specs.Project.{IsNumber};
 
 use crate::samples::{Sample, Setting, set_up};
-use racp_delay::{
-    Alternative, Clash, DelayingAlternatives, Never, alternatives, conflict, first_end,
-};
-use racp_model::JobSet;
+use racp_delay::{Alternative, Clash, DelayingAlternatives, alternatives, conflict, first_end};
+use racp_model::{JobSet, Never};
 use smallvec::SmallVec;
 use std::alloc::{AllocError, Global};
 

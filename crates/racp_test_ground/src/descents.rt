@@ -1,15 +1,14 @@
 //! Searches that begin anew and forget clauses, on the way down to the least cost of wider random orders.
 
-ghost use Rattle.racp_optimum.specs.Optima.{IsTaskOf};
+ghost use Rattle.racp_by_clauses.specs.Optima.{IsTaskOf};
 
 use crate::all_schedules::price;
 use crate::sums::Sums;
 use crate::tasks::{Trial, try_next};
-use racp_delay::Never;
-use racp_facts::{Clause, Derivation, Literal, OfProblem};
+use racp_by_clauses::Task;
+use racp_clauses::{Clause, Derivation, Literal, OfProblem};
 use racp_learning::{Reason, Search, Tally, Told};
-use racp_model::Capacities;
-use racp_optimum::Task;
+use racp_model::{Capacities, Never};
 use racp_prices::Order;
 use racp_samples::Random;
 use std::alloc::AllocError;

@@ -1,8 +1,8 @@
 //! Who listens to a search for an optimum.
 
+use racp_by_clauses::Hearer;
+use racp_drafts::Draft;
 use racp_learning::Tally;
-use racp_optimum::Hearer;
-use racp_schedules::Draft;
 use std::cell::Cell;
 
 /// Keeps what it is told, and stops a search that asks too often.

@@ -1,12 +1,12 @@
 //! Optima of small random orders, beside their plans by definition: without limits, with few conflicts, and stopped early.
 
-ghost use Rattle.racp_optimum.specs.Optima.{IsTaskOf};
+ghost use Rattle.racp_by_clauses.specs.Optima.{IsTaskOf};
 
 use crate::listener::Listener;
 use crate::sums::Sums;
 use crate::tasks::{Trial, try_next};
-use racp_facts::OfProblem;
-use racp_optimum::{Limits, Optimum, Task, optimum_of};
+use racp_by_clauses::{Limits, Optimum, Task, optimum_of};
+use racp_clauses::OfProblem;
 use racp_plan::Plan;
 use racp_reference::{Outcome, plan_by_definition};
 use racp_samples::Random;

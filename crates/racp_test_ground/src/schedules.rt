@@ -2,11 +2,11 @@
 
 use crate::samples::{Sample, sampled};
 use racp_cpm::root;
-use racp_delay::{Never, Steps, Stop};
-use racp_model::Network;
+use racp_delay::Steps;
+use racp_drafts::{Effort, draft_of};
+use racp_model::{Network, Never, Stop};
 use racp_prices::{Order, due_times};
 use racp_samples::{Random, random_network, random_order};
-use racp_schedules::{Effort, draft_of};
 use std::alloc::{AllocError, Global};
 
 /// What an order says, each list up to its last number that is not as in an order of the first version.
@@ -302,7 +302,7 @@ fn holds(alloc: Global, wish: &Wish) -> bool {
     }
 }
 
-/// The starts and the capacity of the first wish's draft, as on the page of racp_schedules.
+/// The starts and the capacity of the first wish's draft, as on the page of racp_drafts.
 const SHOWN_STARTS: &[u32] = &[0, 0, 2, 0, 4];
 
 const SHOWN_CAPACITIES: &[u32] = &[3];

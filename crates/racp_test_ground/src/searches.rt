@@ -1,13 +1,13 @@
 //! A search that learns, asked about small random orders, beside all their schedules.
 
-ghost use Rattle.racp_optimum.specs.Optima.{IsTaskOf};
+ghost use Rattle.racp_by_clauses.specs.Optima.{IsTaskOf};
 
 use crate::all_schedules::is_any_within;
 use crate::asking::{Limits, QUESTIONS, Record, asked, question};
 use crate::sums::Sums;
 use crate::tasks::{Trial, try_next};
-use racp_facts::{Derivation, OfProblem};
-use racp_optimum::Task;
+use racp_by_clauses::Task;
+use racp_clauses::{Derivation, OfProblem};
 use racp_samples::Random;
 use std::alloc::AllocError;
 

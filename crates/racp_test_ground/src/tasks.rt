@@ -2,7 +2,7 @@
 
 ghost use Rattle.std.specs.Prelude.{◌≡◌};
 ghost use Rattle.racp_model.specs.Terms.{AreTermsOf};
-ghost use Rattle.racp_optimum.specs.Optima.{IsTaskOf};
+ghost use Rattle.racp_by_clauses.specs.Optima.{IsTaskOf};
 
 use crate::certificates::{are_certified, is_rooted};
 use crate::descents::agree;
@@ -10,10 +10,10 @@ use crate::optima::is_optimum;
 use crate::orders::{wide_network, wide_order};
 use crate::searches::are_answered;
 use crate::sums::Sums;
+use racp_by_clauses::Task;
 use racp_check::{Opening, opening_of};
-use racp_facts::{OfProblem, root_of};
+use racp_clauses::{OfProblem, root_of};
 use racp_model::{NetFault, Network};
-use racp_optimum::Task;
 use racp_prices::Order;
 use racp_samples::{Random, SampleFault, random_network, random_order};
 use std::alloc::{AllocError, Global};

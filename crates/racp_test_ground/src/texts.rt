@@ -1,8 +1,8 @@
 //! A stop within the check of a certificate by clauses.
 
-use racp_delay::{Steps, Unfound};
+use racp_delay::Steps;
 use racp_derivations::establishes_by_text_until;
-use racp_model::Network;
+use racp_model::{Network, Unfound};
 use racp_plan::{Plan, read_plan};
 use racp_prices::{Order, read_order};
 use racp_samples::parallel;

@@ -4,9 +4,9 @@ ghost use Rattle.std.specs.Prelude.{◌≡◌};
 ghost use Rattle.racp_model.specs.Formed.{IsFormed};
 
 use racp_cutset::{Board, Local};
-use racp_model::{NetFault, Network, OfNetwork, Question, Window};
+use racp_model::{NetFault, Network, Never, OfNetwork, Question, Stop, Window};
 use racp_samples::{network, parallel, question};
-use racp_search::{Finding, Never, Piece, Rest, Stop, decide, explore};
+use racp_search::{Finding, Piece, Rest, decide, explore};
 use std::alloc::Global;
 use std::cell::Cell;
 use std::marker::Brand;
@@ -21,6 +21,10 @@ impl Stop for Countdown {
     ghost use Rattle.std.specs.Prelude.{false};
 
     ghost QUIET = { false };
+
+    ghost is_quiet = { λ _. false };
+
+    ghost all_quiet = { λ _ quiet. quiet };
 
     const QUIET: bool = false;
 

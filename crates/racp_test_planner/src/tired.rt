@@ -2,7 +2,7 @@
 
 ghost use Rattle.std.specs.Prelude.{◌≡◌};
 
-use racp_askers::Alone;
+use racp_by_questions::Alone;
 use racp_model::{Network, OfNetwork, Question};
 use racp_questions::{AskStop, Asker, First, Probe, Series};
 use std::alloc::{AllocError, Global};

@@ -20,8 +20,8 @@ use Rattle.racp_trees.specs.Readers.{open_nodes, HasRead, IsReady, IsOpenedBy, I
 use Rattle.racp_trees.specs.declared.branch.Branch.{Branch}
 use Rattle.racp_trees.specs.declared.closed.Closed.{Closed}
 use Rattle.racp_trees.specs.declared.reader.Reader.{Reader}
-use Rattle.racp_refutation.specs.declared.step.Step.{Step}
-use Rattle.racp_refutation.specs.declared.step.Step.TheVariants.{L, D, C}
+use Rattle.racp_trees.specs.declared.step.Step.{Step}
+use Rattle.racp_trees.specs.declared.step.Step.TheVariants.{L, D, C}
 use Rattle.racp_trees.proofs.Following.{line_follows, line_missing}
 use Rattle.racp_trees.proofs.Passing.{last_or, open_more, rest_stays, read_further, read_opened}
 

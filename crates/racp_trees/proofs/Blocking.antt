@@ -9,7 +9,7 @@ use Rattle.racp_model.specs.Window.{Bounds}
 use Rattle.racp_model.proofs.lemmas.Relations.{member_cases, member_first, member_later, no_member}
 use Rattle.racp_plan.proofs.lemmas.Numbers.{same_number, feed_is_no_digit, blank_is_no_digit}
 use Rattle.racp_cutset.specs.Covering.{SearchNode}
-use Rattle.racp_refutation.specs.Trees.{Hold}
+use Rattle.racp_trees.specs.Trees.{Hold}
 use Rattle.racp_trees.specs.Texts.{Block, HasSmallNumbers, most_number, vector_line, tree_text, block_text, last_line}
 use Rattle.racp_trees.specs.Certificates.{AllHold, vectors_of}
 use Rattle.racp_trees.specs.Following.{IsNext, IsRest}

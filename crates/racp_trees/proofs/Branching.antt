@@ -16,7 +16,7 @@ use Rattle.racp_delay.specs.Alternatives.Splits.{none, goes, stays}
 use Rattle.racp_delay.specs.Branching.{IsFirstEnd}
 use Rattle.racp_delay.specs.Laws.{OthersStay, SubsetsGo}
 use Rattle.racp_delay.proofs.lemmas.Conflicts.{conflict_numbers}
-use Rattle.racp_refutation.specs.Children.{NoneStays}
+use Rattle.racp_trees.specs.Children.{NoneStays}
 use Rattle.racp_trees.specs.Rows.{early_of}
 use Rattle.racp_trees.specs.Following.{OpenNode, read_on, IsNextBehind, IsNoneBehind}
 use Rattle.racp_trees.specs.Branches.{IsBranch, open_node, IsRaised, HasLower}

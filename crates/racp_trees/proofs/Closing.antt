@@ -6,7 +6,7 @@ use Rattle.racp_model.specs.Window.{Bounds}
 use Rattle.racp_model.proofs.lemmas.Relations.{member_cases, member_first, member_later, no_member}
 use Rattle.racp_delay.specs.Alternatives.{Splits}
 use Rattle.racp_cutset.specs.Covering.{SearchNode}
-use Rattle.racp_refutation.specs.Children.{IsChildFor}
+use Rattle.racp_trees.specs.Children.{IsChildFor}
 use Rattle.racp_trees.specs.Rows.{early_of}
 use Rattle.racp_trees.specs.Following.{OpenNode, read_on, Follow, IsNext}
 use Rattle.racp_trees.specs.Branches.{IsBranch, open_node, IsNextChild, IsReadUp}

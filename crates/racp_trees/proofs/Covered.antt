@@ -8,7 +8,7 @@ use Rattle.racp_model.specs.Schedule.{IsWithinCapacities}
 use Rattle.racp_delay.specs.Branching.{IsFirstExcess, IsConflict}
 use Rattle.racp_cutset.specs.Covering.{SearchNode, IsNode, Covers}
 use Rattle.racp_cutset.specs.Told.{early_unique}
-use Rattle.racp_refutation.specs.Trees.{IsNodeOf, IsCovered}
+use Rattle.racp_trees.specs.Trees.{IsNodeOf, IsCovered}
 use Rattle.racp_trees.specs.Records.{IsRecordOf, RecordCovers, AreAlike, HasRows, record_at}
 use Rattle.racp_trees.specs.Nodes.{AreRecords, HasPlace, IsCoveredHere}
 use Rattle.racp_trees.specs.declared.record.Record.{Record}

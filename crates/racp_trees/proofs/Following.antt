@@ -8,12 +8,12 @@ use Rattle.racp_model.specs.Window.{Bounds}
 use Rattle.racp_model.proofs.lemmas.Relations.{member_cases, member_first, member_later, no_member}
 use Rattle.racp_delay.specs.Alternatives.{IsMinimalDelayingAlternative}
 use Rattle.racp_cutset.specs.Covering.{SearchNode}
-use Rattle.racp_refutation.specs.Children.{AreChildrenOf, IsChildFor, NoneStays}
+use Rattle.racp_trees.specs.Children.{AreChildrenOf, IsChildFor, NoneStays}
 use Rattle.racp_trees.specs.Texts.{step_line, step_number, tree_text, most_number, HasSmallLines}
-use Rattle.racp_refutation.specs.Trees.{Trees, none, tree, lines_of, node_count, divided, Hold, IsDivided}
+use Rattle.racp_trees.specs.Trees.{Trees, none, tree, lines_of, node_count, divided, Hold, IsDivided}
 use Rattle.racp_trees.specs.Following.{IsNextBehind, OpenNode, read_on, AreBehind, AreToCome, BeginsWith, Ending, Follow, IsNext, IsOpened, IsStepped}
-use Rattle.racp_refutation.specs.declared.step.Step.{Step}
-use Rattle.racp_refutation.specs.declared.step.Step.TheVariants.{L, D, C}
+use Rattle.racp_trees.specs.declared.step.Step.{Step}
+use Rattle.racp_trees.specs.declared.step.Step.TheVariants.{L, D, C}
 use Rattle.racp_trees.proofs.Lines.{one_line, text-none, text-tree, small-none, small-tree, small-first, small-children, small-others}
 use Rattle.racp_trees.proofs.Alternating.{front, front-back, none_behind, behind_none, all_behind}
 

@@ -1,3 +1,6 @@
+mod Numbered
+mod Children
+mod Holding
 mod Refuting
 mod Looking
 mod Boxes

@@ -7,9 +7,9 @@ use Rattle.racp_model.proofs.lemmas.Relations.{all_members}
 use Rattle.std.proofs.lemmas.List.{append_cancel_left}
 use Rattle.racp_trees.proofs.Digits.{same_number, feed_is_no_digit}
 use Rattle.racp_trees.specs.Texts.{step_letter, step_number, step_line, tree_text, most_number, HasSmallLines}
-use Rattle.racp_refutation.specs.Trees.{Trees, none, tree, lines_of}
-use Rattle.racp_refutation.specs.declared.step.Step.{Step}
-use Rattle.racp_refutation.specs.declared.step.Step.TheVariants.{L, D, C}
+use Rattle.racp_trees.specs.Trees.{Trees, none, tree, lines_of}
+use Rattle.racp_trees.specs.declared.step.Step.{Step}
+use Rattle.racp_trees.specs.declared.step.Step.TheVariants.{L, D, C}
 
 -- a line and what follows it
 pub line_then : (s : Step) (more : List ℕ) → step_line s ++ more ≡ step_letter s ++ (decimal (step_number s) ++ 10 ∷ more)

@@ -20,8 +20,8 @@ use Rattle.racp_trees.specs.declared.branch.Branch.{Branch}
 use Rattle.racp_trees.specs.declared.closed.Closed.{Closed}
 use Rattle.racp_trees.specs.declared.record.Record.{Record}
 use Rattle.racp_trees.specs.declared.reader.Reader.{Reader}
-use Rattle.racp_refutation.specs.declared.step.Step.{Step}
-use Rattle.racp_refutation.specs.declared.step.Step.TheVariants.{L, D, C}
+use Rattle.racp_trees.specs.declared.step.Step.{Step}
+use Rattle.racp_trees.specs.declared.step.Step.TheVariants.{L, D, C}
 use Rattle.racp_trees.proofs.Advancing.{IsReadingTree, tree_first, tree_more, tree_ends}
 
 -- what was read is still known of a reader that forgot some of it

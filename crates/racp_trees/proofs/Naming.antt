@@ -8,8 +8,8 @@ use Rattle.std.proofs.lemmas.List.{take_all}
 use Rattle.racp_trees.specs.Texts.{step_line, step_number, most_number}
 use Rattle.racp_trees.specs.Reading.{IsStepAnswer, IsBeforeLine, IsNamed, IsNamedAt}
 use Rattle.racp_trees.specs.declared.record.Record.{Record}
-use Rattle.racp_refutation.specs.declared.step.Step.{Step}
-use Rattle.racp_refutation.specs.declared.step.Step.TheVariants.{L, D, C}
+use Rattle.racp_trees.specs.declared.step.Step.{Step}
+use Rattle.racp_trees.specs.declared.step.Step.TheVariants.{L, D, C}
 use Rattle.racp_trees.proofs.Lines.{one_line}
 
 drop_front : (front rest : List ℕ) → drop (length front) (front ++ rest) ≡ rest

@@ -7,7 +7,7 @@ use Rattle.racp_model.specs.Window.{Bounds}
 use Rattle.racp_model.specs.Limits.{most_bound, most_start}
 use Rattle.racp_delay.specs.Branching.{IsConflict}
 use Rattle.racp_cutset.specs.Covering.{SearchNode}
-use Rattle.racp_refutation.specs.Trees.{IsNodeOf, IsTooLate}
+use Rattle.racp_trees.specs.Trees.{IsNodeOf, IsTooLate}
 use Rattle.racp_trees.specs.Rows.{early_of}
 use Rattle.racp_trees.specs.Following.{IsOpened}
 use Rattle.racp_trees.specs.Nodes.{IsDivisionAnswer}

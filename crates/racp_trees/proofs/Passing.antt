@@ -8,7 +8,7 @@ use Rattle.racp_model.specs.Project.{Project}
 use Rattle.racp_model.specs.Window.{Bounds}
 use Rattle.racp_model.proofs.lemmas.Relations.{member_cases, member_first, member_later, no_member, member_after, rising_tail}
 use Rattle.racp_cutset.specs.Covering.{SearchNode, IsNode, FitsBeforeTime}
-use Rattle.racp_refutation.specs.Trees.{node_count, divided}
+use Rattle.racp_trees.specs.Trees.{node_count, divided}
 use Rattle.racp_trees.specs.Texts.{Block, step_line}
 use Rattle.racp_trees.specs.Certificates.{AllHold}
 use Rattle.racp_trees.specs.Reading.{IsNamed}
@@ -22,7 +22,7 @@ use Rattle.racp_trees.specs.declared.branch.Branch.{Branch}
 use Rattle.racp_trees.specs.declared.record.Record.{Record}
 use Rattle.racp_trees.specs.declared.closed.Closed.{Closed}
 use Rattle.racp_trees.specs.declared.reader.Reader.{Reader}
-use Rattle.racp_refutation.specs.declared.step.Step.TheVariants.{C}
+use Rattle.racp_trees.specs.declared.step.Step.TheVariants.{C}
 use Rattle.racp_trees.proofs.Following.{Within, Stays, hold-more}
 
 -- open nodes of one branch more

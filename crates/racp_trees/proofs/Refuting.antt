@@ -13,12 +13,11 @@ use Rattle.racp_model.proofs.lemmas.Cuts.{cut, cut-at, cut_places, cut_admitting
 use Rattle.racp_cpm.proofs.lemmas.Rooted.{fits-answers}
 use Rattle.racp_prices.proofs.lemmas.Ceilings.{cut-below}
 use Rattle.racp_cutset.specs.Covering.{SearchNode}
-use Rattle.racp_refutation.specs.Trees.{node_count, divided, AreRefutedNodes}
-use Rattle.racp_refutation.specs.Laws.{TreesRefute}
-use Rattle.racp_refutation.proofs.lemmas.Numbered.{refuted_both, refuted_none}
+use Rattle.racp_trees.specs.Trees.{node_count, divided, AreRefutedNodes}
+use Rattle.racp_trees.specs.Laws.{TreesRefute, CertificateProves}
+use Rattle.racp_trees.proofs.Numbered.{refuted_both, refuted_none}
 use Rattle.racp_trees.specs.Texts.{Block}
 use Rattle.racp_trees.specs.Certificates.{AllHold, vectors_of}
-use Rattle.racp_trees.specs.Laws.{CertificateProves}
 
 -- windows with bounds
 abbrev AllBound : Project → List Bounds → Type 0

@@ -17,8 +17,8 @@ use Rattle.racp_plan.proofs.lemmas.Fronts.{words_from, words_before, parts_of, w
 use Rattle.racp_plan.proofs.lemmas.Digits.{decimal-is, value-decimal, decimal-value, not_in_decimal}
 use Rattle.racp_trees.specs.Texts.{step_number, step_letter, numbers_text, vector_line, most_number}
 use Rattle.racp_trees.specs.Reading.{IsBehind, IsSpelled, IsNumberBefore, IsNumberOn, IsStepAnswer, IsVectorAnswer}
-use Rattle.racp_refutation.specs.declared.step.Step.{Step}
-use Rattle.racp_refutation.specs.declared.step.Step.TheVariants.{L, D, C}
+use Rattle.racp_trees.specs.declared.step.Step.{Step}
+use Rattle.racp_trees.specs.declared.step.Step.TheVariants.{L, D, C}
 use Rattle.racp_trees.proofs.Lines.{line_then}
 
 pub behind_is : (words text : List ℕ) (r : Option (Bor (List ℕ))) → contents r ≡ after_words words text → IsBehind words text r

@@ -5,7 +5,7 @@ use Rattle.racp_model.specs.Project.{Project, number}
 use Rattle.racp_model.specs.Limits.{most_bound, most_start}
 use Rattle.racp_model.specs.Path.{IsEarly}
 use Rattle.racp_delay.specs.Branching.{IsConflict}
-use Rattle.racp_refutation.specs.Children.{NoneStays, IsChildFor}
+use Rattle.racp_trees.specs.Children.{NoneStays, IsChildFor}
 use Rattle.racp_trees.specs.Rows.{early_of}
 use Rattle.racp_trees.specs.Following.{OpenNode, read_on, IsNextBehind, IsNoneBehind}
 use Rattle.racp_trees.specs.declared.branch.Branch.{Branch}

@@ -8,7 +8,7 @@ use Rattle.racp_model.specs.Window.{Bounds, IsRootWindow}
 use Rattle.racp_prices.specs.Units.{cut_to}
 use Rattle.racp_cutset.specs.Covering.{SearchNode}
 use Rattle.racp_trees.specs.Texts.{Block, proof_text, HasSmallNumbers}
-use Rattle.racp_refutation.specs.Trees.{node_count, divided, Hold}
+use Rattle.racp_trees.specs.Trees.{node_count, divided, Hold}
 
 -- each block refutes the question of its vector with the root window: `closed` are the nodes of D lines that are closed before
 -- the first block, and n is the number of its first node

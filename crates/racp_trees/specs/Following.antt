@@ -6,12 +6,12 @@ use Rattle.racp_model.specs.Window.{Bounds}
 use Rattle.racp_delay.specs.Alternatives.{IsMinimalDelayingAlternative}
 use Rattle.racp_delay.specs.Branching.{IsConflict}
 use Rattle.racp_cutset.specs.Covering.{SearchNode}
-use Rattle.racp_refutation.specs.Children.{AreChildrenOf}
+use Rattle.racp_trees.specs.Children.{AreChildrenOf}
 use Rattle.racp_trees.specs.Texts.{Block, HasSmallLines, HasSmallNumbers, tree_text, block_text, last_line}
-use Rattle.racp_refutation.specs.Trees.{Trees, node_count, divided, Hold, IsNodeOf, IsTooLate, IsCovered}
+use Rattle.racp_trees.specs.Trees.{Trees, node_count, divided, Hold, IsNodeOf, IsTooLate, IsCovered}
 use Rattle.racp_trees.specs.Certificates.{AllHold, vectors_of}
-use Rattle.racp_refutation.specs.declared.step.Step.{Step}
-use Rattle.racp_refutation.specs.declared.step.Step.TheVariants.{L, D, C}
+use Rattle.racp_trees.specs.declared.step.Step.{Step}
+use Rattle.racp_trees.specs.declared.step.Step.TheVariants.{L, D, C}
 
 -- a node of a D line that is not closed yet: its number, the node, its active jobs, and the alternative that was read last
 pub record OpenNode : Type 0 where

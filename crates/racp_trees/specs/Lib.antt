@@ -1,3 +1,5 @@
+pub mod Children
+pub mod Trees
 pub mod Texts
 pub mod Rows
 pub mod Certificates

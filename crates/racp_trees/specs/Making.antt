@@ -15,8 +15,8 @@ use Rattle.racp_trees.specs.declared.certifying.Given.{Given}
 use Rattle.racp_trees.specs.declared.closed.Closed.{Closed}
 use Rattle.racp_trees.specs.declared.record.Record.{Record}
 use Rattle.racp_trees.specs.declared.reader.Reader.{Reader}
-use Rattle.racp_refutation.specs.declared.step.Step.{Step}
-use Rattle.racp_refutation.specs.declared.step.Step.TheVariants.{C}
+use Rattle.racp_trees.specs.declared.step.Step.{Step}
+use Rattle.racp_trees.specs.declared.step.Step.TheVariants.{C}
 
 -- what a certificate is made of fits together: the order's terms are those of the network, the window is the root window
 -- of the order, the roofs are cut to its ceilings, and there is a capacity for each resource

@@ -4,7 +4,7 @@ use Rattle.racp_model.specs.Project.{Project}
 use Rattle.racp_model.specs.Window.{Bounds}
 use Rattle.racp_delay.specs.Branching.{IsConflict}
 use Rattle.racp_cutset.specs.Covering.{SearchNode, IsNode, FitsBeforeTime}
-use Rattle.racp_refutation.specs.Trees.{IsNodeOf, IsCovered}
+use Rattle.racp_trees.specs.Trees.{IsNodeOf, IsCovered}
 use Rattle.racp_trees.specs.Enough.{IsAtMost}
 use Rattle.racp_trees.specs.Records.{IsRecordOf, HasRows, record_at}
 use Rattle.racp_trees.specs.declared.record.Record.{Record}

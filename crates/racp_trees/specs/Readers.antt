@@ -6,7 +6,7 @@ use Rattle.racp_model.specs.Project.{Project}
 use Rattle.racp_model.specs.Limits.{most_bound}
 use Rattle.racp_model.specs.Window.{Bounds}
 use Rattle.racp_cutset.specs.Covering.{SearchNode}
-use Rattle.racp_refutation.specs.Trees.{IsNodeOf, IsTooLate}
+use Rattle.racp_trees.specs.Trees.{IsNodeOf, IsTooLate}
 use Rattle.racp_trees.specs.Rows.{early_of}
 use Rattle.racp_trees.specs.Following.{OpenNode, Ending, Follow, IsNext, IsOpened, IsRest}
 use Rattle.racp_trees.specs.Branches.{IsBranch, open_node, IsNextChild, IsReadUp}
@@ -14,8 +14,8 @@ use Rattle.racp_trees.specs.Records.{IsRecordOf, IsKept}
 use Rattle.racp_trees.specs.declared.record.Record.{Record}
 use Rattle.racp_trees.specs.Nodes.{AreRecords, HaveRows, HasPlace, IsCoveredHere}
 use Rattle.racp_trees.specs.declared.branch.Branch.{Branch}
-use Rattle.racp_refutation.specs.declared.step.Step.{Step}
-use Rattle.racp_refutation.specs.declared.step.Step.TheVariants.{L, D, C}
+use Rattle.racp_trees.specs.declared.step.Step.{Step}
+use Rattle.racp_trees.specs.declared.step.Step.TheVariants.{L, D, C}
 use Rattle.racp_trees.specs.declared.reader.Reader.{Reader}
 
 -- the open nodes of branches, the last one first

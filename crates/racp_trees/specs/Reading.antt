@@ -4,8 +4,8 @@ use Rattle.std.specs.Global.{Global}
 use Rattle.std.specs.Fmt.{decimal}
 use denote.Ref.{Bor}
 use Rattle.racp_trees.specs.Texts.{step_line, step_number, vector_line, most_number}
-use Rattle.racp_refutation.specs.declared.step.Step.{Step}
-use Rattle.racp_refutation.specs.declared.step.Step.TheVariants.{C}
+use Rattle.racp_trees.specs.declared.step.Step.{Step}
+use Rattle.racp_trees.specs.declared.step.Step.TheVariants.{C}
 
 -- what stands after these words, or none if a text begins otherwise
 abbrev pub IsBehind : List ℕ → List ℕ → Option (Bor (List ℕ)) → Type 0

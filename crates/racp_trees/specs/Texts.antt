@@ -1,9 +1,9 @@
 -- The text of a certificate, in ASCII. Each line ends with a line feed; numbers are decimal, without leading zeros.
 use Rattle.std.specs.Prelude.{ℕ, ◌≤◌, List, [], ◌∷◌, ◌++◌, All, flat_map, codes}
 use Rattle.std.specs.Fmt.{decimal}
-use Rattle.racp_refutation.specs.Trees.{Trees, lines_of}
-use Rattle.racp_refutation.specs.declared.step.Step.{Step}
-use Rattle.racp_refutation.specs.declared.step.Step.TheVariants.{L, D, C}
+use Rattle.racp_trees.specs.Trees.{Trees, lines_of}
+use Rattle.racp_trees.specs.declared.step.Step.{Step}
+use Rattle.racp_trees.specs.declared.step.Step.TheVariants.{L, D, C}
 
 -- a block: a capacity vector, and a tree
 pub record Block : Type 0 where

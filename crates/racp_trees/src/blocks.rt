@@ -12,8 +12,7 @@ use crate::closed::Closed;
 use crate::patience::{Patience, Until};
 use crate::reader::{Ground, Reader};
 use crate::reading::{behind, read_vector};
-use racp_delay::{Never, Stop, Unfound};
-use racp_model::{Capacities, Network, Window};
+use racp_model::{Capacities, Network, Never, Stop, Unfound, Window};
 use std::alloc::{AllocError, Global};
 
 /// The capacity vectors of the blocks of a certificate's text, in their order; `None` if the text is not one of blocks
@@ -52,7 +51,7 @@ pub fn block_vectors_until<S: Stop>(
 ) -> Result<Option<Vec<Vec<u32>>>, Unfound>
     requires root { HasBounds net.now root.now }
     ensures vectors { IfOk result (IsBlocksAnswer net.now root.now text.now) }
-    ensures quiet { IsTrue S.QUIET → IsErrOf result Unfound.Stopped → ⊥ }
+    ensures quiet { IsTrue (S.is_quiet stop.now) → IsErrOf result Unfound.Stopped → ⊥ }
 {
     let Some(rest) = behind(text, "proof\n") else {
         return Ok(None);
@@ -74,7 +73,7 @@ fn read_blocks<P: Patience>(
     requires between { IsBetween net.now reader }
     requires places { (node : ℕ) → IsNamed text.now node → HasPlace reader.closed node }
     requires room { reader.number + length text.now < 2 ^ 64 }
-    ensures quiet { IsTrue P.QUIET → IsErrOf result Unfound.Stopped → ⊥ }
+    ensures quiet { IsTrue (P.is_quiet patience.now) → IsErrOf result Unfound.Stopped → ⊥ }
     ensures blocks { IfOk result (AreBlocksRead net.now root.now reader text.now) }
 {
     let mut reader = reader;
@@ -105,7 +104,7 @@ fn read_block<'t, P: Patience>(
     requires between { IsBetween net.now reader.old }
     requires places { (node : ℕ) → IsNamed text.now node → HasPlace reader.old.closed node }
     requires room { reader.old.number + length text.now < 2 ^ 64 }
-    ensures quiet { IsTrue P.QUIET → IsErrOf result Unfound.Stopped → ⊥ }
+    ensures quiet { IsTrue (P.is_quiet patience.now) → IsErrOf result Unfound.Stopped → ⊥ }
     ensures block { IfOk result (IsBlockRead net.now root.now reader.old text.now reader.new) }
 {
     let Some((vector, more)) = read_vector(alloc, text, net.resource_count())? else {

@@ -10,8 +10,8 @@ use crate::patience::Patience;
 use crate::record::Record;
 use crate::shared_row::SharedRow;
 use racp_cpm::early;
-use racp_delay::{Alternative, Unfound, first_end, laws};
-use racp_model::{Capacities, JobSet, Network};
+use racp_delay::{Alternative, first_end, laws};
+use racp_model::{Capacities, JobSet, Network, Unfound};
 use std::alloc::{AllocError, Global};
 use std::cmp::max;
 use std::rc::Rc;
@@ -43,7 +43,7 @@ impl Branch {
         ensures node { (capacities upper : List ℕ) → (open_node net.now capacities upper self.new).node ≡ (open_node net.now capacities upper self.old).node }
         ensures number { self.new.number ≡ self.old.number }
         ensures stays { IsBranch net.now capacities.now self.new }
-        ensures quiet { IsTrue P.QUIET → IsErrOf result Unfound.Stopped → ⊥ }
+        ensures quiet { IsTrue (P.is_quiet patience.now) → IsErrOf result Unfound.Stopped → ⊥ }
     {
         let Some(gone) = self.next_alternative(alloc, net, capacities, patience)? else {
             return Ok(None);
@@ -91,7 +91,7 @@ impl Branch {
         requires capacities { length capacities.now ≡ net.now.resources }
         requires branch { IsBranch net.now capacities.now self.now }
         ensures next { IfOk result (IsAlternativeAnswer net.now capacities.now self.now) }
-        ensures quiet { IsTrue P.QUIET → IsErrOf result Unfound.Stopped → ⊥ }
+        ensures quiet { IsTrue (P.is_quiet patience.now) → IsErrOf result Unfound.Stopped → ⊥ }
     {
         laws::subsets_go();
         let mut next = Alternative::new(alloc);

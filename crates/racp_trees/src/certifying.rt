@@ -17,8 +17,7 @@ use crate::enough::gap_until;
 use crate::maker::{Maker, given_up};
 use crate::reader::Ground;
 use crate::writer::push_vector;
-use racp_delay::Stop;
-use racp_model::{Capacities, Window};
+use racp_model::{Capacities, Stop, Window};
 use racp_text::MOST_TEXT_BYTES;
 use std::alloc::{AllocError, Global};
 

@@ -9,7 +9,7 @@ ghost use Rattle.racp_trees.specs.Records.{AreNamed, IsKept, record_at};
 
 use crate::reading::read_step;
 use crate::record::Record;
-use racp_refutation::Step;
+use crate::step::Step;
 use std::alloc::{AllocError, Global};
 use std::collections::HashMap;
 

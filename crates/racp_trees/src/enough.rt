@@ -9,8 +9,7 @@ use crate::before::is_before;
 use crate::claim::Claim;
 use crate::parts::{Part, push_parts};
 use crate::splitting::place_above;
-use racp_delay::{Never, Stop, Unfound};
-use racp_model::Network;
+use racp_model::{Network, Never, Stop, Unfound};
 use racp_prices::Order;
 use std::alloc::{AllocError, Global};
 
@@ -64,7 +63,7 @@ pub fn are_enough_until<S: Stop>(
     requires claim { IsClaim claim.now }
     requires blocks { (k : ℕ) → k < length blocks.now → (d : _) → length (slice_index_or blocks.now k d).items ≡ claim.now.net.now.resources }
     ensures told { IfOk result (λ yes. IsTrue yes ↔ AreEnoughBlocks claim.now.net.now claim.now.order.now claim.now.roofs.now claim.now.capacities.now blocks.now) }
-    ensures quiet { IsTrue S.QUIET → IsErrOf result Unfound.Stopped → ⊥ }
+    ensures quiet { IsTrue (S.is_quiet stop.now) → IsErrOf result Unfound.Stopped → ⊥ }
 {
     Ok(gap_until(alloc, claim, blocks, stop)?.is_none())
 }
@@ -81,7 +80,7 @@ pub(crate) fn gap_until<S: Stop>(
     requires claim { IsClaim claim.now }
     requires blocks { (k : ℕ) → k < length blocks.now → (d : _) → length (slice_index_or blocks.now k d).items ≡ claim.now.net.now.resources }
     ensures gap { IfOk result (IsGapAnswer claim.now blocks.now) }
-    ensures quiet { IsTrue S.QUIET → IsErrOf result Unfound.Stopped → ⊥ }
+    ensures quiet { IsTrue (S.is_quiet stop.now) → IsErrOf result Unfound.Stopped → ⊥ }
 {
     let mut parts = Vec::new(alloc);
     parts.push(whole(alloc, claim.roofs)?)?;

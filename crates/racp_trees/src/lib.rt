@@ -1,4 +1,5 @@
-//! Certificates: texts that show that no capacities before those of a plan are enough.
+//! Certificates by trees: texts that show that no capacities before those of a plan are enough, and the trees of which
+//! they are made.
 //!
 //! Nodes are numbered from 1; jobs and resources too, and their places in lists count from 0. Times are whole time
 //! units.
@@ -10,6 +11,10 @@
 //! - `D t`: the first conflict of the early starts is at time t. The children follow, one for each minimal delaying
 //!   alternative (Demeulemeester and Herroelen 1992).
 //! - `C n`: the node with number n, which is closed, covers this one.
+//!
+//! A `Step` is a line, and `Hold` in specs/ says when trees hold for windows. racp_search makes such a tree for one
+//! question, whether some starts in a window keep precedence and given capacities; here they are read, made and
+//! written.
 //!
 //! Each tree stands in a block, after the capacities that it refutes. For the five jobs of examples/a.sm with the
 //! deadline 4, this text refutes 2 units, and so 1 and 0:
@@ -46,8 +51,8 @@
 //! A certificate is made by a reader of the lines that are chosen (`Maker`): for the next window a late job if there is
 //! one, else the newest closed node of the block that covers it, else its first conflict. Each line is written and then
 //! read as any reader reads it, so how it was chosen needs no proof. A tree is given up if the search for one
-//! alternative takes more than 1,000,000 steps, or the stop asks for it, as it may at each line. Blocks are made for vectors above all blocks so
-//! far, until there is none. What `certificate` makes is proved to be a certificate.
+//! alternative takes more than 1,000,000 steps, or the stop asks for it, as it may at each line. Blocks are made for
+//! vectors above all blocks so far, until there is none. What `certificate` makes is proved to be a certificate.
 //!
 //! Blocks are enough if each vector within the roofs that stands before the plan is at most the vector of some block.
 //! That is decided by boxes of vectors, in `are_enough`: the least vector of a box that is at most a block's leads to
@@ -80,10 +85,11 @@ mod reading;
 mod record;
 mod shared_row;
 mod splitting;
+mod step;
 mod writer;
 
 pub use blocks::{block_vectors, block_vectors_until};
 pub use certifying::certificate;
 pub use claim::Claim;
 pub use enough::{are_enough, are_enough_until};
-pub use racp_refutation::Step;
+pub use step::Step;

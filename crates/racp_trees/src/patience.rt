@@ -4,8 +4,8 @@ ghost use Rattle.std.specs.Prelude.{◌≡◌, All, IfOk, IsErrOf, IsFalse, IsTr
 ghost use Rattle.racp_model.specs.Project.{IsNumber};
 ghost use Rattle.racp_delay.specs.Alternatives.{IsFollowing};
 
-use racp_delay::{Alternative, Steps, Stop, Unfound};
-use racp_model::{Capacities, JobSet, Network};
+use racp_delay::{Alternative, Steps};
+use racp_model::{Capacities, JobSet, Network, Stop, Unfound};
 
 /// How many steps a search takes at most where a tree is made.
 const MOST_STEPS: u32 = 1_000_000;
@@ -14,11 +14,11 @@ const MOST_STEPS: u32 = 1_000_000;
 pub(crate) trait Patience {
     ghost use Rattle.std.specs.Prelude.{Bool};
 
-    ghost QUIET: { Bool };
+    ghost is_quiet: { Self → Bool };
 
     /// Whether the reader is to stop now.
     fn asked(&self) -> bool
-        ensures { IsTrue QUIET → IsFalse result };
+        ensures { IsTrue (is_quiet self.now) → IsFalse result };
 
     /// Finds the next alternative of some jobs after a list of them, as `Alternative::find_behind` does.
     fn find_behind(
@@ -32,7 +32,7 @@ pub(crate) trait Patience {
         requires capacities { length capacities.now ≡ net.now.resources }
         requires active { All (IsNumber (length net.now.jobs)) active.now }
         ensures found { IfOk result (λ more. IsFollowing net.now capacities.now active.now active.now last.now more next.new) }
-        ensures quiet { IsTrue QUIET → IsErrOf result Unfound.Stopped → ⊥ };
+        ensures quiet { IsTrue (is_quiet self.now) → IsErrOf result Unfound.Stopped → ⊥ };
 }
 
 /// As long as a stop does not say otherwise.
@@ -42,7 +42,7 @@ pub(crate) struct Until<'a, S: Stop> {
 }
 
 impl<'a, S: Stop> Patience for Until<'a, S> {
-    ghost QUIET = { S.QUIET };
+    ghost is_quiet = { λ until. S.is_quiet until.stop.now };
 
     fn asked(&self) -> bool {
         self.stop.asked()
@@ -72,6 +72,10 @@ impl<P: Patience + Drop> Stop for StepsUntil<P> {
 
     ghost QUIET = { false };
 
+    ghost is_quiet = { λ _. false };
+
+    ghost all_quiet = { λ _ quiet. quiet };
+
     const QUIET: bool = false;
 
     fn asked(&self) -> bool {
@@ -88,7 +92,7 @@ pub(crate) struct Brief<'a, S: Stop> {
 impl<'a, S: Stop> Patience for Brief<'a, S> {
     ghost use Rattle.std.specs.Prelude.{false};
 
-    ghost QUIET = { false };
+    ghost is_quiet = { λ _. false };
 
     fn asked(&self) -> bool {
         self.stop.asked()

@@ -8,7 +8,7 @@ ghost use Rattle.racp_trees.specs.Nodes.{HasPlace};
 ghost use Rattle.racp_trees.specs.Reading.{IsNamed};
 ghost use Rattle.racp_trees.specs.Readers.{IsReady, IsLineAnswer, IsNextAnswer, IsClosedBy, IsGoneOn, IsTreeAnswer, StaysReady};
 ghost use Rattle.racp_trees.specs.Branches.{IsBranch};
-ghost use Rattle.racp_refutation.specs.declared.step.Step.TheVariants.{C, D};
+ghost use Rattle.racp_trees.specs.declared.step.Step.TheVariants.{C, D};
 
 use crate::branch::{Branch, copied};
 use crate::closed::Closed;
@@ -16,10 +16,10 @@ use crate::node::{active_at, is_covered, is_too_late};
 use crate::patience::Patience;
 use crate::reading::read_step;
 use crate::shared_row::SharedRow;
+use crate::step::Step;
 use racp_cpm::early;
-use racp_delay::{Unfound, laws};
-use racp_model::{Capacities, Network, Starts, Window};
-use racp_refutation::Step;
+use racp_delay::laws;
+use racp_model::{Capacities, Network, Starts, Unfound, Window};
 use std::alloc::{AllocError, Global};
 use std::rc::Rc;
 
@@ -71,7 +71,7 @@ impl Reader {
         requires ready { IsReady ground.now.net.now ground.now.capacities.now self.old }
         requires places { (node : ℕ) → IsNamed text.now node → HasPlace self.old.closed node }
         requires room { self.old.number + length text.now < 2 ^ 64 }
-        ensures quiet { IsTrue P.QUIET → IsErrOf result Unfound.Stopped → ⊥ }
+        ensures quiet { IsTrue (P.is_quiet patience.now) → IsErrOf result Unfound.Stopped → ⊥ }
         ensures tree { IfOk result (IsTreeAnswer ground.now.net.now ground.now.capacities.now ground.now.root.now self.old text.now self.new) }
     {
         laws::some_job_goes();
@@ -193,7 +193,7 @@ impl Reader {
         requires capacities { length ground.now.capacities.now ≡ ground.now.net.now.resources }
         requires root { HasBounds ground.now.net.now ground.now.root.now }
         requires ready { IsReady ground.now.net.now ground.now.capacities.now self.old }
-        ensures quiet { IsTrue P.QUIET → IsErrOf result Unfound.Stopped → ⊥ }
+        ensures quiet { IsTrue (P.is_quiet patience.now) → IsErrOf result Unfound.Stopped → ⊥ }
         ensures window { IfOk result (IsNextAnswer ground.now.net.now ground.now.capacities.now ground.now.root.now self.old self.new) }
         ensures ready { IfOk result (λ _. StaysReady ground.now.net.now ground.now.capacities.now self.old self.new) }
     {
@@ -216,7 +216,7 @@ impl Reader {
     ) -> Result<Option<Vec<u32>>, Unfound>
         requires capacities { length ground.now.capacities.now ≡ ground.now.net.now.resources }
         requires branch { IsBranch ground.now.net.now ground.now.capacities.now branch }
-        ensures quiet { IsTrue P.QUIET → IsErrOf result Unfound.Stopped → ⊥ }
+        ensures quiet { IsTrue (P.is_quiet patience.now) → IsErrOf result Unfound.Stopped → ⊥ }
         ensures gone { IfOk result (IsGoneOn ground.now.net.now ground.now.capacities.now self.old branch self.new) }
     {
         let mut branch = branch;

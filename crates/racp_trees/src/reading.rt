@@ -3,8 +3,8 @@
 ghost use Rattle.std.specs.Prelude.{◌<◌, ◌≤◌, IfOk};
 ghost use Rattle.racp_trees.specs.Reading.{IsBehind, IsSpelled, IsNumberBefore, IsNumberOn, IsStepAnswer, IsVectorAnswer};
 
+use crate::step::Step;
 use racp_plan::number::{after_words, plain_number};
-use racp_refutation::Step;
 use racp_text::cut_at;
 use std::alloc::{AllocError, Global};
 

@@ -4,8 +4,8 @@ ghost use Rattle.std.specs.Prelude.{◌≡◌, ◌≤◌, ◌++◌, ◌∷◌, [
 ghost use Rattle.std.specs.Fmt.{decimal};
 ghost use Rattle.racp_trees.specs.Texts.{most_number, step_line, vector_line};
 
+use crate::step::Step;
 use racp_plan::lines::push_number;
-use racp_refutation::Step;
 use std::alloc::{AllocError, Global};
 
 /// Adds the line of a node.

@@ -1,2 +1,11 @@
-mod Stopping
+mod Works
+mod Jobs
+mod Overloads
+mod Orders
+mod Found
+mod Refuting
 mod Listing
+mod Moving
+mod Fitting
+mod Stopping
+mod Gathering

@@ -1,1 +1,9 @@
+pub mod Fitting
+pub mod Needs
+pub mod Laws
+pub mod Within
+pub mod Changes
+pub mod Outcomes
+pub mod Lines
+pub mod Values
 pub mod Faults

@@ -1,22 +1,24 @@
 //! What becomes of an order if one term is changed.
 
-ghost use Rattle.std.specs.Prelude.{[], ◌∷◌, ◌≡◌, ◌++◌, All, IfErr, IfOk, OnOk, length, map};
+ghost use Rattle.std.specs.Prelude.{[], ◌∷◌, ◌≡◌, ◌++◌, ℕ, All, Bool, IfErr, IfOk, OnOk, length, map};
 ghost use Rattle.racp_model.specs.Terms.{AreTermsOf};
-ghost use Rattle.racp_changes.specs.Changes.{IsChangeFor};
-ghost use Rattle.racp_changes.specs.Outcomes.{AreFindings, IsFinding, IsOutcome, change_of};
+ghost use Rattle.racp_whatif.specs.Changes.{IsChangeFor};
+ghost use Rattle.racp_whatif.specs.Outcomes.{AreFindings, IsFinding, IsOutcome, change_of};
+ghost use Rattle.racp_by_questions.specs.Crowds.{MayStop};
 ghost use Rattle.racp_lexfix.specs.Answers.{IsAnswer};
 ghost use Rattle.racp_whatif.specs.Faults.{IsFault};
 
-use crate::planning::{Task, planned};
-use racp_askers::Observer;
-use racp_changes::{Change, Finding, Outcome, changed, changes_of};
+use crate::change::Change;
+use crate::changes::changes_of;
+use crate::changing::changed;
+use crate::need::need_above;
+use crate::outcome::{Finding, Outcome};
+use racp_by_questions::Observer;
 use racp_desk::Gate;
-use racp_lexfix::{Answer, Crew, PlanStop};
-use racp_model::Network;
+use racp_lexfix::{Answer, Crew, PlanStop, Task, plan_by_crew};
 use racp_model::limits::MOST_RESOURCES;
-use racp_needs::need_above;
+use racp_model::{Network, Stop};
 use racp_prices::{Order, cost_of};
-use racp_search::Stop;
 use std::alloc::{AllocError, Global};
 use std::sync::Wait;
 use std::thread::Threads;
@@ -35,7 +37,8 @@ pub fn findings<G: Gate + Sync, P: Stop + Sync, O: Observer, R: Threads + Wait +
 ) -> Result<Vec<Finding>, PlanStop>
     requires terms { AreTermsOf task.now.net.now task.now.order.now }
     requires places { length capacities.now ≡ task.now.net.now.resources }
-    ensures findings { IfOk result (λ findings. AreFindings task.now.net.now task.now.order.now capacities.now findings.items) }
+    ensures findings { IfOk result (λ findings. AreFindings (MayStop task.now.net.now (P.is_quiet crew.now.stop.now) crew.now.turns)
+        task.now.net.now task.now.order.now capacities.now findings.items) }
     ensures fault { IfErr result IsFault }
 {
     prove!(task.net.resource_count() <= MOST_RESOURCES);
@@ -53,7 +56,8 @@ fn each_finding<G: Gate + Sync, P: Stop + Sync, O: Observer, R: Threads + Wait +
     requires terms { AreTermsOf task.now.net.now task.now.order.now }
     requires asked { All (IsChangeFor task.now.order.now) changes.now }
     ensures changes { IfOk result (λ findings. map change_of findings.items ≡ changes.now) }
-    ensures right { IfOk result (λ findings. All (IsFinding task.now.net.now task.now.order.now) findings.items) }
+    ensures right { IfOk result (λ findings. All (IsFinding (MayStop task.now.net.now (P.is_quiet crew.now.stop.now) crew.now.turns)
+        task.now.net.now task.now.order.now) findings.items) }
     ensures fault { IfErr result IsFault }
 {
     let mut findings = Vec::new(task.alloc);
@@ -82,11 +86,12 @@ fn finding<G: Gate + Sync, P: Stop + Sync, O: Observer, R: Threads + Wait + Sync
     requires terms { AreTermsOf task.now.net.now task.now.order.now }
     requires change { IsChangeFor task.now.order.now change }
     ensures change { IfOk result (λ finding. finding.change ≡ change) }
-    ensures right { IfOk result (IsFinding task.now.net.now task.now.order.now) }
+    ensures right { IfOk result (IsFinding (MayStop task.now.net.now (P.is_quiet crew.now.stop.now) crew.now.turns)
+        task.now.net.now task.now.order.now) }
     ensures fault { IfErr result IsFault }
 {
     let order = changed(task.alloc, task.order, change)?;
-    let outcome = outcome(rt, task.alloc, task.net, &order, crew);
+    let outcome = outcome_by_crew(rt, task.alloc, task.net, &order, crew);
     // Dropped here once, not at each way out.
     drop(order);
     let outcome = outcome?;
@@ -98,7 +103,7 @@ fn finding<G: Gate + Sync, P: Stop + Sync, O: Observer, R: Threads + Wait + Sync
 /// # Errors
 ///
 /// Memory was refused, or a worker could not be started.
-pub fn outcome<G: Gate + Sync, P: Stop + Sync, O: Observer, R: Threads + Wait + Sync>(
+pub fn outcome_by_crew<G: Gate + Sync, P: Stop + Sync, O: Observer, R: Threads + Wait + Sync>(
     rt: &R,
     alloc: Global,
     net: &Network,
@@ -106,11 +111,12 @@ pub fn outcome<G: Gate + Sync, P: Stop + Sync, O: Observer, R: Threads + Wait + 
     crew: &Crew<'_, G, P, O>,
 ) -> Result<Outcome, PlanStop>
     requires terms { AreTermsOf net.now order.now }
-    ensures outcome { IfOk result (IsOutcome net.now order.now) }
+    ensures outcome { IfOk result (IsOutcome (MayStop net.now (P.is_quiet crew.now.stop.now) crew.now.turns)
+        net.now order.now) }
     ensures fault { IfErr result IsFault }
 {
     let task = Task { alloc, net, order };
-    match planned(rt, &task, crew) {
+    match plan_by_crew(rt, &task, crew) {
         Ok(answer) => outcome_of(&task, answer),
         Err(PlanStop::Stopped { not_before }) => Ok(Outcome::Open {
             least: cost_of(net, order, not_before.as_slice()),
@@ -124,7 +130,8 @@ pub fn outcome<G: Gate + Sync, P: Stop + Sync, O: Observer, R: Threads + Wait + 
 fn outcome_of(task: &Task<'_>, answer: Answer) -> Result<Outcome, PlanStop>
     requires terms { AreTermsOf task.now.net.now task.now.order.now }
     requires answer { IsAnswer task.now.net.now task.now.order.now answer }
-    ensures outcome { IfOk result (IsOutcome task.now.net.now task.now.order.now) }
+    ensures outcome { (quiet : Bool) (turns : ℕ) → IfOk result (IsOutcome (MayStop task.now.net.now quiet turns)
+        task.now.net.now task.now.order.now) }
     ensures fault { IfErr result IsFault }
 {
     match answer {

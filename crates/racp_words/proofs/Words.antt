@@ -65,7 +65,7 @@ by_name command (Show files look) name is asked no_show no_report no_curve no_wh
 by_name command (Report files options) name is asked no_show no_report no_curve no_whatif no_order no_batch no_import no_explain = no_report (sym is ∙ asked.0)
 by_name command (Curve files memory workers is_drawn) name is asked no_show no_report no_curve no_whatif no_order no_batch no_import no_explain = no_curve (sym is ∙ asked.0)
 by_name command (WhatIf files options memory workers) name is asked no_show no_report no_curve no_whatif no_order no_batch no_import no_explain = no_whatif (sym is ∙ asked.0)
-by_name command (Order net terms) name is asked no_show no_report no_curve no_whatif no_order no_batch no_import no_explain = no_order (sym is ∙ asked.0)
+by_name command (Order files terms) name is asked no_show no_report no_curve no_whatif no_order no_batch no_import no_explain = no_order (sym is ∙ asked.0)
 by_name command (Batch table memory) name is asked no_show no_report no_curve no_whatif no_order no_batch no_import no_explain = no_batch (sym is ∙ asked.0)
 by_name command (Import table) name is asked no_show no_report no_curve no_whatif no_order no_batch no_import no_explain = no_import (sym is ∙ asked.0)
 by_name command (Explain format fault) name is asked no_show no_report no_curve no_whatif no_order no_batch no_import no_explain = no_explain (sym is ∙ asked.0)

@@ -8,6 +8,7 @@ use Rattle.racp_show.specs.declared.form.Form.TheVariants.{Text as Blocks, Ascii
 use Rattle.racp_words.specs.Batches.{AreBatchWords}
 use Rattle.racp_words.specs.declared.request.Dates.{Dates}
 use Rattle.racp_words.specs.declared.request.Look.{Look}
+use Rattle.racp_words.specs.declared.request.NamedNet.{NamedNet}
 use Rattle.racp_words.specs.declared.request.TableWords.{TableWords}
 use Rattle.racp_words.specs.declared.request.Terms.{Terms}
 use Rattle.racp_words.specs.declared.request.Tool.{Tool}
@@ -67,16 +68,20 @@ abbrev pub whatif : App
 whatif = answering (with_rule (with_rule whatif_of_workers (number_rule (codes "memory") 1048576))
     (text_rule (codes "time-limit")))
 
--- `order NET [--factor F]`
-abbrev pub order_scaled : App
-order_scaled = with_rule (with_rule (new_app (codes "order")) (file_rule (codes "NET"))) (text_rule (codes "factor"))
+-- `order NET [--names FILE]`
+abbrev pub order_named : App
+order_named = with_rule (with_rule (new_app (codes "order")) (file_rule (codes "NET"))) (text_rule (codes "names"))
 
--- `order NET [--factor F] [--deadline T] --prices N,..`
+-- `order NET [--names FILE] [--factor F]`
+abbrev pub order_scaled : App
+order_scaled = with_rule order_named (text_rule (codes "factor"))
+
+-- `order NET [--names FILE] [--factor F] [--deadline T] --prices N,..`
 abbrev pub order_priced : App
 order_priced = with_rule (with_rule order_scaled (text_rule (codes "deadline")))
     (record (text_rule (codes "prices")) { required = true })
 
--- `order NET [--factor F] [--deadline T] --prices N,.. [--owned N,..] [--ceiling N,..] [--json]
+-- `order NET [--names FILE] [--factor F] [--deadline T] --prices N,.. [--owned N,..] [--ceiling N,..] [--json]
 -- [--explain] [--quiet]`
 abbrev pub order : App
 order = answering (with_rule (with_rule order_priced (text_rule (codes "owned"))) (text_rule (codes "ceiling")))
@@ -132,6 +137,11 @@ pub record IsLook (words : List Row) (look : Look) : Type 0 where
   pub links : look.has_links ≡ is_set (codes "links") words
   pub dates : AreDates words look.dates
 
+-- the words for the files of a network and of names
+pub record IsNamedNet (words : List Row) (files : NamedNet) : Type 0 where
+  pub net : files.net.now ≡ path_at (codes "NET") words
+  pub names : option_map (λ word. word.now) files.names ≡ first_of (codes "names") words
+
 -- the words for the terms of an order
 pub record AreTerms (words : List Row) (terms : Terms) : Type 0 where
   pub factor : option_map (λ word. word.now) terms.factor ≡ first_of (codes "factor") words
@@ -171,8 +181,8 @@ IsToolOf command (WhatIf files options memory crew) =
     (option_map (λ word. word.now) options.names ≡ first_of (codes "names") command.1) ×
     IsNumberOf 1048576 1024 (first_of (codes "memory") command.1) memory.mebibytes ×
     IsCrew command.1 crew
-IsToolOf command (Order net terms) =
-    (command.0 ≡ codes "order") × (net.now ≡ path_at (codes "NET") command.1) × AreTerms command.1 terms
+IsToolOf command (Order files terms) =
+    (command.0 ≡ codes "order") × IsNamedNet command.1 files × AreTerms command.1 terms
 IsToolOf command (Batch table memory) = (command.0 ≡ codes "batch") × AreBatchWords command.1 table ×
     IsNumberOf 1048576 1024 (first_of (codes "memory") command.1) memory.mebibytes
 IsToolOf command (Import table) = (command.0 ≡ codes "import") × AreTableWords command.1 table

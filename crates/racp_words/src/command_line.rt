@@ -14,7 +14,7 @@ use crate::request::{
     OrderFiles, PlanFiles, ProofFiles, ReportWords, Request, Source, Task, Telling, Tool,
     WhatIfWords,
 };
-use crate::tool_words::{look_of, table_of, terms_of};
+use crate::tool_words::{look_of, named_net, table_of, terms_of};
 use clap::{ArgMatches, Error};
 use std::alloc::{AllocError, Global};
 
@@ -172,7 +172,7 @@ fn tool_named<'a>(name: &str, words: &ArgMatches<'a>) -> Option<Tool<'a>>
         let crew = crew_of(words);
         Some(Tool::WhatIf(order_files(words), options, memory_of(words), crew))
     } else if name == "order" {
-        Some(Tool::Order(path_of(words, "NET"), terms_of(words)))
+        Some(Tool::Order(named_net(words), terms_of(words)))
     } else if name == "import" {
         Some(Tool::Import(table_of(words)))
     } else if name == "explain" {

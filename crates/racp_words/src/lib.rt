@@ -21,7 +21,7 @@
 //! racp curve b.sm b3.toml                  Tool, Curve with these paths, 1,024 MiB, one thread, and no picture
 //! racp curve b.sm b3.toml --workers 4      the same, and a CrewOptions of 4 workers
 //! racp whatif a.sm a4.toml p               Tool, WhatIf with these paths, 1,024 MiB, one thread, and no names
-//! racp order a.sm --factor 1.2 --prices 3  Tool, Order with the path a.sm, the factor 1.2 and the prices 3, as words
+//! racp order a.sm --factor 1.2 --prices 3  Tool, Order with the path a.sm, no names, the factor 1.2 and the prices 3, as words
 //! racp batch a.sm b.sm --factors 1.0,1.5   Tool, Batch with the paths a.sm and b.sm, the word 1.0,1.5 and 1,024 MiB
 //! racp import t.csv --out t                Tool, Import with the path t.csv and the word t for the files
 //! racp explain sm 12                       Tool, Explain with the words sm and 12
@@ -71,6 +71,6 @@ mod tools;
 
 pub use command_line::asked;
 pub use request::{
-    BatchWords, CrewOptions, Dates, Look, Memory, OrderFiles, PlanFiles, ProofFiles, ReportWords,
-    Request, Source, TableWords, Task, Telling, Terms, Tool, WhatIfWords,
+    BatchWords, CrewOptions, Dates, Look, Memory, NamedNet, OrderFiles, PlanFiles, ProofFiles,
+    ReportWords, Request, Source, TableWords, Task, Telling, Terms, Tool, WhatIfWords,
 };

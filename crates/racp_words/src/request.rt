@@ -57,8 +57,8 @@ pub enum Tool<'a> {
     /// What becomes of an order if one term is changed, with so much memory for records: by one worker, or by others if an
     /// option is given.
     WhatIf(OrderFiles<'a>, WhatIfWords<'a>, Memory, Option<CrewOptions<'a>>),
-    /// The text of an order for a network with this path.
-    Order(&'a str, Terms<'a>),
+    /// The text of an order for a network.
+    Order(NamedNet<'a>, Terms<'a>),
     /// A table of what networks cost with deadlines, with so much memory for the records of each plan.
     Batch(BatchWords<'a>, Memory),
     /// A network, and perhaps an order, of a table of tasks.
@@ -112,6 +112,15 @@ pub struct Dates<'a> {
     pub start: Option<&'a str>,
     /// How long a time unit is: `day` or `week`; a day if no option says so.
     pub unit: Option<&'a str>,
+}
+
+/// The paths of the files of a network, and of what its jobs and resources are called.
+#[derive(Clone, Copy)]
+pub struct NamedNet<'a> {
+    /// The path of the network.
+    pub net: &'a str,
+    /// The path of the names of jobs and resources, if there is one.
+    pub names: Option<&'a str>,
 }
 
 /// The words for the terms of an order.

@@ -1,4 +1,4 @@
-//! The words of the command that reads a table of tasks.
+//! The words of the command that reads a table of tasks, and those that others have too.
 
 use crate::table::{QUIET, Word};
 
@@ -14,6 +14,20 @@ pub(crate) const UNIT: Word<'static> = Word::Text(
     "unit",
     "UNIT",
     "With --start-date, how long a time unit is: day or week; a day if not said",
+);
+
+/// The option for how many units are owned.
+pub(crate) const OWNED: Word<'static> = Word::Text(
+    "owned",
+    "N,..",
+    "How many units of each resource are owned, and cost nothing: 0,4 or Masons=0,Cranes=4",
+);
+
+/// The option for how many units there may be.
+pub(crate) const CEILING: Word<'static> = Word::Text(
+    "ceiling",
+    "N,..",
+    "How many units of each resource there may be: 5,9 or Masons=5,Cranes=9",
 );
 
 /// The words of `import`.
@@ -43,15 +57,7 @@ pub(crate) const IMPORT: &[Word] = &[
         "The deadline as so many times the critical length, rounded down: 1.2",
     ),
     Word::Text("deadline", "T", "The deadline, 0 to 10,000,000"),
-    Word::Text(
-        "owned",
-        "N,..",
-        "How many units of each resource are owned, and cost nothing: 0,4",
-    ),
-    Word::Text(
-        "ceiling",
-        "N,..",
-        "How many units of each resource there may be: 5,9",
-    ),
+    OWNED,
+    CEILING,
     QUIET,
 ];

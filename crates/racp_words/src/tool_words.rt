@@ -2,11 +2,11 @@
 
 ghost use Rattle.std.specs.Prelude.{◌≤◌, IfSome, codes};
 ghost use Rattle.clap.specs.Words.{first_of, found_of, rows_of};
-ghost use Rattle.racp_words.specs.Tools.{AreTableWords, AreTerms, IsForm, IsLook, IsWidth};
+ghost use Rattle.racp_words.specs.Tools.{AreTableWords, AreTerms, IsForm, IsLook, IsNamedNet, IsWidth};
 
 use crate::most::MOST_WIDTH;
 use crate::options::{dates_of, is_set, number_of, path_of, text_of};
-use crate::request::{Look, TableWords, Terms};
+use crate::request::{Look, NamedNet, TableWords, Terms};
 use clap::ArgMatches;
 use racp_show::Form;
 
@@ -47,6 +47,16 @@ fn form_of(words: &ArgMatches<'_>) -> Form
         Form::Ascii
     } else {
         Form::Text
+    }
+}
+
+/// The files of a network and of names.
+pub(crate) fn named_net<'a>(words: &ArgMatches<'a>) -> NamedNet<'a>
+    ensures { IsNamedNet (rows_of (found_of words.now)) result }
+{
+    NamedNet {
+        net: path_of(words, "NET"),
+        names: text_of(words, "names"),
     }
 }
 

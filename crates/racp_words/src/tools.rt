@@ -5,7 +5,7 @@ use crate::most::{MOST_WIDTH, MOST_WORKERS};
 use crate::table::{
     EXPLAIN, JSON, Line, MEMORY, NET, ORDER, PLAN, PROGRESS, QUIET, TIME_LIMIT, TURNS, Word,
 };
-use crate::table_words::{IMPORT, START_DATE, UNIT};
+use crate::table_words::{CEILING, IMPORT, OWNED, START_DATE, UNIT};
 
 /// How many workers make several plans.
 const CREW: Word = Word::Lettered(
@@ -120,23 +120,20 @@ pub(crate) const TOOLS: &[Line] = &[
         about: "Writes an order for a network: a deadline and prices",
         words: &[
             NET,
+            NAMES,
             Word::Text(
                 "factor",
                 "F",
                 "The deadline as so many times the critical length, rounded down: 1.2",
             ),
             Word::Text("deadline", "T", "The deadline, 0 to 10,000,000"),
-            Word::Needed("prices", "N,..", "What a unit of each resource costs: 3,5"),
-            Word::Text(
-                "owned",
+            Word::Needed(
+                "prices",
                 "N,..",
-                "How many units of each resource are owned, and cost nothing: 0,4",
+                "What a unit of each resource costs: 9,30 or Masons=9,Cranes=30",
             ),
-            Word::Text(
-                "ceiling",
-                "N,..",
-                "How many units of each resource there may be: 5,9",
-            ),
+            OWNED,
+            CEILING,
             JSON,
             EXPLAIN,
             QUIET,

@@ -1,5 +1,5 @@
 -- What a legal log tells: no more pieces than turns were taken, and the desk was halted for a cause that holds.
-use Rattle.std.proofs.Common.{◌≡◌, ℕ, ◌≤◌, Bool, true, false, List, [], ◌∷◌, ◌++◌, length, slice_set, Option, Some, None, sym, subst, arith, length-append}
+use Rattle.std.proofs.Common.{◌≡◌, ℕ, zero, suc, ◌<◌, ◌≤◌, Bool, true, false, List, [], ◌∷◌, ◌++◌, length, slice_set, Option, Some, None, Contains, slice_index_or, sym, subst, arith, length-append}
 use Rattle.std.proofs.lemmas.List.{length-set}
 use Rattle.racp_desk.specs.declared.log.Cause.{Cause}
 use Rattle.racp_desk.specs.declared.log.Cause.TheVariants.{Stop, Turns, Fault}
@@ -52,3 +52,12 @@ within_all turns quiet t (e ∷ es) h legal = within_all turns quiet (after t e)
 
 pub legal_within : (turns : ℕ) (quiet : Bool) (log : List Entry) → IsLegal turns quiet log → IsWithin turns quiet (tally log)
 legal_within turns quiet log legal = within_all turns quiet nothing log (record { few = omega arith; cause = tt }) legal
+
+-- where a legal log has a halt for a stop, the stop is not quiet
+stopped_at : (turns : ℕ) (quiet : Bool) (t : Tally) (es : List Entry) (k : ℕ) → AreLegal turns quiet t es → k < length es → slice_index_or es k (Halted Stop) ≡ Halted Stop → quiet ≡ false
+stopped_at turns quiet t [] k legal less same = absurd (omega (arith, less))
+stopped_at turns quiet t (e ∷ es) zero legal less same = (subst (λ (x : Entry). MayFollow turns quiet t x) same legal.0).1
+stopped_at turns quiet t (e ∷ es) (suc k) legal less same = stopped_at turns quiet (after t e) es k legal.1 (omega (arith, less)) same
+
+pub stopped_unquiet : (turns : ℕ) (quiet : Bool) (log : List Entry) → IsLegal turns quiet log → Contains log (Halted Stop) → quiet ≡ false
+stopped_unquiet turns quiet log legal has = stopped_at turns quiet nothing log has.0 legal has.1 has.2

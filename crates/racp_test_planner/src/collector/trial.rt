@@ -7,9 +7,9 @@ use crate::series::Boxed;
 use racp_candidates::Vectors;
 use racp_core::{Asked, Core, Merged, Outcome, Reply, Verdict};
 use racp_cutset::{Board, Local};
-use racp_model::{Network, OfNetwork, Question};
+use racp_model::{Network, Never, OfNetwork, Question};
 use racp_samples::question;
-use racp_search::{Collector, Finding, Never, Piece, explore};
+use racp_search::{Collector, Finding, Piece, explore};
 use std::alloc::Global;
 
 /// In what a piece that comes in differs from the one that was taken.

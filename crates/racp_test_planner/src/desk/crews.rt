@@ -2,7 +2,7 @@
 
 use crate::desk::runs::{ALL_TURNS, Ended, Numbers, ROWS, run_six};
 use racp_desk::Gate;
-use racp_search::Never;
+use racp_model::Never;
 use std::alloc::Global;
 use std::sync::Wait;
 use std::thread;

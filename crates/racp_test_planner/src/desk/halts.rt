@@ -3,7 +3,7 @@
 use crate::desk::runs::{ALL_TURNS, Ended, Numbers, ROWS, run_six};
 use crate::desk::stops::AtCall;
 use racp_desk::{Cause, Open};
-use racp_search::Never;
+use racp_model::Never;
 use std::alloc::Global;
 use std::sync::Wait;
 use std::thread::Threads;

@@ -6,7 +6,7 @@ ghost use Rattle.racp_candidates.specs.AnySeries.{any_questions};
 ghost use Rattle.racp_desk.specs.Closing.{IsRunClosed};
 
 use crate::desk::stops::AtCall;
-use racp_askers::{Crowd, OfTurns, Unheard};
+use racp_by_questions::{Crowd, OfTurns, Unheard};
 use racp_candidates::AnySeries;
 use racp_cutset::Board;
 use racp_desk::{Closed, DeskFault, Open, RunLimits, run};
@@ -101,6 +101,7 @@ fn tell<N: OfNetwork + Send + Sync, M: OfTurns, R: Threads + Wait + Sync>(
 ) -> bool
     requires named { net.now ≡ N.network }
     requires named_turns { min row.now.turns 1000 ≡ M.turns }
+    requires unquiet { M.quiet ≡ false }
     requires formed { IsFormed net.now question }
 {
     let turns = row.turns.min(1_000);

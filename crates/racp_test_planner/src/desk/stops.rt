@@ -1,6 +1,6 @@
 //! A stop that is asked for at given calls.
 
-use racp_search::Stop;
+use racp_model::Stop;
 use std::sync::atomic::{AtomicU64, Ordering};
 
 /// A stop that is asked for at the call of this number, from 1, and, if it lasts, at each after it.
@@ -15,6 +15,10 @@ impl Stop for AtCall {
     ghost use Rattle.std.specs.Prelude.{false};
 
     ghost QUIET = { false };
+
+    ghost is_quiet = { λ _. false };
+
+    ghost all_quiet = { λ _ quiet. quiet };
 
     const QUIET: bool = false;
 

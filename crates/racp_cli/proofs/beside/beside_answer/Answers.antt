@@ -9,5 +9,5 @@ returns-in_default g c =
     let network = c.args.task.now.net.now in
     let terms = c.args.task.now.order.now in
     IfOk-weaker c.reason_told.result (λ answer. IsTextOfReason network terms answer.0 answer.1.items)
-    (λ answer. IsBesideOwn c.args.crew.now.turns g.P.Stop.QUIET c.args.is_json network terms c.args.names.now answer.0 answer.1.items)
+    (λ answer. IsBesideOwn c.args.crew.now.turns (g.P.Stop.is_quiet c.args.crew.now.stop.now) c.args.is_json network terms c.args.names.now answer.0 answer.1.items)
     (λ answer told. inr (inl told)) (c.reason_told.ensures network c.requires.answer)

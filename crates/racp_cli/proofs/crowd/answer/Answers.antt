@@ -2,7 +2,7 @@ use Rattle.std.proofs.Common.{subst}
 use Rattle.std.specs.Prelude.{Result}
 use Rattle.std.proofs.lemmas.Result.{IfOk-weaker}
 use Rattle.racp_lexfix.specs.Printing.{IsCrowdPrinting, IsCrowdEnd, IsRefusal}
-use Rattle.racp_askers.specs.declared.crowd.Effort.{Effort}
+use Rattle.racp_by_questions.specs.declared.crowd.Effort.{Effort}
 use Rattle.racp_lexfix.specs.declared.printed.Printed.{Printed}
 use Rattle.racp_lexfix.specs.declared.printed.Refusal.{Refusal}
 use Rattle.racp_cli.proofs.Planning.{crowd_refused}

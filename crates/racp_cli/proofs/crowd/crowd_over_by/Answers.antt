@@ -15,7 +15,7 @@ returns-in_err-status-clause-run g c =
     let second : Reader = record { unread = g.O.Read.remaining c.args.order.now; left = g.O.Read.remaining c.read_whole-2.new.reader } in
     let are : AreInputs (first ∷ (second ∷ [])) (net ∷ (order ∷ [])) = (c.in_ok-net.ensures, (c.in_ok-order.ensures, tt)) in
     let turns = c.args.crew.turns in
-    let quiet = g.P.Stop.QUIET in
+    let quiet = g.P.Stop.is_quiet c.args.crew.stop.now in
     let planned : IsCrowdPrinting turns quiet net order c.plan_crowd_by-planned.result = rw (← c.deref.ensures.value, ← c.deref-2.ensures.value) c.plan_crowd_by-planned.ensures in
     let p = err_from_is_err_and c.from_residual-in_err-status.result c.from_residual-in_err-status.ensures.1 in
     rw (p.1, p.2)
@@ -31,7 +31,7 @@ returns-clause-run g c =
     let second : Reader = record { unread = g.O.Read.remaining c.args.order.now; left = g.O.Read.remaining c.read_whole-2.new.reader } in
     let are : AreInputs (first ∷ (second ∷ [])) (net ∷ (order ∷ [])) = (c.in_ok-net.ensures, (c.in_ok-order.ensures, tt)) in
     let turns = c.args.crew.turns in
-    let quiet = g.P.Stop.QUIET in
+    let quiet = g.P.Stop.is_quiet c.args.crew.stop.now in
     let planned : IsCrowdPrinting turns quiet net order c.plan_crowd_by-planned.result = rw (← c.deref.ensures.value, ← c.deref-2.ensures.value) c.plan_crowd_by-planned.ensures in
     run_answered (ToTwo (IsCrowdAnswer turns quiet)) (first ∷ (second ∷ [])) (net ∷ (order ∷ [])) _ _ (Ok c.in_ok-status.status) are
     (answered_as _ (IsCrowdAnswer turns quiet net order) _ _ (Ok c.in_ok-status.status)
@@ -42,6 +42,6 @@ returns-clause-effort g c =
     let net = c.in_ok-net.net.items in
     let order = c.in_ok-order.order.items in
     let turns = c.args.crew.turns in
-    let quiet = g.P.Stop.QUIET in
+    let quiet = g.P.Stop.is_quiet c.args.crew.stop.now in
     let planned : IsCrowdPrinting turns quiet net order c.plan_crowd_by-planned.result = rw (← c.deref.ensures.value, ← c.deref-2.ensures.value) c.plan_crowd_by-planned.ensures in
     c.answer-answer.ensures.effort turns quiet net order c.in_ok-status.ensures.0 c.in_ok-status.status planned c.in_ok-status.ensures.1

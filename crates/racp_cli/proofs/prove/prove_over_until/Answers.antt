@@ -11,6 +11,6 @@ returns g c =
     let first : Reader = record { unread = g.N.Read.remaining c.args.net.now; left = g.N.Read.remaining c.read_whole.new.reader } in
     let second : Reader = record { unread = g.O.Read.remaining c.args.order.now; left = g.O.Read.remaining c.read_whole-2.new.reader } in
     let are : AreInputs (first ∷ (second ∷ [])) (net ∷ (order ∷ [])) = (c.in_ok-net.ensures, (c.in_ok-order.ensures, tt)) in
-    let made : IfOk c.answer_until.result (λ answer. IsProofAnswerUntil g.S.Stop.QUIET net order answer.0 answer.1.items) = rw (← c.deref.ensures.value, ← c.deref-2.ensures.value) c.answer_until.ensures in
-    run_answered (ToTwo (IsProofAnswerUntil g.S.Stop.QUIET)) (first ∷ (second ∷ [])) (net ∷ (order ∷ [])) _ _ c.respond.result are
-    (answered_as _ (IsProofAnswerUntil g.S.Stop.QUIET net order) _ _ c.respond.result (made_right (IsProofAnswerUntil g.S.Stop.QUIET net order) c.answer_until.result made (inr (inr (inr (refl, refl))))) c.respond.ensures)
+    let made : IfOk c.answer_until.result (λ answer. IsProofAnswerUntil (g.S.Stop.is_quiet c.args.stop.now) net order answer.0 answer.1.items) = rw (← c.deref.ensures.value, ← c.deref-2.ensures.value) c.answer_until.ensures in
+    run_answered (ToTwo (IsProofAnswerUntil (g.S.Stop.is_quiet c.args.stop.now))) (first ∷ (second ∷ [])) (net ∷ (order ∷ [])) _ _ c.respond.result are
+    (answered_as _ (IsProofAnswerUntil (g.S.Stop.is_quiet c.args.stop.now) net order) _ _ c.respond.result (made_right (IsProofAnswerUntil (g.S.Stop.is_quiet c.args.stop.now) net order) c.answer_until.result made (inr (inr (inr (refl, refl))))) c.respond.ensures)

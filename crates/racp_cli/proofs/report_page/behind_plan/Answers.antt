@@ -1,5 +1,5 @@
 use Rattle.std.proofs.Common.{◌≡◌, rules}
-use Rattle.racp_changes.specs.Lines.{base_line}
+use Rattle.racp_whatif.specs.Lines.{base_line}
 use Rattle.racp_cli.proofs.Begun.{are_behind}
 use Rattle.racp_cli.proofs.report_page.behind_plan.Goals as goal
 

@@ -20,11 +20,11 @@ returns g c =
     let third : Reader = record { unread = g.P.Read.remaining c.args.plan.now; left = g.P.Read.remaining c.read_whole-3.new.reader } in
     let fourth : Reader = record { unread = g.C.Read.remaining c.args.proof.now; left = g.C.Read.remaining c.read_whole-4.new.reader } in
     let are : AreInputs (first ∷ (second ∷ (third ∷ (fourth ∷ [])))) (net ∷ (order ∷ (plan ∷ (proof ∷ [])))) = (c.in_ok-net.ensures, (c.in_ok-order.ensures, (c.in_ok-plan.ensures, (c.in_ok-proof.ensures, tt)))) in
-    let made : IfOk c.answer.result (λ answer. IsVerifyAnswerUntil g.S.Stop.QUIET net order plan proof answer.0 answer.1.items) =
+    let made : IfOk c.answer.result (λ answer. IsVerifyAnswerUntil (g.S.Stop.is_quiet c.args.stop.now) net order plan proof answer.0 answer.1.items) =
     rw (← c.deref.ensures.value, ← c.deref-2.ensures.value, ← c.deref-3.ensures.value, ← c.deref-4.ensures.value) c.answer.ensures in
-    let memory : IsVerifyAnswerUntil g.S.Stop.QUIET net order plan proof 6 memory_line = inl (record { answer = Err OutOfMemory; right = tt; with_status = refl; with_text = refl }) in
-    run_answered (ToFour (IsVerifyAnswerUntil g.S.Stop.QUIET)) (first ∷ (second ∷ (third ∷ (fourth ∷ [])))) (net ∷ (order ∷ (plan ∷ (proof ∷ [])))) _ _ c.respond.result are
-    (answered_as _ (IsVerifyAnswerUntil g.S.Stop.QUIET net order plan proof) _ _ c.respond.result (made_right (IsVerifyAnswerUntil g.S.Stop.QUIET net order plan proof) c.answer.result made memory) c.respond.ensures)
+    let memory : IsVerifyAnswerUntil (g.S.Stop.is_quiet c.args.stop.now) net order plan proof 6 memory_line = inl (record { answer = Err OutOfMemory; right = tt; with_status = refl; with_text = refl }) in
+    run_answered (ToFour (IsVerifyAnswerUntil (g.S.Stop.is_quiet c.args.stop.now))) (first ∷ (second ∷ (third ∷ (fourth ∷ [])))) (net ∷ (order ∷ (plan ∷ (proof ∷ [])))) _ _ c.respond.result are
+    (answered_as _ (IsVerifyAnswerUntil (g.S.Stop.is_quiet c.args.stop.now) net order plan proof) _ _ c.respond.result (made_right (IsVerifyAnswerUntil (g.S.Stop.is_quiet c.args.stop.now) net order plan proof) c.answer.result made memory) c.respond.ensures)
 
 pub returns-in_err-proof : goal.returns-in_err-proof
 returns-in_err-proof g c =
@@ -38,5 +38,5 @@ returns-in_err-proof g c =
     inr (c.in_ok-net.net.items, c.in_ok-net.ensures, inr (c.in_ok-order.order.items, c.in_ok-order.ensures, inr (c.in_ok-plan.plan.items, c.in_ok-plan.ensures, inl (c.in_err-proof.ensures, tt)))) in
     let keeps : Keeps out out = search rules in
     let is : c.from_residual-in_err-proof.result ≡ Err fault = search rules in
-    subst (λ (r : Result ℕ StreamFault). IsVerifyRunUntil g.S.Stop.QUIET first second third fourth out out r) (sym is)
-    (run_stopped (ToFour (IsVerifyAnswerUntil g.S.Stop.QUIET)) (first ∷ (second ∷ (third ∷ (fourth ∷ [])))) out out fault fourth.unread fourth.left c.in_err-proof.ensures stopped keeps)
+    subst (λ (r : Result ℕ StreamFault). IsVerifyRunUntil (g.S.Stop.is_quiet c.args.stop.now) first second third fourth out out r) (sym is)
+    (run_stopped (ToFour (IsVerifyAnswerUntil (g.S.Stop.is_quiet c.args.stop.now))) (first ∷ (second ∷ (third ∷ (fourth ∷ [])))) out out fault fourth.unread fourth.left c.in_err-proof.ensures stopped keeps)

@@ -1,7 +1,7 @@
 use Rattle.std.proofs.Common.{◌+◌, ◌-◌, Option, sym, subst}
 use Rattle.std.proofs.lemmas.Result.{err_from_is_err_and}
 use Rattle.racp_model.specs.Terms.{Terms, AreTermsOf}
-use Rattle.racp_schedules.specs.Drafts.{AreFitting}
+use Rattle.racp_plan.specs.Fitting.{AreFitting}
 use Rattle.racp_lexfix.specs.Answers.{IsAnswer, IsStoppedAt}
 use Rattle.racp_plan.specs.declared.plan.Plan.{Plan}
 use Rattle.racp_lexfix.specs.Stages.{AreFloorsOfEnough, IsLeastOfEnough}

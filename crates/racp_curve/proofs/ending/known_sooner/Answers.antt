@@ -1,10 +1,10 @@
 use Rattle.std.proofs.Common.{subst}
 use Rattle.racp_model.specs.Terms.{Terms}
 use Rattle.racp_model.specs.Plan.{NoneIsEnough}
-use Rattle.racp_schedules.specs.Drafts.{IsDraft}
-use Rattle.racp_optimum.specs.Optima.{IsFeasible}
-use Rattle.racp_optimum.specs.declared.feasible.Feasible.{Feasible}
-use Rattle.racp_optimum.specs.declared.feasible.Feasible.TheVariants.{Fits, NoneFits}
+use Rattle.racp_drafts.specs.Drafts.{IsDraft}
+use Rattle.racp_by_clauses.specs.Optima.{IsFeasible}
+use Rattle.racp_by_clauses.specs.declared.feasible.Feasible.{Feasible}
+use Rattle.racp_by_clauses.specs.declared.feasible.Feasible.TheVariants.{Fits, NoneFits}
 use Rattle.racp_curve.specs.Curves.{order_by}
 use Rattle.racp_curve.specs.Following.{order_within}
 use Rattle.racp_curve.proofs.Ceilings.{draft_sooner, none_within}

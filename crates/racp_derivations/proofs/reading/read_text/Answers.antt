@@ -1,6 +1,6 @@
 use Rattle.std.proofs.Common.{◌≡◌, ◌∙◌, sym, subst, List}
 use Rattle.std.specs.Prelude.{Option, Some, None, IfOk, MatchBool}
-use Rattle.racp_facts.specs.declared.literal.Literal.{Literal}
+use Rattle.racp_clauses.specs.declared.literal.Literal.{Literal}
 use Rattle.racp_derivations.proofs.Splitting.{head-missing, head-on, head-off}
 use Rattle.racp_derivations.proofs.reading.read_text.Goals as goal
 

@@ -1,4 +1,4 @@
-use Rattle.racp_explain.proofs.Listed.{listed}
+use Rattle.racp_explain.proofs.InTable.{listed}
 use Rattle.racp_explain.proofs.laws.all_are_listed.Goals as goal
 
 pub returns : goal.returns

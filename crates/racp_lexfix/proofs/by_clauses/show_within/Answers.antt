@@ -1,6 +1,6 @@
 use Rattle.std.proofs.Common.{subst}
 use Rattle.racp_model.specs.Plan.{NoneIsEnough}
-use Rattle.racp_optimum.specs.Optima.{IsOptimum}
+use Rattle.racp_by_clauses.specs.Optima.{IsOptimum}
 use Rattle.racp_lexfix.proofs.Staging.{over}
 use Rattle.racp_lexfix.proofs.by_clauses.show_within.Goals as goal
 

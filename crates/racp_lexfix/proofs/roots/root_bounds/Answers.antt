@@ -1,6 +1,6 @@
 use Rattle.std.proofs.Common.{◌∙◌, ℕ, List, sym, subst}
 use Rattle.std.proofs.lemmas.Bool.{false≢true}
-use Rattle.racp_facts.specs.Roots.{AreNeeded}
+use Rattle.racp_clauses.specs.Roots.{AreNeeded}
 use Rattle.racp_lexfix.proofs.Choosing.{enough_bounds}
 use Rattle.racp_lexfix.proofs.FirstFloors.{first_floors, floors_needed}
 use Rattle.racp_lexfix.proofs.roots.root_bounds.Goals as goal

@@ -11,13 +11,13 @@ go_on-halt-requires-clause-state g c =
     started g.N.OfNetwork.network c.args.subject.now.capacities c.args.subject.now.window c.in_ok-window.window c.new-stack.result.frames.items c.whole.ensures.bounds (ap (λ (w : Bounds). w.lower) same) (ap (λ (w : Bounds). w.upper) same) c.new-stack.ensures
 
 pub finish-ended-requires : goal.finish-ended-requires
-finish-ended-requires g c = halt_of g.N.OfNetwork.network c.args.subject.now.capacities c.args.subject.now.window c.args.quantum c.go_on-halt.new.nodes g.S.Stop.QUIET c.go_on-halt.new.self.frames.items c.go_on-halt.result c.go_on-halt.ensures.halt
+finish-ended-requires g c = halt_of g.N.OfNetwork.network c.args.subject.now.capacities c.args.subject.now.window c.args.quantum c.go_on-halt.new.nodes (g.S.Stop.is_quiet c.args.stop.now) c.go_on-halt.new.self.frames.items c.go_on-halt.result c.go_on-halt.ensures.halt
 
 pub returns-clause-end : goal.returns-clause-end
-returns-clause-end g c = finished g.N.OfNetwork.network c.args.subject.now.capacities c.args.subject.now.window c.args.quantum c.go_on-halt.new.nodes g.S.Stop.QUIET c.go_on-halt.new.self.frames.items c.go_on-halt.result c.finish-ended.result c.go_on-halt.ensures.halt c.finish-ended.ensures
+returns-clause-end g c = finished g.N.OfNetwork.network c.args.subject.now.capacities c.args.subject.now.window c.args.quantum c.go_on-halt.new.nodes (g.S.Stop.is_quiet c.args.stop.now) c.go_on-halt.new.self.frames.items c.go_on-halt.result c.finish-ended.result c.go_on-halt.ensures.halt c.finish-ended.ensures
 
 pub returns-clause-quiet : goal.returns-clause-quiet
-returns-clause-quiet g c = finished_quiet g.N.OfNetwork.network c.args.subject.now.capacities c.args.subject.now.window c.args.quantum c.go_on-halt.new.nodes g.S.Stop.QUIET c.go_on-halt.new.self.frames.items c.go_on-halt.result c.finish-ended.result c.go_on-halt.ensures.halt c.finish-ended.ensures
+returns-clause-quiet g c = finished_quiet g.N.OfNetwork.network c.args.subject.now.capacities c.args.subject.now.window c.args.quantum c.go_on-halt.new.nodes (g.S.Stop.is_quiet c.args.stop.now) c.go_on-halt.new.self.frames.items c.go_on-halt.result c.finish-ended.result c.go_on-halt.ensures.halt c.finish-ended.ensures
 
 pub go_on-halt-requires-clause-nodes : goal.go_on-halt-requires-clause-nodes
 go_on-halt-requires-clause-nodes g c = c.requires.nodes

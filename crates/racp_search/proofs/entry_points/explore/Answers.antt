@@ -42,7 +42,7 @@ pub returns-clause-explored : goal.returns-clause-explored
 returns-clause-explored g c = explored g.N.OfNetwork.network c.args.piece c.args.quantum c.search-end.new.nodes c.search-end.ensures.nodes c.search-end.result c.after.result c.if-allows_none.ensures (subst (λ (q : Question). IfOk c.search-end.result (IsEnd g.N.OfNetwork.network q.capacities q.window c.args.quantum c.search-end.new.nodes)) (c.new-subject.ensures ∙ c.question.ensures) c.search-end.ensures.end) c.after.ensures.ok c.after.ensures.err
 
 pub returns-clause-quiet : goal.returns-clause-quiet
-returns-clause-quiet g c = explored_quiet c.args.piece c.search-end.new.nodes g.S.Stop.QUIET c.search-end.result c.after.result c.search-end.ensures.quiet c.after.ensures.ok c.after.ensures.err
+returns-clause-quiet g c = explored_quiet c.args.piece c.search-end.new.nodes (g.S.Stop.is_quiet c.args.stop.now) c.search-end.result c.after.result c.search-end.ensures.quiet c.after.ensures.ok c.after.ensures.err
 
 pub returns-clause-kept : goal.returns-clause-kept
 returns-clause-kept g c = c.search-end.ensures.kept

@@ -1,6 +1,6 @@
 use Rattle.std.proofs.Common.{arith, subst}
 use Rattle.std.specs.Prelude.{Option}
-use Rattle.racp_refutation.specs.declared.step.Step.{Step}
+use Rattle.racp_trees.specs.declared.step.Step.{Step}
 use Rattle.racp_search.specs.Refuting.{IsLineOf}
 use Rattle.racp_search.proofs.Lines.{line-lighter, lines-next, lines-end, next-yes, empty_stack}
 use Rattle.racp_search.proofs.refuting.refute.Goals as goal

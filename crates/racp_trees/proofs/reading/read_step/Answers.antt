@@ -1,4 +1,4 @@
-use Rattle.racp_refutation.specs.declared.step.Step.TheVariants.{L, D, C}
+use Rattle.racp_trees.specs.declared.step.Step.TheVariants.{L, D, C}
 use Rattle.racp_trees.proofs.Spelling.{step_is, no_step}
 use Rattle.racp_trees.proofs.reading.read_step.Goals as goal
 

@@ -1,7 +1,7 @@
 use Rattle.std.proofs.Common.{refl, inr, List, ℕ, subst, sym, Vec, Option}
 use Rattle.std.specs.Global.{Global}
 use Rattle.racp_delay.specs.Alternatives.{Splits}
-use Rattle.racp_refutation.specs.Children.{NoneStays}
+use Rattle.racp_trees.specs.Children.{NoneStays}
 use Rattle.racp_trees.specs.Following.{IsNextBehind}
 use Rattle.racp_trees.specs.Branches.{open_node, HasLower, IsAlternativeAnswer, IsWindowAnswer}
 use Rattle.racp_trees.proofs.Branching.{none_behind_whole}

@@ -4,7 +4,7 @@ use Rattle.racp_model.specs.Window.{Bounds}
 use Rattle.racp_trees.specs.Making.{IsChoice}
 use Rattle.racp_trees.specs.Readers.{IsLineAnswer}
 use Rattle.racp_trees.specs.declared.reader.Reader.{Reader}
-use Rattle.racp_refutation.specs.declared.step.Step.{Step}
+use Rattle.racp_trees.specs.declared.step.Step.{Step}
 use Rattle.racp_trees.proofs.Advancing.{line_ready}
 use Rattle.racp_trees.proofs.Making.{thinned_ready}
 use Rattle.racp_trees.proofs.maker.Maker.make_line.Goals as goal

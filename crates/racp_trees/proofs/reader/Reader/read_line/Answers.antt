@@ -6,8 +6,8 @@ use Rattle.racp_model.specs.Project.{place, IsNumber}
 use Rattle.racp_model.specs.Path.{IsEarly}
 use Rattle.racp_trees.specs.Nodes.{IsCoveredHere}
 use Rattle.racp_trees.specs.Readers.{IsLineAnswer}
-use Rattle.racp_refutation.specs.declared.step.Step.{Step}
-use Rattle.racp_refutation.specs.declared.step.Step.TheVariants.{C}
+use Rattle.racp_trees.specs.declared.step.Step.{Step}
+use Rattle.racp_trees.specs.declared.step.Step.TheVariants.{C}
 use Rattle.racp_trees.proofs.Starting.{early_small}
 use Rattle.racp_trees.proofs.Opening.{late_is}
 use Rattle.racp_trees.proofs.reader.Reader.read_line.Goals as goal

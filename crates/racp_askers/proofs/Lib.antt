@@ -1,4 +1,0 @@
-mod Working
-mod Probing
-mod Asking
-mod Turns

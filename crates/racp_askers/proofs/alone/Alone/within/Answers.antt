@@ -1,5 +1,0 @@
-use Rattle.std.proofs.Common.{rules}
-use Rattle.racp_askers.proofs.alone.Alone.within.Goals as goal
-
-pub returns : goal.returns
-returns g c = search rules

@@ -1,0 +1,4 @@
+mod Fields
+mod Opened
+mod Told
+pub mod Terms

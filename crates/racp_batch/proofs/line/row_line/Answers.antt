@@ -1,0 +1,6 @@
+use Rattle.std.proofs.Common.{◌≡◌, IfOk, List, ℕ, subst}
+use Rattle.csv.specs.Writing.{default_writer, row_text}
+use Rattle.racp_batch.proofs.line.row_line.Goals as goal
+
+pub returns : goal.returns
+returns c = subst (λ (fields : List (List ℕ)). IfOk c.line_of.result (λ text. text.items ≡ row_text default_writer fields)) c.in_ok-fields.ensures c.line_of.ensures

@@ -1,0 +1,182 @@
+//! Rows of the table as comma-separated values.
+
+ghost use Rattle.std.specs.Prelude.{◌≡◌, ◌++◌, ◌∷◌, [], IfOk, OnOk, string_bytes};
+ghost use Rattle.csv.specs.Records.{fields_of};
+ghost use Rattle.csv.specs.Writing.{default_writer, row_text};
+ghost use Rattle.racp_batch.specs.Lines.{fault_of, fields_by, head_line, known, number_fields, row_line, seconds_by, thousandths_zeros, time_text, titles, words_of};
+
+use crate::case::{Case, Input};
+use crate::cells::{Cells, cells_of};
+use crate::row::Row;
+use csv::{StringRecord, WriterBuilder};
+use std::alloc::{AllocError, Global};
+
+/// The first row, with the titles of the columns.
+///
+/// # Errors
+///
+/// Memory was refused.
+pub(crate) fn head_line(alloc: Global) -> Result<Vec<u8>, AllocError>
+    ensures { IfOk result (λ text. text.items ≡ head_line) }
+{
+    let titles = title_record(alloc)?;
+    line_of(alloc, &titles)
+}
+
+/// The row of a case.
+///
+/// # Errors
+///
+/// Memory was refused.
+pub(crate) fn row_line(alloc: Global, case: &Case<'_>, row: &Row) -> Result<Vec<u8>, AllocError>
+    ensures { IfOk result (λ text. text.items ≡ row_line case.now row.now) }
+{
+    let fields = record_of(alloc, case, row)?;
+    line_of(alloc, &fields)
+}
+
+/// The titles of the columns.
+fn title_record(alloc: Global) -> Result<StringRecord, AllocError>
+    ensures { IfOk result (λ fields. fields_of fields ≡ titles) }
+{
+    let mut fields = StringRecord::new(alloc);
+    fields.push_field("file")?;
+    fields.push_field("jobs")?;
+    fields.push_field("resources")?;
+    fields.push_field("factor")?;
+    fields.push_field("deadline")?;
+    fields.push_field("status")?;
+    fields.push_field("cost")?;
+    fields.push_field("bound")?;
+    fields.push_field("best")?;
+    fields.push_field("gap")?;
+    fields.push_field("nodes")?;
+    fields.push_field("conflicts")?;
+    fields.push_field("seconds")?;
+    fields.push_field("fault")?;
+    Ok(fields)
+}
+
+/// The fields of a case's row.
+fn record_of(alloc: Global, case: &Case<'_>, row: &Row) -> Result<StringRecord, AllocError>
+    ensures { IfOk result (λ fields. fields_of fields ≡ fields_by case.now row.now) }
+{
+    let cells = cells_of(row);
+    let mut fields = StringRecord::new(alloc);
+    fields.push_field(case.file.name)?;
+    push_known(alloc, &mut fields, cells.jobs)?;
+    push_known(alloc, &mut fields, cells.resources)?;
+    fields.push_field(case.multiple.word)?;
+    push_known(alloc, &mut fields, cells.deadline)?;
+    fields.push_field(cells.status.word())?;
+    push_numbers(alloc, &mut fields, &cells)?;
+    push_time(alloc, &mut fields, cells.milliseconds)?;
+    fields.push_field(fault_of(&case.file.input, row))?;
+    Ok(fields)
+}
+
+/// Adds the numbers that tell of a plan.
+fn push_numbers(alloc: Global, fields: &mut StringRecord, cells: &Cells) -> Result<(), AllocError>
+    ensures { OnOk result (fields_of fields.new ≡ fields_of fields.old ++ number_fields cells.now) }
+{
+    push_known(alloc, fields, cells.cost)?;
+    push_known(alloc, fields, cells.bound)?;
+    push_known(alloc, fields, cells.best)?;
+    push_known(alloc, fields, cells.gap)?;
+    push_known(alloc, fields, cells.nodes)?;
+    push_known(alloc, fields, cells.conflicts)
+}
+
+/// Adds a number; an empty field if it is not known.
+fn push_known(
+    alloc: Global,
+    fields: &mut StringRecord,
+    number: Option<u128>,
+) -> Result<(), AllocError>
+    ensures { OnOk result (fields_of fields.new ≡ fields_of fields.old ++ known number ∷ []) }
+{
+    match number {
+        Some(number) => {
+            let digits = format!(in alloc; "{number}")?;
+            fields.push_field(digits.as_str())
+        }
+        None => fields.push_field(""),
+    }
+}
+
+/// Adds a time; an empty field if it is not known.
+fn push_time(
+    alloc: Global,
+    fields: &mut StringRecord,
+    milliseconds: Option<u64>,
+) -> Result<(), AllocError>
+    ensures { OnOk result (fields_of fields.new ≡ fields_of fields.old ++ seconds_by milliseconds ∷ []) }
+{
+    match milliseconds {
+        Some(milliseconds) => {
+            let text = time_text(alloc, milliseconds)?;
+            fields.push_field(text.as_str())
+        }
+        None => fields.push_field(""),
+    }
+}
+
+/// A time in seconds, with three digits after the point.
+fn time_text(alloc: Global, milliseconds: u64) -> Result<String, AllocError>
+    ensures { IfOk result (λ text. string_bytes text ≡ time_text milliseconds) }
+{
+    let (seconds, rest) = (milliseconds / 1000, milliseconds % 1000);
+    let zeros = zeros_before(rest);
+    format!(in alloc; "{seconds}.{zeros}{rest}")
+}
+
+/// The zeros before a number that make it three digits long.
+fn zeros_before(thousandths: u64) -> &'static str
+    ensures { result.now ≡ thousandths_zeros thousandths }
+{
+    if thousandths < 10 {
+        "00"
+    } else if thousandths < 100 {
+        "0"
+    } else {
+        ""
+    }
+}
+
+/// What is wrong with a case that is refused; else nothing.
+fn fault_of<'a>(input: &'a Input, row: &Row) -> &'a str
+    ensures { result.now ≡ fault_of input.now row.now }
+{
+    match row {
+        Row::Late { .. } => "the deadline is later than 10,000,000",
+        Row::Refused => words_of(input),
+        Row::Answered(_) => "",
+        Row::Memory => "",
+        Row::NoThread => "",
+    }
+}
+
+/// The words about a file that has no network; else nothing.
+fn words_of(input: &Input) -> &str
+    ensures { result.now ≡ words_of input.now }
+{
+    match input {
+        Input::Fault(words) => words.as_str(),
+        Input::Network(_) => "",
+    }
+}
+
+/// The row of some fields.
+fn line_of(alloc: Global, fields: &StringRecord) -> Result<Vec<u8>, AllocError>
+    ensures { IfOk result (λ row. row.items ≡ row_text default_writer (fields_of fields.now)) }
+{
+    let mut writer = WriterBuilder::new().from_writer(Vec::new(alloc));
+    // A writer over memory fails only if that is refused.
+    if writer.write_byte_record(fields.as_byte_record()).is_err() {
+        return Err(AllocError);
+    }
+    match writer.into_inner() {
+        Ok(text) => Ok(text),
+        Err(_) => Err(AllocError),
+    }
+}

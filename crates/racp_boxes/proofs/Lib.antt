@@ -1,6 +1,0 @@
-pub mod lemmas
-mod Cutting
-mod Learning
-mod Foreseeing
-mod Halves
-mod Cheapest

@@ -1,5 +1,0 @@
-use Rattle.racp_boxes.proofs.Halves.{width}
-use Rattle.racp_boxes.proofs.halving.+search.Given as goal
-
-abbrev pub decreases-search : goal.decreases-search
-decreases-search g l = width l.subject.now.net.now l.span

@@ -1,0 +1,52 @@
+-- What a search for the plan of an order finds, and what it may tell on its way.
+use Rattle.std.specs.Prelude.{◌≡◌, ℕ, ⊤}
+use Rattle.racp_model.specs.Project.{Project}
+use Rattle.racp_model.specs.Terms.{Terms}
+use Rattle.racp_model.specs.Plan.{IsPlan, NoneIsEnough}
+use Rattle.racp_clauses.specs.Solutions.{Problem}
+use Rattle.racp_clauses.specs.Roots.{IsOpen, IsPartOf}
+use Rattle.racp_clauses.specs.Uses.{IsLeastCost}
+use Rattle.racp_drafts.specs.Drafts.{IsDraft}
+use Rattle.racp_drafts.specs.declared.draft.Draft.{Draft}
+use Rattle.racp_by_clauses.specs.declared.optimum.Optimum.{Optimum}
+use Rattle.racp_by_clauses.specs.declared.optimum.Optimum.TheVariants.{Plan, NoneEnough, Open}
+use Rattle.racp_by_clauses.specs.declared.feasible.Feasible.{Feasible}
+use Rattle.racp_by_clauses.specs.declared.feasible.Feasible.TheVariants.{Fits, NoneFits, Unknown}
+use Rattle.racp_by_clauses.specs.declared.task.Task.{Task}
+use Rattle.racp_by_clauses.specs.declared.task.Tasks.{Tasks}
+
+-- the network, the terms and the root bounds of a problem, and these leave nothing out
+pub record IsTaskOf (q : Problem) (task : Task) : Type 0 where
+  pub network : task.net.now ≡ q.network
+  pub terms : task.order.now ≡ q.terms
+  pub root : task.root.now ≡ q.root
+  pub is_open : IsOpen q
+
+-- two problems of one network, with the same prices and owned units
+pub record AreAkin (one other : Problem) : Type 0 where
+  pub network : one.network ≡ other.network
+  pub prices : one.terms.prices ≡ other.terms.prices
+  pub owned : one.terms.owned ≡ other.terms.owned
+
+-- two tasks are of two problems of which one is part of the other
+pub record AreTasksOf (whole part : Problem) (tasks : Tasks) : Type 0 where
+  pub of_whole : IsTaskOf whole tasks.whole
+  pub of_part : IsTaskOf part tasks.part
+  pub is_part : IsPartOf part whole
+
+-- a draft; that no capacities are enough; or neither
+abbrev pub IsFeasible : Project → Terms → Feasible → Type 0
+IsFeasible p terms (Fits draft) = IsDraft p terms draft
+IsFeasible p terms NoneFits = NoneIsEnough p terms
+IsFeasible p terms Unknown = ⊤
+
+-- the plan; that no capacities are enough; or neither, which tells nothing
+abbrev pub IsOptimum : Project → Terms → Optimum → Type 0
+IsOptimum p terms (Plan capacities starts) = IsPlan p terms capacities starts
+IsOptimum p terms NoneEnough = NoneIsEnough p terms
+IsOptimum p terms Open = ⊤
+
+-- a hearer may be told what all capacities that are enough cost at least, and drafts
+pub record MayBeTold (q : Problem) (may_hear_cost : ℕ → Type 0) (may_hear_draft : Draft → Type 0) : Type 0 where
+  pub least : (least : ℕ) → IsLeastCost q least → may_hear_cost least
+  pub drafts : (draft : Draft) → IsDraft q.network q.terms draft → may_hear_draft draft

@@ -1,0 +1,164 @@
+//! Optima of an order and of parts of it.
+
+ghost use Rattle.std.specs.Prelude.{IfOk, IfSome};
+ghost use Rattle.racp_clauses.specs.Roots.{IsPartOf};
+ghost use Rattle.racp_drafts.specs.Drafts.{IsDraft};
+ghost use Rattle.racp_by_clauses.specs.Optima.{AreAkin, AreTasksOf, IsFeasible, IsOptimum, IsTaskOf, MayBeTold};
+
+use crate::descent::Descent;
+use crate::feasible::Feasible;
+use crate::hearer::{Asking, Hearer};
+use crate::limits::Limits;
+use crate::optimum::Optimum;
+use crate::task::{Task, Tasks};
+use racp_clauses::OfProblem;
+use racp_drafts::{Draft, Effort, draft_of};
+use racp_learning::{Derivations, Search};
+use std::alloc::AllocError;
+
+/// Finds optima of the order of the problem that `N` names, and of parts of it: with shorter deadlines, or lower ceilings.
+/// What it has learned of one serves the next.
+#[derive(Drop)]
+pub struct Optimizer<N: OfProblem> {
+    search: Search<N>,
+    limits: Limits,
+}
+
+impl<N: OfProblem> Optimizer<N> {
+    /// An optimizer that has learned nothing. The limits are those of each optimum, but for the bytes, which are for all.
+    ///
+    /// # Errors
+    ///
+    /// Memory was refused.
+    pub fn new(whole: Task<'_>, limits: Limits) -> Result<Self, AllocError>
+        requires { IsTaskOf N.problem whole }
+    {
+        let Task {
+            alloc,
+            net,
+            order,
+            root,
+            ..
+        } = whole;
+        let search = Search::new(alloc, net, order, root, limits.seed, limits.bytes)?;
+        Ok(Optimizer { search, limits })
+    }
+
+    /// An optimizer that keeps what its clauses are derived from, in at most so many bytes, about.
+    pub(crate) fn recording(
+        whole: Task<'_>,
+        limits: Limits,
+        most_bytes: usize,
+    ) -> Result<Self, AllocError>
+        requires { IsTaskOf N.problem whole }
+    {
+        let mut optimizer: Optimizer<N> = Optimizer::new(whole, limits)?;
+        match optimizer.search.record(whole.net, whole.root, most_bytes) {
+            Ok(()) => Ok(optimizer),
+            Err(refused) => {
+                // By a call: else each part is dropped here.
+                drop(optimizer);
+                Err(refused)
+            }
+        }
+    }
+
+    /// What its clauses were derived from, if that was kept.
+    pub(crate) fn into_derivations(self) -> Option<Derivations> {
+        let Optimizer { search, .. } = self;
+        search.into_derivations()
+    }
+
+    /// The optimum of a part of the order, as `optimum_of` finds it; neither is known where the root bounds of the part do
+    /// not lie within those of the whole.
+    ///
+    /// # Errors
+    ///
+    /// Memory was refused.
+    pub fn optimum<P: OfProblem, H: Hearer>(
+        &mut self,
+        whole: Task<'_>,
+        part: Task<'_>,
+        hearer: &H,
+    ) -> Result<Optimum, AllocError>
+        requires whole { IsTaskOf N.problem whole }
+        requires part { IsTaskOf P.problem part }
+        requires akin { AreAkin P.problem N.problem }
+        requires may { MayBeTold P.problem H.may_hear_cost H.may_hear_draft }
+        ensures { IfOk result (IsOptimum P.problem.network P.problem.terms) }
+    {
+        if !part.root.lies_within(whole.root) {
+            return Ok(Optimum::Open);
+        }
+        let draft = first_draft::<P, H>(part, self.limits, hearer)?;
+        self.below::<P, H>(Tasks { whole, part }, draft, hearer)
+    }
+
+    /// The optimum of a part of the order, where a draft may be known.
+    pub(crate) fn below<P: OfProblem, H: Hearer>(
+        &mut self,
+        tasks: Tasks<'_>,
+        draft: Option<Draft>,
+        hearer: &H,
+    ) -> Result<Optimum, AllocError>
+        requires are_of { AreTasksOf N.problem P.problem tasks }
+        requires may { MayBeTold P.problem H.may_hear_cost H.may_hear_draft }
+        requires draft { IfSome draft (IsDraft P.problem.network P.problem.terms) }
+        ensures { IfOk result (IsOptimum P.problem.network P.problem.terms) }
+    {
+        let mut descent: Descent<P> = Descent::new(tasks.part, self.limits.conflicts, draft)?;
+        descent.go_down::<N, H>(&mut self.search, tasks, hearer)?;
+        descent.into_optimum(tasks.part)
+    }
+
+    /// Whether a part of the order has a plan at all: starts that fit, or that no capacities are enough; neither is known
+    /// where the search gave up or was stopped, or the root bounds of the part do not lie within those of the whole. The
+    /// hearer is told lower bounds on the cost, and each draft that is found.
+    ///
+    /// # Errors
+    ///
+    /// Memory was refused.
+    pub fn feasible<P: OfProblem, H: Hearer>(
+        &mut self,
+        whole: Task<'_>,
+        part: Task<'_>,
+        hearer: &H,
+    ) -> Result<Feasible, AllocError>
+        requires whole { IsTaskOf N.problem whole }
+        requires part { IsTaskOf P.problem part }
+        requires akin { AreAkin P.problem N.problem }
+        requires may { MayBeTold P.problem H.may_hear_cost H.may_hear_draft }
+        ensures { IfOk result (IsFeasible P.problem.network P.problem.terms) }
+    {
+        if !part.root.lies_within(whole.root) {
+            return Ok(Feasible::Unknown);
+        }
+        let mut descent: Descent<P> = Descent::new(part, self.limits.conflicts, None)?;
+        descent.find_any::<N, H>(&mut self.search, Tasks { whole, part }, hearer)?;
+        descent.into_feasible(part)
+    }
+}
+
+/// The first draft, of which the hearer is told, after the least cost at the root.
+pub(crate) fn first_draft<P: OfProblem, H: Hearer>(
+    task: Task<'_>,
+    limits: Limits,
+    hearer: &H,
+) -> Result<Option<Draft>, AllocError>
+    requires is_of { IsTaskOf P.problem task }
+    requires may { MayBeTold P.problem H.may_hear_cost H.may_hear_draft }
+    ensures { IfOk result (λ draft. IfSome draft (IsDraft P.problem.network P.problem.terms)) }
+{
+    let cost_place = task.net.job_count() + task.net.resource_count();
+    hearer.hear_cost(task.root.lower_at(cost_place));
+    let effort = Effort {
+        rounds: limits.rounds,
+        seed: limits.seed,
+    };
+    let stop = Asking { hearer };
+    let draft = draft_of(task.alloc, task.net, task.order, task.window, effort, &stop)?;
+    if let Some(draft) = &draft {
+        hearer.hear_draft(draft);
+    }
+    Ok(draft)
+}

@@ -1,0 +1,56 @@
+//! The bounds of questions.
+
+ghost use Rattle.std.specs.Prelude.{◌≡◌, ◌≤◌, IfOk, All, length};
+ghost use Rattle.racp_clauses.specs.Solutions.{most_value};
+
+use racp_clauses::Domain;
+use std::alloc::{AllocError, Global};
+
+/// The root bounds, with each upper bound lowered to the number at its place in a row, if that is less.
+pub(crate) fn bounds_of(
+    alloc: Global,
+    root: &Domain,
+    places: usize,
+    most: &[u64],
+) -> Result<Domain, AllocError>
+    requires lower { length root.now.lower ≡ places }
+    requires upper { length root.now.upper ≡ places }
+    ensures lower { IfOk result (λ bounds. length bounds.lower ≡ places) }
+    ensures upper { IfOk result (λ bounds. length bounds.upper ≡ places) }
+{
+    let lower = lower_row(alloc, root, places)?;
+    let upper = upper_row(alloc, root, places, most)?;
+    Ok(Domain::new(lower, upper))
+}
+
+/// The lower bounds.
+fn lower_row(alloc: Global, root: &Domain, places: usize) -> Result<Vec<u64>, AllocError>
+    requires { length root.now.lower ≡ places }
+    ensures places { IfOk result (λ row. length row.items ≡ places) }
+    ensures small { IfOk result (λ row. All (λ x. x ≤ most_value) row.items) }
+{
+    let mut row = Vec::with_capacity(alloc, places)?;
+    for x in 0..places {
+        row.push(root.lower(x))?;
+    }
+    Ok(row)
+}
+
+/// The upper bounds, each at most the number at its place in a row.
+fn upper_row(
+    alloc: Global,
+    root: &Domain,
+    places: usize,
+    most: &[u64],
+) -> Result<Vec<u64>, AllocError>
+    requires { length root.now.upper ≡ places }
+    ensures places { IfOk result (λ row. length row.items ≡ places) }
+    ensures small { IfOk result (λ row. All (λ x. x ≤ most_value) row.items) }
+{
+    let mut row = Vec::with_capacity(alloc, places)?;
+    for x in 0..places {
+        let least = most.get(x).copied().unwrap_or(u64::MAX);
+        row.push(root.upper(x).min(least))?;
+    }
+    Ok(row)
+}

@@ -1,0 +1,159 @@
+//! One of several searches for one optimum.
+
+ghost use Rattle.racp_by_clauses.specs.Optima.{MayBeTold};
+
+use crate::by_resource::Parts;
+use crate::common::Common;
+use crate::descent::Descent;
+use crate::hearer::Hearer;
+use crate::task::{Task, Tasks};
+use racp_clauses::OfProblem;
+use racp_drafts::Draft;
+use racp_learning::Search;
+use racp_model::Starts;
+use std::alloc::AllocError;
+use std::sync::Wait;
+
+/// Searches tell each other what they have learned once in so many conflicts.
+const SLICE: u64 = 250;
+
+/// The search in this seat, the fourth one, asks for the units of a resource from their least on.
+const RISING: usize = 3;
+
+/// A search among others.
+#[derive(Drop)]
+pub(crate) struct Worker<N: OfProblem> {
+    pub(crate) search: Search<N>,
+    pub(crate) descent: Descent<N>,
+    seat: usize,
+    /// Up to this place it has read what others have shown.
+    read: usize,
+}
+
+impl<N: OfProblem> Worker<N> {
+    /// A search that has learned nothing yet, from a draft on.
+    pub(crate) fn new(
+        common: &Common<'_, N>,
+        seat: usize,
+        draft: Option<Draft>,
+    ) -> Result<Self, AllocError> {
+        let Task {
+            alloc,
+            net,
+            order,
+            root,
+            ..
+        } = common.task;
+        let descent = parted(common, seat, draft)?;
+        let seed = common.limits.seed.wrapping_add(seat as u64);
+        let mut search = Search::new(alloc, net, order, root, seed, common.limits.bytes)?;
+        search.share();
+        Ok(Worker {
+            search,
+            descent,
+            seat,
+            read: 0,
+        })
+    }
+
+    /// What it has found. What it has learned is gone.
+    pub(crate) fn into_descent(self) -> Descent<N> {
+        let Worker {
+            search,
+            descent,
+            ..
+        } = self;
+        drop(search);
+        descent
+    }
+
+    /// Searches, and tells the others and learns from them, until it has finished, or is to stop.
+    pub(crate) fn work<H: Hearer, R: Wait>(
+        &mut self,
+        rt: &R,
+        common: &Common<'_, N>,
+        hearer: &H,
+    ) -> Result<(), AllocError>
+        requires may { MayBeTold N.problem H.may_hear_cost H.may_hear_draft }
+    {
+        let task = common.task;
+        let tasks = Tasks {
+            whole: task,
+            part: task,
+        };
+        let mut left = common.limits.conflicts;
+        for _i in 0..u64::MAX {
+            if left == 0 || hearer.stops() {
+                break;
+            }
+            let lost = self.search.tally().lost;
+            let slice = left.min(SLICE);
+            self.descent.left = slice;
+            self.descent.go_down(&mut self.search, tasks, hearer)?;
+            if self.descent.is_finished(task) {
+                common.finish();
+            }
+            let is_lost = lost.saturating_add(slice) <= self.search.tally().lost;
+            left = if is_lost {
+                0
+            } else {
+                left.saturating_sub(slice)
+            };
+            self.tell(rt, common, hearer)?;
+        }
+        Ok(())
+    }
+
+    /// Tells the others what was learned and found, and learns from them.
+    pub(crate) fn tell<H: Hearer, R: Wait>(
+        &mut self,
+        rt: &R,
+        common: &Common<'_, N>,
+        hearer: &H,
+    ) -> Result<(), AllocError>
+        requires may { MayBeTold N.problem H.may_hear_cost H.may_hear_draft }
+    {
+        common.show(rt, self.seat, &mut self.search);
+        self.read = common.read(self.seat, self.read, &mut self.search)?;
+        match common.better(rt, &self.descent.best)? {
+            Some(draft) => self.take(common, hearer, draft.starts),
+            None => Ok(()),
+        }
+    }
+
+    /// Takes starts that another search has found as the best draft.
+    fn take<H: Hearer>(
+        &mut self,
+        common: &Common<'_, N>,
+        hearer: &H,
+        starts: Starts,
+    ) -> Result<(), AllocError>
+        requires may { MayBeTold N.problem H.may_hear_cost H.may_hear_draft }
+    {
+        let Task {
+            alloc,
+            net,
+            order,
+            ..
+        } = common.task;
+        if let Some(draft) = Draft::of_starts(alloc, net, order, starts)? {
+            hearer.hear_draft(&draft);
+            self.descent.best = Some(draft);
+        }
+        Ok(())
+    }
+}
+
+/// A descent from a draft on, for the search in a seat, whose questions are parted by resources.
+fn parted<N: OfProblem>(
+    common: &Common<'_, N>,
+    seat: usize,
+    draft: Option<Draft>,
+) -> Result<Descent<N>, AllocError> {
+    let Task { alloc, net, .. } = common.task;
+    let mut parts = Parts::new(alloc, seat, net.resource_count())?;
+    parts.rises = seat == RISING;
+    let mut descent = Descent::new(common.task, common.limits.conflicts, draft)?;
+    descent.parts = Some(parts);
+    Ok(descent)
+}

@@ -1,0 +1,4 @@
+pub mod Working
+pub mod Crowds
+pub mod Enough
+pub mod Searched

@@ -1,3 +1,0 @@
-mod Listing
-mod Moving
-mod Fitting

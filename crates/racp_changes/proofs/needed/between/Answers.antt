@@ -1,6 +1,0 @@
-use Rattle.std.proofs.Common.{rules, append_assoc}
-use Rattle.racp_changes.proofs.Listing.{between_pieces}
-use Rattle.racp_changes.proofs.needed.between.Goals as goal
-
-pub returns : goal.returns
-returns c = rw (← (between_pieces c.args.from c.args.until)) (search rules)

@@ -1,4 +1,0 @@
-pub mod Changes
-pub mod Outcomes
-pub mod Lines
-pub mod Values

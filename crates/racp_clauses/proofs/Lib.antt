@@ -1,0 +1,19 @@
+mod Values
+mod Literals
+mod Deriving
+mod Units
+mod Sums
+mod TimeTable
+mod Work
+mod Pairs
+mod Prices
+mod Rooting
+pub mod lemmas
+mod Open
+mod Turns
+mod Lesser
+mod Leading
+mod Leaving
+mod Stepping
+mod Ending
+mod Showing

@@ -1,5 +1,0 @@
-use Rattle.racp_facts.proofs.lemmas.Solutions.{holds-of_fitting}
-use Rattle.racp_facts.proofs.laws.clauses_hold_of_fitting.Goals as goal
-
-pub returns : goal.returns
-returns c = holds-of_fitting

@@ -1,5 +1,0 @@
-use Rattle.racp_facts.proofs.Rooting.{holds-of_parts}
-use Rattle.racp_facts.proofs.laws.clauses_hold_of_parts.Goals as goal
-
-pub returns : goal.returns
-returns c = holds-of_parts

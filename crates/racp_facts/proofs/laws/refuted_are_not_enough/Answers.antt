@@ -1,5 +1,0 @@
-use Rattle.racp_facts.proofs.lemmas.Solutions.{refuted-not_enough}
-use Rattle.racp_facts.proofs.laws.refuted_are_not_enough.Goals as goal
-
-pub returns : goal.returns
-returns c = refuted-not_enough

@@ -1,6 +1,0 @@
-pub mod Solutions
-pub mod Clauses
-pub mod Inferences
-pub mod Rules
-pub mod Roots
-pub mod Uses

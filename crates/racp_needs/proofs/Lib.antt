@@ -1,6 +1,0 @@
-mod Works
-mod Jobs
-mod Overloads
-mod Orders
-mod Found
-mod Refuting

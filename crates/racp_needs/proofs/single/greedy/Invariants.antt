@@ -1,5 +1,0 @@
-use Rattle.racp_needs.specs.Fitting.{RequestsFit}
-use Rattle.racp_needs.proofs.single.greedy.Given as goal
-
-abbrev pub invariant-loop-i : goal.invariant-loop-i
-invariant-loop-i l = RequestsFit l.net l.k l.units l.i

@@ -1,6 +1,0 @@
-use Rattle.std.proofs.Common.{◌*◌, ap}
-use Rattle.racp_needs.proofs.Works.{part-small}
-use Rattle.racp_needs.proofs.work.part_of.Goals as goal
-
-pub returns-clause-small : goal.returns-clause-small
-returns-clause-small c = part-small c.args.net.now c.args.k c.args.i c.time_of.result (c.request.result * c.time_of.result) c.job_count.ensures.sound c.requires.job c.requires.resource c.time_of.ensures.small (ap (λ n. n * c.time_of.result) c.request.ensures)

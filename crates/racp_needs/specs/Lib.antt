@@ -1,4 +1,0 @@
-pub mod Fitting
-pub mod Needs
-pub mod Laws
-pub mod Within

@@ -1,8 +1,0 @@
-//! A law of needs. The function does nothing; its contract is the law.
-
-ghost use Rattle.racp_needs.specs.Laws.{NeedLeavesNone};
-
-/// A need above a ceiling leaves no plan.
-pub fn need_leaves_none()
-    ensures { NeedLeavesNone }
-{}

@@ -1,4 +1,0 @@
-use Rattle.racp_optimum.proofs.descent.Descent.close.Goals as goal
-
-pub hear_cost-requires : goal.hear_cost-requires
-hear_cost-requires g c = c.requires.may.least c.in-Some.least (c.in-Some.ensures.least c.requires.is_of.is_open)

@@ -1,3 +1,0 @@
-pub mod lemmas
-mod Children
-mod Refuting

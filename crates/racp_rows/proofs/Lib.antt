@@ -1,3 +1,0 @@
-mod Fields
-mod Told
-pub mod Terms

@@ -1,4 +1,0 @@
-use Rattle.racp_rows.proofs.running.fn.in_scope.scope+FnOnce.call_once.Goals as goal
-
-pub returns : goal.returns
-returns g c = c.scope.ensures

@@ -1,4 +1,0 @@
-use Rattle.racp_rows.proofs.running.table_of.Goals as goal
-
-pub returns-in-Ok : goal.returns-in-Ok
-returns-in-Ok g c = c.with_rows.ensures _ c.in-Ok.ensures
