@@ -1,0 +1,24 @@
+"""Plans of projects with the cheapest capacities, made and proved by the program `racp`.
+
+A network has jobs and the resources that they need. An order has a deadline and prices. A plan says how many units of each
+resource to have, and when each job starts. Times and durations are whole numbers of time units, days or weeks as you like.
+
+>>> import racp
+>>> bridge = racp.Network(["welder", "crane"])
+>>> bridge.add("piers", 5, needs={"crane": 1})
+>>> bridge.add("deck", 4, after=["piers"], needs={"crane": 1, "welder": 2})
+>>> bridge.add("rails", 3, after=["piers"], needs={"welder": 1})
+>>> plan = racp.plan(bridge, deadline=9, prices={"welder": 5, "crane": 20})
+>>> plan.cost, plan.capacity, plan.starts["rails"]
+(35, {'welder': 3, 'crane': 1}, 5)
+"""
+
+from ._calendar import Calendar
+from ._commands import batch, check, critical, curve, plan, prove, soonest, verify, whatif
+from ._network import Job, Network, Order
+from ._plans import Batch, Change, Changes, Curve, Plan, Step
+from ._program import Fault, Impossible, OutOfMemory, ProgramError, RacpError, Refused, Stopped, Unproved, program
+
+__all__ = ["Batch", "Calendar", "Change", "Changes", "Curve", "Fault", "Impossible", "Job", "Network", "Order", "OutOfMemory",
+           "Plan", "ProgramError", "RacpError", "Refused", "Step", "Stopped", "Unproved", "batch", "check", "critical", "curve",
+           "plan", "program", "prove", "soonest", "verify", "whatif"]

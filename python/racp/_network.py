@@ -1,0 +1,175 @@
+"""Networks: jobs, what they need, and which of them come before others; and orders."""
+
+from __future__ import annotations
+
+import csv
+from collections.abc import Collection, Hashable, Iterable, Mapping, Sequence
+from dataclasses import dataclass, field
+from operator import index
+from pathlib import Path
+from typing import Any, Union
+
+from ._program import ask, options, written
+
+Values = Union[Mapping[Any, int], Sequence[int]]  #: whole numbers under keys, or in the order of the network
+MOST = 10_000_000  #: the greatest time, and the greatest number of units
+
+
+@dataclass(frozen=True)
+class Job:
+    """A job takes `duration` time units, 0 to 10,000. While it runs it needs so many units of each resource that `needs`
+    names, and it starts when the jobs of `after` have ended."""
+
+    duration: int
+    needs: Mapping[Hashable, int] = field(default_factory=dict)
+    after: tuple[Hashable, ...] = ()
+
+
+class Network:
+    """A project: up to 512 jobs and 16 resources, each under a key of your choice, which is a name or anything hashable.
+
+    >>> import racp
+    >>> house = racp.Network(["mason", "crane"])
+    >>> house.add("dig", 4, needs={"crane": 1})
+    >>> house.add("walls", 6, after=["dig"], needs={"mason": 3, "crane": 1})
+    >>> house
+    <Network of 2 jobs and 2 resources>
+    """
+
+    def __init__(self, resources: Iterable[Hashable], jobs: Mapping[Any, Job] | None = None) -> None:
+        self.resources: tuple[Hashable, ...] = tuple(dict.fromkeys(resources))
+        self.jobs: dict[Hashable, Job] = dict(jobs or {})
+
+    def add(self, key: Hashable, duration: int, *, needs: Mapping[Any, int] | None = None, after: Iterable[Hashable] = ()) -> None:
+        """One job more (see `Job`); those of `after` may follow later. Raises ValueError if the key is taken, or the job needs
+        what is no resource. All other rules are the program's, which refuses the network when it is first used."""
+        if key in self.jobs:
+            raise ValueError(f"there is a job {key!r} already")
+        if other := [resource for resource in needs or {} if resource not in self.resources]:
+            raise ValueError(f"job {key!r} needs {other[0]!r}, and there is no such resource")
+        self.jobs[key] = Job(duration, dict(needs or {}), (after,) if isinstance(after, str) else tuple(after))
+
+    @classmethod
+    def from_lists(cls, durations: Sequence[int], needs: Sequence[Sequence[int]], after: Sequence[Iterable[int]]) -> Network:
+        """A network of lists with an element for each job. Jobs and resources have their places in these, from 0, as keys.
+
+        Raises ValueError if the lists are not of the same length.
+
+        >>> import racp
+        >>> racp.Network.from_lists([4, 6], needs=[[0, 1], [3, 1]], after=[[], [0]]).jobs[1]
+        Job(duration=6, needs={0: 3, 1: 1}, after=(0,))
+        """
+        if not len(durations) == len(needs) == len(after):
+            raise ValueError(f"there are {len(durations)} durations, {len(needs)} needs and {len(after)} lists of jobs before")
+        network = cls(range(max(map(len, needs), default=0)))
+        for key, duration in enumerate(durations):
+            network.add(key, duration, needs=dict(enumerate(needs[key])), after=after[key])
+        return network
+
+    @classmethod
+    def from_networkx(cls, graph: Any, *, duration: str = "duration", needs: str = "needs") -> Network:
+        """The nodes of a networkx.DiGraph as jobs, and its edges as the pairs of which one comes before the other. Each node has
+        its duration, and perhaps a mapping from resources to units, under these names. Raises KeyError without a duration."""
+        network = cls(resource for _, node in graph.nodes(data=True) for resource in node.get(needs, {}))
+        for key, node in graph.nodes(data=True):
+            network.add(key, node[duration], needs=node.get(needs), after=graph.predecessors(key))
+        return network
+
+    @classmethod
+    def read(cls, path: str | Path) -> Network:
+        """The network of a file of PSPLIB, .sm. Jobs and resources have their numbers, from 1, as keys.
+
+        Raises `Refused` if the program takes the text for no network, and FileNotFoundError.
+
+        >>> import racp
+        >>> racp.Network.read("examples/a.sm")
+        <Network of 5 jobs and 1 resources>
+        """
+        file = str(Path(path).resolve(strict=True))
+        early = ask({}, "cpm", file, accept="done")
+        table = written({}, "batch", *options(factors=1, price=0, time_limit=1e-9), file)
+        count, length = int(next(csv.DictReader(table.splitlines()))["resources"]), early["critical"]
+        network, plan = cls(range(1, count + 1)), plan_text(length, length, 0, [MOST] * count, early["starts"])
+        texts = {"order": Order(length, [0] * count).text(network), "plan": plan}
+        for job in ask(texts, "show", file, "order", "plan", accept="shown")["jobs"]:
+            needs = {resource: units for resource, units in enumerate(job["requests"], 1) if units}
+            network.add(job["job"], job["duration"], needs=needs, after=job["predecessors"])
+        return network
+
+    def text(self) -> str:
+        """What `racp` reads: the jobs by their numbers, as PSPLIB has them. Raises ValueError if a job is after what is no job."""
+        number = {key: place for place, key in enumerate(self.jobs, 1)}
+        followers: dict[Hashable, list[int]] = {key: [] for key in self.jobs}
+        for key, job in self.jobs.items():
+            for before in dict.fromkeys(job.after):
+                if before not in number:
+                    raise ValueError(f"job {key!r} comes after {before!r}, and there is no such job")
+                followers[before].append(number[key])
+        arcs = [f"{number[key]} 1 {len(jobs)} {' '.join(map(str, jobs))}" for key, jobs in followers.items()]
+        jobs = [f"{number[key]} 1 {job.duration} {' '.join(str(job.needs.get(resource, 0)) for resource in self.resources)}"
+                for key, job in self.jobs.items()]
+        return _lines(f"jobs: {len(jobs)}", f"- renewable: {len(self.resources)}", "PRECEDENCE RELATIONS:", "", *arcs,
+                      "REQUESTS/DURATIONS:", "", *jobs)
+
+    def __repr__(self) -> str:
+        return f"<Network of {len(self.jobs)} jobs and {len(self.resources)} resources>"
+
+
+@dataclass(frozen=True)
+class Order:
+    """What a plan has to keep. Values are mappings from your keys, or lists in the order of the network.
+
+    The project ends by the `deadline`, and a unit of each resource has a price of `prices`. A mapping of the others may leave
+    keys out: units that are `owned` cost nothing (else 0); of a resource there are at most `ceiling` units, owned ones
+    among them (else any number); a job starts at its time of `release` or later (else 0), and ends by its `due` time (else by
+    the deadline). Times and units are whole numbers up to 10,000,000, prices up to 1,000,000.
+
+    >>> import racp
+    >>> pit = racp.Network(["crane"], {"dig": racp.Job(4, {"crane": 2})})
+    >>> print(racp.Order(deadline=9, prices={"crane": 30}, due={"dig": 6}).text(pit), end="")
+    version = 2
+    deadline = 9
+    prices = [30]
+    due = [6]
+    """
+
+    deadline: int
+    prices: Values
+    owned: Values | None = None
+    ceiling: Values | None = None
+    release: Values | None = None
+    due: Values | None = None
+
+    def text(self, network: Network) -> str:
+        """What `racp` reads, in TOML. Raises ValueError for keys that the network has not, and prices left out."""
+        rows = [f"prices = {in_order(network.resources, self.prices, 'prices')}"]
+        for name, default in (("owned", 0), ("ceiling", MOST), ("release", 0), ("due", MOST)):
+            keys = tuple(network.jobs) if name in ("release", "due") else network.resources
+            if (values := getattr(self, name)) is not None:
+                rows.append(f"{name} = {in_order(keys, values, name, default)}")
+        return _lines(*["version = 2"] * (len(rows) > 1), f"deadline = {self.deadline}", *rows)
+
+
+def in_order(keys: Collection[Hashable], values: Values, what: str, default: int | None = None) -> list[int]:
+    """As many values as keys, as a list. What a mapping leaves out is the default. Raises ValueError if there is none, and for
+    other keys or another number of values; TypeError for what is no whole number."""
+    if not isinstance(values, Mapping):
+        if len(values) != len(keys):
+            raise ValueError(f"{what} has {len(values)} values, and not {len(keys)}")
+        return [index(value) for value in values]
+    if other := [key for key in values if key not in keys]:
+        raise ValueError(f"{what} has a value for {other[0]!r}, which the network has not")
+    if default is None and (left := [key for key in keys if key not in values]):
+        raise ValueError(f"{what} has no value for {left[0]!r}")
+    return [index(values.get(key, default or 0)) for key in keys]
+
+
+def plan_text(deadline: int, critical: int, cost: int, capacity: Iterable[int], starts: Iterable[int]) -> str:
+    """The text of a plan, as docs/FORMATS.md says."""
+    units = [f"capacity {resource} {number}" for resource, number in enumerate(capacity, 1)]
+    begun = [f"start {job} {time}" for job, time in enumerate(starts, 1)]
+    return _lines(f"deadline {deadline}", f"critical {critical}", f"cost {cost}", *units, *begun, "end")
+
+
+def _lines(*rows: str) -> str:
+    return "".join(f"{row}\n" for row in rows)

@@ -1,0 +1,231 @@
+"""Plans, curves, and changes of an order."""
+
+from __future__ import annotations
+
+import html
+from collections.abc import Hashable, Iterator, Mapping, Sequence
+from dataclasses import dataclass
+from datetime import date
+from pathlib import Path
+from typing import Any
+
+from ._calendar import Calendar
+from ._network import Network, Order, plan_text
+from ._program import options, written
+
+
+class Table:
+    """Rows below titles. Jupyter shows them, and `to_pandas` makes a frame of them."""
+
+    def table(self) -> list[list[Any]]:
+        """The titles, and then the rows."""
+        raise NotImplementedError
+
+    def to_pandas(self) -> Any:
+        """A pandas.DataFrame with these rows. Raises ModuleNotFoundError without pandas."""
+        import pandas
+
+        titles, *rows = self.table()
+        return pandas.DataFrame(rows, columns=titles)
+
+    def _repr_html_(self) -> str:
+        rows = [[f"<td>{'' if cell is None else html.escape(str(cell))}</td>" for cell in row] for row in self.table()]
+        return f"<table><tr>{'</tr><tr>'.join(map(''.join, rows))}</tr></table>"
+
+
+@dataclass(frozen=True)
+class Plan(Table):
+    """How many units of each resource to have, and when each job starts. Jupyter shows it as a table.
+
+    `capacity` has units, `starts` times, and `slack` by how many time units each job could start later if only what comes
+    after it counted. `usage` has, for each resource, pairs of a time and the units in use from then on. `critical` is the
+    length of the project with enough of everything. No plan of the order costs less than `bound`, and one that is proved to
+    be the cheapest is `optimal`. `work` tells what planning took, such as "seconds".
+    """
+
+    network: Network
+    order: Order
+    critical: int
+    cost: int
+    bound: int
+    optimal: bool
+    capacity: Mapping[Hashable, int]
+    starts: Mapping[Hashable, int]
+    slack: Mapping[Hashable, int]
+    usage: Mapping[Hashable, Sequence[tuple[int, int]]]
+    work: Mapping[str, float]
+
+    @property
+    def gap(self) -> float:
+        """The cost above the bound, as a part of the bound: 0.25 is 25 percent. A bound of 0 counts as 1."""
+        return (self.cost - self.bound) / max(self.bound, 1)
+
+    @property
+    def ends(self) -> dict[Hashable, int]:
+        """Under each job the time at which it is over."""
+        return {key: start + self.network.jobs[key].duration for key, start in self.starts.items()}
+
+    def days(self, calendar: Calendar) -> dict[Hashable, tuple[date, date]]:
+        """The first and the last day of each job, both days on which it runs.
+
+        >>> from datetime import date
+        >>> import racp
+        >>> house = racp.Network.from_lists([4, 6], needs=[[1], [2]], after=[[], [0]])
+        >>> plan = racp.plan(house, deadline=10, prices=[9])
+        >>> plan.days(racp.Calendar(date(2026, 3, 2), free=[5, 6]))[1]
+        (datetime.date(2026, 3, 6), datetime.date(2026, 3, 13))
+        """
+        return dict(zip(self.starts, calendar.days(list(zip(self.starts.values(), self.ends.values())))))
+
+    def texts(self) -> dict[str, str]:
+        """The files net, order and plan, which the commands of `racp` read."""
+        plan = plan_text(self.order.deadline, self.critical, self.cost, self.capacity.values(), self.starts.values())
+        return {"net": self.network.text(), "order": self.order.text(self.network), "plan": plan}
+
+    def report(self, path: str | Path | None = None, *, curve: bool = False, whatif: bool = False,
+               calendar: Calendar | None = None, time_limit: float | None = None) -> str:
+        """A page in HTML to read and to print, which is also written to the path. With `curve` and `whatif` it has what
+        other deadlines and changes of the order cost, each planned within the limit of time, in seconds.
+
+        With a calendar it tells dates. These count all days, and a date is the beginning of its day: so ValueError is raised
+        for a calendar with free days.
+
+        >>> import racp
+        >>> plan = racp.plan(racp.Network(["crane"], {"dig": racp.Job(4, {"crane": 2})}), deadline=9, prices=[30])
+        >>> plan.report(curve=True)[:15]
+        '<!DOCTYPE html>'
+        """
+        if calendar and (calendar.free or calendar.holidays):
+            raise ValueError("the page counts all days: its calendar has no free days and no holidays")
+        names = "".join(" ".join(str(key).split()) + "\n" for key in (*self.network.jobs, *self.network.resources))
+        texts, words = {**self.texts(), "names": names}, options(start_date=calendar and calendar.start)
+        for name, wanted, files in (("curve", curve, ""), ("whatif", whatif, "plan --names names")):
+            if wanted:
+                asked = [name, "net", "order", *files.split(), *options(time_limit=time_limit)]
+                texts[name], words = written(texts, *asked, accept=(0, 4)), [*words, f"--{name}", name]
+        words += options(unit=calendar and calendar.unit, names="names")
+        page = written(texts, "report", "net", "order", "plan", *words)
+        if path is not None:
+            Path(path).write_text(page, encoding="utf-8")
+        return page
+
+    def table(self) -> list[list[Any]]:
+        """A row for each job: its key, start, end and slack, and its units of each resource."""
+        resources, ends = self.network.resources, self.ends
+        rows = [[key, self.starts[key], ends[key], self.slack[key], *(job.needs.get(resource, 0) for resource in resources)]
+                for key, job in self.network.jobs.items()]
+        return [["job", "start", "end", "slack", *resources], *rows]
+
+    def to_pandas(self, calendar: Calendar | None = None) -> Any:
+        """A pandas.DataFrame with these rows under the keys of the jobs; with a calendar it has the first and last day too."""
+        frame = super().to_pandas().set_index("job")
+        if calendar:
+            frame["first day"], frame["last day"] = zip(*self.days(calendar).values())
+        return frame
+
+    def plot(self, calendar: Calendar | None = None) -> Any:
+        """A figure of matplotlib: the jobs over time, those without slack in red, and below them the use of each resource,
+        with its capacity as a line. With a calendar the axis of times has dates. Raises ModuleNotFoundError."""
+        from matplotlib import pyplot
+
+        heights = [0.25 * len(self.starts) + 0.5] + [1.0] * len(self.capacity)
+        figure, (chart, *below) = pyplot.subplots(len(heights), sharex=True, constrained_layout=True,
+                                                  figsize=(9, sum(heights) + 1), gridspec_kw={"height_ratios": heights})
+        lengths = [job.duration for job in self.network.jobs.values()]
+        colours = ["C0" if slack else "C3" for slack in self.slack.values()]
+        chart.barh(range(len(lengths)), lengths, left=[*self.starts.values()], color=colours, tick_label=[*map(str, self.starts)])
+        chart.invert_yaxis()
+        chart.axvline(self.order.deadline, color="black", linewidth=1)
+        chart.set_title(f"cost {self.cost}" if self.optimal else f"cost {self.cost}, at least {self.bound}")
+        for axes, (resource, usage) in zip(below, self.usage.items()):
+            times, units = zip(*usage, (self.order.deadline, 0))
+            axes.fill_between(times, units, step="post", alpha=0.5)
+            axes.axhline(self.capacity[resource], color="black", linestyle="dashed", linewidth=1)
+            axes.set(ylim=(0, None), ylabel=str(resource))
+        below[-1].set_xlabel("time")
+        if calendar:
+            below[-1].xaxis.set_major_formatter(lambda time, _: str(calendar.first_day(round(time))) if time >= 0 else "")
+        return figure
+
+    def __repr__(self) -> str:
+        return f"<Plan with cost {self.cost}{'' if self.optimal else f', at least {self.bound}'}, capacity {dict(self.capacity)}>"
+
+
+@dataclass(frozen=True)
+class Step:
+    """What the cheapest plan costs and has for this deadline, and for all later ones up to the next step."""
+
+    deadline: int
+    cost: int
+    capacity: Mapping[Hashable, int]
+
+
+@dataclass(frozen=True)
+class Curve(Table):
+    """What each deadline costs: `steps` in rising order. If it is not `complete`, the limit of time ended it, and earlier
+    deadlines than that of the first step are not known.
+
+    >>> import racp
+    >>> pit = racp.Network(["digger"], {job: racp.Job(4, {"digger": 1}) for job in ("north", "south")})
+    >>> curve = racp.curve(pit, deadline=9, prices=[30])
+    >>> [(step.deadline, step.cost) for step in curve], curve.at(7).cost, curve.cheapest(each_time_unit=5).deadline
+    ([(4, 60), (8, 30)], 60, 8)
+    """
+
+    steps: tuple[Step, ...]
+    complete: bool
+
+    def __iter__(self) -> Iterator[Step]:
+        return iter(self.steps)
+
+    def at(self, deadline: int) -> Step | None:
+        """What holds for this deadline: a step, or None if no plan for it is known."""
+        return next((step for step in reversed(self.steps) if step.deadline <= deadline), None)
+
+    def cheapest(self, *, each_time_unit: float) -> Step:
+        """The best step, if a project that takes a time unit longer costs so much more. Raises ValueError without steps."""
+        return min(self.steps, key=lambda step: step.cost + each_time_unit * step.deadline)
+
+    def table(self) -> list[list[Any]]:
+        """A row for each step: deadline, cost and units."""
+        resources = [resource for step in self.steps[:1] for resource in step.capacity]
+        return [["deadline", "cost", *resources], *([step.deadline, step.cost, *step.capacity.values()] for step in self.steps)]
+
+
+@dataclass(frozen=True)
+class Change:
+    """An order in which one `term`, "ceiling", "owned" or "deadline", has another `value`. The `outcome` is "plan" with its cost,
+    how much `more` that is, and its units; "impossible", perhaps with the jobs by which more units are `needed`; or "open" if the
+    time was up."""
+
+    term: str
+    resource: Hashable
+    value: int
+    outcome: str
+    cost: int | None
+    more: int | None
+    capacity: Mapping[Hashable, int] | None
+    needed: tuple[Hashable, ...]
+
+    def __str__(self) -> str:
+        words = {"ceiling": f"one fewer of {self.resource}", "owned": f"one more owned of {self.resource}"}
+        return words.get(self.term, f"{self.term} {self.value}")
+
+
+class Changes(Table, tuple[Change, ...]):
+    """What becomes of the order of a plan if one term is changed."""
+
+    def table(self) -> list[list[Any]]:
+        """A row for each change: what it is and what comes of it, its cost, how much more that is, the units, and why not."""
+        resources: list[Hashable] = next((list(change.capacity) for change in self if change.capacity), [])
+        rows = [[str(change), change.outcome, change.cost, change.more, *(change.capacity or dict.fromkeys(resources)).values(),
+                 ", ".join(map(str, change.needed))] for change in self]
+        return [["change", "outcome", "cost", "more", *resources, "needed by"], *rows]
+
+
+class Batch(Table, tuple[Mapping[str, Any], ...]):
+    """A row for each network and factor, with the columns of `racp batch` in docs/FORMATS.md: numbers, texts or None."""
+
+    def table(self) -> list[list[Any]]:
+        """The titles, and the rows."""
+        return [[*row] for row in self[:1]] + [[*row.values()] for row in self]
