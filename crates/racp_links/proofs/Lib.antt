@@ -1,0 +1,9 @@
+pub mod Bottom
+pub mod Counted
+pub mod Gaps
+pub mod Kept
+pub mod LeafLinks
+pub mod Marks
+pub mod Outlines
+pub mod Told
+pub mod ToldOfPhases
