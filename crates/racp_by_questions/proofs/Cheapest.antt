@@ -6,7 +6,7 @@ use Rattle.racp_model.proofs.lemmas.Costs.{cheaper-before}
 use Rattle.racp_candidates.specs.Box.{IsBetween}
 use Rattle.racp_by_questions.specs.Enough.{AreFloorsOf}
 use Rattle.racp_by_questions.specs.Searched.{CostAtLeast, HasAllBelow, IsEnough, IsKnown, IsSearched, IsSpan, IsSubject}
-use Rattle.racp_by_questions.specs.declared.halving.Span.{Span}
+use Rattle.racp_by_questions.specs.declared.span.Span.{Span}
 use Rattle.racp_by_questions.specs.declared.known.Known.{Known}
 use Rattle.racp_by_questions.specs.declared.subject.Subject.{Subject}
 use Rattle.racp_by_questions.proofs.Halves.{AreHalves}

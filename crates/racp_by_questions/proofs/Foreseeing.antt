@@ -5,7 +5,7 @@ use Rattle.racp_model.specs.Project.{Project}
 use Rattle.racp_model.specs.Formed.{AreFormed, IsFormed}
 use Rattle.racp_model.specs.declared.question.Question.{Question}
 use Rattle.racp_by_questions.specs.Searched.{AreSpans, IsSpan}
-use Rattle.racp_by_questions.specs.declared.halving.Span.{Span}
+use Rattle.racp_by_questions.specs.declared.span.Span.{Span}
 use Rattle.racp_by_questions.specs.declared.subject.Subject.{Subject}
 
 module _ (p : Project) (old new : List Question) where

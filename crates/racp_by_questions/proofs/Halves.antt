@@ -11,7 +11,7 @@ use Rattle.racp_model.proofs.lemmas.Sums.{sum_below-lt}
 use Rattle.racp_candidates.specs.Box.{IsBetween}
 use Rattle.racp_by_questions.specs.Enough.{IsAtMost}
 use Rattle.racp_by_questions.specs.Searched.{AreHalved, IsBetterKnown, IsCut, IsCutAnswer, IsKnown, IsLeftOf, IsPart, IsSearched, IsSpan, IsSubject, IsTold, IsWidest, SaysRefuted}
-use Rattle.racp_by_questions.specs.declared.halving.Span.{Span}
+use Rattle.racp_by_questions.specs.declared.span.Span.{Span}
 use Rattle.racp_by_questions.specs.declared.known.Known.{Known}
 use Rattle.racp_by_questions.specs.declared.known.Told.{Told}
 use Rattle.racp_by_questions.specs.declared.known.Told.TheVariants.{Enough, Refuted, Open}

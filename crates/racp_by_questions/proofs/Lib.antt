@@ -8,3 +8,9 @@ mod Learning
 mod Foreseeing
 mod Halves
 mod Cheapest
+mod Choosing
+mod Deciding
+mod Fixing
+mod ByHalves
+mod Staging
+mod Telling

@@ -6,7 +6,7 @@ use Rattle.racp_model.specs.Terms.{Terms, AreTermsOf, cost, IsBefore}
 use Rattle.racp_model.specs.Window.{IsYes, IsNo}
 use Rattle.racp_candidates.specs.Box.{IsBetween}
 use Rattle.racp_by_questions.specs.Enough.{IsAtMost, IsEnoughWithin, IsLeastCost}
-use Rattle.racp_by_questions.specs.declared.halving.Span.{Span}
+use Rattle.racp_by_questions.specs.declared.span.Span.{Span}
 use Rattle.racp_by_questions.specs.declared.known.Known.{Known}
 use Rattle.racp_by_questions.specs.declared.known.Told.{Told}
 use Rattle.racp_by_questions.specs.declared.known.Told.TheVariants.{Enough, Refuted, Open}

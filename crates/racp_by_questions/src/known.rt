@@ -133,7 +133,6 @@ impl Known {
     /// for, and neither is one that the best one is at most.
     pub(crate) fn ask<A: Asker<AnySeries>>(
         &mut self,
-        alloc: Global,
         subject: &Subject,
         units: &Capacities,
         most: Option<u64>,
@@ -167,7 +166,7 @@ impl Known {
                 self.learn(
                     subject.net,
                     subject.order,
-                    peaks(alloc, subject.net, &starts)?,
+                    peaks(subject.alloc, subject.net, &starts)?,
                 );
                 Ok(Told::Enough)
             }

@@ -3,8 +3,8 @@ use Rattle.std.proofs.Common.{ℕ, Bool, List, Option, Some, None, inl, inr, ref
 use Rattle.racp_model.specs.Project.{Project}
 use Rattle.racp_model.specs.Terms.{Terms}
 use Rattle.racp_lexfix.specs.Printing.{IsCrowdStop}
-use Rattle.racp_lexfix.specs.declared.answer.PlanStop.{PlanStop}
-use Rattle.racp_lexfix.specs.declared.answer.PlanStop.TheVariants.{Stopped, Memory, NoThread}
+use Rattle.racp_by_questions.specs.declared.stop.PlanStop.{PlanStop}
+use Rattle.racp_by_questions.specs.declared.stop.PlanStop.TheVariants.{Stopped, Memory, NoThread}
 use Rattle.racp_cli.specs.Responses.{IsStopTold}
 use Rattle.racp_cli.specs.Texts.{memory_line}
 use Rattle.racp_cli.specs.WhatIfAnswers.{IsBesideOwn, IsWhatIfAnswer}

@@ -4,8 +4,8 @@ use Rattle.std.specs.Prelude.{⊤}
 use Rattle.racp_model.specs.Project.{Project}
 use Rattle.racp_model.specs.Terms.{Terms}
 use Rattle.racp_by_questions.specs.Crowds.{MayStop}
-use Rattle.racp_lexfix.specs.declared.answer.PlanStop.{PlanStop}
-use Rattle.racp_lexfix.specs.declared.answer.PlanStop.TheVariants.{Stopped, Memory, NoThread}
+use Rattle.racp_by_questions.specs.declared.stop.PlanStop.{PlanStop}
+use Rattle.racp_by_questions.specs.declared.stop.PlanStop.TheVariants.{Stopped, Memory, NoThread}
 use Rattle.racp_curve.specs.declared.step.Step.{Step}
 use Rattle.racp_curve.specs.Curves.{IsCurveStop}
 use Rattle.racp_cli.specs.CurveAnswers.{IsToldByCrowd}

@@ -6,8 +6,8 @@ use Rattle.racp_sm.specs.Faults.{SmFault}
 use Rattle.racp_prices.specs.Orders.{IsOrderOrMemory}
 use Rattle.racp_prices.specs.declared.fault.OrderFault.{OrderFault}
 use Rattle.racp_lexfix.specs.Printing.{IsRefusal, IsCrowdEnd}
-use Rattle.racp_lexfix.specs.declared.answer.PlanStop.{PlanStop}
-use Rattle.racp_lexfix.specs.declared.answer.PlanStop.TheVariants.{Stopped, Memory, NoThread}
+use Rattle.racp_by_questions.specs.declared.stop.PlanStop.{PlanStop}
+use Rattle.racp_by_questions.specs.declared.stop.PlanStop.TheVariants.{Stopped, Memory, NoThread}
 use Rattle.racp_lexfix.specs.declared.printed.Refusal.{Refusal}
 use Rattle.racp_lexfix.specs.declared.printed.Refusal.TheVariants.{Sm, Order, Stop}
 use Rattle.racp_cli.specs.Texts.{memory_line}

@@ -2,7 +2,7 @@
 use Rattle.std.specs.Prelude.{◌≡◌, ◌≢◌, ◌⊎◌, ℕ, Bool, List, [], ◌∷◌, Option, Some, None, Result, Ok, Err}
 use Rattle.racp_model.specs.Project.{Project}
 use Rattle.racp_model.specs.Terms.{Terms}
-use Rattle.racp_lexfix.specs.Answers.{IsNotAfterEnough, AreAboveFloors}
+use Rattle.racp_by_questions.specs.Stops.{IsNotAfterEnough, AreAboveFloors}
 use Rattle.racp_by_questions.specs.Crowds.{MayStop}
 use Rattle.racp_lexfix.specs.Printing.{AreTextsOf}
 use Rattle.racp_by_questions.specs.declared.crowd.Effort.{Effort}

@@ -9,8 +9,8 @@ use Rattle.racp_prices.specs.declared.fault.OrderFault.{OrderFault}
 use Rattle.racp_prices.specs.declared.fault.OrderFault.TheVariants as order
 use Rattle.racp_plan.specs.TextFaults.{TextFault}
 use Rattle.racp_plan.specs.declared.text_fault.TextFaultKind.TheVariants as plan
-use Rattle.racp_lexfix.specs.declared.answer.PlanStop.{PlanStop}
-use Rattle.racp_lexfix.specs.declared.answer.PlanStop.TheVariants.{Stopped, Memory as MemoryIs, NoThread}
+use Rattle.racp_by_questions.specs.declared.stop.PlanStop.{PlanStop}
+use Rattle.racp_by_questions.specs.declared.stop.PlanStop.TheVariants.{Stopped, Memory as MemoryIs, NoThread}
 use Rattle.racp_lexfix.specs.declared.printed.Refusal.{Refusal}
 use Rattle.racp_lexfix.specs.declared.printed.Refusal.TheVariants.{Sm, Order as OrderIs, Stop}
 use Rattle.racp_curve.specs.declared.step.Step.{Step}

@@ -6,7 +6,7 @@ use Rattle.racp_model.specs.Terms.{Terms}
 use Rattle.racp_plan.specs.declared.plan.Plan.{Plan}
 use Rattle.racp_plan.specs.Plans.{IsPlanOf}
 use Rattle.racp_by_questions.specs.Crowds.{MayStop}
-use Rattle.racp_lexfix.specs.Answers.{IsNotAfterEnough}
+use Rattle.racp_by_questions.specs.Stops.{IsNotAfterEnough}
 use Rattle.racp_check.specs.PlanFaults.{IsChecked}
 use Rattle.racp_show.specs.Called.{are_names_for, names_of}
 use Rattle.racp_whatif.specs.Lines.{findings_text}

@@ -6,8 +6,8 @@ use Rattle.racp_model.specs.Terms.{Terms}
 use Rattle.racp_model.specs.Plan.{IsEnough}
 use Rattle.racp_plan.specs.declared.plan.Plan.{Plan}
 use Rattle.racp_plan.specs.Plans.{IsPlanOf}
-use Rattle.racp_lexfix.specs.Answers.{IsPlanStop}
-use Rattle.racp_lexfix.specs.declared.answer.PlanStop.{PlanStop}
+use Rattle.racp_by_questions.specs.Stops.{IsPlanStop}
+use Rattle.racp_by_questions.specs.declared.stop.PlanStop.{PlanStop}
 use Rattle.racp_curve.specs.declared.step.Step.{Step}
 use Rattle.racp_curve.specs.Curves.{order_by, first_deadline, AreSteps, AreNotAfterEnough, IsCurve, IsCurveStop}
 use Rattle.racp_curve.specs.Following.{step_of, IsPlanOrNone, IsShortest, IsNext, IsBegun, IsFollowed}

@@ -6,7 +6,8 @@ use Rattle.racp_model.specs.Project.{Project, IsSound, duration}
 use Rattle.racp_model.specs.Schedule.{KeepsPrecedence, EndsBy, IsInTime}
 use Rattle.racp_model.specs.Path.{IsChain, span}
 use Rattle.racp_model.specs.Terms.{Terms, release_of, due_of}
-use Rattle.racp_model.specs.Plan.{IsTooLong, IsTooLateAt, NoneIsEnough}
+use Rattle.racp_model.specs.Plan.{IsOverCeilings, IsTooLong, IsTooLateAt, NoneIsEnough}
+use Rattle.racp_model.specs.Window.{Bounds, IsRootWindow}
 use Rattle.racp_model.proofs.lemmas.Arcs.{precedes_in}
 use Rattle.racp_check.specs.Openings.{IsOpening}
 use Rattle.racp_check.specs.declared.opening.Opening.{Opening}
@@ -51,3 +52,7 @@ module _ (p : Project) (terms : Terms) (sound : IsSound p) where
   opening_long opening critical h is =
       let long : IsTooLong p terms critical = subst (λ (o : Opening). IsOpening p terms o) is h in
       none_long critical long
+
+-- in a root window, where none are enough, the ceilings are the reason
+pub over : (p : Project) (terms : Terms) (root : Bounds) → IsRootWindow p (release_of terms) (due_of terms) root → NoneIsEnough p terms → IsOverCeilings p terms
+over p terms root h none = record { in_time = (root.lower, h.early, h.ends); none = none }

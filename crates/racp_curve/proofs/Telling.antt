@@ -7,10 +7,10 @@ use Rattle.racp_model.specs.Project.{Project}
 use Rattle.racp_model.specs.Plan.{NoneIsEnough}
 use Rattle.racp_model.specs.Terms.{Terms}
 use Rattle.racp_model.proofs.lemmas.Relations.{member_first, member_later}
-use Rattle.racp_lexfix.specs.Answers.{IsStoppedAt, IsPlanStop}
+use Rattle.racp_by_questions.specs.Stops.{IsStoppedAt, IsPlanStop}
 use Rattle.racp_by_questions.specs.Crowds.{HaveTaken, MayStop}
-use Rattle.racp_lexfix.specs.declared.answer.PlanStop.{PlanStop}
-use Rattle.racp_lexfix.specs.declared.answer.PlanStop.TheVariants.{Stopped, Memory, NoThread}
+use Rattle.racp_by_questions.specs.declared.stop.PlanStop.{PlanStop}
+use Rattle.racp_by_questions.specs.declared.stop.PlanStop.TheVariants.{Stopped, Memory, NoThread}
 use Rattle.racp_curve.specs.declared.step.Step.{Step}
 use Rattle.racp_curve.specs.Curves.{order_by, ArePlanned, first_deadline, AreSteps, AreNotAfterEnough, IsCurve, IsCurveStop}
 use Rattle.racp_curve.proofs.Deadlines.{enough_later}

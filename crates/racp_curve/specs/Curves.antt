@@ -4,10 +4,11 @@ use Rattle.racp_model.specs.Project.{Project}
 use Rattle.racp_model.specs.Terms.{Terms, cost, IsBefore}
 use Rattle.racp_model.specs.Plan.{IsLeast, IsEnough, NoneIsEnough}
 use Rattle.racp_plan.specs.Fitting.{AreFitting}
-use Rattle.racp_lexfix.specs.Answers.{IsAnswer, IsPlanStop}
+use Rattle.racp_by_questions.specs.Stops.{IsPlanStop}
+use Rattle.racp_lexfix.specs.Answers.{IsAnswer}
 use Rattle.racp_lexfix.specs.Laws.{IsNoPlan}
-use Rattle.racp_lexfix.specs.Stages.{AreFloorsOfEnough, IsLeastOfEnough}
-use Rattle.racp_lexfix.specs.declared.answer.PlanStop.{PlanStop}
+use Rattle.racp_by_questions.specs.Stages.{AreFloorsOfEnough, IsLeastOfEnough}
+use Rattle.racp_by_questions.specs.declared.stop.PlanStop.{PlanStop}
 use Rattle.racp_curve.specs.declared.step.Step.{Step}
 use Rattle.racp_curve.specs.declared.step.CurveAnswer.{CurveAnswer}
 use Rattle.racp_curve.specs.declared.step.CurveAnswer.TheVariants.{Steps, NoPlan}

@@ -9,9 +9,9 @@ ghost use Rattle.racp_by_questions.specs.Crowds.{MayStop};
 ghost use Rattle.racp_curve.specs.Curves.{IsCurveAnswer, IsCurveStop};
 
 use crate::dated::Dated;
-use crate::following::{curve, out_of_memory};
+use crate::following::curve;
 use crate::ground::Ground;
-use crate::step::{CurveAnswer, CurveStop};
+use crate::step::{CurveAnswer, CurveStop, out_of_memory};
 use racp_by_questions::{Crowd, Observer, OfTurns, Pricing};
 use racp_candidates::AnySeries;
 use racp_cutset::MemoryLimit;

@@ -1,7 +1,7 @@
 //! An order with another deadline.
 
 ghost use Rattle.std.specs.Prelude.{◌≡◌, ◌+◌, ◌≤◌, option_map, IfOk, IfErr};
-ghost use Rattle.racp_lexfix.specs.Answers.{IsPlanStop};
+ghost use Rattle.racp_by_questions.specs.Stops.{IsPlanStop};
 ghost use Rattle.racp_curve.specs.Curves.{order_by, AreNotAfterEnough};
 ghost use Rattle.racp_curve.specs.Following.{order_within, plan_in, IsGroundOf, IsPlanOrNone, IsRootOrNone, MayHear};
 
@@ -82,8 +82,8 @@ pub(crate) fn plan_by<N: OfProblem, A: Asker<AnySeries>>(
     ground.at.store(deadline, Ordering::SeqCst);
     let other = with_deadline(ground.alloc, ground.order, deadline)?;
     if let Some(facts) = facts {
-        if let Some(plan) = facts.known_plan(ground, &other, asker)? {
-            return Ok(plan);
+        if let Some(known) = facts.known_answer(ground, &other, asker)? {
+            return Ok(plan_in(known));
         }
     }
     let answer = plan(ground.alloc, ground.net, &other, asker)?;

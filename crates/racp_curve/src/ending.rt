@@ -7,7 +7,7 @@ ghost use Rattle.racp_model.specs.Plan.{IsEnough};
 ghost use Rattle.racp_model.specs.Formed.{HasBounds};
 ghost use Rattle.racp_questions.specs.FirstYes.{IsProbed};
 ghost use Rattle.racp_candidates.specs.Questions.{question_of};
-ghost use Rattle.racp_lexfix.specs.Answers.{IsPlanStop};
+ghost use Rattle.racp_by_questions.specs.Stops.{IsPlanStop};
 ghost use Rattle.racp_curve.specs.Curves.{order_by};
 ghost use Rattle.racp_curve.specs.Following.{IsGroundOf, IsShortest, IsSooner};
 

@@ -2,19 +2,24 @@
 
 ghost use Rattle.std.specs.Prelude.{IfOk, IfSome};
 ghost use Rattle.std.proofs.Props.{props};
-ghost use Rattle.racp_model.specs.Terms.{AreTermsOf};
+ghost use Rattle.racp_model.specs.Path.{IsCriticalLength};
+ghost use Rattle.racp_model.specs.Terms.{AreTermsOf, release_of, due_of};
+ghost use Rattle.racp_model.specs.Window.{IsRootWindow};
+ghost use Rattle.racp_lexfix.specs.Answers.{IsAnswer};
 ghost use Rattle.racp_lexfix.specs.Stages.{MayBeTold};
 ghost use Rattle.racp_by_clauses.specs.Optima.{IsFeasible, IsTaskOf};
-ghost use Rattle.racp_curve.specs.Following.{IsGroundOf, IsPlanOrNone, IsVariantOf};
+ghost use Rattle.racp_curve.specs.Following.{IsGroundOf, IsVariantOf};
 
 use crate::ground::Ground;
-use racp_by_clauses::{Feasible, Hearer, Optimizer, Optimum, Task};
+use racp_by_clauses::{Feasible, Hearer, Optimizer, Task};
 use racp_candidates::AnySeries;
 use racp_check::{Opening, opening_of};
 use racp_clauses::OfProblem;
 use racp_drafts::Draft;
+use racp_found::Found;
 use racp_learning::Tally;
-use racp_lexfix::{Relay, root_bounds};
+use racp_lexfix::{Answer, Relay, root_bounds};
+use racp_model::Window;
 use racp_plan::Plan;
 use racp_prices::{Order, cost_of};
 use racp_questions::Asker;
@@ -58,35 +63,55 @@ impl<'a, A: Asker<AnySeries>> Hearer for Stopping<'a, A> {
 }
 
 impl<'a, N: OfProblem> Facts<'a, N> {
-    /// The plan of a variant of the order, with an earlier deadline; or none if no capacities are enough. `None` where
-    /// neither is known.
-    pub(crate) fn known_plan<A: Asker<AnySeries>>(
+    /// The plan of a variant of the order, with an earlier deadline, or that no capacities are enough. `None` where neither is
+    /// known, and where no starts are in time.
+    pub(crate) fn known_answer<A: Asker<AnySeries>>(
         &mut self,
         ground: &Ground,
         other: &Order,
         asker: &A,
-    ) -> Result<Option<Option<Plan>>, AllocError>
+    ) -> Result<Option<Answer>, AllocError>
         requires of { IsGroundOf N.problem ground.now }
         requires terms { AreTermsOf ground.now.net.now other.now }
         requires variant { IsVariantOf ground.now.order.now other.now }
         requires heard { MayBeTold ground.now.net.now other.now A.may_hear_floors A.may_hear_cost A.may_hear_plan }
-        ensures { IfOk result (λ told. IfSome told (IsPlanOrNone ground.now.net.now other.now)) }
+        ensures { IfOk result (λ told. IfSome told (IsAnswer ground.now.net.now other.now)) }
+    {
+        match opening_of(ground.alloc, ground.net, other)? {
+            Opening::Root { critical, window } => {
+                self.answer_within(ground, other, critical, &window, asker)
+            }
+            _ => Ok(None),
+        }
+    }
+
+    /// The same within the root window, with the critical length.
+    fn answer_within<A: Asker<AnySeries>>(
+        &mut self,
+        ground: &Ground,
+        other: &Order,
+        critical: u64,
+        window: &Window,
+        asker: &A,
+    ) -> Result<Option<Answer>, AllocError>
+        requires of { IsGroundOf N.problem ground.now }
+        requires terms { AreTermsOf ground.now.net.now other.now }
+        requires variant { IsVariantOf ground.now.order.now other.now }
+        requires critical { IsCriticalLength ground.now.net.now (release_of other.now) critical }
+        requires root { IsRootWindow ground.now.net.now (release_of other.now) (due_of other.now) window.now }
+        requires heard { MayBeTold ground.now.net.now other.now A.may_hear_floors A.may_hear_cost A.may_hear_plan }
+        ensures { IfOk result (λ told. IfSome told (IsAnswer ground.now.net.now other.now)) }
     {
         let Ground { alloc, net, .. } = *ground;
-        let (critical, window) = match opening_of(alloc, net, other)? {
-            Opening::Root { critical, window } => (critical, window),
-            Opening::TooLong { critical: _ } => return Ok(None),
-            Opening::TooLate { job: _ } => return Ok(None),
-        };
-        let Some(root) = root_bounds(alloc, net, other, &window)? else {
-            return Ok(Some(None));
+        let Some(root) = root_bounds(alloc, net, other, window)? else {
+            return Ok(Some(Answer::Ceiling));
         };
         asker.hear_floors(&root.floors);
         let part = Task {
             alloc,
             net,
             order: other,
-            window: &window,
+            window,
             root: &root.bounds,
         };
         let relay = Relay { asker };
@@ -94,9 +119,9 @@ impl<'a, N: OfProblem> Facts<'a, N> {
             .optimizer
             .optimum::<Brand, Relay<'_, A>>(self.whole, part, &relay)?
         {
-            Optimum::Plan(capacities, starts) => {
+            Found::Plan(capacities, starts) => {
                 let cost = cost_of(net, other, capacities.as_slice());
-                Ok(Some(Some(Plan {
+                Ok(Some(Answer::Plan(Plan {
                     deadline: other.deadline,
                     critical,
                     cost,
@@ -104,8 +129,8 @@ impl<'a, N: OfProblem> Facts<'a, N> {
                     starts,
                 })))
             }
-            Optimum::NoneEnough => Ok(Some(None)),
-            Optimum::Open => Ok(None),
+            Found::NoneEnough => Ok(Some(Answer::Ceiling)),
+            Found::Open => Ok(None),
         }
     }
 

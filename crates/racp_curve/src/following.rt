@@ -1,33 +1,31 @@
 //! The curve, followed from the order's deadline back.
 
-ghost use Rattle.std.specs.Prelude.{◌≡◌, ◌+◌, ◌≤◌, [], ◌∷◌, OnOk, OnErr, IfOk, IfErr, MatchResult};
+ghost use Rattle.std.specs.Prelude.{◌≡◌, ◌+◌, IfOk, IfErr, MatchResult};
 ghost use Rattle.racp_model.specs.Terms.{AreTermsOf, release_of, due_of};
 ghost use Rattle.racp_model.specs.Window.{IsRootWindow};
 ghost use Rattle.racp_by_clauses.specs.Optima.{IsTaskOf};
 ghost use Rattle.racp_plan.specs.Plans.{IsPlanOf};
-ghost use Rattle.racp_lexfix.specs.Answers.{IsAnswer, IsPlanStop};
+ghost use Rattle.racp_by_questions.specs.Stops.{IsPlanStop};
+ghost use Rattle.racp_lexfix.specs.Answers.{IsAnswer};
 ghost use Rattle.racp_lexfix.specs.Laws.{IsNoPlan};
 ghost use Rattle.racp_lexfix.specs.declared.answer.Answer.TheVariants.{Plan as ThePlan};
-ghost use Rattle.racp_lexfix.specs.declared.answer.PlanStop.TheVariants.{Memory};
-ghost use Rattle.racp_curve.specs.Curves.{AreNotAfterEnough, AreSteps, IsCurve, IsCurveAnswer, IsCurveStop, MayHearCost, MayHearFloors, MayHearPlans};
-ghost use Rattle.racp_curve.specs.Following.{step_of, IsBegun, IsFollowed, IsGroundOf, IsNext, MayHear};
+ghost use Rattle.racp_curve.specs.Curves.{AreNotAfterEnough, IsCurveAnswer, IsCurveStop, MayHearCost, MayHearFloors, MayHearPlans};
+ghost use Rattle.racp_curve.specs.Following.{IsGroundOf, MayHear};
 
-use crate::deadline::plan_by;
-use crate::ending::{end_of, shorten};
 use crate::facts::Facts;
 use crate::ground::Ground;
-use crate::step::{CurveAnswer, CurveStop, Step};
+use crate::step::{CurveAnswer, CurveStop, out_of_memory};
+use crate::stepping::follow;
 use racp_by_clauses::{Optimizer, Task};
-use racp_by_questions::Alone;
 use racp_candidates::AnySeries;
 use racp_check::{Opening, opening_of};
 use racp_clauses::OfProblem;
 use racp_lexfix::{Answer, PlanStop, limits_of, plan, root_bounds};
-use racp_model::{Network, OfNetwork, Window};
+use racp_model::{Network, Window};
 use racp_plan::Plan;
 use racp_prices::Order;
 use racp_questions::Asker;
-use std::alloc::{AllocError, Global};
+use std::alloc::Global;
 use std::marker::Brand;
 use std::sync::atomic::AtomicU32;
 
@@ -196,8 +194,8 @@ fn first_plan<N: OfProblem, A: Asker<AnySeries>>(
         ..
     } = *ground;
     if let Some(facts) = facts {
-        if let Some(Some(plan)) = facts.known_plan(ground, order, asker)? {
-            return Ok(Ok(plan));
+        if let Some(known) = facts.known_answer(ground, order, asker)? {
+            return Ok(plan_or_reason(known));
         }
     }
     let answer = plan(alloc, net, order, asker)?;
@@ -238,166 +236,4 @@ fn curve_from<N: OfProblem, A: Asker<AnySeries>>(
         Ok(()) => Ok(CurveAnswer::Steps(steps)),
         Err(stop) => Err(CurveStop { steps, stop }),
     }
-}
-
-/// Puts all steps of the curve that are still to come before those so far, which the plan's deadline stands just
-/// before.
-fn follow<N: OfProblem, A: Asker<AnySeries>>(
-    ground: &Ground,
-    plan: Plan,
-    steps: &mut Vec<Step>,
-    facts: &mut Option<Facts<'_, N>>,
-    asker: &mut A,
-) -> Result<(), PlanStop>
-    requires named { A.about asker.old ground.now.net.now }
-    requires of { IsGroundOf N.problem ground.now }
-    requires hears { MayHear ground.now.net.now ground.now.order.now A.may_hear_floors A.may_hear_cost A.may_hear_plan }
-    requires next { IsNext ground.now.net.now ground.now.order.now plan steps.old.items }
-    ensures network { A.about asker.new ground.now.net.now }
-    ensures curve { OnOk result (IsCurve ground.now.net.now ground.now.order.now steps.new.items) }
-    ensures stop { IfErr result (IsCurveStop ground.now.net.now ground.now.order.now (A.may_stop asker.new)
-        (A.may_want_thread asker.new) steps.new.items) }
-{
-    let mut plan = plan;
-    'plans: loop {
-        match step_back(ground, plan, steps, facts, asker)? {
-            Some(earlier) => plan = earlier,
-            None => return Ok(()),
-        }
-    }
-}
-
-/// Puts the step of a plan before those so far, and gives the plan for the deadline before it; or none if there is
-/// none, so that the curve is whole.
-fn step_back<N: OfProblem, A: Asker<AnySeries>>(
-    ground: &Ground,
-    plan: Plan,
-    steps: &mut Vec<Step>,
-    facts: &mut Option<Facts<'_, N>>,
-    asker: &mut A,
-) -> Result<Option<Plan>, PlanStop>
-    requires named { A.about asker.old ground.now.net.now }
-    requires of { IsGroundOf N.problem ground.now }
-    requires hears { MayHear ground.now.net.now ground.now.order.now A.may_hear_floors A.may_hear_cost A.may_hear_plan }
-    requires next { IsNext ground.now.net.now ground.now.order.now plan steps.old.items }
-    ensures network { A.about asker.new ground.now.net.now }
-    ensures followed { IfOk result (IsFollowed ground.now.net.now ground.now.order.now plan.deadline steps.new.items) }
-    ensures stop { IfErr result (IsCurveStop ground.now.net.now ground.now.order.now (A.may_stop asker.new)
-        (A.may_want_thread asker.new) steps.new.items) }
-{
-    let begin = put_step(ground, plan, steps, facts, asker)?;
-    match begin.checked_sub(1) {
-        Some(deadline) => plan_by(ground, deadline, facts, asker),
-        None => Ok(None),
-    }
-}
-
-/// Puts the step of a plan before those so far, and tells its first deadline. If the asker gives up, the step begins at
-/// the deadline that it came to.
-fn put_step<N: OfProblem, A: Asker<AnySeries>>(
-    ground: &Ground,
-    plan: Plan,
-    steps: &mut Vec<Step>,
-    facts: &mut Option<Facts<'_, N>>,
-    asker: &mut A,
-) -> Result<u32, PlanStop>
-    requires named { A.about asker.old ground.now.net.now }
-    requires of { IsGroundOf N.problem ground.now }
-    requires next { IsNext ground.now.net.now ground.now.order.now plan steps.old.items }
-    ensures network { A.about asker.new ground.now.net.now }
-    ensures within { IfOk result (λ begin. begin ≤ plan.deadline) }
-    ensures begun { IfOk result (λ begin. IsBegun ground.now.net.now ground.now.order.now begin steps.new.items) }
-    ensures stop { IfErr result (IsCurveStop ground.now.net.now ground.now.order.now (A.may_stop asker.new)
-        (A.may_want_thread asker.new) steps.new.items) }
-{
-    let mut begin = end_of(ground.net, &plan.starts, plan.deadline);
-    match shorten(ground, &plan.capacities, &mut begin, facts, asker) {
-        Ok(()) => {
-            put_first(steps, step_of(plan, begin))?;
-            Ok(begin)
-        }
-        Err(stop) => {
-            put_first(steps, step_of(plan, begin))?;
-            Err(stop)
-        }
-    }
-}
-
-/// The step of a plan from a deadline on.
-fn step_of(plan: Plan, deadline: u32) -> Step
-    ensures { result ≡ step_of plan deadline }
-{
-    Step {
-        deadline,
-        cost: plan.cost,
-        capacities: plan.capacities,
-    }
-}
-
-/// Puts a step before the others. If memory is refused, they stay as they are.
-fn put_first(steps: &mut Vec<Step>, step: Step) -> Result<(), AllocError>
-    ensures put { OnOk result (steps.new.items ≡ step ∷ steps.old.items) }
-    ensures same { OnErr result (steps.new.items ≡ steps.old.items) }
-{
-    steps.insert(0, step)?;
-    Ok(())
-}
-
-/// The curve of an order, made on the calling thread, with records of refuted nodes that take at most about this many
-/// mebibytes, up to 1,048,576.
-///
-/// # Errors
-///
-/// Memory was refused. The steps so far come back.
-pub fn curve_alone(
-    alloc: Global,
-    net: &Network,
-    order: &Order,
-    mebibytes: usize,
-) -> Result<CurveAnswer, CurveStop>
-    requires memory { mebibytes ≤ 1048576 }
-    requires terms { AreTermsOf net.now order.now }
-    ensures curve { IfOk result (IsCurveAnswer net.now order.now) }
-    ensures steps { IfErr result (λ end. AreSteps net.now order.now end.steps.items) }
-    ensures stop { IfErr result (λ end. end.stop ≡ Memory) }
-{
-    let at = AtomicU32::new(order.deadline);
-    let ground = Ground {
-        alloc,
-        net,
-        order,
-        at: &at,
-    };
-    curve_named::<Brand>(&ground, mebibytes)
-}
-
-/// The curve of an order, made on the calling thread, for the network that `N` names.
-fn curve_named<N: OfNetwork>(ground: &Ground, mebibytes: usize) -> Result<CurveAnswer, CurveStop>
-    requires named { ground.now.net.now ≡ N.network }
-    requires memory { mebibytes ≤ 1048576 }
-    ensures curve { IfOk result (IsCurveAnswer ground.now.net.now ground.now.order.now) }
-    ensures steps { IfErr result (λ end. AreSteps ground.now.net.now ground.now.order.now end.steps.items) }
-    ensures stop { IfErr result (λ end. end.stop ≡ Memory) }
-{
-    let mut alone: Alone<N> = match Alone::within(ground.alloc, ground.net, mebibytes) {
-        Ok(alone) => alone,
-        Err(_) => return Err(out_of_memory(ground.alloc)),
-    };
-    curve(
-        ground.alloc,
-        ground.net,
-        ground.order,
-        ground.at,
-        &mut alone,
-    )
-}
-
-/// That memory was refused before there were steps.
-pub(crate) fn out_of_memory(alloc: Global) -> CurveStop
-    ensures steps { result.steps.items ≡ [] }
-    ensures stop { result.stop ≡ Memory }
-{
-    let steps = Vec::new(alloc);
-    let stop = PlanStop::Memory;
-    CurveStop { steps, stop }
 }

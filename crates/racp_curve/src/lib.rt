@@ -47,6 +47,7 @@
 //! proved: that memory is not refused without need, and how long it takes.
 #![tactic(auto)]
 
+mod alone;
 mod crowd;
 mod dated;
 mod deadline;
@@ -57,8 +58,10 @@ mod ground;
 pub mod laws;
 mod lines;
 mod step;
+mod stepping;
 
+pub use alone::curve_alone;
 pub use crowd::curve_crowd;
-pub use following::{curve, curve_alone};
+pub use following::curve;
 pub use lines::{curve_text, step_lines};
 pub use step::{CurveAnswer, CurveStop, Step};

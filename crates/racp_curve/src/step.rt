@@ -1,7 +1,11 @@
 //! The steps of a curve, and what making a curve answers.
 
+ghost use Rattle.std.specs.Prelude.{◌≡◌, []};
+ghost use Rattle.racp_by_questions.specs.declared.stop.PlanStop.TheVariants.{Memory};
+
 use racp_lexfix::{Answer, PlanStop};
 use racp_model::Capacities;
+use std::alloc::Global;
 
 /// A step of a curve: from its deadline up to that of the next step, the plan has these capacities.
 #[derive(Drop)]
@@ -31,4 +35,14 @@ pub struct CurveStop {
     /// Why no more are known. If the search was stopped, no capacities that are enough for a deadline before the first
     /// step stand before those that it tells.
     pub stop: PlanStop,
+}
+
+/// That memory was refused before there were steps.
+pub(crate) fn out_of_memory(alloc: Global) -> CurveStop
+    ensures steps { result.steps.items ≡ [] }
+    ensures stop { result.stop ≡ Memory }
+{
+    let steps = Vec::new(alloc);
+    let stop = PlanStop::Memory;
+    CurveStop { steps, stop }
 }

@@ -3,12 +3,13 @@ use Rattle.std.proofs.Common.{◌≡◌, ℕ, Bool, true, false, List, refl, inl
 use Rattle.racp_model.specs.Project.{Project}
 use Rattle.racp_model.specs.Terms.{Terms}
 use Rattle.racp_plan.specs.declared.plan.Plan.{Plan}
-use Rattle.racp_lexfix.specs.Answers.{IsAnswer, IsPlanStop}
+use Rattle.racp_by_questions.specs.Stops.{IsPlanStop}
+use Rattle.racp_lexfix.specs.Answers.{IsAnswer}
 use Rattle.racp_lexfix.specs.Proving.{IsAnswerProvedUntil, IsProofOf, IsProofPrinted, IsProving, IsProvingUntil, MayEndPlanning}
 use Rattle.racp_lexfix.specs.Texts.{answer_text, answer_status}
 use Rattle.racp_lexfix.specs.declared.answer.Answer.{Answer}
-use Rattle.racp_lexfix.specs.declared.answer.PlanStop.{PlanStop}
-use Rattle.racp_lexfix.specs.declared.answer.PlanStop.TheVariants.{Stopped, Memory, NoThread}
+use Rattle.racp_by_questions.specs.declared.stop.PlanStop.{PlanStop}
+use Rattle.racp_by_questions.specs.declared.stop.PlanStop.TheVariants.{Stopped, Memory, NoThread}
 use Rattle.racp_lexfix.specs.declared.printed.Refusal.{Refusal}
 use Rattle.racp_lexfix.specs.declared.printed.Printed.{Printed}
 use Rattle.racp_lexfix.specs.declared.answer.Answer.TheVariants.{Plan as ThePlan, Impossible, Due, Ceiling}

@@ -1,16 +1,9 @@
 mod TextLines
 mod Certified
-mod Choosing
-mod Fixing
-mod Staging
-mod Passing
-mod Halving
 mod OneAnswer
-mod Deciding
 mod Existing
 mod ByLength
 mod SomeAnswer
-mod Telling
 mod Turns
 mod FirstFloors
 mod Shown

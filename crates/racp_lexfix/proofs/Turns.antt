@@ -3,11 +3,11 @@ use Rattle.std.proofs.Common.{◌≡◌, ◌⊎◌, inl, inr, ℕ, ◌+◌, Bool
 use Rattle.std.specs.Prelude.{⊤}
 use Rattle.racp_model.specs.Project.{Project}
 use Rattle.racp_model.specs.Terms.{Terms}
-use Rattle.racp_lexfix.specs.Answers.{IsPlanStop, IsStoppedAt}
+use Rattle.racp_by_questions.specs.Stops.{IsPlanStop, IsStoppedAt}
 use Rattle.racp_by_questions.specs.Crowds.{HaveTaken, MayStop}
 use Rattle.racp_lexfix.specs.Printing.{IsCrowdStop}
-use Rattle.racp_lexfix.specs.declared.answer.PlanStop.{PlanStop}
-use Rattle.racp_lexfix.specs.declared.answer.PlanStop.TheVariants.{Stopped, Memory, NoThread}
+use Rattle.racp_by_questions.specs.declared.stop.PlanStop.{PlanStop}
+use Rattle.racp_by_questions.specs.declared.stop.PlanStop.TheVariants.{Stopped, Memory, NoThread}
 
 -- where no turn is left all were taken
 pub may_stop : (p : Project) (quiet : Bool) (left pieces turns : ℕ) → HaveTaken p quiet pieces → left + pieces ≡ turns → (left ≡ 0) ⊎ (quiet ≡ false) → MayStop p quiet turns

@@ -3,7 +3,5 @@ pub mod Texts
 pub mod Printing
 pub mod Proving
 pub mod Showing
-pub mod Fixing
 pub mod Stages
-pub mod Boxed
 pub mod Laws

@@ -4,12 +4,13 @@ use Rattle.racp_model.specs.Project.{Project}
 use Rattle.racp_model.specs.Terms.{Terms}
 use Rattle.racp_sm.specs.Reading.{IsReading, IsReadingOrMemory}
 use Rattle.racp_prices.specs.Orders.{IsOrder, IsOrderOrMemory}
-use Rattle.racp_lexfix.specs.Answers.{IsAnswer, IsNotAfterEnough, AreAboveFloors}
+use Rattle.racp_by_questions.specs.Stops.{IsNotAfterEnough, AreAboveFloors}
+use Rattle.racp_lexfix.specs.Answers.{IsAnswer}
 use Rattle.racp_by_questions.specs.Crowds.{MayStop}
 use Rattle.racp_lexfix.specs.Texts.{answer_text, answer_status}
 use Rattle.racp_lexfix.specs.declared.answer.Answer.{Answer}
-use Rattle.racp_lexfix.specs.declared.answer.PlanStop.{PlanStop}
-use Rattle.racp_lexfix.specs.declared.answer.PlanStop.TheVariants.{Stopped, Memory, NoThread}
+use Rattle.racp_by_questions.specs.declared.stop.PlanStop.{PlanStop}
+use Rattle.racp_by_questions.specs.declared.stop.PlanStop.TheVariants.{Stopped, Memory, NoThread}
 use Rattle.racp_by_questions.specs.declared.crowd.Effort.{Effort}
 use Rattle.racp_lexfix.specs.declared.printed.Printed.{Printed}
 use Rattle.racp_lexfix.specs.declared.printed.Refusal.{Refusal}

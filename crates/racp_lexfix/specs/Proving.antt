@@ -9,8 +9,8 @@ use Rattle.racp_lexfix.specs.Printing.{AreTextsOf, IsRefusal}
 use Rattle.racp_lexfix.specs.Texts.{answer_text, answer_status}
 use Rattle.racp_lexfix.specs.declared.answer.Answer.{Answer}
 use Rattle.racp_lexfix.specs.declared.answer.Answer.TheVariants.{Plan as ThePlan, Impossible, Due, Ceiling}
-use Rattle.racp_lexfix.specs.declared.answer.PlanStop.{PlanStop}
-use Rattle.racp_lexfix.specs.declared.answer.PlanStop.TheVariants.{Stopped, Memory, NoThread}
+use Rattle.racp_by_questions.specs.declared.stop.PlanStop.{PlanStop}
+use Rattle.racp_by_questions.specs.declared.stop.PlanStop.TheVariants.{Stopped, Memory, NoThread}
 use Rattle.racp_lexfix.specs.declared.printed.Printed.{Printed}
 use Rattle.racp_lexfix.specs.declared.printed.Refusal.{Refusal}
 

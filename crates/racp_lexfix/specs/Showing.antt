@@ -9,7 +9,7 @@ use Rattle.racp_lexfix.specs.Proving.{unproved_line}
 use Rattle.racp_lexfix.specs.Texts.{answer_text, answer_status}
 use Rattle.racp_lexfix.specs.declared.answer.Answer.{Answer}
 use Rattle.racp_lexfix.specs.declared.answer.Answer.TheVariants.{Plan as ThePlan, Impossible, Due, Ceiling}
-use Rattle.racp_lexfix.specs.declared.answer.PlanStop.TheVariants.{Memory}
+use Rattle.racp_by_questions.specs.declared.stop.PlanStop.TheVariants.{Memory}
 use Rattle.racp_lexfix.specs.declared.printed.Printed.{Printed}
 use Rattle.racp_lexfix.specs.declared.printed.Refusal.{Refusal}
 

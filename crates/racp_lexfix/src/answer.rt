@@ -1,13 +1,15 @@
-//! What planning answers, and why a plan is not known.
+//! What planning answers.
 
-ghost use Rattle.std.specs.Prelude.{◌≡◌};
-ghost use Rattle.racp_lexfix.specs.Stages.{given_up, stopped_at};
+ghost use Rattle.racp_model.specs.Path.{IsCriticalLength};
+ghost use Rattle.racp_model.specs.Plan.{IsPlan};
+ghost use Rattle.racp_model.specs.Terms.{AreTermsOf, release_of};
+ghost use Rattle.racp_lexfix.specs.Answers.{IsAnswer};
+ghost use Rattle.racp_lexfix.specs.declared.answer.Answer.TheVariants.{Plan as ThePlan};
 
-use racp_model::Capacities;
+use crate::planning::Task;
+use racp_model::{Capacities, Starts};
 use racp_plan::Plan;
-use racp_questions::AskStop;
-use std::alloc::AllocError;
-use thiserror::Error;
+use racp_prices::cost_of;
 
 /// The plan of an order, or why there is none: the first of the reasons that holds, in this order.
 #[derive(Drop)]
@@ -29,59 +31,20 @@ pub enum Answer {
     Ceiling,
 }
 
-/// Why a plan is not known.
-#[derive(Debug, Drop, Error)]
-pub enum PlanStop {
-    /// The search was stopped. No capacities that are enough stand before these: the floors so far, those that the
-    /// asker reached, or the plan's own.
-    #[error("the search was stopped")]
-    Stopped {
-        /// How many units there are of each resource, by place from 0.
-        not_before: Capacities,
-    },
-    /// Memory was refused.
-    #[error("out of memory")]
-    Memory,
-    /// No thread could be started.
-    #[error("no thread could be started")]
-    NoThread,
-}
-
-impl From<AllocError> for PlanStop {
-    ghost use Rattle.std.specs.Prelude.{◌≡◌};
-    ghost use Rattle.racp_lexfix.specs.declared.answer.PlanStop.TheVariants.{Memory};
-
-    ghost from_gives = { λ _ stop. stop ≡ Memory };
-
-    fn from(_error: AllocError) -> PlanStop {
-        PlanStop::Memory
-    }
-}
-
-impl PlanStop {
-    /// Why planning ends where an asker gives up, with capacities before which none are enough.
-    pub fn given_up(stop: AskStop, not_before: Capacities) -> Self
-        ensures { result ≡ given_up stop not_before }
-    {
-        match stop {
-            AskStop::Stopped { .. } => PlanStop::Stopped { not_before },
-            AskStop::Memory => PlanStop::Memory,
-            AskStop::NoThread => PlanStop::NoThread,
-        }
-    }
-
-    /// Why planning ends where an asker gives up, with the capacities that it reached where there are such, and else with
-    /// these floors.
-    pub(crate) fn stopped_at(stop: AskStop, floors: Capacities) -> Self
-        ensures { result ≡ stopped_at stop floors }
-    {
-        match stop {
-            AskStop::Stopped {
-                reached: Some(not_before),
-            } => PlanStop::Stopped { not_before },
-            AskStop::Stopped { reached: None } => PlanStop::Stopped { not_before: floors },
-            AskStop::Memory => PlanStop::Memory,
-            AskStop::NoThread => PlanStop::NoThread,
-        }
+/// The plan with these capacities and starts.
+pub(crate) fn plan_of(task: &Task, critical: u64, capacities: Capacities, starts: Starts) -> Plan
+    requires terms { AreTermsOf task.now.net.now task.now.order.now }
+    requires critical { IsCriticalLength task.now.net.now (release_of task.now.order.now) critical }
+    requires plan { IsPlan task.now.net.now task.now.order.now capacities starts }
+    ensures { IsAnswer task.now.net.now task.now.order.now (ThePlan result) }
+{
+    let order = task.order;
+    let cost = cost_of(task.net, order, capacities.as_slice());
+    Plan {
+        deadline: order.deadline,
+        critical,
+        cost,
+        capacities,
+        starts,
     }
 }

@@ -1,33 +1,33 @@
 //! A certificate by clauses for the plan of an order.
 
-ghost use Rattle.std.specs.Prelude.{◌≡◌, ℕ, List, Ok, IfOk, IfErr};
+ghost use Rattle.std.specs.Prelude.{◌≡◌, ℕ, List, Ok, IfOk};
 ghost use Rattle.racp_model.specs.Path.{IsCriticalLength};
-ghost use Rattle.racp_model.specs.Plan.{IsPlan};
 ghost use Rattle.racp_model.specs.Terms.{AreTermsOf, release_of, due_of};
 ghost use Rattle.racp_model.specs.Window.{IsRootWindow};
 ghost use Rattle.racp_clauses.specs.Roots.{IsOpen};
 ghost use Rattle.racp_sm.specs.Reading.{IsReading};
-ghost use Rattle.racp_by_clauses.specs.Optima.{IsOptimum};
+ghost use Rattle.racp_found.specs.Finds.{IsFound};
 ghost use Rattle.racp_lexfix.specs.Answers.{IsAnswer};
 ghost use Rattle.racp_lexfix.specs.Proving.{unproved_line};
 ghost use Rattle.racp_lexfix.specs.Showing.{IsAnswerShown, IsShowing};
 ghost use Rattle.racp_plan.specs.declared.plan.Plan.{Plan};
 ghost use Rattle.racp_lexfix.specs.declared.answer.Answer.TheVariants.{Plan as ThePlan};
 
-use crate::answer::Answer;
-use crate::facts::limits_of;
+use crate::answer::{Answer, plan_of};
 use crate::planning::Task;
 use crate::printed::{Printed, Refusal, answer_printed};
+use crate::searches::limits_of;
 use crate::status::{CHECK_FAILED, DONE};
-use racp_by_clauses::{Hearer, Optimum, Recorded, optimum_recorded};
+use racp_by_clauses::{Hearer, Recorded, optimum_recorded};
 use racp_check::{Opening, opening_of};
 use racp_clauses::Domain;
 use racp_derivations::{certificate_by_clauses, root_bounds};
 use racp_drafts::Draft;
+use racp_found::Found;
 use racp_learning::{Derivations, Tally};
-use racp_model::{Capacities, Network, Starts, Stop, Window};
+use racp_model::{Network, Stop, Window};
 use racp_plan::Plan;
-use racp_prices::{cost_of, read_order};
+use racp_prices::read_order;
 use racp_questions::Leeway;
 use racp_sm::read_sm;
 use std::alloc::{AllocError, Global};
@@ -131,17 +131,14 @@ fn show_within<P: Stop>(
     let Some(root) = root_bounds(task.alloc, task.net, task.order)? else {
         return unproved(task);
     };
-    let Recorded {
-        optimum,
-        derivations,
-    } = recorded(task, window, &root, stop)?;
-    match optimum {
-        Optimum::Plan(capacities, starts) => {
+    let Recorded { found, derivations } = recorded(task, window, &root, stop)?;
+    match found {
+        Found::Plan(capacities, starts) => {
             let plan = plan_of(task, critical, capacities, starts);
             answer_shown(task, &root, &plan, &derivations)
         }
-        Optimum::NoneEnough => answer_none(task, &Answer::Ceiling),
-        Optimum::Open => unproved(task),
+        Found::NoneEnough => answer_none(task, &Answer::Ceiling),
+        Found::Open => unproved(task),
     }
 }
 
@@ -153,7 +150,7 @@ fn recorded<P: Stop>(
     stop: &P,
 ) -> Result<Recorded, AllocError>
     requires { IsOpen (record { network = given.now.net.now; terms = given.now.order.now; root = root.now }) }
-    ensures { IfOk result (λ found. IsOptimum given.now.net.now given.now.order.now found.optimum) }
+    ensures { IfOk result (λ recorded. IsFound given.now.net.now given.now.order.now recorded.found) }
 {
     let task = racp_by_clauses::Task {
         alloc: given.alloc,
@@ -168,24 +165,6 @@ fn recorded<P: Stop>(
     });
     let stopping = Stopping { stop };
     optimum_recorded::<Brand, Stopping<'_, P>>(task, limits, MOST_BYTES as usize, &stopping)
-}
-
-/// The plan with these capacities and starts.
-fn plan_of(task: &Task, critical: u64, capacities: Capacities, starts: Starts) -> Plan
-    requires terms { AreTermsOf task.now.net.now task.now.order.now }
-    requires critical { IsCriticalLength task.now.net.now (release_of task.now.order.now) critical }
-    requires plan { IsPlan task.now.net.now task.now.order.now capacities starts }
-    ensures { IsAnswer task.now.net.now task.now.order.now (ThePlan result) }
-{
-    let order = task.order;
-    let cost = cost_of(task.net, order, capacities.as_slice());
-    Plan {
-        deadline: order.deadline,
-        critical,
-        cost,
-        capacities,
-        starts,
-    }
 }
 
 /// A certificate for the plan, or that none was made.

@@ -9,10 +9,10 @@ ghost use Rattle.racp_desk.specs.Closing.{IsRunClosed};
 ghost use Rattle.racp_lexfix.specs.Answers.{IsAnswer};
 ghost use Rattle.racp_lexfix.specs.Printing.{IsAnswerPrinted, IsCrowdPrinting, IsCrowdStop};
 
-use crate::answer::{Answer, PlanStop};
+use crate::answer::Answer;
 use crate::planning::Task;
 use crate::printed::{Printed, Refusal, answer_printed};
-use racp_by_questions::{Crowd, Effort, Observer, OfTurns, Pricing};
+use racp_by_questions::{Crowd, Effort, Observer, OfTurns, PlanStop, Pricing};
 use racp_candidates::AnySeries;
 use racp_cutset::MemoryLimit;
 use racp_desk::{Closed, DeskFault, Gate, Records, RunLimits};
@@ -182,8 +182,8 @@ fn plan_by<
         { records.run(rt, alloc, net, series, limits, crew.gate, crew.stop) },
     );
     let mut crowd = crowd.with_search(crew.leeway(), crew.stop);
-    let known = task.by_searches(rt, crew.workers, &crowd)?;
-    match task.plan_known(&mut crowd, known) {
+    let found = task.by_searches(rt, crew.workers, &crowd)?;
+    match task.plan_after(found, &mut crowd, &mut None) {
         Ok(answer) => Ok((answer, crowd.effort())),
         Err(stop) => Err(stop),
     }

@@ -1,6 +1,6 @@
 //! Capacities that are not enough, of which a certificate may make blocks.
 
-use racp_bounds::Sharp;
+use racp_by_questions::Sharp;
 use racp_model::Capacities;
 use std::alloc::{AllocError, Global};
 

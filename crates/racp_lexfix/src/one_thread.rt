@@ -5,12 +5,12 @@ ghost use Rattle.racp_model.specs.Terms.{AreTermsOf};
 ghost use Rattle.racp_sm.specs.Reading.{IsReading};
 ghost use Rattle.racp_lexfix.specs.Answers.{IsAnswer};
 ghost use Rattle.racp_lexfix.specs.Printing.{IsAnswerPrinted, IsPrinting};
-ghost use Rattle.racp_lexfix.specs.declared.answer.PlanStop.TheVariants.{Memory};
+ghost use Rattle.racp_by_questions.specs.declared.stop.PlanStop.TheVariants.{Memory};
 
-use crate::answer::{Answer, PlanStop};
+use crate::answer::Answer;
 use crate::planning::{Task, plan};
 use crate::printed::{Printed, Refusal, answer_printed};
-use racp_by_questions::Alone;
+use racp_by_questions::{Alone, PlanStop};
 use racp_model::{Network, OfNetwork};
 use racp_prices::read_order;
 use racp_sm::read_sm;

@@ -1,32 +1,34 @@
-//! From the root window to the plan.
+//! The planner: by clauses, and where these leave it open by questions.
 
-ghost use Rattle.std.specs.Prelude.{ℕ, ◌-◌, List, IfOk, IfErr, IfSome};
+ghost use Rattle.std.specs.Prelude.{ℕ, ◌-◌, List, IfOk, IfErr};
 ghost use Rattle.racp_model.specs.Path.{IsCriticalLength};
+ghost use Rattle.racp_model.specs.Plan.{IsOverCeilings, NoneIsEnough};
 ghost use Rattle.racp_model.specs.Terms.{AreTermsOf, release_of, due_of};
 ghost use Rattle.racp_model.specs.Window.{IsRootWindow};
 ghost use Rattle.racp_plan.specs.Fitting.{AreFitting};
-ghost use Rattle.racp_lexfix.specs.Answers.{IsAnswer, IsStoppedAt, IsPlanStop};
-ghost use Rattle.racp_lexfix.specs.Stages.{AreFloorsOfEnough, IsChosen, IsLeastOfEnough, MayBeTold};
+ghost use Rattle.racp_found.specs.Finds.{IsDecided, IsFound};
+ghost use Rattle.racp_by_questions.specs.Stages.{AreFloorsOfEnough, IsLeastOfEnough};
+ghost use Rattle.racp_by_questions.specs.Stops.{IsStoppedAt, IsPlanStop};
+ghost use Rattle.racp_lexfix.specs.Answers.{IsAnswer};
+ghost use Rattle.racp_lexfix.specs.Stages.{MayBeTold};
 
-use crate::answer::{Answer, PlanStop};
-use crate::bounds::floors_and_roofs;
-use crate::starts::least_starts;
-use crate::vectors::VectorBox;
-use racp_bounds::{Sharp, sharpen};
+use crate::answer::{Answer, plan_of};
+use racp_by_questions::{PlanStop, Sharp, found_by_questions};
 use racp_candidates::AnySeries;
 use racp_check::{Opening, opening_of};
-use racp_model::{Capacities, Network, Starts, Window};
-use racp_plan::Plan;
-use racp_prices::{Order, cost_of};
+use racp_found::Found;
+use racp_model::{Network, Window};
+use racp_prices::Order;
 use racp_questions::Asker;
-use std::alloc::{AllocError, Global};
+use std::alloc::Global;
 
-/// The plan of an order, or why there is none. Questions go to the asker, which is about this network: first whether
-/// the ceilings admit, where there are such, then to sharpen the floors, then for each capacity vector of the box in
-/// the order of vectors, up to the first yes, then for the starts of each job. Where the asker leaves room for it and the box
-/// is large, a search that learns looks for the plan before, and nothing is asked if it finds it. The order has an entry for
-/// each resource and each job of the network. The asker is told the floors as far as they are sharpened, what capacities
-/// that are enough cost at least, and plans that may not be the cheapest, as soon as more is known.
+/// The plan of an order, or why there is none. Where the asker leaves room for it and there are more than 64 vectors from the
+/// floors to the roofs, a search that learns looks for the plan (racp_by_clauses), and nothing is asked if it finds it. Else
+/// questions go to the asker, which is about this network: first whether the ceilings admit, where there are such, then to
+/// sharpen the floors, then for each capacity vector of the box in the order of vectors, up to the first yes, then for the
+/// starts of each job. The order has an entry for each resource and each job of the network. The asker is told the floors as
+/// far as they are sharpened, what capacities that are enough cost at least, and plans that may not be the cheapest, as soon
+/// as more is known.
 ///
 /// # Errors
 ///
@@ -50,7 +52,8 @@ pub fn plan<A: Asker<AnySeries>>(
         (A.may_stop asker.new) (A.may_want_thread asker.new)) }
 {
     let task = Task { alloc, net, order };
-    task.plan_known(asker, None)
+    let found = task.by_clauses(asker)?;
+    task.plan_after(found, asker, &mut None)
 }
 
 /// What a plan is made for: an order, which has an entry for each resource and each job of the network.
@@ -65,44 +68,21 @@ pub struct Task<'a> {
 }
 
 impl Task<'_> {
-    /// The plan, or why there is none, as `plan` tells it; what was found before may be known.
-    ///
-    /// # Errors
-    ///
-    /// As with `plan`.
-    pub(crate) fn plan_known<A: Asker<AnySeries>>(
-        &self,
-        asker: &mut A,
-        known: Option<Option<(Capacities, Starts)>>,
-    ) -> Result<Answer, PlanStop>
-        requires named { A.about asker.old self.now.net.now }
-        requires terms { AreTermsOf self.now.net.now self.now.order.now }
-        requires known { IfSome known (IsChosen self.now.net.now self.now.order.now) }
-        requires heard { MayBeTold self.now.net.now self.now.order.now A.may_hear_floors A.may_hear_cost A.may_hear_plan }
-        ensures network { A.about asker.new self.now.net.now }
-        ensures answer { IfOk result (IsAnswer self.now.net.now self.now.order.now) }
-        ensures stop { IfErr result (IsPlanStop (IsStoppedAt self.now.net.now self.now.order.now
-            (A.answered asker.new - A.answered asker.old) (A.told asker.new))
-            (A.may_stop asker.new) (A.may_want_thread asker.new)) }
-    {
-        self.plan_and_keep(asker, &mut None, known)
-    }
-
-    /// The plan, or why there is none, as `plan` tells it; what was found before may be known. The sharpened floors and the
+    /// The plan, or why there is none, as `plan` tells it, after what was found by clauses. The sharpened floors and the
     /// refuted pairs are kept, once they are known.
     ///
     /// # Errors
     ///
     /// As with `plan`.
-    pub(crate) fn plan_and_keep<A: Asker<AnySeries>>(
+    pub(crate) fn plan_after<A: Asker<AnySeries>>(
         &self,
+        found: Found,
         asker: &mut A,
         kept: &mut Option<Sharp>,
-        known: Option<Option<(Capacities, Starts)>>,
     ) -> Result<Answer, PlanStop>
         requires named { A.about asker.old self.now.net.now }
         requires terms { AreTermsOf self.now.net.now self.now.order.now }
-        requires known { IfSome known (IsChosen self.now.net.now self.now.order.now) }
+        requires found { IsFound self.now.net.now self.now.order.now found }
         requires heard { MayBeTold self.now.net.now self.now.order.now A.may_hear_floors A.may_hear_cost A.may_hear_plan }
         ensures network { A.about asker.new self.now.net.now }
         ensures answer { IfOk result (IsAnswer self.now.net.now self.now.order.now) }
@@ -112,99 +92,62 @@ impl Task<'_> {
     {
         match opening_of(self.alloc, self.net, self.order)? {
             Opening::Root { critical, window } => {
-                let Some((capacities, starts)) = self.decided(&window, asker, kept, known)? else {
-                    return Ok(Answer::Ceiling);
-                };
-                let order = self.order;
-                let cost = cost_of(self.net, order, capacities.as_slice());
-                Ok(Answer::Plan(Plan {
-                    deadline: order.deadline,
-                    critical,
-                    cost,
-                    capacities,
-                    starts,
-                }))
+                let decided = self.decided(&window, found, asker, kept)?;
+                Ok(self.answer_of(critical, decided))
             }
             Opening::TooLong { critical } => Ok(Answer::Impossible { longest: critical }),
             Opening::TooLate { job } => Ok(Answer::Due { job }),
         }
     }
 
-    /// The capacities and the starts of the plan within the root window, or none where no capacities are enough: by facts,
-    /// and if these do not tell, by series. The sharpened floors and the refuted pairs are kept, once they are known.
+    /// What was found by clauses within the root window, and if that is open, what is found by questions.
     fn decided<A: Asker<AnySeries>>(
         &self,
         root: &Window,
+        found: Found,
         asker: &mut A,
         kept: &mut Option<Sharp>,
-        known: Option<Option<(Capacities, Starts)>>,
-    ) -> Result<Option<(Capacities, Starts)>, PlanStop>
+    ) -> Result<Found, PlanStop>
         requires named { A.about asker.old self.now.net.now }
         requires terms { AreTermsOf self.now.net.now self.now.order.now }
-        requires known { IfSome known (IsChosen self.now.net.now self.now.order.now) }
         requires root { IsRootWindow self.now.net.now (release_of self.now.order.now) (due_of self.now.order.now) root.now }
+        requires found { IsFound self.now.net.now self.now.order.now found }
         requires heard { MayBeTold self.now.net.now self.now.order.now A.may_hear_floors A.may_hear_cost A.may_hear_plan }
         ensures network { A.about asker.new self.now.net.now }
-        ensures chosen { IfOk result (IsChosen self.now.net.now self.now.order.now) }
+        ensures decided { IfOk result (IsDecided self.now.net.now self.now.order.now) }
         ensures stop { IfErr result (IsPlanStop (IsStoppedAt self.now.net.now self.now.order.now
             (A.answered asker.new - A.answered asker.old) (A.told asker.new))
             (A.may_stop asker.new) (A.may_want_thread asker.new)) }
     {
-        let known = match known {
-            Some(chosen) => Some(chosen),
-            None => self.by_facts(root, asker)?,
-        };
-        match known {
-            Some(chosen) => Ok(chosen),
-            None => self.chosen(root, asker, kept),
+        match found {
+            Found::Plan(capacities, starts) => Ok(Found::Plan(capacities, starts)),
+            Found::NoneEnough => Ok(Found::NoneEnough),
+            Found::Open => {
+                let task = racp_by_questions::Task {
+                    alloc: self.alloc,
+                    net: self.net,
+                    order: self.order,
+                    root,
+                };
+                found_by_questions(&task, asker, kept)
+            }
         }
     }
 
-    /// The same, by series.
-    fn chosen<A: Asker<AnySeries>>(
-        &self,
-        root: &Window,
-        asker: &mut A,
-        kept: &mut Option<Sharp>,
-    ) -> Result<Option<(Capacities, Starts)>, PlanStop>
-        requires named { A.about asker.old self.now.net.now }
+    /// The answer for what is decided, with the critical length.
+    fn answer_of(&self, critical: u64, decided: Found) -> Answer
         requires terms { AreTermsOf self.now.net.now self.now.order.now }
-        requires root { IsRootWindow self.now.net.now (release_of self.now.order.now) (due_of self.now.order.now) root.now }
-        requires heard { MayBeTold self.now.net.now self.now.order.now A.may_hear_floors A.may_hear_cost A.may_hear_plan }
-        ensures network { A.about asker.new self.now.net.now }
-        ensures chosen { IfOk result (IsChosen self.now.net.now self.now.order.now) }
-        ensures stop { IfErr result (IsPlanStop (IsStoppedAt self.now.net.now self.now.order.now
-            (A.answered asker.new - A.answered asker.old) (A.told asker.new))
-            (A.may_stop asker.new) (A.may_want_thread asker.new)) }
+        requires critical { IsCriticalLength self.now.net.now (release_of self.now.order.now) critical }
+        requires over { NoneIsEnough self.now.net.now self.now.order.now → IsOverCeilings self.now.net.now self.now.order.now }
+        requires decided { IsDecided self.now.net.now self.now.order.now decided }
+        ensures { IsAnswer self.now.net.now self.now.order.now result }
     {
-        let (alloc, net) = (self.alloc, self.net);
-        let Some((floors, roofs)) = floors_and_roofs(self, root, asker)? else {
-            return Ok(None);
-        };
-        let sharp = match sharpen(alloc, net, root, floors, &roofs, asker) {
-            Ok(sharp) => sharp,
-            Err((reached, stop)) => return Err(PlanStop::given_up(stop, reached)),
-        };
-        keep(alloc, &sharp, kept)?;
-        let vectors = VectorBox {
-            task: *self,
-            root,
-            sharp,
-            roofs: &roofs,
-        };
-        let capacities = vectors.cheapest(asker)?;
-        asker.hear_cost(cost_of(net, self.order, capacities.as_slice()));
-        match least_starts(alloc, net, &capacities, root, asker) {
-            Ok(starts) => Ok(Some((capacities, starts))),
-            Err(stop) => Err(PlanStop::given_up(stop, capacities)),
+        match decided {
+            Found::Plan(capacities, starts) => {
+                Answer::Plan(plan_of(self, critical, capacities, starts))
+            }
+            Found::NoneEnough => Answer::Ceiling,
+            Found::Open => unreachable!(),
         }
     }
-}
-
-/// Keeps the same floors and pairs.
-fn keep(alloc: Global, sharp: &Sharp, kept: &mut Option<Sharp>) -> Result<(), AllocError> {
-    let floors = sharp.floors.copy()?;
-    let pairs = sharp.pairs.to_vec(alloc)?;
-    *kept = Some(Sharp { floors, pairs });
-    Ok(())
 }

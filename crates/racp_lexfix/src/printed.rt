@@ -3,9 +3,10 @@
 ghost use Rattle.std.specs.Prelude.{◌≡◌, IfOk};
 ghost use Rattle.racp_lexfix.specs.Texts.{answer_text, answer_status};
 
-use crate::answer::{Answer, PlanStop};
+use crate::answer::Answer;
 use crate::lines::answer_lines;
 use crate::status::{DONE, IMPOSSIBLE};
+use racp_by_questions::PlanStop;
 use racp_prices::{Order, OrderFault};
 use racp_sm::SmFault;
 use std::alloc::{AllocError, Global};
@@ -70,7 +71,7 @@ impl From<PlanStop> for Refusal {
 impl From<AllocError> for Refusal {
     ghost use Rattle.std.specs.Prelude.{◌≡◌};
     ghost use Rattle.racp_lexfix.specs.declared.printed.Refusal.TheVariants.{Stop};
-    ghost use Rattle.racp_lexfix.specs.declared.answer.PlanStop.TheVariants.{Memory};
+    ghost use Rattle.racp_by_questions.specs.declared.stop.PlanStop.TheVariants.{Memory};
 
     ghost from_gives = { λ _ refusal. refusal ≡ Stop Memory };
 

@@ -8,17 +8,17 @@ ghost use Rattle.racp_trees.specs.Certificates.{IsCertificate};
 ghost use Rattle.racp_lexfix.specs.Answers.{IsAnswer};
 ghost use Rattle.racp_lexfix.specs.Proving.{IsAnswerProvedUntil, IsProofOf, IsProving, IsProvingUntil, MayEndPlanning};
 ghost use Rattle.racp_lexfix.specs.declared.answer.Answer.TheVariants.{Plan as ThePlan};
-ghost use Rattle.racp_lexfix.specs.declared.answer.PlanStop.TheVariants.{Memory};
+ghost use Rattle.racp_by_questions.specs.declared.stop.PlanStop.TheVariants.{Memory};
 
-use crate::answer::{Answer, PlanStop};
+use crate::answer::Answer;
 use crate::by_clauses::unproved;
 use crate::hints::hints_of;
 use crate::planning::Task;
 use crate::printed::{Printed, Refusal, answer_printed};
 use crate::status::DONE;
-use racp_bounds::Sharp;
-use racp_by_questions::{Alone, OfTurns};
+use racp_by_questions::{Alone, OfTurns, PlanStop, Sharp};
 use racp_check::{Opening, opening_of};
+use racp_found::Found;
 use racp_model::{Network, Never, OfNetwork, Stop, Window};
 use racp_plan::Plan;
 use racp_prices::{most_units, read_order};
@@ -125,7 +125,7 @@ fn plan_with_floors<N: OfNetwork, M: OfTurns, P: Stop>(
     // A search of its own would not sharpen the floors.
     let alone: Alone<N> = Alone::new(task.alloc, task.net)?.with_conflicts(0);
     let mut until = alone.until::<M, P>(stop);
-    let planned = task.plan_and_keep(&mut until, sharp, None);
+    let planned = task.plan_after(Found::Open, &mut until, sharp);
     // Dropped here once, not at each way out.
     drop(until);
     planned

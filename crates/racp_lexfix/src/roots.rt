@@ -1,17 +1,15 @@
 //! The root bounds of an order, from its floors up to its roofs.
 
-ghost use Rattle.std.specs.Prelude.{◌≡◌, IfOk, MatchOption};
+ghost use Rattle.std.specs.Prelude.{IfOk, MatchOption};
 ghost use Rattle.racp_model.specs.Terms.{AreTermsOf, release_of, due_of};
 ghost use Rattle.racp_model.specs.Window.{IsRootWindow};
 ghost use Rattle.racp_model.specs.Plan.{NoneIsEnough};
 ghost use Rattle.racp_lexfix.specs.Stages.{AreRootBounds};
 
-use crate::bounds::{is_below, lowest_units};
-use crate::planning::Task;
-use crate::vectors::is_small;
+use racp_by_questions::first_ends;
 use racp_clauses::{Domain, root_of};
 use racp_model::{Capacities, Network, Window};
-use racp_prices::{Order, most_units};
+use racp_prices::Order;
 use std::alloc::{AllocError, Global};
 
 /// Bounds on the starts, the units and the cost of an order.
@@ -41,17 +39,20 @@ pub fn root_bounds(
     requires root { IsRootWindow net.now (release_of order.now) (due_of order.now) window.now }
     ensures { IfOk result (λ found. MatchOption found (NoneIsEnough net.now order.now) (AreRootBounds net.now order.now)) }
 {
-    let task = Task { alloc, net, order };
-    let floors = lowest_units(&task, window)?;
-    let roofs = most_units(alloc, net, order)?;
-    if !is_below(&floors, &roofs) {
+    let task = racp_by_questions::Task {
+        alloc,
+        net,
+        order,
+        root: window,
+    };
+    let Some(ends) = first_ends(&task)? else {
         return Ok(None);
-    }
-    let is_small = is_small(&floors, &roofs);
-    let bounds = root_of(alloc, net, order, window, floors.as_slice())?;
+    };
+    let is_small = ends.is_small();
+    let bounds = root_of(alloc, net, order, window, ends.floors.as_slice())?;
     Ok(Some(RootBounds {
         bounds,
-        floors,
+        floors: ends.floors,
         is_small,
     }))
 }

@@ -5,7 +5,7 @@ use Rattle.racp_model.specs.Project.{Project}
 use Rattle.racp_model.specs.Plan.{IsEnough}
 use Rattle.racp_model.specs.Terms.{Terms, cost}
 use Rattle.racp_model.proofs.lemmas.Costs.{cheaper-before}
-use Rattle.racp_lexfix.specs.Answers.{IsNotAfterEnough}
+use Rattle.racp_by_questions.specs.Stops.{IsNotAfterEnough}
 
 -- capacities that are enough cost no less than some before which none are enough
 pub least_cost : (p : Project) (terms : Terms) (not_before : List ℕ) → IsNotAfterEnough p terms not_before → (enough : List ℕ) → IsEnough p terms enough → cost terms not_before ≤ cost terms enough

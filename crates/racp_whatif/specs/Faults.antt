@@ -1,7 +1,7 @@
 -- Why no findings are answered.
 use Rattle.std.specs.Prelude.{⊤}
-use Rattle.racp_lexfix.specs.declared.answer.PlanStop.{PlanStop}
-use Rattle.racp_lexfix.specs.declared.answer.PlanStop.TheVariants.{Stopped, Memory, NoThread}
+use Rattle.racp_by_questions.specs.declared.stop.PlanStop.{PlanStop}
+use Rattle.racp_by_questions.specs.declared.stop.PlanStop.TheVariants.{Stopped, Memory, NoThread}
 
 -- memory was refused, or a worker could not be started: a plan that is stopped is a finding
 abbrev pub IsFault : PlanStop → Type 0

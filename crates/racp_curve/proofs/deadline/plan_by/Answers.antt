@@ -1,10 +1,12 @@
-use Rattle.std.proofs.Common.{◌+◌, ◌-◌, Option, sym, subst}
+use Rattle.std.proofs.Common.{◌+◌, ◌-◌, Option, IfSome, sym, subst}
 use Rattle.std.proofs.lemmas.Result.{err_from_is_err_and}
 use Rattle.racp_model.specs.Terms.{Terms, AreTermsOf}
 use Rattle.racp_plan.specs.Fitting.{AreFitting}
-use Rattle.racp_lexfix.specs.Answers.{IsAnswer, IsStoppedAt}
+use Rattle.racp_by_questions.specs.Stops.{IsStoppedAt}
+use Rattle.racp_lexfix.specs.Answers.{IsAnswer}
+use Rattle.racp_lexfix.specs.declared.answer.Answer.{Answer}
 use Rattle.racp_plan.specs.declared.plan.Plan.{Plan}
-use Rattle.racp_lexfix.specs.Stages.{AreFloorsOfEnough, IsLeastOfEnough}
+use Rattle.racp_by_questions.specs.Stages.{AreFloorsOfEnough, IsLeastOfEnough}
 use Rattle.racp_curve.specs.Curves.{order_by, AreNotAfterEnough}
 use Rattle.racp_curve.specs.Following.{IsPlanOrNone}
 use Rattle.racp_curve.proofs.Deadlines.{terms_by}
@@ -12,8 +14,8 @@ use Rattle.racp_curve.proofs.Reasons.{plan_or_none}
 use Rattle.racp_curve.proofs.Telling.{told_too, stopped_by}
 use Rattle.racp_curve.proofs.deadline.plan_by.Goals as goal
 
-pub known_plan-requires-clause-heard : goal.known_plan-requires-clause-heard
-known_plan-requires-clause-heard g c = record {
+pub known_answer-requires-clause-heard : goal.known_answer-requires-clause-heard
+known_answer-requires-clause-heard g c = record {
   floors = λ floors are. c.requires.hears.floors c.args.deadline c.requires.deadline floors (subst (λ (t : Terms). AreFloorsOfEnough c.args.ground.now.net.now t floors) c.in_ok-other.ensures are);
   least = λ least is. c.requires.hears.least c.args.deadline c.requires.deadline least (subst (λ (t : Terms). IsLeastOfEnough c.args.ground.now.net.now t least) c.in_ok-other.ensures is);
   plans = λ capacities starts are. c.requires.hears.plans c.args.deadline c.requires.deadline capacities starts (subst (λ (t : Terms). AreFitting c.args.ground.now.net.now t capacities starts) c.in_ok-other.ensures are);
@@ -50,4 +52,12 @@ returns-clause-plan g c =
     let net = c.args.ground.now.net.now in
     let terms = order_by c.args.deadline c.args.ground.now.order.now in
     let is_answer = subst (λ (t : Terms). IsAnswer net t c.in_ok-answer.answer) c.in_ok-other.ensures c.in_ok-answer.ensures.answer in
-    subst (λ (found : Option Plan). IsPlanOrNone net terms found) (sym c.plan_in.ensures) (plan_or_none net terms c.job_count.ensures.sound c.in_ok-answer.answer is_answer)
+    subst (λ (found : Option Plan). IsPlanOrNone net terms found) (sym c.plan_in-2.ensures) (plan_or_none net terms c.job_count.ensures.sound c.in_ok-answer.answer is_answer)
+
+pub returns-in-Some-2-clause-plan : goal.returns-in-Some-2-clause-plan
+returns-in-Some-2-clause-plan g c =
+    let net = c.args.ground.now.net.now in
+    let terms = order_by c.args.deadline c.args.ground.now.order.now in
+    let told : IsAnswer net c.in_ok-other.other c.in-Some-2.known = subst (λ (o : Option Answer). IfSome o (IsAnswer net c.in_ok-other.other)) c.in-Some-2.is c.in_ok-known.ensures in
+    let is_answer = subst (λ (t : Terms). IsAnswer net t c.in-Some-2.known) c.in_ok-other.ensures told in
+    subst (λ (found : Option Plan). IsPlanOrNone net terms found) (sym c.plan_in.ensures) (plan_or_none net terms c.job_count.ensures.sound c.in-Some-2.known is_answer)

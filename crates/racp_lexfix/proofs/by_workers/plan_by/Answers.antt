@@ -6,7 +6,7 @@ use Rattle.racp_lexfix.proofs.by_workers.plan_by.Goals as goal
 
 pub returns-clause-stop : goal.returns-clause-stop
 returns-clause-stop g c =
-    let crowd = c.plan_known.new.asker in
+    let crowd = c.plan_after.new.asker in
     let net = c.args.task.now.net.now in
     let order = c.args.task.now.order.now in
     let quiet = g.M.OfTurns.quiet in

@@ -1,6 +1,6 @@
 use Rattle.std.proofs.Common.{inr, subst}
 use Rattle.racp_lexfix.specs.Proving.{MayEndPlanning}
-use Rattle.racp_lexfix.specs.declared.answer.PlanStop.{PlanStop}
+use Rattle.racp_by_questions.specs.declared.stop.PlanStop.{PlanStop}
 use Rattle.racp_lexfix.proofs.Certified.{answer_proved}
 use Rattle.racp_lexfix.proofs.proving.prove_and_keep.Goals as goal
 

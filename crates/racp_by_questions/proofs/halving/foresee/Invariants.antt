@@ -1,5 +1,0 @@
-use Rattle.racp_model.specs.Formed.{AreFormed}
-use Rattle.racp_by_questions.proofs.halving.foresee.Given as goal
-
-abbrev pub invariant-loop-back : goal.invariant-loop-back
-invariant-loop-back g l = AreFormed l.subject.net.now l.ahead.items

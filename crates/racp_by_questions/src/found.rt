@@ -1,0 +1,75 @@
+//! The plan by questions, stage by stage.
+
+ghost use Rattle.std.specs.Prelude.{ℕ, ◌-◌, List, IfOk, IfErr};
+ghost use Rattle.racp_model.specs.Terms.{AreTermsOf, release_of, due_of};
+ghost use Rattle.racp_model.specs.Window.{IsRootWindow};
+ghost use Rattle.racp_found.specs.Finds.{IsDecided};
+ghost use Rattle.racp_by_questions.specs.Stages.{AreFloorsOfEnough, IsLeastOfEnough};
+ghost use Rattle.racp_by_questions.specs.Stops.{IsStoppedAt, IsPlanStop};
+
+use crate::bounds::floors_and_roofs;
+use crate::starts::least_starts;
+use crate::stop::PlanStop;
+use crate::task::Task;
+use crate::vectors::VectorBox;
+use racp_bounds::{Sharp, sharpen};
+use racp_candidates::AnySeries;
+use racp_found::Found;
+use racp_prices::cost_of;
+use racp_questions::Asker;
+use std::alloc::{AllocError, Global};
+
+/// The capacities and the starts of the plan, or that no capacities are enough. Questions go to the asker, which is about this
+/// network: first whether the ceilings admit, where there are such, then to sharpen the floors, then for the first capacities
+/// that are enough, then for the start of each job. It is told the floors as far as they are sharpened, and what capacities
+/// that are enough cost at least. The sharpened floors and the refuted pairs are kept, once they are known.
+///
+/// # Errors
+///
+/// The asker gave up, or memory was refused.
+pub fn found_by_questions<A: Asker<AnySeries>>(
+    task: &Task,
+    asker: &mut A,
+    kept: &mut Option<Sharp>,
+) -> Result<Found, PlanStop>
+    requires named { A.about asker.old task.now.net.now }
+    requires terms { AreTermsOf task.now.net.now task.now.order.now }
+    requires root { IsRootWindow task.now.net.now (release_of task.now.order.now) (due_of task.now.order.now) task.now.root.now }
+    requires floors { (floors : List ℕ) → AreFloorsOfEnough task.now.net.now task.now.order.now floors →
+        A.may_hear_floors floors }
+    requires least { (least : ℕ) → IsLeastOfEnough task.now.net.now task.now.order.now least → A.may_hear_cost least }
+    ensures network { A.about asker.new task.now.net.now }
+    ensures found { IfOk result (IsDecided task.now.net.now task.now.order.now) }
+    ensures stop { IfErr result (IsPlanStop (IsStoppedAt task.now.net.now task.now.order.now
+        (A.answered asker.new - A.answered asker.old) (A.told asker.new))
+        (A.may_stop asker.new) (A.may_want_thread asker.new)) }
+{
+    let (alloc, net, root) = (task.alloc, task.net, task.root);
+    let Some(ends) = floors_and_roofs(task, asker)? else {
+        return Ok(Found::NoneEnough);
+    };
+    let sharp = match sharpen(alloc, net, root, ends.floors, &ends.roofs, asker) {
+        Ok(sharp) => sharp,
+        Err((reached, stop)) => return Err(PlanStop::given_up(stop, reached)),
+    };
+    keep(alloc, &sharp, kept)?;
+    let vectors = VectorBox {
+        task: *task,
+        sharp,
+        roofs: &ends.roofs,
+    };
+    let capacities = vectors.cheapest(asker)?;
+    asker.hear_cost(cost_of(net, task.order, capacities.as_slice()));
+    match least_starts(alloc, net, &capacities, root, asker) {
+        Ok(starts) => Ok(Found::Plan(capacities, starts)),
+        Err(stop) => Err(PlanStop::given_up(stop, capacities)),
+    }
+}
+
+/// Keeps the same floors and pairs.
+fn keep(alloc: Global, sharp: &Sharp, kept: &mut Option<Sharp>) -> Result<(), AllocError> {
+    let floors = sharp.floors.copy()?;
+    let pairs = sharp.pairs.to_vec(alloc)?;
+    *kept = Some(Sharp { floors, pairs });
+    Ok(())
+}

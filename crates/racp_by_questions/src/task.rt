@@ -1,0 +1,18 @@
+//! What a plan is looked for.
+
+use racp_model::{Network, Window};
+use racp_prices::Order;
+use std::alloc::Global;
+
+/// What a plan is looked for: an order, which has an entry for each resource and each job of the network, and its root window.
+#[derive(Clone, Copy)]
+pub struct Task<'a> {
+    /// What answers are allocated by.
+    pub alloc: Global,
+    /// The network.
+    pub net: &'a Network,
+    /// The order.
+    pub order: &'a Order,
+    /// The window in which the starts of the plan lie.
+    pub root: &'a Window,
+}

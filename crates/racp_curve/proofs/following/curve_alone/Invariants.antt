@@ -1,4 +1,0 @@
-use Rattle.racp_curve.proofs.following.curve_alone.Given as goal
-
-abbrev pub ghosts-curve_named : goal.ghosts-curve_named
-ghosts-curve_named a = record { network = a.ground.now.net.now }
