@@ -1,15 +1,13 @@
--- What a search for the plan of an order finds, and what it may tell on its way.
+-- What a search for the plan of an order is about, and what it may tell on its way.
 use Rattle.std.specs.Prelude.{◌≡◌, ℕ, ⊤}
 use Rattle.racp_model.specs.Project.{Project}
 use Rattle.racp_model.specs.Terms.{Terms}
-use Rattle.racp_model.specs.Plan.{IsPlan, NoneIsEnough}
+use Rattle.racp_model.specs.Plan.{NoneIsEnough}
 use Rattle.racp_clauses.specs.Solutions.{Problem}
 use Rattle.racp_clauses.specs.Roots.{IsOpen, IsPartOf}
 use Rattle.racp_clauses.specs.Uses.{IsLeastCost}
 use Rattle.racp_drafts.specs.Drafts.{IsDraft}
 use Rattle.racp_drafts.specs.declared.draft.Draft.{Draft}
-use Rattle.racp_by_clauses.specs.declared.optimum.Optimum.{Optimum}
-use Rattle.racp_by_clauses.specs.declared.optimum.Optimum.TheVariants.{Plan, NoneEnough, Open}
 use Rattle.racp_by_clauses.specs.declared.feasible.Feasible.{Feasible}
 use Rattle.racp_by_clauses.specs.declared.feasible.Feasible.TheVariants.{Fits, NoneFits, Unknown}
 use Rattle.racp_by_clauses.specs.declared.task.Task.{Task}
@@ -39,12 +37,6 @@ abbrev pub IsFeasible : Project → Terms → Feasible → Type 0
 IsFeasible p terms (Fits draft) = IsDraft p terms draft
 IsFeasible p terms NoneFits = NoneIsEnough p terms
 IsFeasible p terms Unknown = ⊤
-
--- the plan; that no capacities are enough; or neither, which tells nothing
-abbrev pub IsOptimum : Project → Terms → Optimum → Type 0
-IsOptimum p terms (Plan capacities starts) = IsPlan p terms capacities starts
-IsOptimum p terms NoneEnough = NoneIsEnough p terms
-IsOptimum p terms Open = ⊤
 
 -- a hearer may be told what all capacities that are enough cost at least, and drafts
 pub record MayBeTold (q : Problem) (may_hear_cost : ℕ → Type 0) (may_hear_draft : Draft → Type 0) : Type 0 where

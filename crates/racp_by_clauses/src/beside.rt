@@ -1,7 +1,8 @@
 //! Searches for one optimum side by side.
 
 ghost use Rattle.std.specs.Prelude.{IfOk};
-ghost use Rattle.racp_by_clauses.specs.Optima.{IsOptimum, IsTaskOf, MayBeTold};
+ghost use Rattle.racp_found.specs.Finds.{IsFound};
+ghost use Rattle.racp_by_clauses.specs.Optima.{IsTaskOf, MayBeTold};
 
 use crate::common::Common;
 use crate::descent::Descent;
@@ -9,10 +10,11 @@ use crate::hearer::Hearer;
 use crate::hearing::{Loud, Quiet};
 use crate::limits::Limits;
 use crate::optimizer::first_draft;
-use crate::optimum::{Optimum, optimum_of};
+use crate::optimum::optimum_of;
 use crate::task::{Task, Tasks};
 use crate::worker::Worker;
 use racp_clauses::OfProblem;
+use racp_found::Found;
 use std::alloc::AllocError;
 use std::sync::Wait;
 use std::thread;
@@ -161,6 +163,9 @@ fn search_all<'a, 'b, N: OfProblem + Send + Sync, H: Hearer, R: Threads + Wait +
     if worker.descent.is_finished(task) || worker.descent.left > 0 {
         return Ok(());
     }
+    worker
+        .descent
+        .raise_by_halves(&mut worker.search, tasks, hearer)?;
     in_scope(rt, common, worker, workers, hearer)
 }
 
@@ -176,10 +181,10 @@ pub fn optimum_beside<N: OfProblem + Send + Sync, H: Hearer, R: Threads + Wait +
     limits: Limits,
     workers: usize,
     hearer: &H,
-) -> Result<Optimum, AllocError>
+) -> Result<Found, AllocError>
     requires is_of { IsTaskOf N.problem task }
     requires may { MayBeTold N.problem H.may_hear_cost H.may_hear_draft }
-    ensures { IfOk result (IsOptimum N.problem.network N.problem.terms) }
+    ensures { IfOk result (IsFound N.problem.network N.problem.terms) }
 {
     if workers < 2 {
         return optimum_of::<N, H>(task, limits, hearer);
@@ -193,7 +198,7 @@ pub fn optimum_beside<N: OfProblem + Send + Sync, H: Hearer, R: Threads + Wait +
     let common: Common<'_, N> = Common::new(task, own, share)?;
     let mut worker = Worker::new(&common, 0, draft)?;
     match search_all(rt, &common, &mut worker, workers, hearer) {
-        Ok(()) => worker.into_descent().into_optimum(task),
+        Ok(()) => worker.into_descent().into_found(task),
         Err(refused) => {
             // By a call: else each part is dropped here.
             drop(worker);

@@ -3,6 +3,7 @@
 ghost use Rattle.std.proofs.Props.{props};
 ghost use Rattle.racp_by_clauses.specs.Optima.{IsTaskOf};
 
+use crate::from_below::copy_of_clause;
 use crate::limits::Limits;
 use crate::task::Task;
 use racp_clauses::{Clause, OfProblem};
@@ -72,6 +73,24 @@ impl<'a, N: OfProblem> Common<'a, N> {
         for clause in search.take_short() {
             self.show_clause(rt, Note { seat, clause });
         }
+    }
+
+    /// Shows the others a copy of a clause.
+    pub(crate) fn show_copy<R: Wait>(
+        &self,
+        rt: &R,
+        seat: usize,
+        clause: &Clause<N>,
+    ) -> Result<(), AllocError> {
+        if let Some(clause) = copy_of_clause(self.task, clause)? {
+            self.show_clause(rt, Note { seat, clause });
+        }
+        Ok(())
+    }
+
+    /// The clause at a place of the board.
+    pub(crate) fn clause_at(&self, place: usize) -> Option<&Clause<N>> {
+        self.board.get(place).map(|note| &note.clause)
     }
 
     /// Shows the others a clause, if there is room for it.

@@ -28,6 +28,8 @@ pub(crate) struct Descent<P: OfProblem> {
     settled: usize,
     /// How questions are parted by resources, if they are.
     pub(crate) parts: Option<Parts>,
+    /// What everything costs at least, as far as it is shown.
+    pub(crate) least_cost: u64,
 }
 
 impl<P: OfProblem> Descent<P> {
@@ -48,6 +50,9 @@ impl<P: OfProblem> Descent<P> {
             left: conflicts,
             settled: 0,
             parts: None,
+            least_cost: task
+                .root
+                .lower_at(task.net.job_count() + task.net.resource_count()),
         })
     }
 
@@ -57,6 +62,11 @@ impl<P: OfProblem> Descent<P> {
             Some(_) => variable_count(task.net) <= self.settled,
             None => 0 < self.settled,
         }
+    }
+
+    /// Whether it is known that nothing costs less than the best draft.
+    pub(crate) fn is_cost_known(&self) -> bool {
+        0 < self.settled
     }
 
     /// Goes down by each variable in turn, as far as nothing stays open; from where it was left, if it was.
@@ -121,7 +131,7 @@ impl<P: OfProblem> Descent<P> {
         requires may { MayBeTold P.problem H.may_hear_cost H.may_hear_draft }
     {
         let task = tasks.part;
-        let mut least = task.root.lower_at(x);
+        let mut least = self.least_value(task, x);
         self.last = None;
         for turn in 0..u64::MAX {
             let value = self.value(task, x);
@@ -157,7 +167,7 @@ impl<P: OfProblem> Descent<P> {
     }
 
     /// Keeps a clause that shows that nothing is less.
-    fn close<H: Hearer>(
+    pub(crate) fn close<H: Hearer>(
         &mut self,
         task: Task<'_>,
         hearer: &H,
@@ -178,6 +188,16 @@ impl<P: OfProblem> Descent<P> {
         match &self.best {
             Some(draft) => value_of(task.net, draft, x),
             None => task.root.upper_at(x).saturating_add(1),
+        }
+    }
+
+    /// What the variable at a place is at least, as far as it is known: at the root, and of the cost also what is shown.
+    fn least_value(&self, task: Task<'_>, x: usize) -> u64 {
+        let least = task.root.lower_at(x);
+        if x < task.net.job_count() + task.net.resource_count() {
+            least
+        } else {
+            least.max(self.least_cost)
         }
     }
 

@@ -2,20 +2,21 @@
 
 ghost use Rattle.std.specs.Prelude.{IfOk};
 ghost use Rattle.racp_clauses.specs.Roots.{IsOpen};
-ghost use Rattle.racp_by_clauses.specs.Optima.{IsOptimum, IsTaskOf};
+ghost use Rattle.racp_found.specs.Finds.{IsFound};
+ghost use Rattle.racp_by_clauses.specs.Optima.{IsTaskOf};
 
 use crate::descent::Descent;
-use crate::optimum::Optimum;
 use crate::task::Task;
 use racp_clauses::{Clause, OfProblem, establishes, leaves_none};
 use racp_drafts::Draft;
+use racp_found::Found;
 use std::alloc::AllocError;
 
 impl<P: OfProblem> Descent<P> {
     /// The plan, if the clauses show it; or that no capacities are enough, if they show that.
-    pub(crate) fn into_optimum(self, task: Task<'_>) -> Result<Optimum, AllocError>
+    pub(crate) fn into_found(self, task: Task<'_>) -> Result<Found, AllocError>
         requires { IsTaskOf P.problem task }
-        ensures { IfOk result (IsOptimum P.problem.network P.problem.terms) }
+        ensures { IfOk result (IsFound P.problem.network P.problem.terms) }
     {
         let Descent { best, clauses, .. } = self;
         match best {
@@ -30,9 +31,9 @@ fn with_draft<P: OfProblem>(
     task: Task<'_>,
     draft: Draft,
     clauses: &[Clause<P>],
-) -> Result<Optimum, AllocError>
+) -> Result<Found, AllocError>
     requires { IsTaskOf P.problem task }
-    ensures { IfOk result (IsOptimum P.problem.network P.problem.terms) }
+    ensures { IfOk result (IsFound P.problem.network P.problem.terms) }
 {
     let Draft {
         capacities,
@@ -49,18 +50,18 @@ fn with_draft<P: OfProblem>(
         clauses,
     )?;
     if is_shown {
-        return Ok(Optimum::Plan(capacities, starts));
+        return Ok(Found::Plan(capacities, starts));
     }
-    Ok(Optimum::Open)
+    Ok(Found::Open)
 }
 
 /// That no capacities are enough, if the last clause shows it.
-fn without_draft<P: OfProblem>(clauses: &[Clause<P>]) -> Optimum
+fn without_draft<P: OfProblem>(clauses: &[Clause<P>]) -> Found
     requires { IsOpen P.problem }
-    ensures { IsOptimum P.problem.network P.problem.terms result }
+    ensures { IsFound P.problem.network P.problem.terms result }
 {
     match clauses.last() {
-        Some(clause) if leaves_none(clause) => Optimum::NoneEnough,
-        _ => Optimum::Open,
+        Some(clause) if leaves_none(clause) => Found::NoneEnough,
+        _ => Found::Open,
     }
 }

@@ -22,15 +22,23 @@
 //! question about a job, and each one after it, halves what is left; so does the third one about a resource. Before the
 //! first job is asked for, a serial schedule within the capacities is tried, whose starts are often the least.
 //!
-//! `optimum_of(task, limits, &hearer)` answers the plan, or that no capacities are enough, or neither, where the search
-//! was given a bound on its conflicts and reached it, was stopped, or left a question open. A `Hearer` is told drafts and
-//! lower bounds on the cost as they are found, and may stop the search.
+//! What is easy ends within the first conflicts, 10,000 for 60 jobs and fewer for more. From then on, as long as it is not
+//! known that nothing costs less, there are stints of what makes drafts better (`Drafting` of racp_drafts): some thousand
+//! rounds after each thousand conflicts with 60 jobs, and after fewer with more, counted and not timed; where drafts do not become
+//! better, after up to eight times as many with 60 jobs, and up to three with 160. Each better draft tightens the question at
+//! once, and those that the search finds are told to what makes drafts. A second search asks from the least cost on, in such
+//! stints too: what it refutes is what the hearer is told that every plan costs at least. After the first 300 conflicts
+//! questions of few conflicts each halve what is left between the least cost and the best draft.
+//!
+//! `optimum_of(task, limits, &hearer)` answers the plan, or that no capacities are enough, or neither (`Found` of racp_found),
+//! where the search was given a bound on its conflicts and reached it, was stopped, or left a question open. A `Hearer` is told
+//! drafts and lower bounds on the cost as they are found, and may stop the search.
 //!
 //! `optimum_beside` answers the same by several searches on threads of their own, with other seeds. They show each other short
 //! clauses and the best draft, and the first one that finishes ends the others. What costs less than the best draft has less
 //! of some resource, so each search asks for less cost with less of one resource, then of the next, and begins with another
-//! one. In the end the whole question has a short answer, by clauses that name one resource. With four or more, one asks for
-//! the units of a resource from their least on.
+//! one. In the end the whole question has a short answer, by clauses that name one resource. With three or more, one asks for
+//! the cost from the least one on; with four or more, one for the units of a resource from their least on.
 //!
 //! `optimum_recorded` answers the same, with the derivations of the clauses, for a certificate.
 //!
@@ -48,11 +56,14 @@ mod asking;
 mod beside;
 mod by_resource;
 mod common;
+mod costs;
 mod descent;
 mod ending;
 mod feasible;
+mod from_below;
 mod hearer;
 mod hearing;
+mod in_stints;
 mod limits;
 mod optimizer;
 mod optimum;
@@ -60,6 +71,7 @@ mod places;
 mod questions;
 mod recorded;
 mod serial;
+mod stints;
 mod taken;
 mod task;
 mod worker;
@@ -69,6 +81,6 @@ pub use feasible::Feasible;
 pub use hearer::Hearer;
 pub use limits::Limits;
 pub use optimizer::Optimizer;
-pub use optimum::{Optimum, optimum_of};
+pub use optimum::optimum_of;
 pub use recorded::{Recorded, optimum_recorded};
 pub use task::Task;

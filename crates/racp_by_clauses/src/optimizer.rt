@@ -3,16 +3,18 @@
 ghost use Rattle.std.specs.Prelude.{IfOk, IfSome};
 ghost use Rattle.racp_clauses.specs.Roots.{IsPartOf};
 ghost use Rattle.racp_drafts.specs.Drafts.{IsDraft};
-ghost use Rattle.racp_by_clauses.specs.Optima.{AreAkin, AreTasksOf, IsFeasible, IsOptimum, IsTaskOf, MayBeTold};
+ghost use Rattle.racp_found.specs.Finds.{IsFound};
+ghost use Rattle.racp_by_clauses.specs.Optima.{AreAkin, AreTasksOf, IsFeasible, IsTaskOf, MayBeTold};
 
 use crate::descent::Descent;
 use crate::feasible::Feasible;
+use crate::from_below::Below;
 use crate::hearer::{Asking, Hearer};
 use crate::limits::Limits;
-use crate::optimum::Optimum;
 use crate::task::{Task, Tasks};
 use racp_clauses::OfProblem;
 use racp_drafts::{Draft, Effort, draft_of};
+use racp_found::Found;
 use racp_learning::{Derivations, Search};
 use std::alloc::AllocError;
 
@@ -20,8 +22,12 @@ use std::alloc::AllocError;
 /// What it has learned of one serves the next.
 #[derive(Drop)]
 pub struct Optimizer<N: OfProblem> {
-    search: Search<N>,
-    limits: Limits,
+    pub(crate) search: Search<N>,
+    pub(crate) limits: Limits,
+    /// The search from below, once it has begun.
+    pub(crate) below: Option<Below<N>>,
+    /// Whether what its clauses are derived from is kept, so that they are all to be of one search.
+    pub(crate) is_recording: bool,
 }
 
 impl<N: OfProblem> Optimizer<N> {
@@ -41,7 +47,12 @@ impl<N: OfProblem> Optimizer<N> {
             ..
         } = whole;
         let search = Search::new(alloc, net, order, root, limits.seed, limits.bytes)?;
-        Ok(Optimizer { search, limits })
+        Ok(Optimizer {
+            search,
+            limits,
+            below: None,
+            is_recording: false,
+        })
     }
 
     /// An optimizer that keeps what its clauses are derived from, in at most so many bytes, about.
@@ -53,6 +64,7 @@ impl<N: OfProblem> Optimizer<N> {
         requires { IsTaskOf N.problem whole }
     {
         let mut optimizer: Optimizer<N> = Optimizer::new(whole, limits)?;
+        optimizer.is_recording = true;
         match optimizer.search.record(whole.net, whole.root, most_bytes) {
             Ok(()) => Ok(optimizer),
             Err(refused) => {
@@ -65,7 +77,8 @@ impl<N: OfProblem> Optimizer<N> {
 
     /// What its clauses were derived from, if that was kept.
     pub(crate) fn into_derivations(self) -> Option<Derivations> {
-        let Optimizer { search, .. } = self;
+        let Optimizer { search, below, .. } = self;
+        drop(below);
         search.into_derivations()
     }
 
@@ -80,15 +93,15 @@ impl<N: OfProblem> Optimizer<N> {
         whole: Task<'_>,
         part: Task<'_>,
         hearer: &H,
-    ) -> Result<Optimum, AllocError>
+    ) -> Result<Found, AllocError>
         requires whole { IsTaskOf N.problem whole }
         requires part { IsTaskOf P.problem part }
         requires akin { AreAkin P.problem N.problem }
         requires may { MayBeTold P.problem H.may_hear_cost H.may_hear_draft }
-        ensures { IfOk result (IsOptimum P.problem.network P.problem.terms) }
+        ensures { IfOk result (IsFound P.problem.network P.problem.terms) }
     {
         if !part.root.lies_within(whole.root) {
-            return Ok(Optimum::Open);
+            return Ok(Found::Open);
         }
         let draft = first_draft::<P, H>(part, self.limits, hearer)?;
         self.below::<P, H>(Tasks { whole, part }, draft, hearer)
@@ -100,15 +113,15 @@ impl<N: OfProblem> Optimizer<N> {
         tasks: Tasks<'_>,
         draft: Option<Draft>,
         hearer: &H,
-    ) -> Result<Optimum, AllocError>
+    ) -> Result<Found, AllocError>
         requires are_of { AreTasksOf N.problem P.problem tasks }
         requires may { MayBeTold P.problem H.may_hear_cost H.may_hear_draft }
         requires draft { IfSome draft (IsDraft P.problem.network P.problem.terms) }
-        ensures { IfOk result (IsOptimum P.problem.network P.problem.terms) }
+        ensures { IfOk result (IsFound P.problem.network P.problem.terms) }
     {
-        let mut descent: Descent<P> = Descent::new(tasks.part, self.limits.conflicts, draft)?;
-        descent.go_down::<N, H>(&mut self.search, tasks, hearer)?;
-        descent.into_optimum(tasks.part)
+        let mut descent: Descent<P> = Descent::new(tasks.part, 0, draft)?;
+        self.search_in_stints::<P, H>(tasks, &mut descent, hearer)?;
+        descent.into_found(tasks.part)
     }
 
     /// Whether a part of the order has a plan at all: starts that fit, or that no capacities are enough; neither is known

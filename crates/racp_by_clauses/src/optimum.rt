@@ -1,26 +1,16 @@
 //! The optimum of an order.
 
 ghost use Rattle.std.specs.Prelude.{IfOk};
-ghost use Rattle.racp_by_clauses.specs.Optima.{IsOptimum, IsTaskOf, MayBeTold};
+ghost use Rattle.racp_found.specs.Finds.{IsFound};
+ghost use Rattle.racp_by_clauses.specs.Optima.{IsTaskOf, MayBeTold};
 
 use crate::hearer::Hearer;
 use crate::limits::Limits;
 use crate::optimizer::{Optimizer, first_draft};
 use crate::task::{Task, Tasks};
 use racp_clauses::OfProblem;
-use racp_model::{Capacities, Starts};
+use racp_found::Found;
 use std::alloc::AllocError;
-
-/// What is found of the plan of an order.
-#[derive(Drop)]
-pub enum Optimum {
-    /// The plan: its capacities, and its starts.
-    Plan(Capacities, Starts),
-    /// No capacities are enough.
-    NoneEnough,
-    /// Neither is known.
-    Open,
-}
 
 /// The plan of an order, or that no capacities are enough; or neither, where the search gave up, or the hearer stopped it.
 /// The task is that of the problem that `N` names. The hearer is told lower bounds on the cost, and each draft that is
@@ -33,10 +23,10 @@ pub fn optimum_of<N: OfProblem, H: Hearer>(
     task: Task<'_>,
     limits: Limits,
     hearer: &H,
-) -> Result<Optimum, AllocError>
+) -> Result<Found, AllocError>
     requires is_of { IsTaskOf N.problem task }
     requires may { MayBeTold N.problem H.may_hear_cost H.may_hear_draft }
-    ensures { IfOk result (IsOptimum N.problem.network N.problem.terms) }
+    ensures { IfOk result (IsFound N.problem.network N.problem.terms) }
 {
     let draft = first_draft::<N, H>(task, limits, hearer)?;
     let mut optimizer: Optimizer<N> = Optimizer::new(task, limits)?;

@@ -1,14 +1,15 @@
 //! The optimum of an order, with what its clauses were derived from.
 
 ghost use Rattle.std.specs.Prelude.{IfOk};
-ghost use Rattle.racp_by_clauses.specs.Optima.{IsOptimum, IsTaskOf, MayBeTold};
+ghost use Rattle.racp_found.specs.Finds.{IsFound};
+ghost use Rattle.racp_by_clauses.specs.Optima.{IsTaskOf, MayBeTold};
 
 use crate::hearer::Hearer;
 use crate::limits::Limits;
 use crate::optimizer::{Optimizer, first_draft};
-use crate::optimum::Optimum;
 use crate::task::{Task, Tasks};
 use racp_clauses::OfProblem;
+use racp_found::Found;
 use racp_learning::Derivations;
 use std::alloc::AllocError;
 
@@ -16,7 +17,7 @@ use std::alloc::AllocError;
 #[derive(Drop)]
 pub struct Recorded {
     /// What is found.
-    pub optimum: Optimum,
+    pub found: Found,
     /// The derivations. No contract speaks of them: who reads them has to check them.
     pub derivations: Option<Derivations>,
 }
@@ -35,7 +36,7 @@ pub fn optimum_recorded<N: OfProblem, H: Hearer>(
 ) -> Result<Recorded, AllocError>
     requires is_of { IsTaskOf N.problem task }
     requires may { MayBeTold N.problem H.may_hear_cost H.may_hear_draft }
-    ensures { IfOk result (λ found. IsOptimum N.problem.network N.problem.terms found.optimum) }
+    ensures { IfOk result (λ recorded. IsFound N.problem.network N.problem.terms recorded.found) }
 {
     let draft = first_draft::<N, H>(task, limits, hearer)?;
     let mut optimizer: Optimizer<N> = Optimizer::recording(task, limits, most_bytes)?;
@@ -45,9 +46,6 @@ pub fn optimum_recorded<N: OfProblem, H: Hearer>(
     };
     let found = optimizer.below::<N, H>(tasks, draft, hearer);
     let derivations = optimizer.into_derivations();
-    let optimum = found?;
-    Ok(Recorded {
-        optimum,
-        derivations,
-    })
+    let found = found?;
+    Ok(Recorded { found, derivations })
 }

@@ -1,11 +1,12 @@
 //! One of several searches for one optimum.
 
-ghost use Rattle.racp_by_clauses.specs.Optima.{MayBeTold};
+ghost use Rattle.racp_by_clauses.specs.Optima.{IsTaskOf, MayBeTold};
 
 use crate::by_resource::Parts;
 use crate::common::Common;
 use crate::descent::Descent;
 use crate::hearer::Hearer;
+use crate::stints::Stints;
 use crate::task::{Task, Tasks};
 use racp_clauses::OfProblem;
 use racp_drafts::Draft;
@@ -25,9 +26,14 @@ const RISING: usize = 3;
 pub(crate) struct Worker<N: OfProblem> {
     pub(crate) search: Search<N>,
     pub(crate) descent: Descent<N>,
-    seat: usize,
+    pub(crate) seat: usize,
     /// Up to this place it has read what others have shown.
-    read: usize,
+    pub(crate) read: usize,
+    /// It has shown the others that everything costs at least so much.
+    pub(crate) shown: u64,
+    stints: Stints,
+    /// So many conflicts are left before the next stint.
+    until_stint: u64,
 }
 
 impl<N: OfProblem> Worker<N> {
@@ -48,11 +54,15 @@ impl<N: OfProblem> Worker<N> {
         let seed = common.limits.seed.wrapping_add(seat as u64);
         let mut search = Search::new(alloc, net, order, root, seed, common.limits.bytes)?;
         search.share();
+        let stints = Stints::new(seed);
         Ok(Worker {
             search,
             descent,
             seat,
             read: 0,
+            shown: 0,
+            until_stint: stints.conflicts(common.task),
+            stints,
         })
     }
 
@@ -88,8 +98,8 @@ impl<N: OfProblem> Worker<N> {
             }
             let lost = self.search.tally().lost;
             let slice = left.min(SLICE);
-            self.descent.left = slice;
-            self.descent.go_down(&mut self.search, tasks, hearer)?;
+            self.go_on(tasks, hearer, slice)?;
+            hearer.hear_tally(self.search.tally());
             if self.descent.is_finished(task) {
                 common.finish();
             }
@@ -100,7 +110,27 @@ impl<N: OfProblem> Worker<N> {
                 left.saturating_sub(slice)
             };
             self.tell(rt, common, hearer)?;
+            self.draft(task, hearer, slice)?;
         }
+        Ok(())
+    }
+
+    /// Counts conflicts, and makes drafts better where it is time for it, as long as the least cost is not known.
+    fn draft<H: Hearer>(
+        &mut self,
+        task: Task<'_>,
+        hearer: &H,
+        conflicts: u64,
+    ) -> Result<(), AllocError>
+        requires is_of { IsTaskOf N.problem task }
+        requires may { MayBeTold N.problem H.may_hear_cost H.may_hear_draft }
+    {
+        self.until_stint = self.until_stint.saturating_sub(conflicts);
+        if self.until_stint > 0 || self.descent.is_cost_known() || hearer.stops() {
+            return Ok(());
+        }
+        self.stints.work(task, &mut self.descent, hearer)?;
+        self.until_stint = self.stints.conflicts(task);
         Ok(())
     }
 
@@ -114,7 +144,10 @@ impl<N: OfProblem> Worker<N> {
         requires may { MayBeTold N.problem H.may_hear_cost H.may_hear_draft }
     {
         common.show(rt, self.seat, &mut self.search);
-        self.read = common.read(self.seat, self.read, &mut self.search)?;
+        self.show_cost(rt, common)?;
+        let from = self.read;
+        self.read = common.read(self.seat, from, &mut self.search)?;
+        self.learn_costs(common, hearer, from)?;
         match common.better(rt, &self.descent.best)? {
             Some(draft) => self.take(common, hearer, draft.starts),
             None => Ok(()),

@@ -6,77 +6,93 @@ use crate::rows::{number_at, stored};
 use crate::usages::Usages;
 use std::alloc::{AllocError, Global};
 
-/// Two jobs are taken out, and at most so many more, or a fifth of all.
-const MOST_MORE: u32 = 16;
+/// At most so many jobs that use something are taken out in a round.
+const MOST_OUT: u32 = 20;
+
+/// Jobs that use nothing go in every round, if there are at most so many.
+const MOST_FREE: usize = 32;
 
 /// Chooses jobs that are taken out.
 #[derive(Drop)]
 pub(crate) struct Ruin {
-    /// The jobs that use some of a resource.
-    busy: Vec<u32>,
-    /// How far such a job is from a time, and then its place.
+    /// What the usages are above the aims, from each change on.
+    weights: Vec<u64>,
+    /// How far each busy job is from a time, somewhat by chance, and the job.
     distances: Vec<(u32, u32)>,
     /// By how much a distance is blurred.
     blur: u32,
 }
 
 impl Ruin {
-    /// All jobs of a problem that use some of a resource.
-    pub(crate) fn new(alloc: Global, problem: &Problem) -> Result<Ruin, AllocError> {
-        let mut busy = Vec::new(alloc);
-        let mut sum = 0u32;
-        for i in 0..problem.jobs() {
-            if 0 < problem.worth(i) {
-                busy.push(stored(i))?;
-                sum = sum.saturating_add(problem.duration(i));
-            }
+    /// No job is out yet. Distances are blurred by the mean duration.
+    pub(crate) fn new(alloc: Global, mean_duration: u32) -> Ruin {
+        Ruin {
+            weights: Vec::new(alloc),
+            distances: Vec::new(alloc),
+            blur: mean_duration.saturating_add(1),
         }
-        let mean = sum.checked_div(stored(busy.len())).unwrap_or(0);
-        let distances = Vec::with_capacity(alloc, busy.len())?;
-        Ok(Ruin {
-            busy,
-            distances,
-            blur: mean.saturating_add(mean / 2).saturating_add(1),
-        })
     }
 
-    /// The jobs that use some of a resource.
-    pub(crate) fn busy(&self) -> &[u32] {
-        &self.busy
-    }
-
-    /// Puts the jobs that are to go into one list, and those that stay into the other.
-    pub(crate) fn divide(
+    /// Writes the jobs that are to go down, in rising order.
+    pub(crate) fn choose(
         &mut self,
         problem: &Problem,
         usages: &Usages,
         starts: &[u32],
         random: &mut Random,
-        lists: (&mut Vec<u32>, &mut Vec<u32>),
+        going: &mut Vec<u32>,
     ) -> Result<(), AllocError> {
-        let (going, staying) = lists;
-        let time = time_of(problem, usages, random);
+        let time = self.time_of(problem, usages, random)?;
         self.distances.clear();
-        for job in self.busy.iter() {
+        for job in problem.busy.iter() {
             let i = *job as usize;
             let distance = distance_of(number_at(starts, i), problem.duration(i), time);
             let blurred = distance.saturating_add(random.below(self.blur));
             self.distances.push((blurred, *job))?;
         }
-        self.distances.sort_unstable();
-        let busy = stored(self.busy.len());
-        let more = busy.saturating_sub(2).min(MOST_MORE.max(busy / 5));
-        let count = random.below(more.saturating_add(1)).saturating_add(2) as usize;
+        let most = MOST_OUT.min(stored(problem.busy.len()));
+        let last = random.below(most) as usize;
+        if last < self.distances.len() {
+            let _ = self.distances.select_nth_unstable(last);
+        }
         going.clear();
-        staying.clear();
         for &(_, job) in self.distances.iter() {
-            if going.len() < count {
+            if going.len() <= last {
                 going.push(job)?;
-            } else {
-                staying.push(job)?;
             }
         }
+        if problem.free.len() <= MOST_FREE {
+            going.extend_from_slice(&problem.free)?;
+        }
+        going.sort_unstable();
         Ok(())
+    }
+
+    /// A time near which jobs are to go: two times in three one of excess, each by its share.
+    fn time_of(
+        &mut self,
+        problem: &Problem,
+        usages: &Usages,
+        random: &mut Random,
+    ) -> Result<u32, AllocError> {
+        let mut time = random.below(problem.deadline);
+        if random.below(3) == 0 {
+            return Ok(time);
+        }
+        usages.weigh(&mut self.weights)?;
+        let mut sum = 0u64;
+        for (place, weight) in self.weights.iter().enumerate() {
+            let length = usages.length_at(place);
+            let excess = weight.wrapping_mul(length);
+            if 0 < excess {
+                sum = sum.wrapping_add(excess);
+                if random.draw().checked_rem(sum.max(1)).unwrap_or(0) < excess {
+                    let within = u32::try_from(length).unwrap_or(0);
+                    time = number_at(&usages.times, place).saturating_add(random.below(within));
+                }
+            }
+        }
+        Ok(time)
     }
 }
 
@@ -88,37 +104,4 @@ fn distance_of(start: u32, duration: u32, time: u32) -> u32 {
     } else {
         time.saturating_add(1).saturating_sub(end)
     }
-}
-
-/// A time near which jobs are to go: two times in three one at which some resource is at its peak.
-fn time_of(problem: &Problem, usages: &Usages, random: &mut Random) -> u32 {
-    let k = random.below(stored(usages.rows.len())) as usize;
-    if random.below(3) == 0 {
-        random.below(problem.deadline)
-    } else {
-        time_of_peak(usages, k, random)
-    }
-}
-
-/// A time at which the usage of the resource at a place is greatest.
-fn time_of_peak(usages: &Usages, k: usize, random: &mut Random) -> u32 {
-    let Some(row) = usages.rows.get(k) else {
-        return 0;
-    };
-    let mut count = 0u32;
-    for load in row.loads.iter() {
-        if *load == row.peak {
-            count = count.saturating_add(1);
-        }
-    }
-    let mut left = random.below(count);
-    for (place, load) in row.loads.iter().enumerate() {
-        if *load == row.peak {
-            if left == 0 {
-                return number_at(&usages.times, place);
-            }
-            left = left.saturating_sub(1);
-        }
-    }
-    0
 }

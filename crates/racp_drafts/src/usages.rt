@@ -1,136 +1,52 @@
-//! What the placed jobs use of each resource, from one change to the next.
+//! What the jobs use of each resource, from one change to the next, and by how much that exceeds the aims.
 
 use crate::problem::Problem;
-use crate::rows::{number_at, part};
+use crate::rows::number_at;
+use crate::usage::{Change, Usage};
 use std::alloc::{AllocError, Global};
 
-/// What the placed jobs use of one resource.
-#[derive(Drop)]
-pub(crate) struct Usage {
-    /// The usage from each time of change until the next.
-    pub(crate) loads: Vec<u32>,
-    /// The greatest of these.
-    pub(crate) peak: u32,
-}
-
-impl Usage {
-    /// Clears the usage, for so many times of change.
-    fn clear(&mut self, times: usize) -> Result<(), AllocError> {
-        self.loads.clear();
-        for _time in 0..times {
-            self.loads.push(0)?;
-        }
-        self.peak = 0;
-        Ok(())
-    }
-
-    /// Counts a job that runs from one change until another, before the changes are summed up.
-    #[inline]
-    fn count(&mut self, from: usize, until: usize, request: u32) {
-        if from < self.loads.len() && until < self.loads.len() {
-            self.loads[from] = self.loads[from].wrapping_add(request);
-            self.loads[until] = self.loads[until].wrapping_sub(request);
-        }
-    }
-
-    /// Sums the changes up.
-    fn sum_up(&mut self) {
-        let mut load = 0u32;
-        let mut peak = 0u32;
-        for change in self.loads.iter_mut() {
-            load = load.wrapping_add(*change);
-            *change = load;
-            peak = peak.max(load);
-        }
-        self.peak = peak;
-    }
-
-    /// Puts a time of change at a place, at which nothing changes yet.
-    fn split(&mut self, at: usize) -> Result<(), AllocError> {
-        let load = number_at(&self.loads, at.saturating_sub(1));
-        if at <= self.loads.len() {
-            self.loads.insert(at, load)?;
-        }
-        Ok(())
-    }
-
-    /// Adds a job that runs from one change until another.
-    fn add(&mut self, from: usize, until: usize, request: u32) {
-        let mut peak = self.peak;
-        if from <= until && until <= self.loads.len() {
-            for load in self.loads[from..until].iter_mut() {
-                *load = load.wrapping_add(request);
-                peak = peak.max(*load);
-            }
-        }
-        self.peak = peak;
-    }
-
-    /// The usage from a change until another one.
-    #[inline]
-    pub(crate) fn part(&self, from: usize, until: usize) -> &[u32] {
-        part(&self.loads, from, until)
-    }
-}
-
-/// What the placed jobs use of each resource, from one time of change to the next. Its size does not grow with the
-/// deadline.
+/// What the jobs use of each resource, from one time of change to the next. Its size does not grow with the deadline.
 #[derive(Drop)]
 pub(crate) struct Usages {
-    /// The times at which a usage can change, rising, the first of them 0.
+    /// The times at which a usage can change, rising, from 0 to the deadline.
     pub(crate) times: Vec<u32>,
     /// Of each resource of the problem.
     pub(crate) rows: Vec<Usage>,
+    /// What the usages are above the aims, by weight and time.
+    pub(crate) excess: u64,
 }
 
 impl Usages {
-    /// No usage at all.
+    /// No usage at all; the floors are the aims.
     pub(crate) fn new(alloc: Global, problem: &Problem) -> Result<Usages, AllocError> {
         let mut rows = Vec::with_capacity(alloc, problem.resources.len())?;
-        for _resource in 0..problem.resources.len() {
-            let loads = Vec::new(alloc);
-            rows.push(Usage { loads, peak: 0 })?;
+        for resource in problem.resources.iter() {
+            rows.push(Usage {
+                loads: Vec::new(alloc),
+                aim: resource.floor,
+                weight: resource.weight(),
+            })?;
         }
-        let times = Vec::new(alloc);
-        Ok(Usages { times, rows })
+        let mut usages = Usages {
+            times: Vec::new(alloc),
+            rows,
+            excess: 0,
+        };
+        usages.clear(problem.deadline)?;
+        Ok(usages)
     }
 
-    /// Makes the usage anew, of the jobs in a list with the starts of all.
-    pub(crate) fn fill(
-        &mut self,
-        problem: &Problem,
-        placed: &[u32],
-        starts: &[u32],
-    ) -> Result<(), AllocError> {
+    /// No usage until the deadline, and no excess.
+    pub(crate) fn clear(&mut self, deadline: u32) -> Result<(), AllocError> {
         self.times.clear();
         self.times.push(0)?;
-        for job in placed {
-            let start = number_at(starts, *job as usize);
-            self.times.push(start)?;
-            self.times
-                .push(start.saturating_add(problem.duration(*job as usize)))?;
-        }
-        self.times.sort_unstable();
-        self.times.dedup();
+        self.times.push(deadline)?;
         for row in self.rows.iter_mut() {
-            row.clear(self.times.len())?;
+            row.loads.clear();
+            row.loads.resize(2, 0)?;
         }
-        for job in placed {
-            self.count(problem, *job as usize, number_at(starts, *job as usize));
-        }
-        for row in self.rows.iter_mut() {
-            row.sum_up();
-        }
+        self.excess = 0;
         Ok(())
-    }
-
-    /// Counts a job whose start and end are times of change.
-    fn count(&mut self, problem: &Problem, i: usize, start: u32) {
-        let from = self.place_of(start);
-        let until = self.place_of(start.saturating_add(problem.duration(i)));
-        for (row, resource) in self.rows.iter_mut().zip(problem.resources.iter()) {
-            row.count(from, until, number_at(&resource.requests, i));
-        }
     }
 
     /// The place of the first time of change at or after a time.
@@ -139,42 +55,135 @@ impl Usages {
         self.times.partition_point(|other| *other < time)
     }
 
-    /// Adds a job with this start.
-    pub(crate) fn add(
-        &mut self,
-        problem: &Problem,
-        i: usize,
-        start: u32,
-    ) -> Result<(), AllocError> {
-        let from = self.split(start)?;
-        let until = self.split(start.saturating_add(problem.duration(i)))?;
-        for (row, resource) in self.rows.iter_mut().zip(problem.resources.iter()) {
-            row.add(from, until, number_at(&resource.requests, i));
-        }
-        Ok(())
+    /// How long it is from a change to the next; 0 from the last one.
+    #[inline]
+    pub(crate) fn length_at(&self, place: usize) -> u64 {
+        let next = number_at(&self.times, place.saturating_add(1));
+        next.saturating_sub(number_at(&self.times, place)) as u64
     }
 
-    /// Makes a time one of change, and tells its place.
+    /// Makes a time one of change, and tells its place. A time behind the last one is left out.
+    #[inline]
     fn split(&mut self, time: u32) -> Result<usize, AllocError> {
         let at = self.place_of(time);
-        if at < self.times.len() && self.times[at] == time {
-            return Ok(at);
-        }
-        if at <= self.times.len() {
+        if at < self.times.len() && self.times[at] != time {
             self.times.insert(at, time)?;
-        }
-        for row in self.rows.iter_mut() {
-            row.split(at)?;
+            for row in self.rows.iter_mut() {
+                row.split(at)?;
+            }
         }
         Ok(at)
     }
 
-    /// What the peaks cost.
-    pub(crate) fn cost(&self, problem: &Problem) -> u64 {
-        let mut cost = 0u64;
-        for (row, resource) in self.rows.iter().zip(problem.resources.iter()) {
-            cost = cost.saturating_add(resource.cost_of(row.peak));
+    /// Adds the run of a job that starts then, or takes it off. A job that uses nothing changes nothing.
+    pub(crate) fn shift(
+        &mut self,
+        problem: &Problem,
+        i: usize,
+        start: u32,
+        change: Change,
+    ) -> Result<(), AllocError> {
+        if problem.work(i) == 0 {
+            return Ok(());
         }
-        cost
+        let from = self.split(start)?;
+        let until = self.split(start.saturating_add(problem.duration(i)))?;
+        let times = self.times.as_slice();
+        let mut excess = self.excess;
+        for (row, request) in self.rows.iter_mut().zip(problem.requests(i).iter()) {
+            if 0 < *request {
+                excess = excess.wrapping_add(row.shift(times, from, until, *request, change));
+            }
+        }
+        self.excess = excess;
+        Ok(())
+    }
+
+    /// Takes out the changes at which nothing changes.
+    pub(crate) fn squeeze(&mut self) {
+        let mut kept = 1usize;
+        let count = self.times.len();
+        for place in 1..count {
+            if place.wrapping_add(1) == count || self.changes(place, kept.wrapping_sub(1)) {
+                self.move_change(place, kept);
+                kept = kept.wrapping_add(1);
+            }
+        }
+        self.times.truncate(kept);
+        for row in self.rows.iter_mut() {
+            row.loads.truncate(kept);
+        }
+    }
+
+    /// Whether some usage at a place is another one than at an earlier place.
+    fn changes(&self, place: usize, earlier: usize) -> bool {
+        for row in self.rows.iter() {
+            if number_at(&row.loads, place) != number_at(&row.loads, earlier) {
+                return true;
+            }
+        }
+        false
+    }
+
+    /// Moves a change to an earlier place.
+    fn move_change(&mut self, place: usize, earlier: usize) {
+        move_number(&mut self.times, place, earlier);
+        for row in self.rows.iter_mut() {
+            move_number(&mut row.loads, place, earlier);
+        }
+    }
+
+    /// For how long the usage of a resource is above so many units.
+    pub(crate) fn time_above(&self, k: usize, units: u32) -> u64 {
+        let mut sum = 0u64;
+        if let Some(row) = self.rows.get(k) {
+            for (place, load) in row.loads.iter().enumerate() {
+                if units < *load {
+                    sum = sum.saturating_add(self.length_at(place));
+                }
+            }
+        }
+        sum
+    }
+
+    /// Writes down what the usages from each change on are above the aims, by weight.
+    pub(crate) fn weigh(&self, weights: &mut Vec<u64>) -> Result<(), AllocError> {
+        weights.clear();
+        weights.resize(self.times.len(), 0)?;
+        for row in self.rows.iter() {
+            let (aim, weight) = (row.aim, row.weight);
+            for (sum, load) in weights.iter_mut().zip(row.loads.iter()) {
+                let above = load.saturating_sub(aim) as u64;
+                *sum = sum.wrapping_add(weight.wrapping_mul(above));
+            }
+        }
+        Ok(())
+    }
+
+    /// Counts the excess anew.
+    pub(crate) fn recount(&mut self, weights: &mut Vec<u64>) -> Result<(), AllocError> {
+        self.weigh(weights)?;
+        let mut excess = 0u64;
+        for (place, weight) in weights.iter().enumerate() {
+            excess = excess.wrapping_add(weight.wrapping_mul(self.length_at(place)));
+        }
+        self.excess = excess;
+        Ok(())
+    }
+
+    /// Writes the greatest usage of each resource down.
+    pub(crate) fn peaks(&self, peaks: &mut Vec<u32>) -> Result<(), AllocError> {
+        peaks.clear();
+        for row in self.rows.iter() {
+            peaks.push(row.peak())?;
+        }
+        Ok(())
+    }
+}
+
+/// Copies the number at a place to another place.
+fn move_number(row: &mut [u32], place: usize, other: usize) {
+    if place < row.len() && other < row.len() {
+        row[other] = row[place];
     }
 }

@@ -1,6 +1,6 @@
-//! Tests of networks, early and late starts, tightened windows, conflicts, bounds and drafts, over their public functions; and of
-//! facts: searches that learn beside all schedules, with little memory and with few conflicts, optima beside plans by definition,
-//! certificates by clauses of what a search has recorded, and a stop within the check of such a text.
+//! Tests of networks, links between tasks, early and late starts, tightened windows, conflicts, bounds and drafts, over their public
+//! functions; and of facts: searches that learn beside all schedules, with little memory and with few conflicts, optima beside plans
+//! by definition, certificates by clauses of what a search has recorded, and a stop within the check of such a text.
 #![tactic(auto)]
 
 #[cfg(test)]
@@ -15,6 +15,8 @@ mod certificates;
 mod conflicts;
 #[cfg(test)]
 mod descents;
+#[cfg(test)]
+mod links;
 #[cfg(test)]
 mod listener;
 #[cfg(test)]
@@ -33,6 +35,8 @@ mod samples;
 mod schedules;
 #[cfg(test)]
 mod searches;
+#[cfg(test)]
+mod stints;
 #[cfg(test)]
 mod sums;
 #[cfg(test)]

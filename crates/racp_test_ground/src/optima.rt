@@ -5,8 +5,9 @@ ghost use Rattle.racp_by_clauses.specs.Optima.{IsTaskOf};
 use crate::listener::Listener;
 use crate::sums::Sums;
 use crate::tasks::{Trial, try_next};
-use racp_by_clauses::{Limits, Optimum, Task, optimum_of};
+use racp_by_clauses::{Limits, Task, optimum_of};
 use racp_clauses::OfProblem;
+use racp_found::Found;
 use racp_plan::Plan;
 use racp_reference::{Outcome, plan_by_definition};
 use racp_samples::Random;
@@ -67,14 +68,14 @@ impl Effort {
 }
 
 /// Whether what is found is this plan, or that there is none, or nothing if that may be.
-fn is_found(found: &Optimum, plan: Option<&Plan>, may_be_open: bool) -> bool {
+fn is_found(found: &Found, plan: Option<&Plan>, may_be_open: bool) -> bool {
     match (found, plan) {
-        (Optimum::Plan(capacities, starts), Some(plan)) => {
+        (Found::Plan(capacities, starts), Some(plan)) => {
             capacities.as_slice() == plan.capacities.as_slice()
                 && starts.as_slice() == plan.starts.as_slice()
         }
-        (Optimum::NoneEnough, None) => true,
-        (Optimum::Open, _) => may_be_open,
+        (Found::NoneEnough, None) => true,
+        (Found::Open, _) => may_be_open,
         _ => false,
     }
 }

@@ -302,24 +302,6 @@ fn holds(alloc: Global, wish: &Wish) -> bool {
     }
 }
 
-/// The starts and the capacity of the first wish's draft, as on the page of racp_drafts.
-const SHOWN_STARTS: &[u32] = &[0, 0, 2, 0, 4];
-
-const SHOWN_CAPACITIES: &[u32] = &[3];
-
-/// Whether the draft of a wish is the one that is shown.
-fn is_shown(alloc: Global, wish: &Wish) -> bool {
-    outcome_of(alloc, wish) == Outcome::Made(30, mixed(SHOWN_STARTS, SHOWN_CAPACITIES))
-}
-
-#[test]
-fn drafts_the_shown_order(rt: HostRuntime) {
-    match WISHES.first() {
-        Some(wish) => assert!(rt; is_shown(rt.alloc(), wish)),
-        None => assert!(rt; false),
-    }
-}
-
 #[test]
 fn drafts_small_orders(rt: HostRuntime) {
     for wish in WISHES {
