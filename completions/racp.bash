@@ -20,7 +20,8 @@ _racp() {
         whatif) options="--names --workers --turns --memory --time-limit --json --explain --quiet" ;;
         order) options="--names --factor --deadline --prices --owned --ceiling --json --explain --quiet" ;;
         batch) options="--factors --price --time-limit --memory --jobs --out --quiet" ;;
-        import) options="--out --from --prices --factor --deadline --owned --ceiling --quiet" ;;
+        import) options="--out --from --prices --factor --deadline --owned --ceiling --resources --ignore --hours-a-day --unit --strict
+            --force --quiet" ;;
         explain)
             mapfile -t COMPREPLY < <(compgen -W "sm order plan names impossible fault --help" -- "$word")
             return

@@ -101,4 +101,10 @@ complete -c racp -n "__fish_seen_subcommand_from import" -l factor -x -d "deadli
 complete -c racp -n "__fish_seen_subcommand_from import" -l deadline -x -d deadline
 complete -c racp -n "__fish_seen_subcommand_from import" -l owned -x -d "owned units"
 complete -c racp -n "__fish_seen_subcommand_from import" -l ceiling -x -d "most units"
+complete -c racp -n "__fish_seen_subcommand_from import" -l resources -x -d "columns of resources"
+complete -c racp -n "__fish_seen_subcommand_from import" -l ignore -x -d "columns that are passed over"
+complete -c racp -n "__fish_seen_subcommand_from import" -l hours-a-day -x -d "hours of a day"
+complete -c racp -n "__fish_seen_subcommand_from import" -l unit -x -a "day half-day" -d "length of a time unit"
+complete -c racp -n "__fish_seen_subcommand_from import" -l strict -d "refuse a table that looks wrong"
+complete -c racp -n "__fish_seen_subcommand_from import" -l force -d "replace files that were changed"
 complete -c racp -n "__fish_seen_subcommand_from import" -l quiet -d "say nothing of what is wrong"

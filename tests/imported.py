@@ -5,13 +5,22 @@ import random
 import subprocess
 import tempfile
 import tomllib
+import unicodedata
 
 from shared import Run, command, run
 from slow import imports
 from slow.mutations import BYTES
 from slow.reader import network_of
 
-SIGNS = [bytes([byte]) for byte in BYTES] + [b",", b";", b"\"", b"FS", b"SS", b"1", b"512", b"10001", b"10000001", b"\nR,1", b"Due", b"id"]
+SIGNS = [bytes([byte]) for byte in BYTES] + [b",", b";", b"\"", b"FS", b"SS", b"1", b"512", b"10001", b"10000001", b"\nR,1", b"Due", b"id",
+                                             b"SF", b"EA", b"+2", b" 2w", b"5 d", b"1-2", b"Total", b"sep=;\n", b"Start", b"Successors",
+                                             b"Walls[2]", b"50%"]
+
+# Which of the files of a table were changed since they were written, and whether --force is given.
+CHANGES = [(changed, forced) for changed in ((), ("sm",), ("names",), ("toml",), ("sm", "toml"), ("names", "toml"))
+           for forced in (False, True)]
+FIRST = b"name,duration,Masons\nDig,3,2\n"
+SECOND = b"name,duration,Masons\nDig,4,2\nWall,1,1\n"
 
 
 def changed(chance, body):
@@ -37,6 +46,42 @@ def wrong_refusal(got, files):
     return None if got.status == 5 and not got.output and is_told and not files else f"it is to be refused: {got}, {sorted(files)}"
 
 
+def wrong_mark(files):
+    """What is wrong with the marks of files, or nothing."""
+    marks = {"made.sm": f"made by racp import: {checksum(below(files['made.sm']))} {checksum(files['made.names'])}\n",
+             "made.toml": f"# made by racp import: {checksum(below(files['made.toml']))}\n"}
+    wrong = [name for name, mark in marks.items() if not files[name].startswith(mark.encode())]
+    return f"marks of {wrong}" if wrong else None
+
+
+def below(text):
+    """What stands below the first line."""
+    return text.partition(b"\n")[2]
+
+
+def checksum(text):
+    """The checksum of a text as docs/FORMATS.md says."""
+    found = 0xcbf29ce484222325
+    for byte in text:
+        found = (found ^ byte) * 0x100000001b3 % 2 ** 64
+    return f"{found:016x}"
+
+
+def told_of(table):
+    """What is to be told of a table that is taken."""
+    critical = table.critical()
+    lines = [f"racp: table: {table.understood()}"]
+    lines += [f"racp: table:{line}: warning: {words}" if line else f"racp: table: warning: {words}" for line, words in table.warnings]
+    if critical > 30:
+        lines.append(f"racp: table: warning: the deadline 30 is before the critical length {critical}, so nothing can be planned")
+    return "".join(f"{plain(line)}\n" for line in lines).encode()
+
+
+def plain(line):
+    """A line as it is shown: blanks for line feeds, and no other control characters."""
+    return "".join(" " if sign == "\n" else sign for sign in line if sign == "\n" or unicodedata.category(sign) != "Cc")
+
+
 def wrong_order(text, table):
     wanted = {"deadline": 30, "prices": [3] * table.network.resources, "release": table.earliest, "due": table.due}
     wanted = {key: value for key, value in wanted.items() if value is not None}
@@ -48,8 +93,10 @@ def wrong_order(text, table):
 
 def wrong_files(folder, got, files, table):
     """What is wrong with the files of a table, or nothing."""
-    if got.status != 0 or got.error or set(files) != {"made.sm", "made.names", "made.toml"}:
+    if got.status != 0 or set(files) != {"made.sm", "made.names", "made.toml"}:
         return f"it is to be taken: {got}, {sorted(files)}"
+    if got.error != told_of(table):
+        return f"told {got.error}, wanted {told_of(table)}"
     found = network_of(files["made.sm"])
     if found != table.network:
         return f"network {found}, wanted {table.network}"
@@ -59,7 +106,7 @@ def wrong_files(folder, got, files, table):
     planned = run("plan", folder / "made.sm", folder / "made.toml", "--turns", "1")
     if read.status != 0 or planned.status not in (0, 3, 4):
         return f"what is read of it: {read}, {planned}"
-    return wrong_order(files["made.toml"], table)
+    return wrong_mark(files) or wrong_order(files["made.toml"], table)
 
 
 def compared_text(name, body):
@@ -85,3 +132,34 @@ def random_text(seed):
     chance = random.Random(f"tables {seed}")
     body = imports.random_table(chance).encode()
     return changed(chance, body) if chance.random() < 0.6 else body
+
+
+def compared_change(change):
+    """The name of a change of files that are there already, the kind of what becomes of them, and what is wrong, or nothing."""
+    edited, forced = change
+    with tempfile.TemporaryDirectory() as home:
+        folder = pathlib.Path(home)
+        words = ["import", "table", "--out", "made", "--prices", "3", "--deadline", "30"]
+        _, wanted = written(folder, SECOND, words)
+        _, before = written(folder, FIRST, [*words, "--force"])
+        for end in edited:
+            path = folder / f"made.{end}"
+            path.write_bytes(path.read_bytes() + b"# by hand\n")
+        before = {path.name: path.read_bytes() for path in folder.glob("made.*")}
+        status, after = written(folder, SECOND, [*words, *(["--force"] if forced else [])])
+    is_refused = not forced and ("sm" in edited or "names" in edited)
+    if is_refused:
+        wanted = before
+    elif not forced and "toml" in edited:
+        wanted = {**wanted, "made.toml": before["made.toml"]}
+    name = f"{edited} changed{', forced' if forced else ''}"
+    if status != (5 if is_refused else 0) or after != wanted:
+        return name, "wrong", f"status {status}, files {after}, wanted {wanted}"
+    return name, "refused" if is_refused else "replaced", None
+
+
+def written(folder, body, words):
+    """The status of a run for a table, and the files that are there behind it."""
+    (folder / "table").write_bytes(body)
+    done = subprocess.run(command(*words), cwd=folder, stdin=subprocess.DEVNULL, capture_output=True)
+    return done.returncode, {path.name: path.read_bytes() for path in folder.glob("made.*")}

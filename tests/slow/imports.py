@@ -2,14 +2,38 @@
 
 That page does not say what a quote within a cell means, or a carriage return within a line; `Open` says that a text has one."""
 
+import collections
 import re
 import unicodedata
+from fractions import Fraction
 
-from slow.networks import Network, random_network
+from slow.networks import Network, early_starts, random_network
 
 LATEST, MOST_JOBS, MOST_RESOURCES, MOST = 10_000_000, 512, 16, 10_000
-NAMES = ["Walls", "Roof", "First fix", "walls", "A, B", "C; D", "3FS", "7", "Über", "<b>", "Walls 2FS"]
-KNOWN = {"id", "name", "task name", "duration", "predecessors", "earliest", "due"}
+NAMES = ["Walls", "Roof", "First fix", "walls", "A, B", "C; D", "3FS", "7", "Über", "<b>", "Walls 2FS", "Sum", "1-3"]
+TITLES = {
+    "id": "id no nr # number job taskid jobid taskno tasknumber nummer vorgangsnummer",
+    "name": "name task taskname activity activityname vorgang vorgangsname bezeichnung",
+    "duration": "duration dauer",
+    "predecessors": "predecessors predecessor predecessor(s) dependson after vorgänger",
+    "successors": "successors successor successor(s) nachfolger",
+    "earliest": "earliest startnoearlierthan anfangnichtfrüherals",
+    "due": "due finishnolaterthan endenichtspäterals",
+    "needs": "resourcenames resources ressourcennamen ressourcen",
+}
+USED = {key: kind for kind, keys in TITLES.items() for key in keys.split()}
+PASSED_OVER = """start finish end begin begindate startdate enddate finishdate scheduledstart scheduledfinish actualstart actualfinish
+    anfang ende deadline stichtag cost costs kosten priority priorität %complete complete completion percentcomplete progress
+    %abgeschlossen fortschritt wbs wbscode pspcode outlinelevel outlinenumber gliederungsebene gliederungsnummer slack totalslack
+    freeslack gesamtepufferzeit puffer critical kritisch notes note comment comments notizen bemerkung constrainttype constraintdate
+    constraint einschränkungsart einschränkungstermin work arbeit indicators indikatoren active aktiv taskmode vorgangsmodus
+    coordinator taskcolor weblink assignments milestone meilenstein summary status guid type""".split()
+SUMS = "total totals grandtotal subtotal sum summe gesamt gesamtsumme zwischensumme".split()
+DAYS, WEEKS = "d day days t tag tage tagen".split(), "w wk wks week weeks woche wochen".split()
+KINDS = {"FS": "FS", "SS": "SS", "FF": "FF", "SF": "SF", "EA": "FS", "AA": "SS", "EE": "FF", "AE": "SF"}
+
+# A row of a task.
+Row = collections.namedtuple("Row", "line id name before after duration requests earliest due")
 
 
 class Refused(Exception):
@@ -21,16 +45,32 @@ class Open(Exception):
 
 
 class Table:
-    """What a table says: a network, the names of the tasks and then of the resources, and release and due times or none."""
+    """What a table says: a network, the names of the jobs and then of the resources, release and due times or none; how many
+    tasks it has, the titles of columns that are passed over, and the lines and words of warnings."""
 
-    def __init__(self, network, names, earliest, due):
+    def __init__(self, network, names, earliest, due, tasks=None, passed_over=(), warnings=()):
         self.network, self.names, self.earliest, self.due = network, names, earliest, due
+        self.tasks = len(network.durations) if tasks is None else tasks
+        self.passed_over, self.warnings = list(passed_over), list(warnings)
+
+    def critical(self):
+        starts = early_starts(self.network, self.earliest or [0] * len(self.network.durations))
+        return max(start + duration for start, duration in zip(starts, self.network.durations))
+
+    def understood(self):
+        """The words for what was understood."""
+        jobs = len(self.network.durations)
+        waits = jobs - self.tasks
+        words = f"{counted(self.tasks, 'task')}, {counted(len(self.network.pairs) - waits, 'link')}"
+        words += f" ({counted(waits, 'job')} behind the tasks for lags)" if waits else ""
+        needs = [f"{name} (most needed at once by a task: {max(row[k] for row in self.network.requests)})"
+                 for k, name in enumerate(self.names[jobs:])]
+        words += f", critical length {self.critical()}; resources: {', '.join(needs)}"
+        return words + (f"; passed over: {', '.join(self.passed_over)}" if self.passed_over else "")
 
 
-def number(word, most, low=0):
-    if not re.fullmatch("[0-9]+", word) or not low <= int(word) <= most:
-        raise Refused(f"number {word}")
-    return int(word)
+def counted(count, thing):
+    return f"{count} {thing}{'' if count == 1 else 's'}"
 
 
 def plain(word):
@@ -38,83 +78,252 @@ def plain(word):
     return "".join(" " if unicodedata.category(sign) == "Cc" else sign for sign in word)
 
 
+def key_of(title):
+    return re.sub(r"[\s.:_-]", "", title).lower()
+
+
+# Numbers.
+
+def number(word, most, low=0):
+    if not re.fullmatch("[0-9]+", word) or not low <= int(word) <= most:
+        raise Refused(f"number {word}")
+    return int(word)
+
+
+def amount(word):
+    """The number that a word says, or none."""
+    if re.fullmatch("[0-9]+", word):
+        return Fraction(int(word))
+    mark = "." if "." in word else "," if "," in word else None
+    if mark:
+        front, back = word.split(mark, 1)
+        is_number = re.fullmatch("[0-9]+", front) and re.fullmatch("[0-9]{1,2}", back)
+        return Fraction(f"{front}.{back}") if is_number else None
+    digits = ""
+    for part in re.split(r"['’\s]", word):
+        if digits and len(part.encode()) != 3:
+            return None
+        digits += part
+    return Fraction(int(digits)) if re.fullmatch("[0-9]+", digits) else None
+
+
+def whole(value, most):
+    """A number if it is whole and not too great, or none."""
+    return int(value) if value is not None and value.denominator == 1 and value <= most else None
+
+
+def units_in(word, most):
+    """How many time units a word says, or none."""
+    word = word.rstrip("?").strip()
+    first = next((place for place, sign in enumerate(word) if sign.isalpha()), len(word))
+    value, unit = amount(word[:first].strip()), word[first:].strip().rstrip(".").lower()
+    if value is None or unit and unit not in DAYS + WEEKS:
+        return None
+    return whole(value * (5 if unit in WEEKS else 1), most)
+
+
+def needed(value):
+    if value is None:
+        raise Refused("a number")
+    return value
+
+
 # Rows and cells.
 
-def separator(text):
-    """The signs that stand between cells, by the first row."""
-    for line in text.split("\n"):
-        for sign in "\t;":
-            if sign in line:
-                return sign
-        if line.strip():
-            return ","
-    return ","
+def layout(text):
+    """The sign between cells, and how many lines stand above the titles."""
+    lines = text.split("\n")
+    said = re.match("sep=(.)", lines[0].strip().strip('"'))
+    said = said[1] if said else None
+    with_words = [place for place, line in enumerate(lines) if line.strip()]
+    for place in with_words[:50]:
+        for sign in "\t;,":
+            kinds = {USED.get(key_of(cell.strip().strip('"'))) for cell in lines[place].split(sign)}
+            if said in (None, sign) and {"name", "duration"} <= kinds:
+                return sign, place
+    for place, line in enumerate(lines):
+        if re.search(r'[^\s,;"]', line) and not (place == 0 and said):
+            sign = said or next((sign for sign in "\t;" if sign in line), ",")
+            return sign if sign in "\t;" else ",", place
+    return said if said and said in "\t;" else ",", 0
 
 
-def rows_of(text, between):
-    """The rows of a text, each a list of cells; lines without any sign are no rows."""
-    rows, cells, cell, at = [], [], "", 0
+def rows_of(text, between, line):
+    """The rows of a text that begins at a line, each its line and a list of cells; lines without any sign are no rows."""
+    rows, cells, cell, at, first = [], [], "", 0, line
+    was_quoted = False
     while at < len(text):
-        if text[at] == '"' and cell == "" and (at == 0 or text[at - 1] in between + "\n"):
-            at += 1
+        if text[at] == '"' and not cell.strip() and not was_quoted and between not in cell:
+            cell, at, was_quoted = "", at + 1, True
             while at < len(text) and not (text[at] == '"' and text[at + 1:at + 2] != '"'):
                 cell += text[at]
                 at += 2 if text[at] == '"' else 1
+            if at >= len(text):
+                raise Refused("a quote that is not closed")
             at += 1
             if at < len(text) and text[at] not in between + "\n":
                 raise Open("signs behind a quote")
         elif text[at] == between:
-            cells, cell, at = [*cells, cell], "", at + 1
+            cells, cell, at, was_quoted = [*cells, cell], "", at + 1, False
         elif text[at] == "\n":
-            if cells or cell or text[at - 1:at] == '"':
-                rows.append([*cells, cell])
-            cells, cell, at = [], "", at + 1
+            if cells or cell or was_quoted:
+                rows.append((first, [*cells, cell]))
+            line = text.count("\n", 0, at + 1) + 1
+            cells, cell, at, was_quoted, first = [], "", at + 1, False, line
         else:
             cell, at = cell + text[at], at + 1
-    return [*rows, [*cells, cell]] if cells or cell else rows
+    return [*rows, (first, [*cells, cell])] if cells or cell or was_quoted else rows
+
+
+def is_near(a, b):
+    """Whether two words are one letter away from each other."""
+    if len(a) > len(b):
+        a, b = b, a
+    if len(a) == len(b):
+        return sum(x != y for x, y in zip(a, b)) == 1
+    return len(a) + 1 == len(b) and any(b[:place] + b[place + 1:] == a for place in range(len(b)))
 
 
 def columns_of(head):
-    """The places of the columns by what they are for, and those of the resources with their names."""
-    places, resources = {}, {}
+    """The places of the columns by what they are for, those of the resources with their names, and the titles that are passed over."""
+    places, resources, passed_over = {}, {}, []
     for place, title in enumerate(cell.strip() for cell in head):
-        key = title.lower() if title.isascii() and title.lower() in KNOWN else None
-        key = "name" if key == "task name" else key
-        if key in places or plain(title) in resources:
+        key = key_of(title)
+        kind = USED.get(key)
+        if kind in places or kind is None and key not in PASSED_OVER and plain(title) in resources:
             raise Refused(f"column {title} twice")
-        if key is not None:
-            places[key] = place
-        elif title:
+        if kind is not None:
+            places[kind] = place
+        elif key in PASSED_OVER:
+            passed_over.append(plain(title))
+        elif key:
+            if len(key) >= 4 and any(len(known) >= 4 and is_near(key, known) for known in USED):
+                raise Refused(f"column {title} near a title")
             resources[plain(title)] = place
-    if not {"name", "duration"} <= set(places) or not 1 <= len(resources) <= MOST_RESOURCES:
+    if resources and "needs" in places:
+        passed_over.append(plain(head[places.pop("needs")].strip()))
+    if not {"name", "duration"} <= set(places) or not (resources or "needs" in places) or len(resources) > MOST_RESOURCES:
         raise Refused("columns")
-    return places, resources
+    return places, resources, passed_over
 
 
-def task_of(word, ids, names):
-    """The place of the task with this id, or else with this name; none if there is none."""
-    if word and word in ids:
-        return ids.index(word)
-    if names.count(word) > 1:
-        raise Refused(f"name {word} of several tasks")
-    return names.index(word) if word in names else None
+# What a row says.
 
-
-def befores(cell, ids, names):
-    """The places of the tasks before, by a cell."""
-    if cell and cell in ids or names.count(cell) == 1:
-        return [task_of(cell, ids, names)]
-    found = []
+def assigned(cell):
+    """What a cell needs by the names of resources."""
+    found = collections.Counter()
     for word in (part.strip() for part in re.split("[;,]", cell)):
-        if not word:
+        told = re.fullmatch(r"(?s)(.*)\[([^\[]*)\]", word)
+        name, units = (told[1].strip(), told[2].strip()) if told else (word, "1")
+        if not name:
             continue
-        place = task_of(word, ids, names)
-        if place is None and word.endswith("FS"):
-            place = task_of(word[:-2].strip(), ids, names)
-        if place is None:
-            raise Refused(f"predecessor {word}")
-        found.append(place)
+        value = amount(units.removesuffix("%").strip())
+        value = value / 100 if value is not None and units.endswith("%") else value
+        found[plain(name)] += needed(whole(value, MOST))
+        if found[plain(name)] > MOST:
+            raise Refused("too many units")
     return found
+
+
+def row_of(line, cells, width, places, resources, number):
+    """The row of a task; its requests by the names of resources."""
+    if any(cells[width:]):
+        raise Refused("too many cells")
+    cell = lambda place: cells[place] if place is not None and place < len(cells) else ""
+    said = lambda kind: cell(places.get(kind))
+    requests = {name: needed(whole(amount(cell(place) or "0"), MOST)) for name, place in resources.items()}
+    requests.update(assigned(said("needs")))
+    if not said("name"):
+        raise Refused("no name")
+    is_milestone = not said("duration") and not any(requests.values())
+    duration = 0 if is_milestone else needed(units_in(said("duration"), MOST))
+    earliest = needed(units_in(said("earliest") or "0", LATEST))
+    due = needed(units_in(said("due") or str(LATEST), LATEST))
+    own = said("id") if "id" in places else str(number)
+    return Row(line, own, plain(said("name")), said("predecessors"), said("successors"), duration, requests, earliest, due)
+
+
+# Links.
+
+class Linked:
+    """The tasks of rows, by words."""
+
+    def __init__(self, rows):
+        self.ids, self.names = [row.id for row in rows], [row.name for row in rows]
+
+    def task_of(self, word):
+        """The place of the task with this id, or else with this name; none if there is none."""
+        if word and word in self.ids:
+            return self.ids.index(word)
+        if self.names.count(word) > 1:
+            raise Refused(f"name {word} of several tasks")
+        return self.names.index(word) if word in self.names else None
+
+    def kinded(self, word):
+        """The task of a word without a lag, and the kind of link; none if it is no link."""
+        place = self.task_of(word)
+        if place is not None:
+            return place, "FS"
+        kind = KINDS.get(word[-2:].upper()) if word[-2:].isascii() else None
+        place = self.task_of(word[:-2].strip()) if kind and len(word) >= 2 else None
+        return None if place is None else (place, kind)
+
+    def link_of(self, word):
+        """The task, kind and lag of a word; none if it is no link."""
+        found = self.kinded(word) if word else None
+        if found or not word:
+            return (*found, 0) if found else None
+        if "+" in word:
+            front, lag = word.rsplit("+", 1)
+            lag = units_in(lag.strip(), MOST)
+            found = None if lag is None else self.kinded(front.strip())
+            return (*found, lag) if found else None
+        front, lead = word.rsplit("-", 1) if "-" in word else ("", "")
+        if "-" in word and units_in(lead.strip(), MOST) is not None and self.named_once(front.strip()) is None:
+            if self.kinded(front.strip()):
+                raise Refused("a lead")
+        return None
+
+    def named_once(self, word):
+        return self.ids.index(word) if word and word in self.ids else self.names.index(word) if self.names.count(word) == 1 else None
+
+    def range_of(self, word):
+        """The tasks of a range of ids; none if it is no range."""
+        first, dash, last = word.partition("-")
+        first, last = first.strip(), last.strip()
+        if not dash or not all(re.fullmatch("[0-9]+", word) and word in self.ids for word in (first, last)) or int(first) >= int(last):
+            return None
+        return [place for place, own in enumerate(self.ids) if re.fullmatch("[0-9]+", own) and int(first) <= int(own) <= int(last)]
+
+    def links_in(self, cell):
+        """The tasks, kinds and lags of a cell."""
+        if (place := self.named_once(cell)) is not None:
+            return [(place, "FS", 0)]
+        found = []
+        for word in (part.strip() for part in re.split("[;,]", cell)):
+            link = self.link_of(word)
+            if link:
+                found.append(link)
+            elif word and (places := self.range_of(word)) is not None:
+                found += [(place, "FS", 0) for place in places]
+            elif word:
+                parts = [self.link_of(part) for part in word.split()]
+                if None in parts:
+                    raise Refused(f"link {word}")
+                found += parts
+        return found
+
+
+def links_of(rows, warnings):
+    """The links of rows: two places, a kind and a lag."""
+    linked, links = Linked(rows), []
+    for j, row in enumerate(rows):
+        for cell, called, is_before in ((row.before, "predecessor", True), (row.after, "successor", False)):
+            found = linked.links_in(cell)
+            links += [(i, j, kind, lag) if is_before else (j, i, kind, lag) for i, kind, lag in found]
+            if len({i for i, _, _ in found}) < len(found):
+                warnings.append((row.line, f"{called} '{cell}' names a task twice; a spreadsheet may have made 1,1 of 1,10"))
+    return links
 
 
 def has_ring(count, pairs):
@@ -127,28 +336,77 @@ def has_ring(count, pairs):
     return False
 
 
+def with_waits(rows, links):
+    """The pairs of links, and the waiting jobs: the duration of each, and the place of the task that waits."""
+    pairs, waits = set(), []
+    for i, j, kind, lag in links:
+        first, second = rows[i].duration, rows[j].duration
+        distance = {"FS": first + lag, "SS": lag, "FF": first + lag - second, "SF": lag - second}[kind]
+        if distance < first or distance - first > MOST:
+            raise Refused("a link")
+        if distance == first:
+            pairs.add((i, j))
+        else:
+            place = len(rows) + len(waits)
+            waits.append((distance - first, j))
+            pairs |= {(i, place), (place, j)}
+    return pairs, waits
+
+
+def row_warnings(rows):
+    """What looks wrong in rows."""
+    some_have_ids, found = any(row.id for row in rows), []
+    for last, row in zip([None, *rows], rows):
+        if key_of(row.name) in SUMS:
+            found.append((row.line, f"'{row.name}' looks like a sum; it is taken as a task"))
+        elif some_have_ids and not row.id:
+            found.append((row.line, f"'{row.name}' has no id, and others have; it is taken as a task"))
+        if last and last.id and row.id.startswith(last.id + "."):
+            found.append((last.line, f"'{last.name}' looks like a summary of the rows below it; it is taken as a task"))
+    return found
+
+
+def table_of(rows, names, places, passed_over):
+    warnings = []
+    links = links_of(rows, warnings)
+    if has_ring(len(rows), {(i, j) for i, j, _, _ in links}):
+        raise Refused("a ring")
+    warnings += row_warnings(rows)
+    if not links and len(rows) > 1:
+        warnings.append((0, "no task waits for another"))
+    pairs, waits = with_waits(rows, links)
+    if len(rows) + len(waits) > MOST_JOBS or not 1 <= len(names) <= MOST_RESOURCES:
+        raise Refused("too many")
+    durations = [row.duration for row in rows] + [duration for duration, _ in waits]
+    requests = [[row.requests.get(name, 0) for name in names] for row in rows] + [[0] * len(names) for _ in waits]
+    earliest = [row.earliest for row in rows] + [0] * len(waits) if "earliest" in places else None
+    due = [row.due for row in rows] + [LATEST] * len(waits) if "due" in places else None
+    called = [row.name for row in rows] + [f"wait for {rows[j].name}" for _, j in waits]
+    network = Network(len(names), durations, requests, pairs)
+    return Table(network, [*called, *names], earliest, due, len(rows), passed_over, warnings)
+
+
 def read_cells(text):
     if re.search("\r(?!\n)", text):
         raise Open("a carriage return")
     text = "\n".join(line.removesuffix("\r") for line in text.split("\n"))
-    rows = rows_of(text.removeprefix("\ufeff"), separator(text))
-    if not rows:
+    between, above = layout(text)
+    rows = rows_of("\n" * above + "\n".join(text.split("\n")[above:]), between, 1)
+    if not rows or not any(cell.strip() for cell in rows[0][1]):
         raise Refused("empty")
-    places, resources = columns_of(rows[0])
-    tasks = [[cell.strip() for cell in row] for row in rows[1:] if any(cell.strip() for cell in row)]
-    if not 1 <= len(tasks) <= MOST_JOBS or any(any(row[len(rows[0]):]) for row in tasks):
+    head = rows[0][1]
+    if len(head) > 1_000:
+        raise Refused("columns")
+    places, resources, passed_over = columns_of(head)
+    tasks = [(line, [cell.strip() for cell in row]) for line, row in rows[1:] if any(cell.strip() for cell in row)]
+    if not 1 <= len(tasks) <= MOST_JOBS:
         raise Refused("rows")
-    cell = lambda row, place: row[place] if place is not None and place < len(row) else ""
-    column = lambda key: [cell(row, places.get(key)) for row in tasks]
-    names, ids = [plain(name) for name in column("name")], column("id") if "id" in places else [str(j + 1) for j in range(len(tasks))]
-    if not all(names) or any(ids.count(word) > 1 for word in ids if word):
-        raise Refused("names")
-    durations = [number(word, MOST) for word in column("duration")]
-    requests = [[number(cell(row, place) or "0", MOST) for place in resources.values()] for row in tasks]
-    earliest = [number(word or "0", LATEST) for word in column("earliest")] if "earliest" in places else None
-    due = [number(word or str(LATEST), LATEST) for word in column("due")] if "due" in places else None
-    pairs = {(i, j) for j, word in enumerate(column("predecessors")) for i in befores(word, ids, names)}
-    return Table(Network(len(resources), durations, requests, pairs), [*names, *resources], earliest, due)
+    found = [row_of(line, cells, len(head), places, resources, j + 1) for j, (line, cells) in enumerate(tasks)]
+    ids = [row.id for row in found if row.id]
+    if len(set(ids)) < len(ids):
+        raise Refused("an id twice")
+    names = [*resources, *dict.fromkeys(name for row in found for name in row.requests if name not in resources)]
+    return table_of(found, names, places, passed_over)
 
 
 # Patterson's format.
@@ -166,28 +424,32 @@ def read_numbers(text):
         pairs |= {(j, take(jobs, 1) - 1) for _ in range(take(jobs))}
     if words:
         raise Refused("more numbers")
+    if has_ring(jobs, pairs):
+        raise Refused("a ring")
     names = [f"Job {j + 1}" for j in range(jobs)] + [f"R {k + 1}" for k in range(resources)]
     return Table(Network(resources, durations, requests, pairs), names, None, None)
 
 
 def read(body):
     """What a table says."""
+    if body.startswith((b"PK\x03\x04", b"\xd0\xcf\x11\xe0")):
+        raise Refused("a workbook")
     try:
-        text = body.decode()
+        text = body.decode().removeprefix("\ufeff")
     except UnicodeDecodeError:
         raise Refused("not UTF-8") from None
+    if any(line.strip() == "PRECEDENCE RELATIONS:" for line in text.split("\n")):
+        raise Refused("a network")
     first = next((line.split() for line in text.split("\n") if line.split()), ["a"])
-    table = read_numbers(text) if all(re.fullmatch("[0-9]+", word) for word in first) else read_cells(text)
-    if has_ring(len(table.network.durations), table.network.pairs):
-        raise Refused("a ring")
-    return table
+    return read_numbers(text) if all(re.fullmatch("[0-9]+", word) for word in first) else read_cells(text)
 
 
 # Random tables.
 
 def quoted(chance, cell, between):
     needs = any(sign in cell for sign in between + '"')
-    return '"' + cell.replace('"', '""') + '"' if needs or chance.random() < 0.1 else cell
+    blanks = " " if chance.random() < 0.1 and between != "\t" else ""
+    return blanks + '"' + cell.replace('"', '""') + '"' if needs or chance.random() < 0.1 else cell
 
 
 def numbers_text(network):
@@ -200,25 +462,50 @@ def numbers_text(network):
     return "".join(" ".join(map(str, line)) + "\n" for line in lines)
 
 
+def random_title(chance, kind):
+    """A title of this kind, written in some way."""
+    written = {"taskname": "Task Name", "dependson": "Depends on", "taskid": "Task-ID", "no": "No.", "startnoearlierthan":
+               "Start no earlier than", "resourcenames": "Resource Names"}
+    key = chance.choice(TITLES[kind].split())
+    return chance.choice([key, key.upper() if key.isascii() else key, written.get(key, key.capitalize())])
+
+
+def random_links(chance, network, called, j, is_before):
+    """A cell with links of a task."""
+    others = sorted(i for i, k in network.pairs if k == j) if is_before else sorted(k for i, k in network.pairs if i == j)
+    lags = ["", "", "", "FS", " FS", "fs+2", "FS + 1 day", "+1", "SS+4", "EA", "FF+3"] if chance.random() < 0.3 else [""]
+    return chance.choice([",", ";", ", ", " "]).join(called(i) + chance.choice(lags) for i in others)
+
+
 def random_table(chance):
     """The text of a random table."""
     network = random_network(chance, 7)
     if chance.random() < 0.2:
         return numbers_text(network)
     jobs = range(len(network.durations))
-    has_ids, is_named = chance.random() < 0.6, chance.random() < 0.5
+    has_ids, is_named, is_before = chance.random() < 0.6, chance.random() < 0.4, chance.random() < 0.8
     names = [chance.choice(NAMES) + ("" if chance.random() < 0.3 else f" {j}") for j in jobs]
-    ids = [chance.choice(["", "T", "0"]) + str(j + chance.choice([1, 1, 4])) for j in jobs] if has_ids else [str(j + 1) for j in jobs]
-    called = lambda i: names[i] if is_named else ids[i] + chance.choice(["", "", "FS", " FS"])
-    before = [chance.choice([",", ";", ", "]).join(called(i) for i, k in sorted(network.pairs) if k == j) for j in jobs]
-    columns = [[chance.choice(["name", "Task Name", "NAME"]), *names], ["Duration", *map(str, network.durations)],
-               ["predecessors", *before], *([["Id", *ids]] if has_ids else [])]
-    columns += [[f"R{k}", *(str(row[k]) if row[k] or chance.random() < 0.5 else "" for row in network.requests)]
-                for k in range(network.resources)]
-    for title in ["Earliest", "Due"]:
+    ids = [chance.choice(["", "T", "0", "1."]) + str(j + chance.choice([1, 1, 4])) for j in jobs] if has_ids else [str(j + 1) for j in jobs]
+    called = lambda i: names[i] if is_named else ids[i]
+    units = lambda number: chance.choice(["", "", "", " days", "d", ".0", " Tage?"]) if number else ""
+    columns = [[random_title(chance, "name"), *names],
+               [random_title(chance, "duration"), *(f"{number}{units(number)}" for number in network.durations)],
+               [random_title(chance, "predecessors" if is_before else "successors"),
+                *(random_links(chance, network, called, j, is_before) for j in jobs)]]
+    columns += [[random_title(chance, "id"), *ids]] if has_ids else []
+    if chance.random() < 0.2:
+        columns.append([random_title(chance, "needs"), *(chance.choice([";", ", "]).join(
+            f"R{k}" + chance.choice([f"[{units}]", f"[{units}00%]"]) for k, units in enumerate(row) if units) for row in network.requests)])
+    else:
+        columns += [[f"R{k}", *(str(row[k]) if row[k] or chance.random() < 0.5 else "" for row in network.requests)]
+                    for k in range(network.resources)]
+    for kind in ["earliest", "due"]:
         if chance.random() < 0.3:
-            columns.append([title, *(chance.choice(["", "0", "3", "17", str(LATEST)]) for _ in jobs)])
+            columns.append([random_title(chance, kind), *(chance.choice(["", "0", "3", "17", str(LATEST)]) for _ in jobs)])
+    if chance.random() < 0.3:
+        columns.append([chance.choice(["Cost", "% Complete", "Start", "Slack"]), *("9" for _ in jobs)])
     chance.shuffle(columns)
     between = chance.choice(",,;\t")
-    return "".join(between.join(quoted(chance, column[row], between) for column in columns) + chance.choice(["\n", "\r\n"])
-                   for row in range(len(jobs) + 1))
+    above = chance.choice(["", "", "", f"sep={between}\n", "The house\n\n"])
+    return above + "".join(between.join(quoted(chance, column[row], between) for column in columns) + chance.choice(["\n", "\r\n"])
+                           for row in range(len(jobs) + 1))

@@ -41,6 +41,12 @@ pub(crate) enum OptionFault {
     /// The format of a table is none that is read.
     #[error("--from has to be csv or rcp")]
     Format,
+    /// The time unit of a table is none that is told.
+    #[error("--unit has to be day or half-day")]
+    HalfDay,
+    /// The path of a project ends in no name.
+    #[error("--out has to end with the name of a project, such as house")]
+    Project,
     /// There are words for an order, and no prices.
     #[error("an order has to have --prices, and one of --factor and --deadline")]
     NoPrices,

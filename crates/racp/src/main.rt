@@ -71,6 +71,7 @@ mod planning;
 mod pricing;
 mod progress;
 mod proving;
+mod replacing;
 mod reporting;
 mod resources;
 mod run;
@@ -81,6 +82,7 @@ mod terms;
 mod tools;
 mod until;
 mod verifying;
+mod warned;
 
 use std::io::IsTerminal;
 use std::process::ExitCode;

@@ -39,7 +39,7 @@ pub(crate) fn tool<R: Crewed>(rt: &R, tool: Tool<'_>, manner: Manner) -> Result<
         }
         Tool::Order(files, terms) => order(rt, files, &terms, manner),
         Tool::Batch(words, memory) => batch(rt, &words, memory, manner),
-        Tool::Import(words) => import(rt, &words),
+        Tool::Import(words) => import(rt, &words, manner),
         Tool::Explain(format, fault) => explain(rt, format, fault),
     }
 }

@@ -1,9 +1,7 @@
 //! Cells of a table.
 
-use crate::fault::TableFault;
 use csv::StringRecord;
-use racp_text::number;
-use std::alloc::Global;
+use std::alloc::{AllocError, Global};
 
 /// The text of a cell, without the blanks around it; none if the row has no such cell.
 pub(crate) fn cell_at(record: &StringRecord, place: usize) -> &str {
@@ -39,25 +37,8 @@ pub(crate) fn is_empty_from(record: &StringRecord, first: usize) -> bool {
     true
 }
 
-/// The whole number that a cell of this column says, up to the most.
-pub(crate) fn number_in(
-    alloc: Global,
-    line: u64,
-    column: &str,
-    cell: &str,
-    most: u32,
-) -> Result<u32, TableFault> {
-    match number(cell.as_bytes()) {
-        Some(number) if number <= most as u64 => Ok(number as u32),
-        _ => Err(TableFault::at(
-            line,
-            format!(in alloc; "{column} '{cell}' is no whole number from 0 to {most}"),
-        )),
-    }
-}
-
 /// A text without its control characters, in whose place blanks stand.
-pub(crate) fn plain(alloc: Global, text: &str) -> Result<String, TableFault> {
+pub(crate) fn plain(alloc: Global, text: &str) -> Result<String, AllocError> {
     let mut name = String::new(alloc);
     for letter in text.chars() {
         name.push(if letter.is_control() { ' ' } else { letter })?;

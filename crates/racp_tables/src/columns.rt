@@ -1,10 +1,16 @@
-//! The columns of a table, as its first row names them.
+//! The columns of a table, as its titles name them.
 
 use crate::cell::{cell_at, line_of, plain};
+use crate::choice::{Choice, choice_of, test_choice};
+use crate::columns_tested::test_titles;
 use crate::fault::TableFault;
+use crate::reading::Reading;
+use crate::titles::{Title, key_of, near_title, title_of};
 use csv::StringRecord;
-use racp_model::limits::MOST_RESOURCES;
 use std::alloc::{AllocError, Global};
+
+/// How many columns there may be.
+pub(crate) const MOST_COLUMNS: usize = 1_000;
 
 /// A column of a resource.
 #[derive(Drop)]
@@ -26,98 +32,173 @@ pub(crate) struct Columns {
     pub(crate) duration: Option<usize>,
     /// After which tasks they come.
     pub(crate) predecessors: Option<usize>,
+    /// Which tasks come after them.
+    pub(crate) successors: Option<usize>,
     /// From which time on they may start.
     pub(crate) earliest: Option<usize>,
     /// By which time they have to end.
     pub(crate) due: Option<usize>,
+    /// Which resources they need, by name.
+    pub(crate) assigned: Option<usize>,
     /// How many units they need of each resource.
     pub(crate) resources: Vec<Column>,
+    /// The titles of columns that are passed over.
+    pub(crate) passed_over: Vec<String>,
     /// How many columns there are.
     pub(crate) count: usize,
+    /// The line of the titles.
+    pub(crate) line: u64,
 }
 
-/// What a column is for.
-#[derive(Clone, Copy)]
-enum Title {
-    Id,
-    Name,
-    Duration,
-    Predecessors,
-    Earliest,
-    Due,
-    Nothing,
-    Resource,
+/// The columns that a row of titles names.
+pub(crate) fn columns_of(
+    alloc: Global,
+    head: &StringRecord,
+    reading: &Reading<'_>,
+) -> Result<Columns, TableFault> {
+    if head.len() > MOST_COLUMNS {
+        let words = format!(in alloc; "there are more than {MOST_COLUMNS} columns");
+        return Err(TableFault::at(line_of(head), words));
+    }
+    let choice = choice_of(alloc, reading)?;
+    let mut columns = no_columns(alloc, head);
+    for place in 0..head.len() {
+        note(alloc, &mut columns, head, (place, &choice))?;
+    }
+    test_choice(alloc, head, &choice)?;
+    if !columns.resources.is_empty() {
+        pass_over_assigned(alloc, &mut columns, head)?;
+    }
+    test_titles(alloc, &columns, head)?;
+    Ok(columns)
 }
 
-/// The columns that the first row names.
-pub(crate) fn columns_of(alloc: Global, head: &StringRecord) -> Result<Columns, TableFault> {
-    let mut columns = Columns {
+/// None of the columns that titles name.
+fn no_columns(alloc: Global, head: &StringRecord) -> Columns {
+    Columns {
         id: None,
         name: None,
         duration: None,
         predecessors: None,
+        successors: None,
         earliest: None,
         due: None,
+        assigned: None,
         resources: Vec::new(alloc),
+        passed_over: Vec::new(alloc),
         count: head.len(),
-    };
-    for place in 0..head.len() {
-        note(alloc, &mut columns, head, place)?;
+        line: line_of(head),
     }
-    test(alloc, &columns, line_of(head))?;
-    Ok(columns)
 }
 
-/// Notes the column at a place.
+/// Notes the column at a place, by the choice that is told and its title.
 fn note(
     alloc: Global,
     columns: &mut Columns,
     head: &StringRecord,
-    place: usize,
+    told: (usize, &Choice),
 ) -> Result<(), TableFault> {
+    let (place, choice) = told;
     let title = cell_at(head, place);
-    let is_first = match title_of(title) {
+    let key = key_of(alloc, title)?;
+    if choice.passes_over(key.as_str()) {
+        return Ok(pass_over(alloc, columns, title)?);
+    }
+    if choice.takes(key.as_str()) {
+        return note_resource(alloc, columns, title, place);
+    }
+    if choice.is_of_resources() && title_of(key.as_str()) == Title::Unknown {
+        return Ok(pass_over(alloc, columns, title)?);
+    }
+    note_known(alloc, columns, head, (place, key.as_str()))
+}
+
+/// Notes the column at a place, whose title has this key, by what that means.
+fn note_known(
+    alloc: Global,
+    columns: &mut Columns,
+    head: &StringRecord,
+    keyed: (usize, &str),
+) -> Result<(), TableFault> {
+    let (place, key) = keyed;
+    let title = cell_at(head, place);
+    let earlier = match title_of(key) {
         Title::Id => note_once(&mut columns.id, place),
         Title::Name => note_once(&mut columns.name, place),
         Title::Duration => note_once(&mut columns.duration, place),
         Title::Predecessors => note_once(&mut columns.predecessors, place),
+        Title::Successors => note_once(&mut columns.successors, place),
         Title::Earliest => note_once(&mut columns.earliest, place),
         Title::Due => note_once(&mut columns.due, place),
-        Title::Nothing => true,
-        Title::Resource => note_resource(alloc, &mut columns.resources, title, place)?,
+        Title::Assigned => note_once(&mut columns.assigned, place),
+        Title::Nothing => None,
+        Title::Other => return Ok(pass_over(alloc, columns, title)?),
+        Title::Unknown => return note_unknown(alloc, columns, (title, key), place),
     };
-    if is_first {
-        return Ok(());
+    match earlier {
+        Some(earlier) => {
+            let words = twice(alloc, cell_at(head, earlier), title);
+            Err(TableFault::at(columns.line, words))
+        }
+        None => Ok(()),
     }
-    let words = format!(in alloc; "two columns are called '{title}'");
-    Err(TableFault::at(line_of(head), words))
 }
 
-/// Notes the place of a column that may stand once; false if one is noted already.
-fn note_once(noted: &mut Option<usize>, place: usize) -> bool {
-    if noted.is_some() {
-        return false;
+/// Notes the place of a column that may stand once; the place that is noted already, if there is one.
+fn note_once(noted: &mut Option<usize>, place: usize) -> Option<usize> {
+    let earlier = *noted;
+    if earlier.is_none() {
+        *noted = Some(place);
     }
-    *noted = Some(place);
-    true
+    earlier
 }
 
-/// Notes the column of a resource; false if one of its name is noted already.
+/// What is wrong with two columns that mean the same.
+fn twice(alloc: Global, first: &str, second: &str) -> Result<String, AllocError> {
+    if first.eq_ignore_ascii_case(second) {
+        format!(in alloc; "two columns are called '{second}'")
+    } else {
+        format!(in alloc;
+            "the columns '{first}' and '{second}' mean the same; --ignore '{second}' passes over one"
+        )
+    }
+}
+
+/// Notes a column whose title is not known, as that of a resource; unless it is one letter away from a known one.
+fn note_unknown(
+    alloc: Global,
+    columns: &mut Columns,
+    titled: (&str, &str),
+    place: usize,
+) -> Result<(), TableFault> {
+    let (title, key) = titled;
+    match near_title(alloc, key)? {
+        Some(near) => {
+            let words = format!(in alloc;
+                "is the column '{title}' meant to be '{near}'? If so, call it so; if it is a resource, say --resources '{title}'; else --ignore '{title}'"
+            );
+            Err(TableFault::at(columns.line, words))
+        }
+        None => note_resource(alloc, columns, title, place),
+    }
+}
+
+/// Notes the column of a resource.
 fn note_resource(
     alloc: Global,
-    resources: &mut Vec<Column>,
+    columns: &mut Columns,
     title: &str,
     place: usize,
-) -> Result<bool, TableFault> {
+) -> Result<(), TableFault> {
     let name = plain(alloc, title)?;
-    if resources
+    if columns
+        .resources
         .iter()
         .any(|column| column.name.as_str() == name.as_str())
     {
-        return Ok(false);
+        return Err(TableFault::at(columns.line, twice(alloc, title, title)));
     }
-    push_column(resources, Column { name, place })?;
-    Ok(true)
+    Ok(push_column(&mut columns.resources, Column { name, place })?)
 }
 
 /// Adds a column.
@@ -126,40 +207,22 @@ fn push_column(resources: &mut Vec<Column>, column: Column) -> Result<(), AllocE
     Ok(())
 }
 
-/// What a column of this title is for; letters may be large or small.
-fn title_of(title: &str) -> Title {
-    if title.eq_ignore_ascii_case("id") {
-        Title::Id
-    } else if title.eq_ignore_ascii_case("name") || title.eq_ignore_ascii_case("task name") {
-        Title::Name
-    } else if title.eq_ignore_ascii_case("duration") {
-        Title::Duration
-    } else if title.eq_ignore_ascii_case("predecessors") {
-        Title::Predecessors
-    } else if title.eq_ignore_ascii_case("earliest") {
-        Title::Earliest
-    } else if title.eq_ignore_ascii_case("due") {
-        Title::Due
-    } else if title.is_empty() {
-        Title::Nothing
-    } else {
-        Title::Resource
-    }
+/// Notes a column that is passed over.
+fn pass_over(alloc: Global, columns: &mut Columns, title: &str) -> Result<(), AllocError> {
+    let title = plain(alloc, title)?;
+    columns.passed_over.push(title)?;
+    Ok(())
 }
 
-/// Tests that the columns are there that have to be.
-fn test(alloc: Global, columns: &Columns, line: u64) -> Result<(), TableFault> {
-    let resources = columns.resources.len();
-    let words = if columns.name.is_none() {
-        String::from_str(alloc, "no column is called 'name'")
-    } else if columns.duration.is_none() {
-        String::from_str(alloc, "no column is called 'duration'")
-    } else if resources == 0 {
-        String::from_str(alloc, "there is no column of a resource")
-    } else if resources > MOST_RESOURCES {
-        format!(in alloc; "there are {resources} resources; a network has at most {MOST_RESOURCES}")
-    } else {
-        return Ok(());
-    };
-    Err(TableFault::at(line, words))
+/// Passes over the names of resources, where columns say what is needed.
+fn pass_over_assigned(
+    alloc: Global,
+    columns: &mut Columns,
+    head: &StringRecord,
+) -> Result<(), AllocError> {
+    if let Some(place) = columns.assigned {
+        columns.assigned = None;
+        pass_over(alloc, columns, cell_at(head, place))?;
+    }
+    Ok(())
 }

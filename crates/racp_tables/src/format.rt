@@ -3,9 +3,10 @@
 use crate::csv_rows::read_rows;
 use crate::fault::TableFault;
 use crate::patterson::read_numbers;
+use crate::reading::Reading;
 use crate::table::Table;
 use racp_text::number;
-use std::alloc::Global;
+use std::alloc::{AllocError, Global};
 
 /// The kinds of text that have a table of tasks.
 #[derive(Clone, Copy)]
@@ -16,24 +17,57 @@ pub enum Format {
     Rcp,
 }
 
-/// The table of a text of this kind. If no kind is given, a text whose first line with words has numbers alone between
+/// The table of a text, which is read so. If no kind is given, a text whose first line with words has numbers alone between
 /// blanks is in Patterson's format.
 ///
 /// # Errors
 ///
 /// The first thing that is wrong with the table, or that memory was refused.
-pub fn read_table(alloc: Global, bytes: &[u8], kind: Option<Format>) -> Result<Table, TableFault> {
+pub fn read_table(alloc: Global, bytes: &[u8], reading: &Reading<'_>) -> Result<Table, TableFault> {
     let Ok(text) = std::str::from_utf8(bytes) else {
-        let words = String::from_str(
-            alloc,
-            "the text is not UTF-8; save the table as CSV in UTF-8",
-        );
-        return Err(TableFault::at(0, words));
+        return Err(TableFault::at(0, no_text(alloc, bytes)));
     };
-    match kind.unwrap_or(format_of(text)) {
-        Format::Csv => read_rows(alloc, text),
+    if is_workbook(bytes) {
+        return Err(TableFault::at(0, no_text(alloc, bytes)));
+    }
+    if is_network(text) {
+        let words = String::from_str(alloc, "this is a network already; cpm and plan read it");
+        return Err(TableFault::at(0, words));
+    }
+    let text = text.strip_prefix('\u{feff}').unwrap_or(text);
+    match reading.format.unwrap_or(format_of(text)) {
+        Format::Csv => read_rows(alloc, text, reading),
         Format::Rcp => read_numbers(alloc, text),
     }
+}
+
+/// What is wrong with bytes that are no text.
+fn no_text(alloc: Global, bytes: &[u8]) -> Result<String, AllocError> {
+    if is_workbook(bytes) {
+        return String::from_str(
+            alloc,
+            "this is a workbook of Excel or LibreOffice; save the table as CSV",
+        );
+    }
+    String::from_str(
+        alloc,
+        "the text is not UTF-8; save the table as CSV in UTF-8",
+    )
+}
+
+/// Whether bytes begin as those of a workbook: of an archive, or of the older kind of Excel's.
+fn is_workbook(bytes: &[u8]) -> bool {
+    bytes.starts_with(b"PK\x03\x04") || bytes.starts_with(b"\xd0\xcf\x11\xe0")
+}
+
+/// Whether a text has the title of the first part of a network.
+fn is_network(text: &str) -> bool {
+    text.lines().any(is_network_title)
+}
+
+/// Whether a line is the title of the first part of a network.
+fn is_network_title(line: &str) -> bool {
+    line.trim() == "PRECEDENCE RELATIONS:"
 }
 
 /// Which kind of text it is, by its first line with words.

@@ -1,134 +1,201 @@
-//! The tasks after which a task comes.
+//! The ties between the tasks of rows, as their cells name them.
 
 use crate::fault::TableFault;
+use crate::link_words::{Word, word_of};
+use crate::named::{Named, is_within, no_task, range_of, task_of};
+use crate::reading::Scale;
 use crate::row::Row;
-use crate::similar::similar_name;
+use crate::ties::{Tie, Ties};
+use crate::warning::{Warning, warn};
+use racp_links::LinkKind;
 use std::alloc::{AllocError, Global};
 
-/// The place of the task that a word names, from 0.
+/// A cell with links of the task at a place.
 #[derive(Clone, Copy)]
-enum Named {
-    One(usize),
-    None,
-    Several,
-}
-
-/// The numbers of two tasks each, of which the second comes after the first.
-pub(crate) fn pairs_of(alloc: Global, rows: &[Row]) -> Result<Vec<(u32, u32)>, TableFault> {
-    let mut pairs = Vec::new(alloc);
-    for (place, row) in rows.iter().enumerate() {
-        push_pairs(alloc, &mut pairs, rows, row, place)?;
-    }
-    Ok(pairs)
-}
-
-/// Adds the pairs of the row at this place. If its cell is the name of a task, that is the one; else names stand
-/// between commas and semicolons.
-fn push_pairs(
-    alloc: Global,
-    pairs: &mut Vec<(u32, u32)>,
-    rows: &[Row],
-    row: &Row,
+struct Cell<'a> {
+    rows: &'a [Row],
+    scale: Scale,
+    /// The place of the row, from 0.
     place: usize,
-) -> Result<(), TableFault> {
-    let cell = row.predecessors.as_str();
-    if let Named::One(before) = task_of(rows, cell) {
-        return Ok(push_pair(pairs, before, place)?);
-    }
-    for part in cell.split(';') {
-        for word in part.split(',') {
-            push_word(alloc, pairs, rows, row, (word.trim(), place))?;
-        }
-    }
-    Ok(())
+    line: u64,
+    text: &'a str,
+    /// Whether the cell names the tasks before, and not those after.
+    is_before: bool,
 }
 
-/// Adds the pair of a task that a word names and the one at a place; nothing if the word is empty.
-fn push_word(
+/// The ties that the rows of tasks name.
+pub(crate) fn ties_of(
     alloc: Global,
-    pairs: &mut Vec<(u32, u32)>,
     rows: &[Row],
-    row: &Row,
-    link: (&str, usize),
-) -> Result<(), TableFault> {
-    let (word, place) = link;
-    if word.is_empty() {
-        return Ok(());
-    }
-    match linked(rows, word) {
-        Named::One(before) => Ok(push_pair(pairs, before, place)?),
-        Named::None => Err(TableFault::at(row.line, no_task(alloc, rows, word))),
-        Named::Several => Err(TableFault::at(
-            row.line,
-            format!(in alloc; "predecessor '{word}' is the name of several tasks; write an id"),
-        )),
-    }
-}
-
-/// The task that a word names, which may end with FS, for a link from its end to a start.
-fn linked(rows: &[Row], word: &str) -> Named {
-    match task_of(rows, word) {
-        Named::None => match word.strip_suffix("FS") {
-            Some(front) => task_of(rows, front.trim()),
-            None => Named::None,
-        },
-        found => found,
-    }
-}
-
-/// The task with this id; or else with this name.
-fn task_of(rows: &[Row], word: &str) -> Named {
+    scale: Scale,
+    warnings: &mut Vec<Warning>,
+) -> Result<Vec<Ties>, TableFault> {
+    let mut all = Vec::new(alloc);
     for (place, row) in rows.iter().enumerate() {
-        if row.id.as_str() == word && !word.is_empty() {
-            return Named::One(place);
-        }
+        let before = Cell {
+            rows,
+            scale,
+            place,
+            line: row.line,
+            text: row.predecessors.as_str(),
+            is_before: true,
+        };
+        let after = Cell {
+            text: row.successors.as_str(),
+            is_before: false,
+            ..before
+        };
+        let before = ties_in(alloc, &before, warnings)?;
+        let after = ties_in(alloc, &after, warnings)?;
+        keep_ties(&mut all, Ties { before, after })?;
     }
-    let mut found = Named::None;
-    for (place, row) in rows.iter().enumerate() {
-        if row.name.as_str() == word {
-            found = match found {
-                Named::None => Named::One(place),
-                _ => Named::Several,
-            };
-        }
-    }
-    found
+    Ok(all)
 }
 
-/// Adds the pair of the tasks at these places.
-fn push_pair(pairs: &mut Vec<(u32, u32)>, before: usize, after: usize) -> Result<(), AllocError> {
-    if let (Some(before), Some(after)) = (number_at(before), number_at(after)) {
-        pairs.push((before, after))?;
-    }
+/// Adds the ties of a row.
+fn keep_ties(all: &mut Vec<Ties>, ties: Ties) -> Result<(), AllocError> {
+    all.push(ties)?;
     Ok(())
 }
 
-/// The number of the task at a place.
-fn number_at(place: usize) -> Option<u32> {
-    u32::try_from(place).ok()?.checked_add(1)
-}
-
-/// What is wrong with a word that names no task.
-fn no_task(alloc: Global, rows: &[Row], word: &str) -> Result<String, AllocError> {
-    if is_other_link(rows, word) {
-        return format!(in alloc;
-            "predecessor '{word}': a link goes from an end to a start and has no lag, as in 3 or 3FS"
+/// The ties of a cell. If it is the name of a task, that is the one; else names stand between commas and semicolons.
+fn ties_in(
+    alloc: Global,
+    cell: &Cell<'_>,
+    warnings: &mut Vec<Warning>,
+) -> Result<Vec<Tie>, TableFault> {
+    let mut ties = Vec::new(alloc);
+    if let Named::One(other) = task_of(cell.rows, cell.text) {
+        keep_tie(&mut ties, after_end_of(other))?;
+        return Ok(ties);
+    }
+    for part in cell.text.split(';') {
+        for word in part.split(',') {
+            push_word(alloc, &mut ties, cell, word.trim())?;
+        }
+    }
+    if has_twin(&ties) {
+        let words = format!(in alloc;
+            "{} '{}' names a task twice; a spreadsheet may have made 1,1 of 1,10",
+            called(cell),
+            cell.text
         );
+        warn(warnings, cell.line, words)?;
     }
-    match similar_name(alloc, rows, word)? {
-        Some(name) => format!(in alloc; "predecessor '{word}' is no task; similar: '{name}'"),
-        None => format!(in alloc; "predecessor '{word}' is no task"),
-    }
+    Ok(ties)
 }
 
-/// Whether a word begins with a number, and then has a link of another kind or a lag.
-fn is_other_link(rows: &[Row], word: &str) -> bool {
-    for kind in ["FS", "SS", "FF", "SF", "+", "-"] {
-        if let Some((front, _)) = word.split_once(kind)
-            && matches!(task_of(rows, front.trim()), Named::One(_))
-        {
-            return true;
+/// Whether two of these are ties to the same task.
+fn has_twin(ties: &[Tie]) -> bool {
+    for (count, tie) in ties.iter().enumerate() {
+        for other in ties.iter().take(count) {
+            if other.place == tie.place {
+                return true;
+            }
         }
     }
     false
+}
+
+/// What the column of a cell is called.
+fn called(cell: &Cell<'_>) -> &'static str {
+    if cell.is_before {
+        "predecessor"
+    } else {
+        "successor"
+    }
+}
+
+/// Adds the tie that a word says; none if it is empty.
+fn push_word(
+    alloc: Global,
+    ties: &mut Vec<Tie>,
+    cell: &Cell<'_>,
+    word: &str,
+) -> Result<(), TableFault> {
+    if word.is_empty() {
+        return Ok(());
+    }
+    match word_of(alloc, cell.rows, word, cell.scale)? {
+        Word::Tie(tie) => Ok(keep_tie(ties, tie)?),
+        Word::Lead(place) => Err(TableFault::at(cell.line, lead_words(alloc, cell, place))),
+        Word::Several => Err(TableFault::at(cell.line, several(alloc, cell, word))),
+        Word::None => push_words(alloc, ties, cell, word),
+    }
+}
+
+/// Adds the ties of a word that is none itself: a range, or words between blanks.
+fn push_words(
+    alloc: Global,
+    ties: &mut Vec<Tie>,
+    cell: &Cell<'_>,
+    word: &str,
+) -> Result<(), TableFault> {
+    if let Some(range) = range_of(cell.rows, word) {
+        return Ok(push_range(ties, cell, range)?);
+    }
+    for part in word.split_whitespace() {
+        match word_of(alloc, cell.rows, part, cell.scale)? {
+            Word::Tie(tie) => keep_tie(ties, tie)?,
+            _ => {
+                let words = no_task(alloc, cell.rows, called(cell), word);
+                return Err(TableFault::at(cell.line, words));
+            }
+        }
+    }
+    Ok(())
+}
+
+/// Adds a tie.
+fn keep_tie(ties: &mut Vec<Tie>, tie: Tie) -> Result<(), AllocError> {
+    ties.push(tie)?;
+    Ok(())
+}
+
+/// Adds ties to the tasks of a range.
+fn push_range(ties: &mut Vec<Tie>, cell: &Cell<'_>, range: (u64, u64)) -> Result<(), AllocError> {
+    for (place, row) in cell.rows.iter().enumerate() {
+        if is_within(row, range) {
+            keep_tie(ties, after_end_of(place))?;
+        }
+    }
+    Ok(())
+}
+
+/// A tie from the end of one task to the start of another, without lag.
+fn after_end_of(place: usize) -> Tie {
+    Tie {
+        place,
+        kind: LinkKind::FinishToStart,
+        lag: 0,
+    }
+}
+
+/// What is wrong with a word that is the name of several tasks.
+fn several(alloc: Global, cell: &Cell<'_>, word: &str) -> Result<String, AllocError> {
+    let called = called(cell);
+    format!(in alloc; "{called} '{word}' is the name of several tasks; write an id")
+}
+
+/// What is wrong with a link with a lead to the task at a place.
+fn lead_words(alloc: Global, cell: &Cell<'_>, place: usize) -> Result<String, AllocError> {
+    let (own, other) = (name_at(cell.rows, cell.place), name_at(cell.rows, place));
+    if cell.is_before {
+        overlap(alloc, other, own)
+    } else {
+        overlap(alloc, own, other)
+    }
+}
+
+/// The name of the task at a place.
+pub(crate) fn name_at(rows: &[Row], place: usize) -> &str {
+    match rows.get(place) {
+        Some(row) => row.name.as_str(),
+        None => "",
+    }
+}
+
+/// What is wrong with a link with which a task could start before another has ended.
+pub(crate) fn overlap(alloc: Global, before: &str, after: &str) -> Result<String, AllocError> {
+    format!(in alloc; "'{after}' could start before '{before}' has ended; split that task")
 }

@@ -3,7 +3,7 @@
 //! these.
 
 use crate::fault::TableFault;
-use crate::table::Table;
+use crate::table::{Notes, Table};
 use crate::tokens::Tokens;
 use racp_model::Job;
 use racp_model::limits::{MOST_DURATION, MOST_JOBS, MOST_REQUEST, MOST_RESOURCES};
@@ -42,6 +42,12 @@ fn table_of(
         pairs,
         earliest: None,
         due: None,
+        notes: Notes {
+            tasks: count as usize,
+            is_half_day: false,
+            passed_over: Vec::new(alloc),
+            warnings: Vec::new(alloc),
+        },
     })
 }
 

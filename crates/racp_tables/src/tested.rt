@@ -45,7 +45,7 @@ fn tested_text(alloc: Global, net: &Network, resources: &[String]) -> Result<Str
 }
 
 /// Whether a text is read as this network; true only if it is.
-fn is_text_of(alloc: Global, net: &Network, text: &[u8]) -> bool
+pub(crate) fn is_text_of(alloc: Global, net: &Network, text: &[u8]) -> bool
     ensures { result ≡ true → IsReading text.now (Ok net.now) }
 {
     match read_sm(alloc, text) {

@@ -97,10 +97,15 @@ import_priced = with_rule (with_rule (with_rule import_from (text_rule (codes "p
     (text_rule (codes "deadline"))
 
 -- `import FILE --out PROJECT [--from FORMAT] [--prices N,..] [--factor F] [--deadline T] [--owned N,..] [--ceiling N,..]
--- [--quiet]`
+-- [--resources A,..] [--ignore A,..]`
+abbrev pub import_chosen : App
+import_chosen = with_rule (with_rule (with_rule (with_rule import_priced (text_rule (codes "owned"))) (text_rule (codes "ceiling")))
+    (text_rule (codes "resources"))) (text_rule (codes "ignore"))
+
+-- the same, and `[--hours-a-day N] [--unit UNIT] [--strict] [--force] [--quiet]`
 abbrev pub import_table : App
-import_table = with_rule (with_rule (with_rule import_priced (text_rule (codes "owned"))) (text_rule (codes "ceiling")))
-    (flag_rule (codes "quiet"))
+import_table = with_rule (with_rule (with_rule (with_rule (with_rule import_chosen (number_rule (codes "hours-a-day") 24))
+    (text_rule (codes "unit"))) (flag_rule (codes "strict"))) (flag_rule (codes "force"))) (flag_rule (codes "quiet"))
 
 -- `explain [FORMAT] [FAULT]`
 abbrev pub explain : App
@@ -160,6 +165,12 @@ pub record AreTableWords (words : List Row) (table : TableWords) : Type 0 where
   pub deadline : option_map (λ word. word.now) table.deadline ≡ first_of (codes "deadline") words
   pub owned : option_map (λ word. word.now) table.owned ≡ first_of (codes "owned") words
   pub ceiling : option_map (λ word. word.now) table.ceiling ≡ first_of (codes "ceiling") words
+  pub resources : option_map (λ word. word.now) table.resources ≡ first_of (codes "resources") words
+  pub ignored : option_map (λ word. word.now) table.ignored ≡ first_of (codes "ignore") words
+  pub hours_a_day : option_map (λ word. word.now) table.hours_a_day ≡ first_of (codes "hours-a-day") words
+  pub unit : option_map (λ word. word.now) table.unit ≡ first_of (codes "unit") words
+  pub is_strict : table.is_strict ≡ is_set (codes "strict") words
+  pub is_forced : table.is_forced ≡ is_set (codes "force") words
 
 -- the command with these words asks for this
 abbrev pub IsToolOf : Text × List Row → Tool → Type 0

@@ -157,6 +157,18 @@ pub struct TableWords<'a> {
     pub owned: Option<&'a str>,
     /// How many units there may be, if that is told.
     pub ceiling: Option<&'a str>,
+    /// Which columns are those of resources, if that is told.
+    pub resources: Option<&'a str>,
+    /// Which columns are passed over, if that is told.
+    pub ignored: Option<&'a str>,
+    /// How many hours make a day, 1 to 24, if that is told.
+    pub hours_a_day: Option<&'a str>,
+    /// How long a time unit is, if that is told.
+    pub unit: Option<&'a str>,
+    /// Whether a table that looks wrong is refused.
+    pub is_strict: bool,
+    /// Whether files are replaced that were changed since they were written.
+    pub is_forced: bool,
 }
 
 /// The words for a table of results.

@@ -59,5 +59,31 @@ pub(crate) const IMPORT: &[Word] = &[
     Word::Text("deadline", "T", "The deadline, 0 to 10,000,000"),
     OWNED,
     CEILING,
+    Word::Text(
+        "resources",
+        "A,..",
+        "The columns of resources by their titles; else all that are left",
+    ),
+    Word::Text(
+        "ignore",
+        "A,..",
+        "Columns that are passed over, by their titles",
+    ),
+    Word::Number(
+        "hours-a-day",
+        "N",
+        24,
+        "How many hours make a day, 1 to 24, for durations such as 4h",
+    ),
+    Word::Text(
+        "unit",
+        "UNIT",
+        "How long a time unit is: day or half-day, which doubles the times of the table; a day if not said",
+    ),
+    Word::Flag("strict", "Refuses a table that looks wrong"),
+    Word::Flag(
+        "force",
+        "Replaces files that were changed since they were written",
+    ),
     QUIET,
 ];

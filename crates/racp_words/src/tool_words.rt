@@ -86,5 +86,11 @@ pub(crate) fn table_of<'a>(words: &ArgMatches<'a>) -> TableWords<'a>
         deadline: text_of(words, "deadline"),
         owned: text_of(words, "owned"),
         ceiling: text_of(words, "ceiling"),
+        resources: text_of(words, "resources"),
+        ignored: text_of(words, "ignore"),
+        hours_a_day: text_of(words, "hours-a-day"),
+        unit: text_of(words, "unit"),
+        is_strict: is_set(words, "strict"),
+        is_forced: is_set(words, "force"),
     }
 }
