@@ -2,15 +2,14 @@
 
 A network has jobs and the resources that they need. An order has a deadline and prices. A plan says how many units of each
 resource to have, and when each job starts. Times and durations are whole numbers of time units, days or weeks as you like.
+Examples without an import begin with `from racp import *`.
 
 >>> import racp
 >>> bridge = racp.Network(["welder", "crane"])
 >>> bridge.add("piers", 5, needs={"crane": 1})
 >>> bridge.add("deck", 4, after=["piers"], needs={"crane": 1, "welder": 2})
->>> bridge.add("rails", 3, after=["piers"], needs={"welder": 1})
->>> plan = racp.plan(bridge, deadline=9, prices={"welder": 5, "crane": 20})
->>> plan.cost, plan.capacity, plan.starts["rails"]
-(35, {'welder': 3, 'crane': 1}, 5)
+>>> racp.plan(bridge, deadline=9, prices={"welder": 5, "crane": 20})
+<Plan with cost 30, capacity {'welder': 2, 'crane': 1}>
 """
 
 from ._calendar import Calendar

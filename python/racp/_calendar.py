@@ -10,16 +10,11 @@ from itertools import count, islice
 class Calendar:
     """Which days the time units of a plan are. Units are a "day" or a "week" long, counted from `start`, and those without a
     working day do not count. No work is done on the days of the week `free`, 0 for Monday to 6 for Sunday, and on `holidays`.
-
     Raises ValueError for another unit, or if each day of the week is free; OverflowError after the year 9999.
 
-    >>> from datetime import date
-    >>> import racp
-    >>> work = racp.Calendar(date(2026, 4, 2), free=[5, 6], holidays=[date(2026, 4, 3), date(2026, 4, 6)])
-    >>> work.first_day(1), work.last_day(1)
-    (datetime.date(2026, 4, 7), datetime.date(2026, 4, 2))
-    >>> work.deadline(date(2026, 4, 12))
-    5
+    >>> work = Calendar(date(2026, 4, 2), free=[5, 6], holidays=[date(2026, 4, 3), date(2026, 4, 6)])
+    >>> work.first_day(1), work.last_day(1), work.deadline(date(2026, 4, 12))
+    (datetime.date(2026, 4, 7), datetime.date(2026, 4, 2), 5)
     """
 
     start: date

@@ -3,13 +3,14 @@
 from __future__ import annotations
 
 import csv
+import json
 from collections.abc import Collection, Hashable, Iterable, Mapping, Sequence
 from dataclasses import dataclass, field
 from operator import index
 from pathlib import Path
 from typing import Any, Union
 
-from ._program import ask, options, written
+from ._program import run
 
 Values = Union[Mapping[Any, int], Sequence[int]]  #: whole numbers under keys, or in the order of the network
 MOST = 10_000_000  #: the greatest time, and the greatest number of units
@@ -28,12 +29,15 @@ class Job:
 class Network:
     """A project: up to 512 jobs and 16 resources, each under a key of your choice, which is a name or anything hashable.
 
-    >>> import racp
-    >>> house = racp.Network(["mason", "crane"])
+    >>> house = Network(["mason", "crane"])
     >>> house.add("dig", 4, needs={"crane": 1})
     >>> house.add("walls", 6, after=["dig"], needs={"mason": 3, "crane": 1})
     >>> house
     <Network of 2 jobs and 2 resources>
+    >>> Network.from_lists([4, 6], needs=[[0, 1], [3, 1]], after=[[], [0]]).jobs[1]
+    Job(duration=6, needs={0: 3, 1: 1}, after=(0,))
+    >>> Network.read("examples/a.sm")
+    <Network of 5 jobs and 1 resources>
     """
 
     def __init__(self, resources: Iterable[Hashable], jobs: Mapping[Any, Job] | None = None) -> None:
@@ -52,49 +56,34 @@ class Network:
     @classmethod
     def from_lists(cls, durations: Sequence[int], needs: Sequence[Sequence[int]], after: Sequence[Iterable[int]]) -> Network:
         """A network of lists with an element for each job. Jobs and resources have their places in these, from 0, as keys.
-
-        Raises ValueError if the lists are not of the same length.
-
-        >>> import racp
-        >>> racp.Network.from_lists([4, 6], needs=[[0, 1], [3, 1]], after=[[], [0]]).jobs[1]
-        Job(duration=6, needs={0: 3, 1: 1}, after=(0,))
-        """
+        Raises ValueError if the lists are not of the same length."""
         if not len(durations) == len(needs) == len(after):
             raise ValueError(f"there are {len(durations)} durations, {len(needs)} needs and {len(after)} lists of jobs before")
-        network = cls(range(max(map(len, needs), default=0)))
-        for key, duration in enumerate(durations):
-            network.add(key, duration, needs=dict(enumerate(needs[key])), after=after[key])
-        return network
+        jobs = (Job(duration, dict(enumerate(needed)), tuple(before)) for duration, needed, before in zip(durations, needs, after))
+        return cls(range(max(map(len, needs), default=0)), dict(enumerate(jobs)))
 
     @classmethod
     def from_networkx(cls, graph: Any, *, duration: str = "duration", needs: str = "needs") -> Network:
         """The nodes of a networkx.DiGraph as jobs, and its edges as the pairs of which one comes before the other. Each node has
         its duration, and perhaps a mapping from resources to units, under these names. Raises KeyError without a duration."""
-        network = cls(resource for _, node in graph.nodes(data=True) for resource in node.get(needs, {}))
-        for key, node in graph.nodes(data=True):
-            network.add(key, node[duration], needs=node.get(needs), after=graph.predecessors(key))
-        return network
+        jobs = {key: Job(node[duration], dict(node.get(needs, {})), tuple(graph.predecessors(key)))
+                for key, node in graph.nodes(data=True)}
+        return cls((resource for job in jobs.values() for resource in job.needs), jobs)
 
     @classmethod
     def read(cls, path: str | Path) -> Network:
         """The network of a file of PSPLIB, .sm. Jobs and resources have their numbers, from 1, as keys.
-
-        Raises `Refused` if the program takes the text for no network, and FileNotFoundError.
-
-        >>> import racp
-        >>> racp.Network.read("examples/a.sm")
-        <Network of 5 jobs and 1 resources>
-        """
+        Raises `Refused` if the program takes the text for no network, and FileNotFoundError."""
         file = str(Path(path).resolve(strict=True))
-        early = ask({}, "cpm", file, accept="done")
-        table = written({}, "batch", *options(factors=1, price=0, time_limit=1e-9), file)
-        count, length = int(next(csv.DictReader(table.splitlines()))["resources"]), early["critical"]
-        network, plan = cls(range(1, count + 1)), plan_text(length, length, 0, [MOST] * count, early["starts"])
-        texts = {"order": Order(length, [0] * count).text(network), "plan": plan}
-        for job in ask(texts, "show", file, "order", "plan", accept="shown")["jobs"]:
-            needs = {resource: units for resource, units in enumerate(job["requests"], 1) if units}
-            network.add(job["job"], job["duration"], needs=needs, after=job["predecessors"])
-        return network
+        early = json.loads(run({}, "cpm", file, json=True))
+        [row] = csv.DictReader(run({}, "batch", file, factors=1, price=0, time_limit=1e-9).splitlines())
+        count, length = int(row["resources"]), early["critical"]
+        plan = plan_text(length, length, 0, [MOST] * count, early["starts"])
+        texts = {"order": f"deadline = {length}\nprices = {[0] * count}\n", "plan": plan}
+        jobs = {job["job"]: Job(job["duration"], {key: units for key, units in enumerate(job["requests"], 1) if units},
+                                tuple(job["predecessors"]))
+                for job in json.loads(run(texts, "show", file, "order", "plan", json=True))["jobs"]}
+        return cls(range(1, count + 1), jobs)
 
     def text(self) -> str:
         """What `racp` reads: the jobs by their numbers, as PSPLIB has them. Raises ValueError if a job is after what is no job."""
@@ -105,11 +94,11 @@ class Network:
                 if before not in number:
                     raise ValueError(f"job {key!r} comes after {before!r}, and there is no such job")
                 followers[before].append(number[key])
-        arcs = [f"{number[key]} 1 {len(jobs)} {' '.join(map(str, jobs))}" for key, jobs in followers.items()]
-        jobs = [f"{number[key]} 1 {job.duration} {' '.join(str(job.needs.get(resource, 0)) for resource in self.resources)}"
-                for key, job in self.jobs.items()]
-        return _lines(f"jobs: {len(jobs)}", f"- renewable: {len(self.resources)}", "PRECEDENCE RELATIONS:", "", *arcs,
-                      "REQUESTS/DURATIONS:", "", *jobs)
+        arcs = [(number[key], 1, len(jobs), *jobs) for key, jobs in followers.items()]
+        needs = [(number[key], 1, job.duration, *(job.needs.get(resource, 0) for resource in self.resources))
+                 for key, job in self.jobs.items()]
+        return _lines([("jobs:", len(number)), ("- renewable:", len(self.resources)), ("PRECEDENCE RELATIONS:",), (), *arcs,
+                       ("REQUESTS/DURATIONS:",), (), *needs])
 
     def __repr__(self) -> str:
         return f"<Network of {len(self.jobs)} jobs and {len(self.resources)} resources>"
@@ -124,13 +113,10 @@ class Order:
     among them (else any number); a job starts at its time of `release` or later (else 0), and ends by its `due` time (else by
     the deadline). Times and units are whole numbers up to 10,000,000, prices up to 1,000,000.
 
-    >>> import racp
-    >>> pit = racp.Network(["crane"], {"dig": racp.Job(4, {"crane": 2})})
-    >>> print(racp.Order(deadline=9, prices={"crane": 30}, due={"dig": 6}).text(pit), end="")
-    version = 2
+    >>> pit = Network(["crane"], {"dig": Job(4, {"crane": 2})})
+    >>> print(Order(deadline=9, prices={"crane": 30}).text(pit), end="")
     deadline = 9
     prices = [30]
-    due = [6]
     """
 
     deadline: int
@@ -142,34 +128,33 @@ class Order:
 
     def text(self, network: Network) -> str:
         """What `racp` reads, in TOML. Raises ValueError for keys that the network has not, and prices left out."""
-        rows = [f"prices = {in_order(network.resources, self.prices, 'prices')}"]
-        for name, default in (("owned", 0), ("ceiling", MOST), ("release", 0), ("due", MOST)):
-            keys = tuple(network.jobs) if name in ("release", "due") else network.resources
+        rows = [("deadline =", self.deadline), ("prices =", in_order(network.resources, self.prices, "prices"))]
+        for name, keys, default in (("owned", network.resources, 0), ("ceiling", network.resources, MOST),
+                                    ("release", network.jobs, 0), ("due", network.jobs, MOST)):
             if (values := getattr(self, name)) is not None:
-                rows.append(f"{name} = {in_order(keys, values, name, default)}")
-        return _lines(*["version = 2"] * (len(rows) > 1), f"deadline = {self.deadline}", *rows)
+                rows.append((f"{name} =", in_order(keys, values, name, default)))
+        return _lines([*[("version =", 2)] * (len(rows) > 2), *rows])
 
 
 def in_order(keys: Collection[Hashable], values: Values, what: str, default: int | None = None) -> list[int]:
     """As many values as keys, as a list. What a mapping leaves out is the default. Raises ValueError if there is none, and for
     other keys or another number of values; TypeError for what is no whole number."""
-    if not isinstance(values, Mapping):
-        if len(values) != len(keys):
-            raise ValueError(f"{what} has {len(values)} values, and not {len(keys)}")
-        return [index(value) for value in values]
-    if other := [key for key in values if key not in keys]:
-        raise ValueError(f"{what} has a value for {other[0]!r}, which the network has not")
-    if default is None and (left := [key for key in keys if key not in values]):
-        raise ValueError(f"{what} has no value for {left[0]!r}")
-    return [index(values.get(key, default or 0)) for key in keys]
+    given = values if isinstance(values, Mapping) else dict(zip(keys, values))
+    wrong = [f"{len(values)} values, and not {len(keys)}"] if given is not values and len(values) != len(keys) else []
+    wrong += [f"a value for {key!r}, which the network has not" for key in given if key not in keys]
+    wrong += [f"no value for {key!r}" for key in keys if key not in given and default is None]
+    if wrong:
+        raise ValueError(f"{what} has {wrong[0]}")
+    return [index(given.get(key, default or 0)) for key in keys]
 
 
 def plan_text(deadline: int, critical: int, cost: int, capacity: Iterable[int], starts: Iterable[int]) -> str:
     """The text of a plan, as docs/FORMATS.md says."""
-    units = [f"capacity {resource} {number}" for resource, number in enumerate(capacity, 1)]
-    begun = [f"start {job} {time}" for job, time in enumerate(starts, 1)]
-    return _lines(f"deadline {deadline}", f"critical {critical}", f"cost {cost}", *units, *begun, "end")
+    return _lines([("deadline", deadline), ("critical", critical), ("cost", cost),
+                   *(("capacity", *row) for row in enumerate(capacity, 1)),
+                   *(("start", *row) for row in enumerate(starts, 1)), ("end",)])
 
 
-def _lines(*rows: str) -> str:
-    return "".join(f"{row}\n" for row in rows)
+def _lines(rows: Iterable[Iterable[object]]) -> str:
+    """A line for each row, with a blank between two of its words."""
+    return "".join(" ".join(map(str, row)) + "\n" for row in rows)

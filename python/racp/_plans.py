@@ -11,7 +11,7 @@ from typing import Any
 
 from ._calendar import Calendar
 from ._network import Network, Order, plan_text
-from ._program import options, written
+from ._program import run
 
 
 class Table:
@@ -35,12 +35,19 @@ class Table:
 
 @dataclass(frozen=True)
 class Plan(Table):
-    """How many units of each resource to have, and when each job starts. Jupyter shows it as a table.
+    """How many units of each resource to have, and when each job starts.
 
     `capacity` has units, `starts` times, and `slack` by how many time units each job could start later if only what comes
     after it counted. `usage` has, for each resource, pairs of a time and the units in use from then on. `critical` is the
     length of the project with enough of everything. No plan of the order costs less than `bound`, and one that is proved to
     be the cheapest is `optimal`. `work` tells what planning took, such as "seconds".
+
+    >>> import racp
+    >>> plan = racp.plan(racp.Network(["crane"], {"dig": racp.Job(4, {"crane": 2})}), deadline=9, prices=[30])
+    >>> plan.cost, plan.gap, plan.ends, plan.days(racp.Calendar(date(2026, 3, 5), free=[5, 6]))
+    (60, 0.0, {'dig': 4}, {'dig': (datetime.date(2026, 3, 5), datetime.date(2026, 3, 10))})
+    >>> plan.report(curve=True)[:15]
+    '<!DOCTYPE html>'
     """
 
     network: Network
@@ -66,15 +73,7 @@ class Plan(Table):
         return {key: start + self.network.jobs[key].duration for key, start in self.starts.items()}
 
     def days(self, calendar: Calendar) -> dict[Hashable, tuple[date, date]]:
-        """The first and the last day of each job, both days on which it runs.
-
-        >>> from datetime import date
-        >>> import racp
-        >>> house = racp.Network.from_lists([4, 6], needs=[[1], [2]], after=[[], [0]])
-        >>> plan = racp.plan(house, deadline=10, prices=[9])
-        >>> plan.days(racp.Calendar(date(2026, 3, 2), free=[5, 6]))[1]
-        (datetime.date(2026, 3, 6), datetime.date(2026, 3, 13))
-        """
+        """The first and the last day of each job, both days on which it runs."""
         return dict(zip(self.starts, calendar.days(list(zip(self.starts.values(), self.ends.values())))))
 
     def texts(self) -> dict[str, str]:
@@ -85,26 +84,18 @@ class Plan(Table):
     def report(self, path: str | Path | None = None, *, curve: bool = False, whatif: bool = False,
                calendar: Calendar | None = None, time_limit: float | None = None) -> str:
         """A page in HTML to read and to print, which is also written to the path. With `curve` and `whatif` it has what
-        other deadlines and changes of the order cost, each planned within the limit of time, in seconds.
-
-        With a calendar it tells dates. These count all days, and a date is the beginning of its day: so ValueError is raised
-        for a calendar with free days.
-
-        >>> import racp
-        >>> plan = racp.plan(racp.Network(["crane"], {"dig": racp.Job(4, {"crane": 2})}), deadline=9, prices=[30])
-        >>> plan.report(curve=True)[:15]
-        '<!DOCTYPE html>'
-        """
+        other deadlines and changes of the order cost, each planned within the limit of time, in seconds. With a calendar it
+        tells dates. These count all days, and a date is the beginning of its day: so free days raise ValueError."""
         if calendar and (calendar.free or calendar.holidays):
             raise ValueError("the page counts all days: its calendar has no free days and no holidays")
         names = "".join(" ".join(str(key).split()) + "\n" for key in (*self.network.jobs, *self.network.resources))
-        texts, words = {**self.texts(), "names": names}, options(start_date=calendar and calendar.start)
-        for name, wanted, files in (("curve", curve, ""), ("whatif", whatif, "plan --names names")):
-            if wanted:
-                asked = [name, "net", "order", *files.split(), *options(time_limit=time_limit)]
-                texts[name], words = written(texts, *asked, accept=(0, 4)), [*words, f"--{name}", name]
-        words += options(unit=calendar and calendar.unit, names="names")
-        page = written(texts, "report", "net", "order", "plan", *words)
+        texts = {**self.texts(), "names": names}
+        if curve:
+            texts["curve"] = run(texts, "curve", "net", "order", accept=(0, 4), time_limit=time_limit)
+        if whatif:
+            texts["whatif"] = run(texts, "whatif", "net", "order", "plan", names="names", accept=(0, 4), time_limit=time_limit)
+        page = run(texts, "report", "net", "order", "plan", names="names", curve=curve and "curve", whatif=whatif and "whatif",
+                   start_date=calendar and calendar.start, unit=calendar and calendar.unit)
         if path is not None:
             Path(path).write_text(page, encoding="utf-8")
         return page
@@ -132,14 +123,13 @@ class Plan(Table):
         figure, (chart, *below) = pyplot.subplots(len(heights), sharex=True, constrained_layout=True,
                                                   figsize=(9, sum(heights) + 1), gridspec_kw={"height_ratios": heights})
         lengths = [job.duration for job in self.network.jobs.values()]
-        colours = ["C0" if slack else "C3" for slack in self.slack.values()]
-        chart.barh(range(len(lengths)), lengths, left=[*self.starts.values()], color=colours, tick_label=[*map(str, self.starts)])
+        chart.barh(range(len(lengths)), lengths, left=[*self.starts.values()], tick_label=[*map(str, self.starts)],
+                   color=["C0" if slack else "C3" for slack in self.slack.values()])
         chart.invert_yaxis()
         chart.axvline(self.order.deadline, color="black", linewidth=1)
         chart.set_title(f"cost {self.cost}" if self.optimal else f"cost {self.cost}, at least {self.bound}")
         for axes, (resource, usage) in zip(below, self.usage.items()):
-            times, units = zip(*usage, (self.order.deadline, 0))
-            axes.fill_between(times, units, step="post", alpha=0.5)
+            axes.fill_between(*zip(*usage, (self.order.deadline, 0)), step="post", alpha=0.5)
             axes.axhline(self.capacity[resource], color="black", linestyle="dashed", linewidth=1)
             axes.set(ylim=(0, None), ylabel=str(resource))
         below[-1].set_xlabel("time")
@@ -227,5 +217,4 @@ class Batch(Table, tuple[Mapping[str, Any], ...]):
     """A row for each network and factor, with the columns of `racp batch` in docs/FORMATS.md: numbers, texts or None."""
 
     def table(self) -> list[list[Any]]:
-        """The titles, and the rows."""
         return [[*row] for row in self[:1]] + [[*row.values()] for row in self]

@@ -1,4 +1,4 @@
-"""Runs the program: texts go in as files of a folder of their own, and an answer or an error comes out."""
+"""Runs the program: texts go in as files of a folder of their own, and a text or an error comes out."""
 
 from __future__ import annotations
 
@@ -12,8 +12,6 @@ from pathlib import Path
 from typing import Any, Callable, Optional
 
 Progress = Optional[Callable[[dict[str, Any]], object]]  #: is called with each line of progress of docs/FORMATS.md
-Keys = tuple[Sequence[Hashable], Sequence[Hashable]]  #: those of the jobs, and of the resources
-HERE = Path(__file__).resolve().parent
 #: What the numbers of a fault mean, by its name.
 _MEANINGS = {"critical": ("critical", "deadline"), "due": ("job",), "late": ("job",), "early": ("job",), "ceiling": ("resource",),
              "order": ("before", "job"), "over": ("resource", "time")}
@@ -33,7 +31,7 @@ class RacpError(Exception):
     ('critical', [4, 3], {'critical': 4, 'deadline': 3})
     """
 
-    def __init__(self, answer: Mapping[str, Any], where: Mapping[str, Hashable]) -> None:
+    def __init__(self, answer: Mapping[str, Any], where: Mapping[str, Hashable] = {}) -> None:
         self.answer, self.where = dict(answer), dict(where)
         self.name, self.numbers = str(answer.get("name") or answer["status"]), list(answer.get("numbers", []))
 
@@ -44,8 +42,7 @@ class RacpError(Exception):
 
 
 class Refused(RacpError, ValueError):
-    """What was given is no network, no order or no plan: `answer` has the "format", "sm", "order" or "plan", the "number" of the
-    fault, and the "line" of the text."""
+    """What was given is no network, order or plan: `answer` has the "format", the "number" of the fault, and the "line"."""
 
 
 class Impossible(RacpError):
@@ -77,32 +74,32 @@ _ERRORS = {"refused": Refused, "impossible": Impossible, "fault": Fault, "unprov
 
 def program() -> str:
     """The path of the program that runs: what the variable RACP names, or else the first of these that is there: the one in
-    this package, `racp` in PATH, and the one in dist/ of the clone to which the package belongs.
-
-    Raises `ProgramError` if there is none.
-    """
-    clone = Path(HERE, "clone.txt")
-    above = Path(clone.read_text(encoding="utf-8")) if clone.exists() else HERE.parents[1]
-    places = [Path(HERE, "program", "racp"), Path(shutil.which("racp") or HERE / "none"), above / "dist" / "racp-x86_64-linux"]
-    named = os.environ.get("RACP")
-    for place in [Path(named)] if named else places:
+    this package, `racp` in PATH, and the one in dist/ of the clone of the package. Raises `ProgramError` if there is none."""
+    here, named = Path(__file__).resolve().parent, os.environ.get("RACP")
+    clone = here / "clone.txt"
+    above = Path(clone.read_text(encoding="utf-8")) if clone.exists() else here.parents[1]
+    places = [str(here / "program" / "racp"), shutil.which("racp") or "", str(above / "dist" / "racp-x86_64-linux")]
+    for place in [named] if named else places:
         if os.access(place, os.X_OK):
             return os.path.abspath(place)
-    raise ProgramError({"status": "no program", "says": f"there is no program {named or 'racp'}; the variable RACP can name it"}, {})
+    raise ProgramError({"status": "no program", "says": f"there is no program {named or 'racp'}; the variable RACP can name it"})
 
 
-def run(texts: Mapping[str, str], *words: str, progress: Progress = None) -> tuple[int, str, str]:
-    """What the program gives if it runs beside files of these texts: its status, its standard output, and its standard error
-    without lines of progress. These are told while it runs, on this thread.
+def run(texts: Mapping[str, str], *words: str, accept: Sequence[int] = (0,), keys: Mapping[str, Sequence[Hashable]] = {},
+        progress: Progress = None, **options: object) -> str:
+    """What the program writes if it runs beside files of these texts. Raises its error, with these keys in place of numbers,
+    if it ends with a status that is not in `accept`. Lines of progress are told while it runs, on this thread.
 
     Whatever ends the call, Ctrl-C or an error in `progress`, ends the program too, and takes the folder away.
     """
+    options["progress"] = progress is not None
+    told = [_option(name, value) for name, value in options.items() if value is not None and value is not False]
     with tempfile.TemporaryDirectory(prefix="racp-") as folder, open(Path(folder, "answer"), "wb") as answer:
         for name, text in texts.items():
             Path(folder, name).write_bytes(text.encode())
         said = []
-        with subprocess.Popen([program(), *words], cwd=folder, stdin=subprocess.DEVNULL, stdout=answer, stderr=subprocess.PIPE,
-                              encoding="utf-8", errors="replace") as child:
+        with subprocess.Popen([program(), *words, *told], cwd=folder, stdin=subprocess.DEVNULL, stdout=answer,
+                              stderr=subprocess.PIPE, encoding="utf-8", errors="replace") as child:
             try:
                 for line in child.stderr or ():
                     if progress and line.startswith("{") and line.endswith("}\n"):
@@ -113,39 +110,23 @@ def run(texts: Mapping[str, str], *words: str, progress: Progress = None) -> tup
                 child.kill()
                 child.wait()
                 raise
-        return child.returncode, Path(folder, "answer").read_text(encoding="utf-8", errors="replace"), " ".join(said)
-
-
-def ask(texts: Mapping[str, str], *words: str, accept: str, keys: Keys = ((), ()), progress: Progress = None) -> dict[str, Any]:
-    """What the program answers with --json. Raises the error of its status, unless that is one of the words of `accept`."""
-    answer = _answer(*run(texts, *words[:1], "--json", *words[1:], progress=progress))
-    if answer["status"] in accept.split():
-        return answer
-    lists = {"job": keys[0], "before": keys[0], "resource": keys[1]}
-    where = {word: lists[word][number - 1] if lists.get(word) else number
-             for word, number in zip(_MEANINGS.get(answer.get("name", ""), ()), answer.get("numbers", []))}
-    raise _ERRORS.get(answer["status"], ProgramError)(answer, where)
-
-
-def written(texts: Mapping[str, str], *words: str, accept: tuple[int, ...] = (0,)) -> str:
-    """The text that the program writes, if it ends with one of these statuses."""
-    status, output, said = run(texts, *words)
-    if status in accept:
+        output = Path(folder, "answer").read_text(encoding="utf-8", errors="replace")
+    if child.returncode in accept and output.startswith("{" if "json" in options else ""):
         return output
-    answer = _answer(status, output, said)
-    raise _ERRORS.get(answer["status"], ProgramError)(answer, {})
+    raise _error(child.returncode, output, " ".join(said), keys)
 
 
-def _answer(status: int, output: str, said: str) -> dict[str, Any]:
-    """The object that a run wrote; if it wrote none, one that says how it ended."""
-    if output.startswith("{"):
-        return {"status": "shown", **json.loads(output)}
+def _option(name: str, value: object) -> str:
+    """An option as a word of the command line: time_limit=2.5 is --time-limit=2.500000000, and facts=True is --facts."""
+    text = "" if value is True else f"={value:.9f}" if isinstance(value, float) else f"={value}"
+    return f"--{name.replace('_', '-')}{text}"
+
+
+def _error(status: int, output: str, said: str, keys: Mapping[str, Sequence[Hashable]]) -> RacpError:
+    """The error of a run: of the object that it wrote, or if it wrote none, of how it ended."""
     ended = f"racp was ended by signal {-status}" if status < 0 else f"racp ended with status {status}"
-    return {"status": {6: "memory", 8: "unproved"}.get(status, ended), "says": said or output.strip() or ended}
-
-
-def options(**values: object) -> list[str]:
-    """The values that are not None or False, as words of the command line: time_limit=2.5 is --time-limit 2.5."""
-    given = ((f"--{name.replace('_', '-')}", value) for name, value in values.items() if value is not None and value is not False)
-    told = ((name, f"{value:.9f}" if isinstance(value, float) else str(value), value is True) for name, value in given)
-    return [word for name, text, alone in told for word in ([name] if alone else [name, text])]
+    answer = json.loads(output) if output.startswith("{") else {
+        "status": {6: "memory", 8: "unproved"}.get(status, ended), "says": said or output.strip() or ended}
+    meanings = zip(_MEANINGS.get(answer.get("name", ""), ()), answer.get("numbers", []))
+    where = {word: keys[word][number - 1] if word in keys else number for word, number in meanings}
+    return _ERRORS.get(answer["status"], ProgramError)(answer, where)
