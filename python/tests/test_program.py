@@ -19,7 +19,8 @@ from shared import PRICES, environment, house, large, own_folder
 HERE = pathlib.Path(__file__).resolve().parent
 
 INTERRUPTED = """
-import sys, tempfile
+import signal, sys, tempfile
+signal.signal(signal.SIGINT, signal.default_int_handler)  # a shell's background has it ignored
 sys.path[:0] = sys.argv[1:3]
 import racp, shared
 tempfile.tempdir = sys.argv[3]
