@@ -1,5 +1,6 @@
 mod Deadlines
 mod Ceilings
+mod Settling
 mod Reasons
 mod Asking
 mod Growing

@@ -1,6 +1,6 @@
 -- Why a curve is known in part alone, and what a curve tells.
 use Rattle.std.proofs.Common.{◌≡◌, ℕ, ◌+◌, ◌≤◌, Bool, false, List, [], ◌∷◌, Option, refl, sym, subst, arith, inl, inr, ◌⊎◌}
-use Rattle.std.specs.Prelude.{⊤}
+use Rattle.std.specs.Prelude.{⊤, Result, Ok, Err, IfOk, IfErr}
 use Rattle.std.specs.List.{Contains}
 use Rattle.std.proofs.lemmas.Bool.{cases_lt}
 use Rattle.racp_model.specs.Project.{Project}
@@ -12,7 +12,10 @@ use Rattle.racp_by_questions.specs.Crowds.{HaveTaken, MayStop}
 use Rattle.racp_by_questions.specs.declared.stop.PlanStop.{PlanStop}
 use Rattle.racp_by_questions.specs.declared.stop.PlanStop.TheVariants.{Stopped, Memory, NoThread}
 use Rattle.racp_curve.specs.declared.step.Step.{Step}
-use Rattle.racp_curve.specs.Curves.{order_by, ArePlanned, first_deadline, AreSteps, AreNotAfterEnough, IsCurve, IsCurveStop}
+use Rattle.racp_curve.specs.declared.step.CurveAnswer.{CurveAnswer}
+use Rattle.racp_curve.specs.declared.step.CurveStop.{CurveStop}
+use Rattle.racp_curve.specs.Following.{IsFollowedByCrew}
+use Rattle.racp_curve.specs.Curves.{order_by, ArePlanned, first_deadline, AreSteps, AreNotAfterEnough, IsCurve, IsCurveAnswer, IsCurveStop}
 use Rattle.racp_curve.proofs.Deadlines.{enough_later}
 
 -- what is told of a stop follows from something else that is
@@ -57,6 +60,21 @@ crowd_stop p terms quiet left pieces turns steps stop taken sum h = record {
   are_steps = h.are_steps;
   reason = crowd_reason (AreNotAfterEnough p terms (first_deadline (terms.deadline + 1) steps)) p quiet left pieces turns stop taken sum h.reason;
 }
+
+-- what an asker with workers answers, as workers tell it
+pub crew_end : (p : Project) (terms : Terms) (quiet : Bool) (left pieces turns : ℕ) (result : Result CurveAnswer CurveStop) → HaveTaken p quiet pieces → left + pieces ≡ turns → IfOk result (IsCurveAnswer p terms) →
+    IfErr result (λ end. IsCurveStop p terms ((left ≡ 0) ⊎ (quiet ≡ false)) ⊤ end.steps.items end.stop) → IsFollowedByCrew p terms (MayStop p quiet turns) result
+crew_end p terms quiet left pieces turns (Ok answer) taken sum curve stop = curve
+crew_end p terms quiet left pieces turns (Err end) taken sum curve stop = crowd_stop p terms quiet left pieces turns end.steps.items end.stop taken sum stop
+
+-- which is the curve, or why it ended early
+pub crew_curve : (p : Project) (terms : Terms) (may_stop : Type 0) (result : Result CurveAnswer CurveStop) → IsFollowedByCrew p terms may_stop result → IfOk result (IsCurveAnswer p terms)
+crew_curve p terms may_stop (Ok answer) h = h
+crew_curve p terms may_stop (Err end) h = tt
+
+pub crew_stop : (p : Project) (terms : Terms) (may_stop : Type 0) (result : Result CurveAnswer CurveStop) → IsFollowedByCrew p terms may_stop result → IfErr result (λ end. IsCurveStop p terms may_stop ⊤ end.steps.items end.stop)
+crew_stop p terms may_stop (Ok answer) h = tt
+crew_stop p terms may_stop (Err end) h = h
 
 -- of each deadline from the first step on, up to the order's, a step tells the plan's capacities
 step_tells : (p : Project) (terms : Terms) (steps : List Step) (deadline : ℕ) → AreSteps p terms steps → first_deadline (terms.deadline + 1) steps ≤ deadline → deadline ≤ terms.deadline →

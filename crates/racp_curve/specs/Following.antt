@@ -1,17 +1,25 @@
 -- Contracts of private functions: the curve is followed from the order's deadline on, plan by plan.
-use Rattle.std.specs.Prelude.{◌≡◌, ℕ, ◌+◌, ◌<◌, ◌≤◌, List, Option, Some, None}
+use Rattle.std.specs.Prelude.{◌≡◌, ℕ, ◌+◌, ◌<◌, ◌≤◌, List, Option, Some, None, Result, Ok, Err, ⊤}
 use Rattle.racp_model.specs.Project.{Project}
 use Rattle.racp_model.specs.Terms.{Terms, release_of, due_of}
 use Rattle.racp_model.specs.Plan.{IsEnough, NoneIsEnough}
 use Rattle.racp_model.specs.Window.{Bounds, IsRootWindow}
+use Rattle.racp_model.specs.Schedule.{EndsBy}
 use Rattle.racp_plan.specs.declared.plan.Plan.{Plan}
 use Rattle.racp_plan.specs.Plans.{IsPlanOf}
 use Rattle.racp_lexfix.specs.declared.answer.Answer.{Answer}
 use Rattle.racp_lexfix.specs.declared.answer.Answer.TheVariants.{Plan as ThePlan, Impossible, Due, Ceiling}
-use Rattle.racp_curve.specs.Curves.{order_by, first_deadline, AreOthersThanFirst, AreSteps, IsCurve, MayHearCost, MayHearFloors, MayHearPlans}
+use Rattle.racp_curve.specs.Curves.{order_by, ArePlanned, first_deadline, AreOthersThanFirst, AreSteps, IsCurve, IsCurveAnswer, IsCurveStop, MayHearCost, MayHearFloors, MayHearPlans}
 use Rattle.racp_clauses.specs.Solutions.{Problem}
+use Rattle.racp_clauses.specs.Roots.{IsOpen}
+use Rattle.racp_by_clauses.specs.declared.task.Task.{Task}
+use Rattle.racp_curve.specs.declared.earlier.Earlier.{Earlier}
+use Rattle.racp_curve.specs.declared.earlier.Earlier.TheVariants.{Enough, NotEnough, Unknown}
 use Rattle.racp_curve.specs.declared.ground.Ground.{Ground}
+use Rattle.racp_curve.specs.declared.start.Start.{Start}
 use Rattle.racp_curve.specs.declared.step.Step.{Step}
+use Rattle.racp_curve.specs.declared.step.CurveAnswer.{CurveAnswer}
+use Rattle.racp_curve.specs.declared.step.CurveStop.{CurveStop}
 
 -- an asker may be told floors, and a least cost, of what is enough for each deadline up to the order's, and plans for it
 pub record MayHear (p : Project) (terms : Terms) (may_hear_floors : List ℕ → Type 0) (may_hear_cost : ℕ → Type 0)
@@ -41,6 +49,16 @@ IsRootOrNone p terms None = NoneIsEnough p terms
 abbrev pub IsSooner : Project → Terms → List ℕ → (deadline : ℕ) → Option ℕ → Type 0
 IsSooner p terms capacities deadline (Some end) = (end ≤ deadline) × IsEnough p (order_by end terms) capacities
 IsSooner p terms capacities deadline None = IsEnough p (order_by deadline terms) capacities → ⊥
+
+-- what is known of whether capacities are enough for a deadline
+abbrev pub IsEarlier : Project → Terms → List ℕ → (deadline : ℕ) → Earlier → Type 0
+IsEarlier p terms capacities deadline (Enough end) = IsSooner p terms capacities deadline (Some end)
+IsEarlier p terms capacities deadline NotEnough = IsSooner p terms capacities deadline None
+IsEarlier p terms capacities deadline Unknown = ⊤
+
+-- capacities are those of the plan for a deadline, or for a later one
+abbrev pub ArePlannedFrom : Project → Terms → (deadline : ℕ) → List ℕ → Type 0
+ArePlannedFrom p terms deadline capacities = (later : ℕ) × (deadline ≤ later) × ArePlanned p (order_by later terms) capacities
 
 -- capacities are enough for no deadline before an end
 abbrev pub IsShortest : Project → Terms → List ℕ → (end : ℕ) → Type 0
@@ -89,3 +107,38 @@ order_within capacities terms = record {
   release = terms.release;
   due = terms.due;
 }
+
+-- the problem that a task is of
+abbrev pub problem_of : Task → Problem
+problem_of task = record { network = task.net.now; terms = task.order.now; root = task.root.now }
+
+-- a task is of a variant of a problem, and its root bounds leave nothing out
+pub record IsVariantTask (q : Problem) (part : Task) : Type 0 where
+  pub network : part.net.now ≡ q.network
+  pub variant : IsVariantOf q.terms part.order.now
+  pub is_open : IsOpen (problem_of part)
+
+-- where searches begin: root bounds that leave nothing out
+abbrev pub IsStart : Project → Terms → Start → Type 0
+IsStart p terms start = IsOpen (record { network = p; terms = terms; root = start.bounds })
+
+-- a plan for a deadline, and when its last job ends
+pub record SettledPlan : Type 0 where
+  pub plan : Plan
+  pub end : ℕ
+
+-- the plan is that for its deadline, and its jobs end by that time
+pub record IsSettled (q : Problem) (settled : SettledPlan) : Type 0 where
+  pub is_plan : IsPlanOf q.network (order_by settled.plan.deadline q.terms) settled.plan
+  pub ends : EndsBy q.network (λ _. settled.end) settled.plan.starts
+
+-- it settles a deadline: its jobs end by it, and it is no later than the plan's
+pub record IsSettledFor (q : Problem) (deadline : ℕ) (settled : SettledPlan) : Type 0 where
+  pub is : IsSettled q settled
+  pub from : settled.end ≤ deadline
+  pub to : deadline ≤ settled.plan.deadline
+
+-- what workers answer: the curve; or right steps, and why there are no more of workers that may stop
+abbrev pub IsFollowedByCrew : Project → Terms → (may_stop : Type 0) → Result CurveAnswer CurveStop → Type 0
+IsFollowedByCrew p terms may_stop (Ok answer) = IsCurveAnswer p terms answer
+IsFollowedByCrew p terms may_stop (Err end) = IsCurveStop p terms may_stop ⊤ end.steps.items end.stop

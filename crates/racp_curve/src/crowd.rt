@@ -3,30 +3,40 @@
 ghost use Rattle.std.specs.Prelude.{◌≡◌, ◌≤◌, IfOk, IfErr, ⊤};
 ghost use Rattle.racp_model.specs.Formed.{AreFormed};
 ghost use Rattle.racp_model.specs.Terms.{AreTermsOf};
+ghost use Rattle.racp_by_clauses.specs.Optima.{IsTaskOf};
 ghost use Rattle.racp_candidates.specs.AnySeries.{any_questions};
 ghost use Rattle.racp_desk.specs.Closing.{IsRunClosed};
 ghost use Rattle.racp_by_questions.specs.Crowds.{MayStop};
 ghost use Rattle.racp_curve.specs.Curves.{IsCurveAnswer, IsCurveStop};
+ghost use Rattle.racp_curve.specs.Following.{IsFollowedByCrew, IsGroundOf};
 
+use crate::ahead::Ahead;
 use crate::dated::Dated;
-use crate::following::curve;
+use crate::facts::Facts;
+use crate::following::curve_with;
 use crate::ground::Ground;
+use crate::helping::{join_helpers, start_helpers};
+use crate::start::start_of;
 use crate::step::{CurveAnswer, CurveStop, out_of_memory};
+use racp_by_clauses::{Limits, Task};
 use racp_by_questions::{Crowd, Observer, OfTurns, Pricing};
 use racp_candidates::AnySeries;
+use racp_clauses::OfProblem;
 use racp_cutset::MemoryLimit;
 use racp_desk::{Closed, DeskFault, Gate, Records, RunLimits};
-use racp_lexfix::Crew;
+use racp_lexfix::{Crew, limits_of};
 use racp_model::{Network, OfNetwork, Stop};
 use racp_prices::Order;
-use std::alloc::Global;
+use std::alloc::{AllocError, Global};
 use std::marker::Brand;
 use std::sync::Wait;
 use std::sync::atomic::AtomicU32;
+use std::thread;
 use std::thread::Threads;
 
 /// The curve of an order, made by such workers, which take this many turns over all its plans: the same as that of
-/// `curve_alone`. Their observer is told for which deadline a plan is made, whenever it is told more of it.
+/// `curve_alone`. Where searches learn, each worker keeps what its own has learned from one deadline to the next. Their
+/// observer is told for which deadline a plan is made, whenever it is told more of it.
 ///
 /// # Errors
 ///
@@ -52,25 +62,178 @@ pub fn curve_crowd<G: Gate + Sync, P: Stop + Sync, O: Observer, R: Threads + Wai
         order,
         at: &at,
     };
-    curve_by::<Brand, Brand, G, P, O, R>(rt, &ground, crew)
+    followed(rt, &ground, &crew)
 }
 
-/// The curve of an order, made by these workers, for the network that `N` names, with the turns and as quiet a stop as
-/// `M` says.
-fn curve_by<
-    N: OfNetwork + Send + Sync,
+/// The curve of an order, made by these workers: by searches that learn, or each deadline by itself.
+fn followed<G: Gate + Sync, P: Stop + Sync, O: Observer, R: Threads + Wait + Sync>(
+    rt: &R,
+    ground: &Ground,
+    crew: &Crew<'_, G, P, O>,
+) -> Result<CurveAnswer, CurveStop>
+    ensures { IsFollowedByCrew ground.now.net.now ground.now.order.now (MayStop ground.now.net.now (P.is_quiet crew.now.stop.now) crew.now.turns) result }
+{
+    match start_of(ground, crew.leeway()) {
+        Ok(Some(start)) => {
+            let whole = Task {
+                alloc: ground.alloc,
+                net: ground.net,
+                order: ground.order,
+                window: &start.window,
+                root: &start.bounds,
+            };
+            curve_ahead::<Brand, Brand, G, P, O, R>(rt, ground, whole, crew)
+        }
+        Ok(None) => curve_anew_by::<Brand, G, P, O, R>(rt, ground, crew),
+        Err(_) => Err(out_of_memory(ground.alloc)),
+    }
+}
+
+/// The curve of an order, each deadline by itself.
+fn curve_anew_by<
+    N: OfProblem,
+    G: Gate + Sync,
+    P: Stop + Sync,
+    O: Observer,
+    R: Threads + Wait + Sync,
+>(rt: &R, ground: &Ground, crew: &Crew<'_, G, P, O>) -> Result<CurveAnswer, CurveStop>
+    requires of { IsGroundOf N.problem ground.now }
+    ensures { IsFollowedByCrew ground.now.net.now ground.now.order.now (MayStop ground.now.net.now (P.is_quiet crew.now.stop.now) crew.now.turns) result }
+{
+    let mut facts: Option<Facts<'_, N>> = None;
+    curve_by(rt, ground, &mut facts, crew)
+}
+
+/// The curve of an order by searches that learn, each worker with one of its own.
+fn curve_ahead<
+    N: OfProblem + Send + Sync,
     M: OfTurns,
     G: Gate + Sync,
     P: Stop + Sync,
     O: Observer,
     R: Threads + Wait + Sync,
->(rt: &R, ground: &Ground, crew: Crew<'_, G, P, O>) -> Result<CurveAnswer, CurveStop>
-    requires named { ground.now.net.now ≡ N.network }
-    requires named_turns { crew.turns ≡ M.turns }
-    requires named_quiet { P.is_quiet crew.stop.now ≡ M.quiet }
-    ensures curve { IfOk result (IsCurveAnswer ground.now.net.now ground.now.order.now) }
-    ensures stop { IfErr result (λ end. IsCurveStop ground.now.net.now ground.now.order.now
-        (MayStop ground.now.net.now M.quiet M.turns) ⊤ end.steps.items end.stop) }
+>(
+    rt: &R,
+    ground: &Ground,
+    whole: Task<'_>,
+    crew: &Crew<'_, G, P, O>,
+) -> Result<CurveAnswer, CurveStop>
+    requires of { IsGroundOf N.problem ground.now }
+    requires whole { IsTaskOf N.problem whole }
+    requires named_turns { crew.now.turns ≡ M.turns }
+    requires named_quiet { P.is_quiet crew.now.stop.now ≡ M.quiet }
+    ensures { IsFollowedByCrew ground.now.net.now ground.now.order.now (MayStop ground.now.net.now M.quiet M.turns) result }
+{
+    match Ahead::<N>::new(*ground, whole, limits_for(crew)) {
+        Ok(ahead) => {
+            let curve = in_scope::<N, M, G, P, O, R>(rt, &ahead, crew);
+            // Dropped here once, not at each way out.
+            drop(ahead);
+            curve
+        }
+        Err(_) => Err(out_of_memory(ground.alloc)),
+    }
+}
+
+/// How long a worker searches for a plan, with its share of the memory.
+fn limits_for<G: Gate, P: Stop, O: Observer>(crew: &Crew<'_, G, P, O>) -> Limits {
+    let limits = limits_of(crew.leeway());
+    Limits {
+        bytes: limits.bytes / (crew.workers as u64).max(1),
+        ..limits
+    }
+}
+
+/// Follows the curve on the calling thread, with helpers beside it.
+fn in_scope<
+    'a,
+    N: OfProblem + Send + Sync,
+    M: OfTurns,
+    G: Gate + Sync,
+    P: Stop + Sync,
+    O: Observer,
+    R: Threads + Wait + Sync,
+>(rt: &'a R, ahead: &'a Ahead<'a, N>, crew: &'a Crew<'a, G, P, O>) -> Result<CurveAnswer, CurveStop>
+    requires of { IsGroundOf N.problem ahead.now.base }
+    requires named_turns { crew.now.turns ≡ M.turns }
+    requires named_quiet { P.is_quiet crew.now.stop.now ≡ M.quiet }
+    ensures { IsFollowedByCrew N.problem.network N.problem.terms (MayStop N.problem.network M.quiet M.turns) result }
+{
+    thread::scope(
+        thread::scope_env(),
+        rt,
+        move |scope| -> Result<CurveAnswer, CurveStop>
+            requires { IsGroundOf N.problem ahead.now.base × (crew.now.turns ≡ M.turns) × (P.is_quiet crew.now.stop.now ≡ M.quiet) }
+            ensures { IsFollowedByCrew N.problem.network N.problem.terms (MayStop N.problem.network M.quiet M.turns) result }
+        {
+            let handles = start_helpers(scope, rt, ahead, crew.workers);
+            let curve = led::<N, M, G, P, O, R>(rt, ahead, crew);
+            ahead.finish();
+            join_helpers(rt, handles);
+            curve
+        },
+    )
+}
+
+/// Follows the curve on the calling thread, while helpers plan ahead.
+fn led<
+    'a,
+    N: OfProblem,
+    M: OfTurns,
+    G: Gate + Sync,
+    P: Stop + Sync,
+    O: Observer,
+    R: Threads + Wait + Sync,
+>(rt: &R, ahead: &'a Ahead<'a, N>, crew: &Crew<'_, G, P, O>) -> Result<CurveAnswer, CurveStop>
+    requires named_turns { crew.now.turns ≡ M.turns }
+    requires named_quiet { P.is_quiet crew.now.stop.now ≡ M.quiet }
+    ensures { IsFollowedByCrew N.problem.network N.problem.terms (MayStop N.problem.network M.quiet M.turns) result }
+{
+    match Facts::<N>::new(ahead.whole, ahead.limits, Some(ahead)) {
+        Ok(facts) => {
+            let mut facts = Some(facts);
+            let curve = curve_named::<Brand, M, N, G, P, O, R>(rt, &ahead.base, &mut facts, crew);
+            // By a call: else each part is dropped here.
+            drop(facts);
+            curve
+        }
+        Err(_) => Err(out_of_memory(ahead.base.alloc)),
+    }
+}
+
+/// The curve of an order, made by these workers, with what is learned of it, if anything is.
+fn curve_by<N: OfProblem, G: Gate + Sync, P: Stop + Sync, O: Observer, R: Threads + Wait + Sync>(
+    rt: &R,
+    ground: &Ground,
+    facts: &mut Option<Facts<'_, N>>,
+    crew: &Crew<'_, G, P, O>,
+) -> Result<CurveAnswer, CurveStop>
+    requires of { IsGroundOf N.problem ground.now }
+    ensures { IsFollowedByCrew ground.now.net.now ground.now.order.now (MayStop ground.now.net.now (P.is_quiet crew.now.stop.now) crew.now.turns) result }
+{
+    curve_named::<Brand, Brand, N, G, P, O, R>(rt, ground, facts, crew)
+}
+
+/// The same, for the network that `K` names, with the turns and as quiet a stop as `M` says.
+fn curve_named<
+    K: OfNetwork + Send + Sync,
+    M: OfTurns,
+    N: OfProblem,
+    G: Gate + Sync,
+    P: Stop + Sync,
+    O: Observer,
+    R: Threads + Wait + Sync,
+>(
+    rt: &R,
+    ground: &Ground,
+    facts: &mut Option<Facts<'_, N>>,
+    crew: &Crew<'_, G, P, O>,
+) -> Result<CurveAnswer, CurveStop>
+    requires named { ground.now.net.now ≡ K.network }
+    requires named_turns { crew.now.turns ≡ M.turns }
+    requires named_quiet { P.is_quiet crew.now.stop.now ≡ M.quiet }
+    requires of { IsGroundOf N.problem ground.now }
+    ensures { IsFollowedByCrew ground.now.net.now ground.now.order.now (MayStop ground.now.net.now M.quiet M.turns) result }
 {
     let Ground {
         alloc,
@@ -78,34 +241,25 @@ fn curve_by<
         order,
         at,
     } = *ground;
-    let leeway = crew.leeway();
-    let Crew {
-        workers,
-        turns,
-        memory,
-        gate,
-        stop,
-        observer,
-    } = crew;
     let limit = MemoryLimit {
-        mebibytes: memory,
-        workers,
+        mebibytes: crew.memory,
+        workers: crew.workers,
     };
-    let records: Records<N> = match Records::within(alloc, net, limit) {
+    let records: Records<K> = match Records::within(alloc, net, limit) {
         Ok(records) => records,
         Err(_) => return Err(out_of_memory(alloc)),
     };
-    let dated = Dated::new(at, Pricing::new(net, order, observer));
-    let crowd: Crowd<'_, N, M, P, Dated<'_, Pricing<'_, O>>, _> = Crowd::new(
-        workers,
-        turns,
+    let dated = Dated::new(at, Pricing::new(net, order, crew.observer));
+    let crowd: Crowd<'_, K, M, P, Dated<'_, Pricing<'_, O>>, _> = Crowd::new(
+        crew.workers,
+        crew.turns,
         dated,
         |series: AnySeries, limits: RunLimits| -> Result<Closed, DeskFault>
-            requires { (net.now ≡ N.network) × AreFormed net.now (any_questions series) }
+            requires { (net.now ≡ K.network) × AreFormed net.now (any_questions series) }
             ensures { IfOk result (IsRunClosed net.entry.now (any_questions series) limits.turns
-                (P.is_quiet stop.entry.now)) }
-        { records.run(rt, alloc, net, series, limits, gate, stop) },
+                (P.is_quiet crew.entry.now.stop.now)) }
+        { records.run(rt, alloc, net, series, limits, crew.gate, crew.stop) },
     );
-    let mut crowd = crowd.with_search(leeway, stop);
-    curve(alloc, net, order, at, &mut crowd)
+    let mut crowd = crowd.with_search(crew.leeway(), crew.stop);
+    curve_with(ground, facts, &mut crowd)
 }

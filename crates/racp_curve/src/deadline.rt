@@ -19,7 +19,11 @@ use std::alloc::{AllocError, Global};
 use std::sync::atomic::Ordering;
 
 /// The order with another deadline, in time units; nothing else changes.
-fn with_deadline(alloc: Global, order: &Order, deadline: u32) -> Result<Order, AllocError>
+pub(crate) fn with_deadline(
+    alloc: Global,
+    order: &Order,
+    deadline: u32,
+) -> Result<Order, AllocError>
     ensures { IfOk result (λ other. other ≡ order_by deadline order.now) }
 {
     let prices = order.prices.to_vec(alloc)?;
@@ -82,6 +86,7 @@ pub(crate) fn plan_by<N: OfProblem, A: Asker<AnySeries>>(
     ground.at.store(deadline, Ordering::SeqCst);
     let other = with_deadline(ground.alloc, ground.order, deadline)?;
     if let Some(facts) = facts {
+        facts.move_to(deadline);
         if let Some(known) = facts.known_answer(ground, &other, asker)? {
             return Ok(plan_in(known));
         }
@@ -91,7 +96,7 @@ pub(crate) fn plan_by<N: OfProblem, A: Asker<AnySeries>>(
 }
 
 /// The plan that an answer has.
-fn plan_in(answer: Answer) -> Option<Plan>
+pub(crate) fn plan_in(answer: Answer) -> Option<Plan>
     ensures { result ≡ plan_in answer }
 {
     match answer {

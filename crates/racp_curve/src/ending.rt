@@ -1,6 +1,6 @@
 //! For which deadlines capacities are enough.
 
-ghost use Rattle.std.specs.Prelude.{◌≡◌, ◌≤◌, None, length, OnOk, IfOk, IfErr, IfSome};
+ghost use Rattle.std.specs.Prelude.{◌≡◌, ◌≤◌, None, length, OnOk, IfOk, IfErr};
 ghost use Rattle.racp_model.specs.Schedule.{EndsBy};
 ghost use Rattle.racp_model.specs.Terms.{IsWithinCeilings};
 ghost use Rattle.racp_model.specs.Plan.{IsEnough};
@@ -9,9 +9,10 @@ ghost use Rattle.racp_questions.specs.FirstYes.{IsProbed};
 ghost use Rattle.racp_candidates.specs.Questions.{question_of};
 ghost use Rattle.racp_by_questions.specs.Stops.{IsPlanStop};
 ghost use Rattle.racp_curve.specs.Curves.{order_by};
-ghost use Rattle.racp_curve.specs.Following.{IsGroundOf, IsShortest, IsSooner};
+ghost use Rattle.racp_curve.specs.Following.{ArePlannedFrom, IsEarlier, IsGroundOf, IsShortest, IsSooner};
 
 use crate::deadline::{root_by, with_ceilings};
+use crate::earlier::Earlier;
 use crate::facts::Facts;
 use crate::ground::Ground;
 use racp_by_clauses::Feasible;
@@ -36,6 +37,7 @@ pub(crate) fn shorten<N: OfProblem, A: Asker<AnySeries>>(
     requires named { A.about asker.old ground.now.net.now }
     requires of { IsGroundOf N.problem ground.now }
     requires end { end.old ≤ ground.now.order.now.deadline }
+    requires planned { ArePlannedFrom ground.now.net.now ground.now.order.now end.old capacities.now }
     requires enough { IsEnough ground.now.net.now (order_by end.old ground.now.order.now) capacities.now }
     ensures network { A.about asker.new ground.now.net.now }
     ensures sooner { end.new ≤ end.old }
@@ -66,14 +68,17 @@ fn sooner<N: OfProblem, A: Asker<AnySeries>>(
     requires deadline { deadline ≤ ground.now.order.now.deadline }
     requires places { length capacities.now ≡ ground.now.net.now.resources }
     requires ceilings { IsWithinCeilings ground.now.order.now capacities.now }
+    requires planned { ArePlannedFrom ground.now.net.now ground.now.order.now deadline capacities.now }
     ensures network { A.about asker.new ground.now.net.now }
     ensures sooner { IfOk result (IsSooner ground.now.net.now ground.now.order.now capacities.now deadline) }
     ensures stop { IfErr result (IsPlanStop (λ told. told ≡ capacities.now)
         (A.may_stop asker.new) (A.may_want_thread asker.new)) }
 {
     if let Some(facts) = facts {
-        if let Some(known) = known_sooner(ground, capacities, deadline, facts, asker)? {
-            return Ok(known);
+        match known_earlier(ground, capacities, deadline, facts, asker)? {
+            Earlier::Enough(end) => return Ok(Some(end)),
+            Earlier::NotEnough => return Ok(None),
+            Earlier::Unknown => {}
         }
     }
     let Some(window) = root_by(ground, deadline)? else {
@@ -86,28 +91,55 @@ fn sooner<N: OfProblem, A: Asker<AnySeries>>(
     }
 }
 
-/// The same, by facts; `None` where they do not tell.
-fn known_sooner<N: OfProblem, A: Asker<AnySeries>>(
+/// The same, by what is learned, or found by other workers.
+fn known_earlier<N: OfProblem, A: Asker<AnySeries>>(
     ground: &Ground,
     capacities: &Capacities,
     deadline: u32,
     facts: &mut Facts<'_, N>,
     asker: &A,
-) -> Result<Option<Option<u32>>, AllocError>
+) -> Result<Earlier, AllocError>
     requires of { IsGroundOf N.problem ground.now }
     requires deadline { deadline ≤ ground.now.order.now.deadline }
     requires places { length capacities.now ≡ ground.now.net.now.resources }
     requires ceilings { IsWithinCeilings ground.now.order.now capacities.now }
-    ensures { IfOk result (λ told. IfSome told (IsSooner ground.now.net.now ground.now.order.now capacities.now deadline)) }
+    requires planned { ArePlannedFrom ground.now.net.now ground.now.order.now deadline capacities.now }
+    ensures { IfOk result (IsEarlier ground.now.net.now ground.now.order.now capacities.now deadline) }
+{
+    facts.move_to(deadline);
+    match facts.earlier_ahead(capacities, deadline) {
+        Earlier::Enough(end) => Ok(Earlier::Enough(end)),
+        Earlier::NotEnough => Ok(Earlier::NotEnough),
+        Earlier::Unknown => match learned_earlier(ground, capacities, deadline, facts, asker)? {
+            Earlier::Enough(end) => Ok(Earlier::Enough(end)),
+            Earlier::NotEnough => Ok(Earlier::NotEnough),
+            Earlier::Unknown => Ok(facts.earlier_ahead(capacities, deadline)),
+        },
+    }
+}
+
+/// The same, by what is learned.
+fn learned_earlier<N: OfProblem, A: Asker<AnySeries>>(
+    ground: &Ground,
+    capacities: &Capacities,
+    deadline: u32,
+    facts: &mut Facts<'_, N>,
+    asker: &A,
+) -> Result<Earlier, AllocError>
+    requires of { IsGroundOf N.problem ground.now }
+    requires deadline { deadline ≤ ground.now.order.now.deadline }
+    requires places { length capacities.now ≡ ground.now.net.now.resources }
+    requires ceilings { IsWithinCeilings ground.now.order.now capacities.now }
+    ensures { IfOk result (IsEarlier ground.now.net.now ground.now.order.now capacities.now deadline) }
 {
     let other = with_ceilings(ground.alloc, ground.order, deadline, capacities)?;
     if !other.is_for(ground.net) {
-        return Ok(None);
+        return Ok(Earlier::Unknown);
     }
     match facts.feasible(ground, &other, asker)? {
-        Feasible::Fits(draft) => Ok(Some(Some(end_of(ground.net, &draft.starts, deadline)))),
-        Feasible::NoneFits => Ok(Some(None)),
-        Feasible::Unknown => Ok(None),
+        Feasible::Fits(draft) => Ok(Earlier::Enough(end_of(ground.net, &draft.starts, deadline))),
+        Feasible::NoneFits => Ok(Earlier::NotEnough),
+        Feasible::Unknown => Ok(Earlier::Unknown),
     }
 }
 

@@ -1,71 +1,124 @@
 //! What is learned of one deadline and serves the others.
 
-ghost use Rattle.std.specs.Prelude.{IfOk, IfSome};
+ghost use Rattle.std.specs.Prelude.{◌≡◌, ◌≤◌, IfOk, IfSome};
 ghost use Rattle.std.proofs.Props.{props};
 ghost use Rattle.racp_model.specs.Path.{IsCriticalLength};
+ghost use Rattle.racp_model.specs.Plan.{IsOverCeilings, NoneIsEnough};
 ghost use Rattle.racp_model.specs.Terms.{AreTermsOf, release_of, due_of};
 ghost use Rattle.racp_model.specs.Window.{IsRootWindow};
+ghost use Rattle.racp_plan.specs.Plans.{IsPlanOf};
+ghost use Rattle.racp_clauses.specs.Roots.{IsOpen};
 ghost use Rattle.racp_lexfix.specs.Answers.{IsAnswer};
 ghost use Rattle.racp_lexfix.specs.Stages.{MayBeTold};
-ghost use Rattle.racp_by_clauses.specs.Optima.{IsFeasible, IsTaskOf};
-ghost use Rattle.racp_curve.specs.Following.{IsGroundOf, IsVariantOf};
+ghost use Rattle.racp_by_clauses.specs.Optima.{IsFeasible, IsTaskOf, MayBeTold as MayTell};
+ghost use Rattle.racp_curve.specs.Curves.{order_by};
+ghost use Rattle.racp_curve.specs.Following.{ArePlannedFrom, IsEarlier, IsGroundOf, IsVariantOf, IsVariantTask, problem_of};
 
+use crate::ahead::Ahead;
+use crate::earlier::Earlier;
 use crate::ground::Ground;
-use racp_by_clauses::{Feasible, Hearer, Optimizer, Task};
+use crate::hearers::{Awaited, Stopping, Telling};
+use racp_by_clauses::{Feasible, Hearer, Limits, Optimizer, Task};
 use racp_candidates::AnySeries;
 use racp_check::{Opening, opening_of};
 use racp_clauses::OfProblem;
-use racp_drafts::Draft;
 use racp_found::Found;
-use racp_learning::Tally;
 use racp_lexfix::{Answer, Relay, root_bounds};
-use racp_model::Window;
+use racp_model::{Capacities, Window};
 use racp_plan::Plan;
 use racp_prices::{Order, cost_of};
 use racp_questions::Asker;
 use std::alloc::AllocError;
 use std::marker::Brand;
 
-/// The order of a curve, and what was learned of it. That holds for each earlier deadline, and for lower ceilings.
+/// The order of a curve, and what a worker has learned of it. That holds for each earlier deadline, and for lower ceilings.
+/// With other workers, what they have found ahead.
 #[derive(Drop)]
 pub(crate) struct Facts<'a, N: OfProblem> {
-    pub(crate) whole: Task<'a>,
-    pub(crate) optimizer: Optimizer<N>,
-    pub(crate) ghost of: { IsTaskOf N.problem whole } by { Prim.hlevel props },
-}
-
-/// Stops a search where an asker wants questions, and tells it nothing.
-#[derive(Drop)]
-struct Stopping<'a, A: Asker<AnySeries>> {
-    asker: &'a A,
-}
-
-impl<'a, A: Asker<AnySeries>> Hearer for Stopping<'a, A> {
-    ghost use Rattle.std.specs.Prelude.{⊤};
-
-    ghost may_hear_cost = { λ _. ⊤ };
-
-    ghost may_hear_draft = { λ _. ⊤ };
-
-    fn stops(&self) -> bool {
-        self.asker.wants_questions()
-    }
-
-    fn hear_cost(&self, least: u64) {}
-
-    fn hear_draft(&self, draft: &Draft) {}
-
-    fn hear_tally(&self, tally: Tally) {
-        let gone = tally.lost.saturating_add(tally.forgotten);
-        self.asker
-            .hear_search(tally.conflicts, tally.conflicts.saturating_sub(gone));
-    }
+    whole: Task<'a>,
+    optimizer: Optimizer<N>,
+    ahead: Option<&'a Ahead<'a, N>>,
+    ghost of: { IsTaskOf N.problem whole } by { Prim.hlevel props },
 }
 
 impl<'a, N: OfProblem> Facts<'a, N> {
-    /// The plan of a variant of the order, with an earlier deadline, or that no capacities are enough. `None` where neither is
-    /// known, and where no starts are in time.
+    /// Nothing is learned yet.
+    pub(crate) fn new(
+        whole: Task<'a>,
+        limits: Limits,
+        ahead: Option<&'a Ahead<'a, N>>,
+    ) -> Result<Self, AllocError>
+        requires { IsTaskOf N.problem whole }
+    {
+        let optimizer: Optimizer<N> = Optimizer::new(whole, limits)?;
+        Ok(Facts {
+            whole,
+            optimizer,
+            ahead,
+        })
+    }
+
+    /// Tells the other workers that the curve is followed from a deadline on.
+    pub(crate) fn move_to(&self, deadline: u32) {
+        if let Some(ahead) = self.ahead {
+            ahead.move_to(deadline);
+        }
+    }
+
+    /// Whether the capacities of the plan for a later deadline are enough for this one, by what other workers have found.
+    pub(crate) fn earlier_ahead(&self, capacities: &Capacities, deadline: u32) -> Earlier
+        requires { ArePlannedFrom N.problem.network N.problem.terms deadline capacities.now }
+        ensures { IsEarlier N.problem.network N.problem.terms capacities.now deadline result }
+    {
+        match self.ahead {
+            Some(ahead) => ahead.earlier(capacities, deadline),
+            None => Earlier::Unknown,
+        }
+    }
+
+    /// The plan of the order with an earlier deadline, or that no capacities are enough. `None` where neither is known, and
+    /// where no starts are in time.
     pub(crate) fn known_answer<A: Asker<AnySeries>>(
+        &mut self,
+        ground: &Ground,
+        other: &Order,
+        asker: &A,
+    ) -> Result<Option<Answer>, AllocError>
+        requires of { IsGroundOf N.problem ground.now }
+        requires within { other.now.deadline ≤ ground.now.order.now.deadline }
+        requires by { other.now ≡ order_by other.now.deadline ground.now.order.now }
+        requires heard { MayBeTold ground.now.net.now other.now A.may_hear_floors A.may_hear_cost A.may_hear_plan }
+        ensures { IfOk result (λ told. IfSome told (IsAnswer ground.now.net.now other.now)) }
+    {
+        match self.answer_ahead(ground, other)? {
+            Some(answer) => Ok(Some(answer)),
+            None => match self.own_answer(ground, other, asker)? {
+                Some(answer) => Ok(Some(answer)),
+                None => self.answer_ahead(ground, other),
+            },
+        }
+    }
+
+    /// The plan that another worker has found.
+    fn answer_ahead(&self, ground: &Ground, other: &Order) -> Result<Option<Answer>, AllocError>
+        requires of { IsGroundOf N.problem ground.now }
+        requires by { other.now ≡ order_by other.now.deadline ground.now.order.now }
+        ensures { IfOk result (λ told. IfSome told (IsAnswer ground.now.net.now other.now)) }
+    {
+        let Some(ahead) = self.ahead else {
+            return Ok(None);
+        };
+        match ahead.plan_for(other.deadline) {
+            Some(settled) => {
+                let plan = settled.plan_for(ground.alloc, other.deadline)?;
+                Ok(Some(Answer::Plan(plan)))
+            }
+            None => Ok(None),
+        }
+    }
+
+    /// What a search of its own finds.
+    fn own_answer<A: Asker<AnySeries>>(
         &mut self,
         ground: &Ground,
         other: &Order,
@@ -114,15 +167,44 @@ impl<'a, N: OfProblem> Facts<'a, N> {
             window,
             root: &root.bounds,
         };
-        let relay = Relay { asker };
+        let telling = Telling {
+            relay: Relay { asker },
+            awaited: self.awaited(other.deadline),
+        };
+        self.answer_of(part, critical, &telling)
+    }
+
+    /// What is awaited of other workers.
+    fn awaited(&self, deadline: u32) -> Awaited<'a, N> {
+        Awaited {
+            ahead: self.ahead,
+            deadline,
+        }
+    }
+
+    /// The plan of a part of the order, with the critical length, or that no capacities are enough. `None` where neither is
+    /// found.
+    pub(crate) fn answer_of<H: Hearer>(
+        &mut self,
+        part: Task<'_>,
+        critical: u64,
+        hearer: &H,
+    ) -> Result<Option<Answer>, AllocError>
+        requires part { IsVariantTask N.problem part }
+        requires critical { IsCriticalLength part.net.now (release_of part.order.now) critical }
+        requires over { NoneIsEnough part.net.now part.order.now → IsOverCeilings part.net.now part.order.now }
+        requires may { MayTell (problem_of part) H.may_hear_cost H.may_hear_draft }
+        ensures { IfOk result (λ told. IfSome told (IsAnswer part.entry.net.now part.entry.order.now)) }
+    {
         match self
             .optimizer
-            .optimum::<Brand, Relay<'_, A>>(self.whole, part, &relay)?
+            .optimum::<Brand, H>(self.whole, part, hearer)?
         {
             Found::Plan(capacities, starts) => {
-                let cost = cost_of(net, other, capacities.as_slice());
+                let order = part.order;
+                let cost = cost_of(part.net, order, capacities.as_slice());
                 Ok(Some(Answer::Plan(Plan {
-                    deadline: other.deadline,
+                    deadline: order.deadline,
                     critical,
                     cost,
                     capacities,
@@ -166,8 +248,11 @@ impl<'a, N: OfProblem> Facts<'a, N> {
             window: &window,
             root: &root.bounds,
         };
-        let stopping = Stopping { asker };
+        let stopping = Stopping {
+            relay: Relay { asker },
+            awaited: self.awaited(other.deadline),
+        };
         self.optimizer
-            .feasible::<Brand, Stopping<'_, A>>(self.whole, part, &stopping)
+            .feasible::<Brand, Stopping<'_, '_, A, N>>(self.whole, part, &stopping)
     }
 }

@@ -1,8 +1,7 @@
 //! The curve, followed from the order's deadline back.
 
 ghost use Rattle.std.specs.Prelude.{◌≡◌, ◌+◌, IfOk, IfErr, MatchResult};
-ghost use Rattle.racp_model.specs.Terms.{AreTermsOf, release_of, due_of};
-ghost use Rattle.racp_model.specs.Window.{IsRootWindow};
+ghost use Rattle.racp_model.specs.Terms.{AreTermsOf};
 ghost use Rattle.racp_by_clauses.specs.Optima.{IsTaskOf};
 ghost use Rattle.racp_plan.specs.Plans.{IsPlanOf};
 ghost use Rattle.racp_by_questions.specs.Stops.{IsPlanStop};
@@ -14,14 +13,14 @@ ghost use Rattle.racp_curve.specs.Following.{IsGroundOf, MayHear};
 
 use crate::facts::Facts;
 use crate::ground::Ground;
+use crate::start::start_of;
 use crate::step::{CurveAnswer, CurveStop, out_of_memory};
 use crate::stepping::follow;
-use racp_by_clauses::{Optimizer, Task};
+use racp_by_clauses::Task;
 use racp_candidates::AnySeries;
-use racp_check::{Opening, opening_of};
 use racp_clauses::OfProblem;
-use racp_lexfix::{Answer, PlanStop, limits_of, plan, root_bounds};
-use racp_model::{Network, Window};
+use racp_lexfix::{Answer, PlanStop, limits_of, plan};
+use racp_model::Network;
 use racp_plan::Plan;
 use racp_prices::Order;
 use racp_questions::Asker;
@@ -61,51 +60,18 @@ pub fn curve<A: Asker<AnySeries>>(
         order,
         at,
     };
-    match opening_of(alloc, net, order) {
-        Ok(
-            Opening::Root {
-                critical: _,
-                window,
-            },
-        ) => curve_within(&ground, &window, asker),
-        Ok(_) => curve_anew::<Brand, A>(&ground, asker),
-        Err(_) => Err(out_of_memory(alloc)),
-    }
-}
-
-/// The curve of an order that has this root window. Where there are many vectors and the asker leaves room for a search, what is
-/// learned of one deadline serves the others.
-fn curve_within<A: Asker<AnySeries>>(
-    ground: &Ground,
-    window: &Window,
-    asker: &mut A,
-) -> Result<CurveAnswer, CurveStop>
-    requires named { A.about asker.old ground.now.net.now }
-    requires window { IsRootWindow ground.now.net.now (release_of ground.now.order.now) (due_of ground.now.order.now) window.now }
-    requires hears { MayHear ground.now.net.now ground.now.order.now A.may_hear_floors A.may_hear_cost A.may_hear_plan }
-    ensures network { A.about asker.new ground.now.net.now }
-    ensures curve { IfOk result (IsCurveAnswer ground.now.net.now ground.now.order.now) }
-    ensures stop { IfErr result (λ end. IsCurveStop ground.now.net.now ground.now.order.now (A.may_stop asker.new)
-        (A.may_want_thread asker.new) end.steps.items end.stop) }
-{
-    let Ground {
-        alloc,
-        net,
-        order,
-        ..
-    } = *ground;
-    match root_bounds(alloc, net, order, window) {
-        Ok(Some(root)) if !root.is_small && asker.leeway().conflicts > 0 => {
+    match start_of(&ground, asker.leeway()) {
+        Ok(Some(start)) => {
             let whole = Task {
                 alloc,
                 net,
                 order,
-                window,
-                root: &root.bounds,
+                window: &start.window,
+                root: &start.bounds,
             };
-            curve_learned::<Brand, A>(ground, whole, asker)
+            curve_learned::<Brand, A>(&ground, whole, asker)
         }
-        Ok(_) => curve_anew::<Brand, A>(ground, asker),
+        Ok(None) => curve_anew::<Brand, A>(&ground, asker),
         Err(_) => Err(out_of_memory(alloc)),
     }
 }
@@ -125,8 +91,8 @@ fn curve_learned<N: OfProblem, A: Asker<AnySeries>>(
     ensures stop { IfErr result (λ end. IsCurveStop ground.now.net.now ground.now.order.now (A.may_stop asker.new)
         (A.may_want_thread asker.new) end.steps.items end.stop) }
 {
-    match Optimizer::<N>::new(whole, limits_of(asker.leeway())) {
-        Ok(optimizer) => curve_with(ground, &mut Some(Facts { whole, optimizer }), asker),
+    match Facts::<N>::new(whole, limits_of(asker.leeway()), None) {
+        Ok(facts) => curve_with(ground, &mut Some(facts), asker),
         Err(_) => Err(out_of_memory(ground.alloc)),
     }
 }
@@ -149,7 +115,7 @@ fn curve_anew<N: OfProblem, A: Asker<AnySeries>>(
 }
 
 /// The curve of an order, with what is learned of it, if anything is.
-fn curve_with<N: OfProblem, A: Asker<AnySeries>>(
+pub(crate) fn curve_with<N: OfProblem, A: Asker<AnySeries>>(
     ground: &Ground,
     facts: &mut Option<Facts<'_, N>>,
     asker: &mut A,

@@ -29,10 +29,14 @@
 //! deadline has a plan with these capacities as its ceilings. All other questions go to one `Asker`, whose records
 //! serve the later ones too.
 //!
+//! With workers, the calling thread follows the curve, and helpers make plans for earlier deadlines meanwhile, each by a search of
+//! its own that it keeps. A plan that is found ahead settles each deadline down to the end of its last job. So it tells whether
+//! capacities are enough for a deadline, too: they are if they are its own, and else they would be the plan's.
+//!
 //! `curve_alone(alloc, &net, &order, 1024)` does it on the calling thread, `curve_crowd(rt, alloc, &net, &order, crew)`
-//! has workers make the plans over one board of records, counts the turns of all plans together, and tells an observer
-//! for which deadline a plan is made and how far that has come. `curve_text(alloc, &steps)` gives the lines above, and
-//! `step_lines(alloc, &steps)` the lines of some steps.
+//! has workers make the plans: ahead where searches learn, else over one board of records. It counts the turns of all plans
+//! together, and tells an observer for which deadline a plan is made and how far that has come. `curve_text(alloc, &steps)`
+//! gives the lines above, and `step_lines(alloc, &steps)` the lines of some steps.
 //!
 //! Proved: what `curve` answers is the curve (`IsCurve`): for each deadline from that of a step to before that of the
 //! next one, and up to the order's for the last, the capacities of the step are those of the plan, and its cost is
@@ -47,16 +51,22 @@
 //! proved: that memory is not refused without need, and how long it takes.
 #![tactic(auto)]
 
+mod ahead;
 mod alone;
 mod crowd;
 mod dated;
 mod deadline;
+mod earlier;
 mod ending;
 mod facts;
 mod following;
 mod ground;
+mod hearers;
+mod helping;
 pub mod laws;
 mod lines;
+mod settled;
+mod start;
 mod step;
 mod stepping;
 

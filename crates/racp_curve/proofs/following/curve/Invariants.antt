@@ -1,5 +1,9 @@
 use Rattle.std.specs.Prelude.{[]}
+use Rattle.racp_curve.specs.Following.{problem_of}
 use Rattle.racp_curve.proofs.following.curve.Given as goal
+
+abbrev pub ghosts-curve_learned : goal.ghosts-curve_learned
+ghosts-curve_learned g a = record { problem = problem_of a.whole }
 
 -- nothing is learned, so these root bounds are never used
 abbrev pub ghosts-curve_anew : goal.ghosts-curve_anew

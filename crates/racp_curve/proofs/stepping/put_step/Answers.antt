@@ -9,6 +9,9 @@ end_of-begin-requires-clause-ends g c = plan_ends c.args.ground.now.net.now c.ar
 pub shorten-requires-clause-end : goal.shorten-requires-clause-end
 shorten-requires-clause-end g c = omega (arith, c.end_of-begin.ensures.within, next_within c.args.ground.now.net.now c.args.ground.now.order.now c.args.plan c.args.steps.now.items c.requires.next)
 
+pub shorten-requires-clause-planned : goal.shorten-requires-clause-planned
+shorten-requires-clause-planned g c = (c.args.plan.deadline, c.end_of-begin.ensures.within, c.requires.next.plan_is.is_plan.vector)
+
 pub shorten-requires-clause-enough : goal.shorten-requires-clause-enough
 shorten-requires-clause-enough g c = plan_enough c.args.ground.now.net.now c.args.ground.now.order.now c.args.plan c.args.steps.now.items c.end_of-begin.result c.requires.next c.end_of-begin.ensures.ends
 

@@ -1,7 +1,6 @@
 use Rattle.std.proofs.Common.{Option, subst}
 use Rattle.std.specs.Prelude.{MatchOption}
 use Rattle.racp_model.specs.Plan.{NoneIsEnough}
-use Rattle.racp_found.specs.Finds.{IsFound}
 use Rattle.racp_lexfix.specs.Stages.{AreRootBounds}
 use Rattle.racp_lexfix.specs.declared.roots.RootBounds.{RootBounds}
 use Rattle.racp_curve.proofs.Reasons.{over}
@@ -11,9 +10,4 @@ pub returns-in_default : goal.returns-in_default
 returns-in_default g c =
     let none : NoneIsEnough c.args.ground.now.net.now c.args.other.now =
     subst (λ (o : Option RootBounds). MatchOption o (NoneIsEnough c.args.ground.now.net.now c.args.other.now) (AreRootBounds c.args.ground.now.net.now c.args.other.now)) c.in_default.is c.in_ok-root.ensures in
-    over c.args.ground.now.net.now c.args.other.now c.args.window.now c.requires.root none
-
-pub returns-in-NoneEnough : goal.returns-in-NoneEnough
-returns-in-NoneEnough g c =
-    let none : NoneIsEnough c.args.ground.now.net.now c.args.other.now = subst (IsFound c.args.ground.now.net.now c.args.other.now) c.in-NoneEnough.is c.in_ok-capacities.ensures in
     over c.args.ground.now.net.now c.args.other.now c.args.window.now c.requires.root none

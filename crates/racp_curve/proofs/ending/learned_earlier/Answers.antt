@@ -8,7 +8,7 @@ use Rattle.racp_by_clauses.specs.declared.feasible.Feasible.TheVariants.{Fits, N
 use Rattle.racp_curve.specs.Curves.{order_by}
 use Rattle.racp_curve.specs.Following.{order_within}
 use Rattle.racp_curve.proofs.Ceilings.{draft_sooner, none_within}
-use Rattle.racp_curve.proofs.ending.known_sooner.Goals as goal
+use Rattle.racp_curve.proofs.ending.learned_earlier.Goals as goal
 
 pub returns-in-Fits : goal.returns-in-Fits
 returns-in-Fits g c =
