@@ -5,7 +5,8 @@ use Rattle.racp_model.specs.Schedule.{energy}
 use Rattle.racp_model.specs.Terms.{Terms}
 use Rattle.racp_plan.specs.declared.plan.Plan.{Plan}
 use Rattle.racp_show.specs.Called.{name_at}
-use Rattle.racp_show.specs.Tasks.{AreTasks}
+use Rattle.racp_show.specs.Outlines.{Outlined}
+use Rattle.racp_show.specs.Rows.{AreRows}
 use Rattle.racp_show.specs.Uses.{AreSteps, percent}
 use Rattle.racp_charts.specs.declared.choice.Choice.{Choice}
 use Rattle.racp_charts.specs.declared.drawing.Drawing.{Drawing}
@@ -28,10 +29,11 @@ pub record AreChoices (p : Project) (terms : Terms) (plan : Plan) (names : List 
   pub each : (k : ℕ) (d : Choice) → k < p.resources → IsChoice p terms plan names k (slice_index_or choices k d)
 
 -- what is drawn of a plan
-pub record IsDrawing (p : Project) (terms : Terms) (plan : Plan) (names : List (List ℕ)) (drawing : Drawing) :
-    Type 0 where
+pub record IsDrawing (p : Project) (terms : Terms) (plan : Plan) (names : List (List ℕ)) (outline : Outlined)
+    (drawing : Drawing) : Type 0 where
   pub deadline_is : drawing.deadline ≡ terms.deadline
   pub critical_is : drawing.critical ≡ plan.critical
   pub cost_is : drawing.cost ≡ plan.cost
-  pub all_tasks : AreTasks p terms plan.starts names drawing.tasks.items
+  pub tasks_are : drawing.task_count ≡ outline.tasks
+  pub all_rows : AreRows p terms plan.starts names outline drawing.rows.items
   pub all_choices : AreChoices p terms plan names drawing.choices.items

@@ -6,11 +6,14 @@ use Rattle.racp_show.specs.declared.usage.Step.{Step}
 use Rattle.racp_calendar.specs.Dates.{time_text}
 use Rattle.racp_calendar.specs.declared.calendar.Calendar.{Calendar}
 use Rattle.racp_calendar.specs.declared.calendar.Calendar.TheVariants.{Numbers, Dates}
-use Rattle.racp_charts.specs.Texts.{◌⋅◌, mark_of, texts_before}
+use Rattle.racp_charts.specs.Texts.{◌⋅◌, escaped, mark_of, texts_before}
 use Rattle.racp_charts.specs.declared.axis.Span.{Span}
 use Rattle.racp_charts.specs.declared.choice.Choice.{Choice}
+use Rattle.racp_show.specs.declared.predecessor.Predecessor.{Predecessor}
+use Rattle.racp_show.specs.declared.row.Row.{Row}
+use Rattle.racp_show.specs.declared.row.Row.TheVariants.{Heading, Bar}
 use Rattle.racp_show.specs.declared.task.Task.{Task}
-use Rattle.racp_charts.specs.Elements.{name_text, number_list, shape_class, short_text}
+use Rattle.racp_charts.specs.Elements.{name_text, predecessor_list, shape_class, short_text, text_within}
 
 -- where a time is drawn: the first at 270 and the last at 970, and times before and after them there too
 abbrev pub across : Span → ℕ → ℕ
@@ -101,10 +104,10 @@ tip_times calendar task =
     tip_begin task.job ⋅ time_text calendar task.start ⋅ codes " to " ⋅ time_text calendar (task.start + task.duration)
     ⋅ tip_slack (task.latest - task.start)
 
--- what comes before a task, if anything does
-abbrev pub tip_before : List ℕ → List ℕ
+-- what a task waits for, if for anything
+abbrev pub tip_before : List Predecessor → List ℕ
 tip_before [] = []
-tip_before (number ∷ numbers) = codes ", after " ⋅ number_list 0 (number ∷ numbers)
+tip_before (predecessor ∷ predecessors) = codes ", after " ⋅ predecessor_list 0 (predecessor ∷ predecessors)
 
 -- the tooltip of a task
 unfoldable pub tip_element : Calendar → Task → List ℕ
@@ -113,10 +116,22 @@ tip_element calendar task =
     ⋅ tip_times calendar task
     ⋅ tip_before task.predecessors.items ⋅ codes "</title>"
 
--- the stripe of a row, and the beginning of its name
-unfoldable pub row_middle : ℕ → List ℕ
-row_middle top = codes "<rect class=\"stripe" ⋅ decimal (top / 20 % 2) ⋅ codes "\" x=\"0\" y=\"" ⋅ decimal top
-    ⋅ codes "\" width=\"1000\" height=\"20\"/><text x=\"8\" y=\"" ⋅ decimal (top + 14) ⋅ codes "\">"
+-- where the name in a row begins that stands in so many phases, and how many columns it takes at most
+abbrev pub name_left : ℕ → ℕ
+name_left depth = 8 + min depth 8 * 12
+
+abbrev pub name_columns : ℕ → ℕ
+name_columns depth = 40 - min depth 8 * 2
+
+-- the stripe of a row, and the beginning of the name in it, or of the title of a phase
+unfoldable pub row_middle : ℕ → ℕ → List ℕ
+row_middle left top = codes "<rect class=\"stripe" ⋅ decimal (top / 20 % 2) ⋅ codes "\" x=\"0\" y=\"" ⋅ decimal top
+    ⋅ codes "\" width=\"1000\" height=\"20\"/><text x=\"" ⋅ decimal left ⋅ codes "\" y=\"" ⋅ decimal (top + 14) ⋅ codes "\">"
+
+unfoldable pub phase_middle : ℕ → ℕ → List ℕ
+phase_middle left top = codes "<rect class=\"stripe" ⋅ decimal (top / 20 % 2) ⋅ codes "\" x=\"0\" y=\"" ⋅ decimal top
+    ⋅ codes "\" width=\"1000\" height=\"20\"/><text class=\"head phase\" x=\"" ⋅ decimal left ⋅ codes "\" y=\""
+    ⋅ decimal (top + 14) ⋅ codes "\">"
 
 -- the line of a task's slack
 unfoldable pub slack_element : Span → Task → ℕ → List ℕ
@@ -139,11 +154,23 @@ shape_element span task top =
     if task.duration == 0 then diamond_element (shape_class task.is_critical) x top
     else bar_element (shape_class task.is_critical) x (max (across span (task.start + task.duration) - x) 1) top
 
--- the row of a task at the height `top`
-unfoldable pub row_element : Span → Task → ℕ → List ℕ
-row_element span task top =
-    tip_element span.calendar task ⋅ row_middle top ⋅ short_text (option_map (λ name. name.now) task.name) (codes "task") task.job
+-- the row of a task that stands in so many phases, at the height `top`
+unfoldable pub task_element : Span → ℕ → Task → ℕ → List ℕ
+task_element span depth task top =
+    tip_element span.calendar task ⋅ row_middle (name_left depth) top
+    ⋅ short_text (name_columns depth) (option_map (λ name. name.now) task.name) (codes "task") task.job
     ⋅ codes "</text>" ⋅ slack_element span task (top + 10) ⋅ shape_element span task (top + 4)
+
+-- the row of a phase: its title, and in it as much of that as takes 100 columns
+unfoldable pub phase_element : ℕ → List ℕ → ℕ → List ℕ
+phase_element depth title top =
+    codes "<g><title>" ⋅ escaped title ⋅ codes "</title>" ⋅ phase_middle (name_left depth) top ⋅ text_within 100 title
+    ⋅ codes "</text></g>\n"
+
+-- a row of a chart
+abbrev pub row_element : Span → Row → ℕ → List ℕ
+row_element span (Heading depth title) top = phase_element depth title.now top
+row_element span (Bar depth task) top = task_element span depth task top
 
 -- what stands around the rows of tasks that go down to `bottom`: both axes, and the line of the deadline
 unfoldable pub frame_element : Span → ℕ → List ℕ
@@ -172,7 +199,7 @@ panel_numbers choice = codes "</text><text x=\"8\" y=\"50\">units " ⋅ decimal 
 -- the name of a resource, and these
 unfoldable pub panel_title : Choice → List ℕ
 panel_title choice = codes "<text class=\"head\" x=\"8\" y=\"32\">"
-    ⋅ short_text (option_map (λ name. name.now) choice.name) (codes "resource") choice.resource ⋅ panel_numbers choice
+    ⋅ short_text 40 (option_map (λ name. name.now) choice.name) (codes "resource") choice.resource ⋅ panel_numbers choice
 
 -- the line of all units, and the axis of units
 unfoldable pub limit_element : ℕ → List ℕ

@@ -13,7 +13,7 @@ use Rattle.racp_charts.specs.declared.axis.Span.{Span}
 use Rattle.racp_charts.specs.declared.choice.Choice.{Choice}
 use Rattle.racp_charts.specs.declared.costs.Corner.{Corner}
 use Rattle.racp_charts.specs.declared.drawing.Drawing.{Drawing}
-use Rattle.racp_show.specs.declared.task.Task.{Task}
+use Rattle.racp_show.specs.declared.row.Row.{Row}
 
 -- what is said first of a plan
 unfoldable pub plan_title_begin : ℕ → List ℕ
@@ -45,15 +45,15 @@ key_element =
     ⋅ codes "class=\"deadline\" d=\"M748 1v14\"/><text x=\"756\" y=\"12\">deadline</text><path class=\"limit\" "
     ⋅ codes "d=\"M832 8h24\"/><text x=\"862\" y=\"12\">all units</text>\n"
 
--- the rows of tasks from a place on
-abbrev pub task_rows : Span → ℕ → List Task → List ℕ
-task_rows span place [] = []
-task_rows span place (task ∷ tasks) = row_element span task (40 + place * 20) ++ task_rows span (place + 1) tasks
+-- the rows from a place on
+abbrev pub rows_from : Span → ℕ → List Row → List ℕ
+rows_from span place [] = []
+rows_from span place (row ∷ rows) = row_element span row (40 + place * 20) ++ rows_from span (place + 1) rows
 
--- the tasks of a plan: their frame down to this height, a row for each, and if they are wanted the arrows between them
-unfoldable pub tasks_element : Bool → Span → ℕ → List Task → List ℕ
-tasks_element has_links span bottom tasks =
-    group_begin 56 ⋅ frame_element span bottom ⋅ task_rows span 0 tasks ⋅ links_element has_links span tasks ⋅ group_end
+-- the tasks of a plan: their frame down to this height, the rows, and if they are wanted the arrows between tasks
+unfoldable pub tasks_element : Bool → Span → ℕ → List Row → List ℕ
+tasks_element has_links span bottom rows =
+    group_begin 56 ⋅ frame_element span bottom ⋅ rows_from span 0 rows ⋅ links_element has_links span rows ⋅ group_end
 
 -- a resource below this height
 unfoldable pub resource_element : Span → ℕ → Choice → List ℕ
@@ -75,7 +75,7 @@ whole drawing = record { first = 0; last = drawing.deadline; calendar = drawing.
 
 -- how far down the tasks go in their frame; where the resources begin; how high the picture is
 abbrev pub tasks_bottom : Drawing → ℕ
-tasks_bottom drawing = 40 + length drawing.tasks.items * 20
+tasks_bottom drawing = 40 + length drawing.rows.items * 20
 
 abbrev pub resources_top : Drawing → ℕ
 resources_top drawing = tasks_bottom drawing + 88
@@ -92,7 +92,7 @@ plan_begin drawing =
 unfoldable pub plan_body : Bool → Drawing → List ℕ
 plan_body has_links drawing =
     page_element (picture_height drawing) ⋅ heading_element drawing ⋅ key_at 38
-    ⋅ tasks_element has_links (whole drawing) (tasks_bottom drawing) drawing.tasks.items
+    ⋅ tasks_element has_links (whole drawing) (tasks_bottom drawing) drawing.rows.items
     ⋅ resource_panels (whole drawing) (resources_top drawing) 0 drawing.choices.items ⋅ codes "</svg>\n"
 
 -- a picture of a plan: its beginning, some style, and the rest

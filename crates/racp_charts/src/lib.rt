@@ -4,7 +4,8 @@
 //! In a chart a job is called a task.
 //!
 //! `drawing_of` gathers what is drawn of a plan in a `Drawing`, and `plan_svg` only writes it down: the cost, the
-//! deadline and the critical length, a row for each task, and the usage of each resource as a stair. `costs_svg` draws
+//! deadline and the critical length, a row for each phase and each task, and the usage of each resource as a stair. Jobs
+//! that only wait have no row: what a task waits for by them is told with a lag. `costs_svg` draws
 //! what deadlines cost, as a stair too. The drawings that these are made of are public, for a page that has them one by
 //! one: `push_frame` and `push_row`, `push_panel`, `push_costs` and `push_key`.
 //!
@@ -21,7 +22,7 @@
 //! which there are 13 at most. Neither texts nor work grow with the deadline.
 //!
 //! Proved: each number and each name of a drawing is that of the network, the order, the plan or the names; the late
-//! starts, the critical chain and the predecessors are those of the network; and each function that writes gives
+//! starts, the critical chain and what tasks wait for are those of the network; and each function that writes gives
 //! exactly what its definition says: each bar, diamond, line and stair, and each name with no character that means
 //! something else in XML. Of the colours no clause speaks: they stand in one text behind the title of a picture. All
 //! functions return. Whether a plan is right is not looked at here: racp_check does.
@@ -49,10 +50,11 @@ pub use choice::Choice;
 pub use cost_picture::costs_svg;
 pub use costs::{Corner, push_costs};
 pub use drawing::{Drawing, drawing_of};
+pub use escape::push_escaped;
 pub use frame::push_frame;
 pub use heading::{push_key, push_plan};
 pub use mark::{MOST_MARKS, mark_of};
-pub use names::{push_name, push_numbers};
+pub use names::{push_name, push_predecessors};
 pub use panel::push_panel;
 pub use plan_picture::plan_svg;
 pub use row::{class_of, push_row};

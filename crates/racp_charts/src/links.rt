@@ -1,84 +1,126 @@
 //! Which tasks wait for which, as arrows.
 
-ghost use Rattle.std.specs.Prelude.{◌≡◌, ◌<◌, ◌+◌, ◌-◌, ◌^◌, ◌++◌, OnOk, flat_map, slice_index_or, string_bytes};
-ghost use Rattle.racp_charts.specs.Links.{curve_begin, curve_end, end_of, link_between, link_from, links_element, links_from, tip_element};
+ghost use Rattle.std.specs.Prelude.{◌≡◌, ◌<◌, ◌^◌, ◌++◌, OnOk, flat_map, string_bytes};
+ghost use Rattle.racp_charts.specs.Links.{curve_begin, curve_end, end_in, end_of, link_between, link_from, link_to, links_element, links_from, links_to, tip_element};
 
 use crate::axis::Span;
-use racp_show::Task;
+use racp_show::{Predecessor, Row, Task};
 use std::alloc::AllocError;
 
-/// Adds an arrow from each task to each that comes right after it, if arrows are wanted.
+/// Adds an arrow from each task to each that waits for it, if arrows are wanted.
 pub(crate) fn push_links(
     text: &mut String,
-    tasks: &[Task<'_>],
+    rows: &[Row<'_>],
     span: Span,
     has_links: bool,
 ) -> Result<(), AllocError>
     ensures { OnOk result
-        (string_bytes text.new ≡ string_bytes text.old ++ links_element has_links span tasks.now) }
+        (string_bytes text.new ≡ string_bytes text.old ++ links_element has_links span rows.now) }
 {
     if !has_links {
         return Ok(());
     }
-    push_all(text, tasks, span)
+    push_all(text, rows, span)
 }
 
-/// Adds an arrow from each task to each that comes right after it.
-fn push_all(text: &mut String, tasks: &[Task<'_>], span: Span) -> Result<(), AllocError>
+/// Adds an arrow from each task to each that waits for it.
+fn push_all(text: &mut String, rows: &[Row<'_>], span: Span) -> Result<(), AllocError>
     ensures { OnOk result
-        (string_bytes text.new ≡ string_bytes text.old ++ links_from span tasks.now 0 tasks.now) }
+        (string_bytes text.new ≡ string_bytes text.old ++ links_from span rows.now 0 rows.now) }
 {
-    for (place, task) in tasks.iter().enumerate() {
-        push_links_to(text, tasks, span, place, task)?;
+    for (place, row) in rows.iter().enumerate() {
+        push_links_to(text, rows, span, place, row)?;
     }
     Ok(())
 }
 
-/// Adds the arrows to the task at this place.
+/// Adds the arrows to the row at this place.
 fn push_links_to(
     text: &mut String,
-    tasks: &[Task<'_>],
+    rows: &[Row<'_>],
     span: Span,
     place: usize,
-    task: &Task<'_>,
+    row: &Row<'_>,
 ) -> Result<(), AllocError>
-    ensures { OnOk result (string_bytes text.new ≡ string_bytes text.old ++
-        flat_map (link_from span tasks.now place task.now) task.now.predecessors.items) }
+    ensures { OnOk result
+        (string_bytes text.new ≡ string_bytes text.old ++ links_to span rows.now place row.now) }
 {
-    let before = task.predecessors.as_slice();
-    push_links_of(text, tasks, span, place, task, before)
+    match row {
+        Row::Heading { .. } => Ok(()),
+        Row::Bar { task, .. } => {
+            let before = task.predecessors.as_slice();
+            push_links_of(text, rows, span, place, task, before)
+        }
+    }
 }
 
-/// Adds the arrows to the task at this place from tasks with these numbers.
+/// Adds the arrows to the task in the row at this place from tasks that it waits for.
 fn push_links_of(
     text: &mut String,
-    tasks: &[Task<'_>],
+    rows: &[Row<'_>],
     span: Span,
     place: usize,
     task: &Task<'_>,
-    before: &[u32],
+    before: &[Predecessor],
 ) -> Result<(), AllocError>
     ensures { OnOk result (string_bytes text.new ≡ string_bytes text.old ++
-        flat_map (link_from span tasks.now place task.now) before.now) }
+        flat_map (link_from span rows.now place task.now) before.now) }
 {
-    for number in before {
-        let end = span.across(end_of(tasks, task, *number) as u128);
-        let row = 50 + number.saturating_sub(1) as u128 * 20;
-        let start = span.across(task.start as u128);
-        push_link(text, end, row, start, 50 + place as u128 * 20)?;
+    for predecessor in before {
+        push_link_from(text, rows, span, place, task, predecessor.job)?;
     }
     Ok(())
 }
 
-/// When the task with this number has ended, or this task if there is none.
-fn end_of(tasks: &[Task<'_>], task: &Task<'_>, number: u32) -> u64
-    ensures { result ≡ end_of (slice_index_or tasks.now (number - 1) task.now) }
+/// Adds the arrow to the task in the row at this place from the task with this number, if that has a row.
+fn push_link_from(
+    text: &mut String,
+    rows: &[Row<'_>],
+    span: Span,
+    place: usize,
+    task: &Task<'_>,
+    number: u32,
+) -> Result<(), AllocError>
+    ensures { OnOk result (string_bytes text.new ≡ string_bytes text.old ++
+        link_to span place task.now (end_of number 0 rows.now)) }
 {
-    let place = number.saturating_sub(1) as usize;
-    if place < tasks.len() {
-        tasks[place].start as u64 + tasks[place].duration as u64
-    } else {
-        task.start as u64 + task.duration as u64
+    match end_of(rows, number) {
+        Some((row, time)) => push_link(
+            text,
+            span.across(time as u128),
+            50 + row as u128 * 20,
+            span.across(task.start as u128),
+            50 + place as u128 * 20,
+        ),
+        None => Ok(()),
+    }
+}
+
+/// The place of the row of the task with this number, and when that has ended; `None` if it has no row.
+fn end_of(rows: &[Row<'_>], number: u32) -> Option<(usize, u64)>
+    ensures { result ≡ end_of number 0 rows.now }
+{
+    for (place, row) in rows.iter().enumerate() {
+        if let Some(time) = end_in(row, number) {
+            return Some((place, time));
+        }
+    }
+    None
+}
+
+/// When a row's task has ended, if it has this number.
+fn end_in(row: &Row<'_>, number: u32) -> Option<u64>
+    ensures { result ≡ end_in number row.now }
+{
+    match row {
+        Row::Heading { .. } => None,
+        Row::Bar { task, .. } => {
+            if task.job == number as usize {
+                Some(task.start as u64 + task.duration as u64)
+            } else {
+                None
+            }
+        }
     }
 }
 

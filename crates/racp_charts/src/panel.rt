@@ -36,7 +36,7 @@ fn push_title(alloc: Global, text: &mut String, choice: &Choice<'_>) -> Result<(
     ensures { OnOk result (string_bytes text.new ≡ string_bytes text.old ++ panel_title choice.now) }
 {
     text.push_str("<text class=\"head\" x=\"8\" y=\"32\">")?;
-    push_short(alloc, text, choice.name, "resource", choice.resource)?;
+    push_short(alloc, text, choice.name, "resource", choice.resource, 40)?;
     push_title_end(text, choice)?;
     Ok(())
 }

@@ -1,7 +1,7 @@
 //! A plan as a picture.
 
 ghost use Rattle.std.specs.Prelude.{◌≡◌, ◌<◌, ◌^◌, ◌++◌, IfOk, OnOk, length, string_bytes};
-ghost use Rattle.racp_charts.specs.Pictures.{IsPlanPicture, picture_height, plan_begin, plan_body, resource_element, resource_panels, resources_top, task_rows, tasks_bottom, tasks_element};
+ghost use Rattle.racp_charts.specs.Pictures.{IsPlanPicture, picture_height, plan_begin, plan_body, resource_element, resource_panels, resources_top, rows_from, tasks_bottom, tasks_element};
 
 use crate::axis::Span;
 use crate::choice::Choice;
@@ -13,13 +13,13 @@ use crate::panel::push_panel;
 use crate::parts::{push_begin, push_group, push_page};
 use crate::row::push_row;
 use crate::style::STYLE;
-use racp_show::Task;
+use racp_show::Row;
 use std::alloc::{AllocError, Global};
 
-/// A plan as a picture in SVG: its cost, its deadline and its critical length; a row for each task, with its bar or, if
-/// it takes no time, a diamond, its slack as a thin line, and a tooltip; if links are wanted, an arrow from each task to
-/// each that comes right after it; and the usage of each resource as a stair. The text grows with the jobs, the pairs
-/// and the resources, and not with the deadline.
+/// A plan as a picture in SVG: its cost, its deadline and its critical length; a row for each phase, with its title, and for
+/// each task, with its bar or, if it takes no time, a diamond, its slack as a thin line, and a tooltip; if links are wanted,
+/// an arrow from each task to each that waits for it; and the usage of each resource as a stair. The text grows with the
+/// rows, the pairs and the resources, and not with the deadline.
 ///
 /// # Errors
 ///
@@ -43,12 +43,12 @@ fn push_opening(text: &mut String, drawing: &Drawing<'_>) -> Result<(), AllocErr
     Ok(())
 }
 
-/// How far down the rows of the tasks go in their frame.
+/// How far down the rows go in their frame.
 fn bottom(drawing: &Drawing<'_>) -> u128
     ensures bottom { result ≡ tasks_bottom drawing.now }
     ensures small { result < 2 ^ 70 }
 {
-    40 + drawing.tasks.len() as u128 * 20
+    40 + drawing.rows.len() as u128 * 20
 }
 
 /// Where the resources begin, from above.
@@ -86,7 +86,7 @@ fn push_body(
     push_tasks(
         alloc,
         text,
-        drawing.tasks.as_slice(),
+        drawing.rows.as_slice(),
         span,
         bottom(drawing),
         has_links,
@@ -102,37 +102,37 @@ fn push_body(
     Ok(())
 }
 
-/// Adds the tasks of a plan, whose rows go down to this height, and the arrows if they are wanted.
+/// Adds the rows of a plan, which go down to this height, and the arrows if they are wanted.
 fn push_tasks(
     alloc: Global,
     text: &mut String,
-    tasks: &[Task<'_>],
+    rows: &[Row<'_>],
     span: Span,
     bottom: u128,
     has_links: bool,
 ) -> Result<(), AllocError>
     requires { bottom < 2 ^ 70 }
-    ensures { OnOk result (string_bytes text.new ≡ string_bytes text.old ++ tasks_element has_links span bottom tasks.now) }
+    ensures { OnOk result (string_bytes text.new ≡ string_bytes text.old ++ tasks_element has_links span bottom rows.now) }
 {
     push_group(text, 56)?;
     push_frame(text, span, bottom)?;
-    push_rows(alloc, text, tasks, span)?;
-    push_links(text, tasks, span, has_links)?;
+    push_rows(alloc, text, rows, span)?;
+    push_links(text, rows, span, has_links)?;
     text.push_str("</g>\n")?;
     Ok(())
 }
 
-/// Adds a row for each task.
+/// Adds each row.
 fn push_rows(
     alloc: Global,
     text: &mut String,
-    tasks: &[Task<'_>],
+    rows: &[Row<'_>],
     span: Span,
 ) -> Result<(), AllocError>
-    ensures { OnOk result (string_bytes text.new ≡ string_bytes text.old ++ task_rows span 0 tasks.now) }
+    ensures { OnOk result (string_bytes text.new ≡ string_bytes text.old ++ rows_from span 0 rows.now) }
 {
-    for (place, task) in tasks.iter().enumerate() {
-        push_row(alloc, text, task, span, 40 + place as u128 * 20)?;
+    for (place, row) in rows.iter().enumerate() {
+        push_row(alloc, text, row, span, 40 + place as u128 * 20)?;
     }
     Ok(())
 }

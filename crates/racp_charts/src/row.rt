@@ -1,29 +1,102 @@
-//! The row of a task in a chart.
+//! A row of a chart: a phase or a task.
 
-ghost use Rattle.std.specs.Prelude.{◌≡◌, ◌<◌, ◌^◌, ◌++◌, OnOk, option_map, string_bytes};
-ghost use Rattle.racp_charts.specs.Drawings.{bar_element, diamond_element, row_element, row_middle, shape_element, slack_element, tip_before, tip_begin, tip_element, tip_slack, tip_times};
+ghost use Rattle.std.specs.Prelude.{◌≡◌, ◌<◌, ◌≤◌, ◌^◌, ◌++◌, OnOk, option_map, string_bytes};
+ghost use Rattle.racp_charts.specs.Drawings.{bar_element, diamond_element, name_columns, name_left, phase_element, phase_middle, row_element, row_middle, shape_element, slack_element, task_element, tip_before, tip_begin, tip_element, tip_slack, tip_times};
 ghost use Rattle.racp_charts.specs.Elements.{shape_class};
 
 use crate::axis::Span;
-use crate::names::{push_name, push_numbers, push_short};
+use crate::escape::push_escaped;
+use crate::names::{push_name, push_predecessors, push_short, push_within};
 use racp_calendar::{Calendar, push_time};
-use racp_show::Task;
+use racp_show::{Predecessor, Row, Task};
 use std::alloc::{AllocError, Global};
+use std::cmp::min;
 
-/// Adds the row of a task, which begins at the height `top`.
+/// Adds a row of a chart, which begins at the height `top`.
+///
+/// # Errors
+///
+/// Memory was refused.
 pub fn push_row(
     alloc: Global,
     text: &mut String,
-    task: &Task<'_>,
+    row: &Row<'_>,
     span: Span,
     top: u128,
 ) -> Result<(), AllocError>
     requires { top < 2 ^ 72 }
-    ensures { OnOk result (string_bytes text.new ≡ string_bytes text.old ++ row_element span task.now top) }
+    ensures { OnOk result (string_bytes text.new ≡ string_bytes text.old ++ row_element span row.now top) }
+{
+    match row {
+        Row::Heading { depth, title } => push_phase(alloc, text, title, *depth, top),
+        Row::Bar { depth, task } => push_task(alloc, text, task, *depth, span, top),
+    }
+}
+
+/// Adds the row of a phase.
+fn push_phase(
+    alloc: Global,
+    text: &mut String,
+    title: &str,
+    depth: usize,
+    top: u128,
+) -> Result<(), AllocError>
+    requires { top < 2 ^ 72 }
+    ensures { OnOk result (string_bytes text.new ≡ string_bytes text.old ++ phase_element depth title.now top) }
+{
+    text.push_str("<g><title>")?;
+    push_escaped(text, title)?;
+    text.push_str("</title>")?;
+    push_phase_middle(text, left_of(depth), top)?;
+    push_within(alloc, text, title, 100)?;
+    text.push_str("</text></g>\n")?;
+    Ok(())
+}
+
+/// Adds the stripe of a row, and the beginning of the title in it.
+#[tactic(auto, unfolding(crate::specs::Drawings::phase_middle))]
+fn push_phase_middle(text: &mut String, left: usize, top: u128) -> Result<(), AllocError>
+    requires { top < 2 ^ 72 }
+    ensures { OnOk result (string_bytes text.new ≡ string_bytes text.old ++ phase_middle left top) }
+{
+    let stripe = top / 20 % 2;
+    let y = top + 14;
+    write!(
+        text,
+        "<rect class=\"stripe{stripe}\" x=\"0\" y=\"{top}\" width=\"1000\" height=\"20\"/>\
+         <text class=\"head phase\" x=\"{left}\" y=\"{y}\">"
+    )
+}
+
+/// Where a name begins that stands in so many phases.
+fn left_of(depth: usize) -> usize
+    ensures { result ≡ name_left depth }
+{
+    8 + min(depth, 8) * 12
+}
+
+/// How many columns such a name takes at most.
+fn columns_of(depth: usize) -> usize
+    ensures { result ≡ name_columns depth }
+{
+    40 - min(depth, 8) * 2
+}
+
+/// Adds the row of a task that stands in so many phases.
+fn push_task(
+    alloc: Global,
+    text: &mut String,
+    task: &Task<'_>,
+    depth: usize,
+    span: Span,
+    top: u128,
+) -> Result<(), AllocError>
+    requires { top < 2 ^ 72 }
+    ensures { OnOk result (string_bytes text.new ≡ string_bytes text.old ++ task_element span depth task.now top) }
 {
     push_tip(text, task, span.calendar)?;
-    push_middle(text, top)?;
-    push_short(alloc, text, task.name, "task", task.job)?;
+    push_middle(text, left_of(depth), top)?;
+    push_short(alloc, text, task.name, "task", task.job, columns_of(depth))?;
     text.push_str("</text>")?;
     push_slack(text, task, span, top + 10)?;
     push_shape(text, task, span, top + 4)?;
@@ -70,29 +143,29 @@ fn push_tip_slack(text: &mut String, slack: u32) -> Result<(), AllocError>
     write!(text, ", slack {slack}")
 }
 
-/// Adds what comes before a task, if anything does.
-fn push_before(text: &mut String, numbers: &[u32]) -> Result<(), AllocError>
-    ensures { OnOk result (string_bytes text.new ≡ string_bytes text.old ++ tip_before numbers.now) }
+/// Adds what a task waits for, if for anything.
+fn push_before(text: &mut String, predecessors: &[Predecessor]) -> Result<(), AllocError>
+    ensures { OnOk result (string_bytes text.new ≡ string_bytes text.old ++ tip_before predecessors.now) }
 {
-    if numbers.is_empty() {
+    if predecessors.is_empty() {
         return Ok(());
     }
     text.push_str(", after ")?;
-    push_numbers(text, numbers)?;
+    push_predecessors(text, predecessors)?;
     Ok(())
 }
 
 /// Adds the stripe of a row, and the beginning of the name in it.
 #[tactic(auto, unfolding(crate::specs::Drawings::row_middle))]
-fn push_middle(text: &mut String, top: u128) -> Result<(), AllocError>
+fn push_middle(text: &mut String, left: usize, top: u128) -> Result<(), AllocError>
     requires { top < 2 ^ 72 }
-    ensures { OnOk result (string_bytes text.new ≡ string_bytes text.old ++ row_middle top) }
+    ensures { OnOk result (string_bytes text.new ≡ string_bytes text.old ++ row_middle left top) }
 {
     let stripe = top / 20 % 2;
     let y = top + 14;
     write!(
         text,
-        "<rect class=\"stripe{stripe}\" x=\"0\" y=\"{top}\" width=\"1000\" height=\"20\"/><text x=\"8\" y=\"{y}\">"
+        "<rect class=\"stripe{stripe}\" x=\"0\" y=\"{top}\" width=\"1000\" height=\"20\"/><text x=\"{left}\" y=\"{y}\">"
     )
 }
 

@@ -13,6 +13,7 @@ use Rattle.racp_report.specs.Reports.{IsReport}
 use Rattle.racp_report.specs.declared.report.Report.{Report}
 use Rattle.racp_json.specs.Lines.{rows_in}
 use Rattle.racp_show.specs.Called.{are_names_for, names_of}
+use Rattle.racp_show.specs.Outlines.{Outlined, outline_of}
 use Rattle.racp_cli.specs.Checks.{AreRead, HasRightHead}
 use Rattle.racp_cli.specs.ShowAnswers.{IsFaulty, count_line, names_line}
 use Rattle.racp_cli.specs.Streams.{Reader, IsRun, ToFour}
@@ -22,9 +23,9 @@ use Rattle.racp_cli.specs.declared.report.Page.{Page}
 -- the page of a report that is right for the plan, the names, the text of a curve and the lines of changes, with times
 -- as a calendar tells them
 pub record IsPageOf (calendar : Calendar) (curve changes : List ℕ) (network : Project) (terms : Terms) (plan : Plan)
-    (names : List (List ℕ)) (text : List ℕ) : Type 0 where
+    (names : List (List ℕ)) (outline : Outlined) (text : List ℕ) : Type 0 where
   pub report : Report
-  pub right : IsReport network terms plan names curve changes report
+  pub right : IsReport network terms plan names outline curve changes report
   pub told : report.plan.calendar ≡ calendar
   pub page : String Global
   pub written : IsPage report page
@@ -43,23 +44,23 @@ AreBehind plan changes (Some rest) = changes ≡ base_line plan ++ rest
 AreBehind plan changes None = (rest : List ℕ) → changes ≢ base_line plan ++ rest
 
 -- the page, with the lines behind that of the plan; or that the text tells of another plan
-abbrev pub IsBegun : Calendar → List ℕ → List ℕ → Project → Terms → Plan → List (List ℕ) → ℕ → List ℕ → Type 0
-IsBegun calendar curve changes network terms plan names status text =
+abbrev pub IsBegun : Calendar → List ℕ → List ℕ → Project → Terms → Plan → List (List ℕ) → Outlined → ℕ → List ℕ → Type 0
+IsBegun calendar curve changes network terms plan names outline status text =
     ((rest : List ℕ) × AreBehind plan changes (Some rest) × (status ≡ 0) ×
-    IsPageOf calendar curve rest network terms plan names text) ⊎
+    IsPageOf calendar curve rest network terms plan names outline text) ⊎
     (AreBehind plan changes None × (status ≡ 5) × (text ≡ other_line))
 
 -- the page, or that the text of changes is none; without it nothing is said of changes
-abbrev pub IsChangedBy : Calendar → Option (List ℕ) → List ℕ → Project → Terms → Plan → List (List ℕ) → ℕ → List ℕ →
-    Type 0
-IsChangedBy calendar None curve network terms plan names status text =
-    (status ≡ 0) × IsPageOf calendar curve [] network terms plan names text
-IsChangedBy calendar (Some changes) curve network terms plan names status text =
-    (IsUtf8 changes × IsBegun calendar curve changes network terms plan names status text) ⊎
+abbrev pub IsChangedBy : Calendar → Option (List ℕ) → List ℕ → Project → Terms → Plan → List (List ℕ) → Outlined → ℕ →
+    List ℕ → Type 0
+IsChangedBy calendar None curve network terms plan names outline status text =
+    (status ≡ 0) × IsPageOf calendar curve [] network terms plan names outline text
+IsChangedBy calendar (Some changes) curve network terms plan names outline status text =
+    (IsUtf8 changes × IsBegun calendar curve changes network terms plan names outline status text) ⊎
     ((IsUtf8 changes → ⊥) × (status ≡ 5) × (text ≡ changes_line))
 
 -- the same of what a page has, with the text of a curve that is right, or is empty
-abbrev pub IsChanged : Page → List ℕ → Project → Terms → Plan → List (List ℕ) → ℕ → List ℕ → Type 0
+abbrev pub IsChanged : Page → List ℕ → Project → Terms → Plan → List (List ℕ) → Outlined → ℕ → List ℕ → Type 0
 IsChanged page = IsChangedBy page.calendar (option_map (λ changes. changes.now) page.changes)
 
 -- how many lines of a text begin with `deadline`
@@ -74,33 +75,34 @@ abbrev pub steps_line : List ℕ
 steps_line = line (codes "refused curve 2 NoSteps")
 
 -- the page, or that the curve has no step
-abbrev pub IsStepped : Page → List ℕ → Project → Terms → Plan → List (List ℕ) → ℕ → List ℕ → Type 0
-IsStepped page curve network terms plan names status text =
-    ((step_count curve ≢ 0) × IsChanged page curve network terms plan names status text) ⊎
+abbrev pub IsStepped : Page → List ℕ → Project → Terms → Plan → List (List ℕ) → Outlined → ℕ → List ℕ → Type 0
+IsStepped page curve network terms plan names outline status text =
+    ((step_count curve ≢ 0) × IsChanged page curve network terms plan names outline status text) ⊎
     ((step_count curve ≡ 0) × (status ≡ 5) × (text ≡ steps_line))
 
 -- the page, or that the curve is none; without a curve nothing is said of other deadlines
-abbrev pub IsCurvedBy : Page → Option (List ℕ) → Project → Terms → Plan → List (List ℕ) → ℕ → List ℕ → Type 0
-IsCurvedBy page None network terms plan names status text = IsChanged page [] network terms plan names status text
-IsCurvedBy page (Some curve) network terms plan names status text =
-    (IsUtf8 curve × IsStepped page curve network terms plan names status text) ⊎
+abbrev pub IsCurvedBy : Page → Option (List ℕ) → Project → Terms → Plan → List (List ℕ) → Outlined → ℕ → List ℕ → Type 0
+IsCurvedBy page None network terms plan names outline status text = IsChanged page [] network terms plan names outline status text
+IsCurvedBy page (Some curve) network terms plan names outline status text =
+    (IsUtf8 curve × IsStepped page curve network terms plan names outline status text) ⊎
     ((IsUtf8 curve → ⊥) × (status ≡ 5) × (text ≡ curve_line))
 
 -- the same with the curve that a page has
-abbrev pub IsCurved : Page → Project → Terms → Plan → List (List ℕ) → ℕ → List ℕ → Type 0
+abbrev pub IsCurved : Page → Project → Terms → Plan → List (List ℕ) → Outlined → ℕ → List ℕ → Type 0
 IsCurved page = IsCurvedBy page (option_map (λ curve. curve.now) page.curve)
 
--- the same, if there are no names or one for each job and resource
-abbrev pub IsCountedReport : Page → Project → Terms → Plan → List (List ℕ) → ℕ → List ℕ → Type 0
+-- the same, if the text of the names has none or one for each job and resource, with the phases of that text
+abbrev pub IsCountedReport : Page → Project → Terms → Plan → List ℕ → ℕ → List ℕ → Type 0
 IsCountedReport page network terms plan names status text =
-    ((are_names_for names (length network.jobs + network.resources) ≡ true) ×
-    IsCurved page network terms plan names status text) ⊎
-    ((are_names_for names (length network.jobs + network.resources) ≡ false) × (status ≡ 5) × (text ≡ count_line))
+    ((are_names_for (names_of names) (length network.jobs + network.resources) ≡ true) ×
+    IsCurved page network terms plan (names_of names) (outline_of (length network.jobs) names) status text) ⊎
+    ((are_names_for (names_of names) (length network.jobs + network.resources) ≡ false) × (status ≡ 5) ×
+    (text ≡ count_line))
 
 -- the same with these names, or that they are none
 abbrev pub IsNamedReport : Page → Project → Terms → Plan → List ℕ → ℕ → List ℕ → Type 0
 IsNamedReport page network terms plan names status text =
-    (IsUtf8 names × IsCountedReport page network terms plan (names_of names) status text) ⊎
+    (IsUtf8 names × IsCountedReport page network terms plan names status text) ⊎
     ((IsUtf8 names → ⊥) × (status ≡ 5) × (text ≡ names_line))
 
 -- the page about a plan with which nothing is wrong

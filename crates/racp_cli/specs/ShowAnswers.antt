@@ -6,6 +6,7 @@ use Rattle.racp_plan.specs.declared.plan.Plan.{Plan}
 use Rattle.racp_plan.specs.Texts.{line}
 use Rattle.racp_check.specs.PlanFaults.{IsChecked}
 use Rattle.racp_show.specs.Called.{are_names_for, names_of}
+use Rattle.racp_show.specs.Outlines.{Outlined, outline_of}
 use Rattle.racp_charts.specs.Pictures.{IsPlanPicture}
 use Rattle.racp_charts.specs.Choices.{IsDrawing}
 use Rattle.racp_charts.specs.declared.drawing.Drawing.{Drawing}
@@ -22,9 +23,9 @@ use Rattle.racp_cli.specs.declared.show.Look.{Look}
 
 -- a picture of what is drawn of a plan, with times as they are to be told
 pub record IsDrawn (look : Look) (network : Project) (terms : Terms) (plan : Plan) (names : List (List ℕ))
-    (text : List ℕ) : Type 0 where
+    (outline : Outlined) (text : List ℕ) : Type 0 where
   pub drawing : Drawing
-  pub right : IsDrawing network terms plan names drawing
+  pub right : IsDrawing network terms plan names outline drawing
   pub told : drawing.calendar ≡ look.calendar
   pub drawn : IsPlanPicture look.has_links drawing text
 
@@ -37,15 +38,15 @@ pub record IsSheetTable (network : Project) (terms : Terms) (plan : Plan) (names
 
 -- what is written of a plan: as SVG a picture, as CSV its table; nothing is said here of the other forms, whose
 -- values racp_show speaks of
-abbrev pub IsInForm : Form → Look → Project → Terms → Plan → List (List ℕ) → List ℕ → Type 0
-IsInForm Text look network terms plan names text = ⊤
-IsInForm Ascii look network terms plan names text = ⊤
-IsInForm Svg look network terms plan names text = IsDrawn look network terms plan names text
-IsInForm Json look network terms plan names text = ⊤
-IsInForm Csv look network terms plan names text = IsSheetTable network terms plan names text
+abbrev pub IsInForm : Form → Look → Project → Terms → Plan → List (List ℕ) → Outlined → List ℕ → Type 0
+IsInForm Text look network terms plan names outline text = ⊤
+IsInForm Ascii look network terms plan names outline text = ⊤
+IsInForm Svg look network terms plan names outline text = IsDrawn look network terms plan names outline text
+IsInForm Json look network terms plan names outline text = ⊤
+IsInForm Csv look network terms plan names outline text = IsSheetTable network terms plan names text
 
-abbrev pub IsPicture : Look → Project → Terms → Plan → List (List ℕ) → List ℕ → Type 0
-IsPicture look network terms plan names text = IsInForm look.form look network terms plan names text
+abbrev pub IsPicture : Look → Project → Terms → Plan → List (List ℕ) → Outlined → List ℕ → Type 0
+IsPicture look network terms plan names outline text = IsInForm look.form look network terms plan names outline text
 
 -- the line if names are not UTF-8
 abbrev pub names_line : List ℕ
@@ -55,17 +56,18 @@ names_line = line (codes "refused names 1 NotUtf8")
 abbrev pub count_line : List ℕ
 count_line = line (codes "refused names 2 Count")
 
--- the plan, if there are no names or one for each job and resource
-abbrev pub IsCounted : Look → Project → Terms → Plan → List (List ℕ) → ℕ → List ℕ → Type 0
+-- the plan, if the text of its names has none or one for each job and resource, with the phases of that text
+abbrev pub IsCounted : Look → Project → Terms → Plan → List ℕ → ℕ → List ℕ → Type 0
 IsCounted look network terms plan names status text =
-    ((are_names_for names (length network.jobs + network.resources) ≡ true) × (status ≡ 0) ×
-    IsPicture look network terms plan names text) ⊎
-    ((are_names_for names (length network.jobs + network.resources) ≡ false) × (status ≡ 5) × (text ≡ count_line))
+    ((are_names_for (names_of names) (length network.jobs + network.resources) ≡ true) × (status ≡ 0) ×
+    IsPicture look network terms plan (names_of names) (outline_of (length network.jobs) names) text) ⊎
+    ((are_names_for (names_of names) (length network.jobs + network.resources) ≡ false) × (status ≡ 5) ×
+    (text ≡ count_line))
 
 -- the plan with these names, or that they are none
 abbrev pub IsNamed : Look → Project → Terms → Plan → List ℕ → ℕ → List ℕ → Type 0
 IsNamed look network terms plan names status text =
-    (IsUtf8 names × IsCounted look network terms plan (names_of names) status text) ⊎
+    (IsUtf8 names × IsCounted look network terms plan names status text) ⊎
     ((IsUtf8 names → ⊥) × (status ≡ 5) × (text ≡ names_line))
 
 -- the plan, with which nothing is wrong

@@ -3,6 +3,8 @@
 ghost use Rattle.std.specs.Prelude.{◌≡◌, IfOk, length};
 ghost use Rattle.racp_model.specs.Terms.{AreTermsOf};
 ghost use Rattle.racp_check.specs.PlanFaults.{IsFitting};
+ghost use Rattle.racp_show.specs.Entries.{outlined};
+ghost use Rattle.racp_show.specs.Outlines.{IsOutlineOf};
 ghost use Rattle.racp_cli.specs.ReportAnswers.{IsCountedReport, IsCurved, IsNamedReport, IsReportAnswer, IsReportRun, IsStepped, step_count};
 
 use crate::check::{Checked, read_checked};
@@ -13,7 +15,7 @@ use crate::status::REFUSED;
 use crate::streams::read_whole;
 use racp_calendar::Calendar;
 use racp_json::rows_of;
-use racp_show::Names;
+use racp_show::{Names, Outline};
 use std::alloc::{AllocError, Global};
 use std::io::{Read, Write};
 
@@ -85,6 +87,7 @@ fn answer(
 }
 
 /// The status and the text if nothing is wrong with a plan.
+#[tactic(auto, unfolding(racp_plan::specs::Texts::line))]
 fn named(
     alloc: Global,
     found: &Checked,
@@ -97,30 +100,32 @@ fn named(
     ensures { IfOk result (λ answer. IsNamedReport page.entry found.now.net found.now.order found.now.plan
         names.now answer.0 answer.1.items) }
 {
-    match Names::read(alloc, names)? {
-        Some(names) => counted(alloc, found, &names, page),
-        None => Ok((REFUSED, b"refused names 1 NotUtf8\n".to_vec(alloc)?)),
+    match std::str::from_utf8(names) {
+        Ok(text) => counted(alloc, found, text, page),
+        Err(_) => Ok((REFUSED, b"refused names 1 NotUtf8\n".to_vec(alloc)?)),
     }
 }
 
-/// The status and the text if nothing is wrong with a plan, for these names.
+/// The status and the text if nothing is wrong with a plan, for the text of its names.
 #[tactic(auto, unfolding(racp_plan::specs::Texts::line))]
 fn counted(
     alloc: Global,
     found: &Checked,
-    names: &Names,
+    text: &str,
     page: Page<'_>,
 ) -> Result<(u8, Vec<u8>), AllocError>
     requires terms { AreTermsOf found.now.net found.now.order }
     requires capacities { length found.now.plan.capacities ≡ found.now.net.resources }
     requires fitting { IsFitting found.now.net found.now.order found.now.plan }
     ensures { IfOk result (λ answer. IsCountedReport page.entry found.now.net found.now.order found.now.plan
-        names.now answer.0 answer.1.items) }
+        text.now answer.0 answer.1.items) }
 {
+    let names = Names::of_text(alloc, text)?;
     if !names.are_for(found.net.job_count() + found.net.resource_count()) {
         return Ok((REFUSED, b"refused names 2 Count\n".to_vec(alloc)?));
     }
-    curved(alloc, found, names, page)
+    let outline = Outline::of_text(alloc, text, found.net.job_count())?;
+    curved(alloc, found, &names, &outline, page)
 }
 
 /// The status and the text for names that are right.
@@ -129,19 +134,21 @@ fn curved(
     alloc: Global,
     found: &Checked,
     names: &Names,
+    outline: &Outline,
     page: Page<'_>,
 ) -> Result<(u8, Vec<u8>), AllocError>
     requires terms { AreTermsOf found.now.net found.now.order }
     requires capacities { length found.now.plan.capacities ≡ found.now.net.resources }
     requires fitting { IsFitting found.now.net found.now.order found.now.plan }
+    requires outline { IsOutlineOf found.now.net (outlined outline.now) }
     ensures { IfOk result (λ answer. IsCurved page.entry found.now.net found.now.order found.now.plan names.now
-        answer.0 answer.1.items) }
+        (outlined outline.now) answer.0 answer.1.items) }
 {
     let Some(bytes) = page.curve else {
-        return changed(alloc, found, names, "", page);
+        return changed(alloc, found, names, outline, "", page);
     };
     match std::str::from_utf8(bytes) {
-        Ok(text) => stepped(alloc, found, names, text, page),
+        Ok(text) => stepped(alloc, found, names, outline, text, page),
         Err(_) => Ok((REFUSED, b"refused curve 1 NotUtf8\n".to_vec(alloc)?)),
     }
 }
@@ -152,19 +159,21 @@ fn stepped(
     alloc: Global,
     found: &Checked,
     names: &Names,
+    outline: &Outline,
     curve: &str,
     page: Page<'_>,
 ) -> Result<(u8, Vec<u8>), AllocError>
     requires terms { AreTermsOf found.now.net found.now.order }
     requires capacities { length found.now.plan.capacities ≡ found.now.net.resources }
     requires fitting { IsFitting found.now.net found.now.order found.now.plan }
+    requires outline { IsOutlineOf found.now.net (outlined outline.now) }
     ensures { IfOk result (λ answer. IsStepped page.entry curve.now found.now.net found.now.order found.now.plan
-        names.now answer.0 answer.1.items) }
+        names.now (outlined outline.now) answer.0 answer.1.items) }
 {
     if step_count(alloc, curve)? == 0 {
         return Ok((REFUSED, b"refused curve 2 NoSteps\n".to_vec(alloc)?));
     }
-    changed(alloc, found, names, curve, page)
+    changed(alloc, found, names, outline, curve, page)
 }
 
 /// How many lines of a text begin with `deadline`.

@@ -4,6 +4,8 @@ ghost use Rattle.std.specs.Prelude.{◌≡◌, ℕ, List, IfOk, length, option_m
 ghost use Rattle.racp_model.specs.Project.{Project};
 ghost use Rattle.racp_model.specs.Terms.{AreTermsOf, Terms};
 ghost use Rattle.racp_plan.specs.declared.plan.Plan.{Plan};
+ghost use Rattle.racp_show.specs.Entries.{outlined};
+ghost use Rattle.racp_show.specs.Outlines.{IsOutlineOf, Outlined};
 ghost use Rattle.racp_report.specs.Reports.{IsReport};
 ghost use Rattle.racp_check.specs.PlanFaults.{IsFitting};
 ghost use Rattle.racp_cli.specs.ReportAnswers.{AreBehind, IsBegun, IsChanged, IsPageOf};
@@ -14,7 +16,7 @@ use crate::status::{DONE, REFUSED};
 use racp_calendar::Calendar;
 use racp_charts::Drawing;
 use racp_report::{Beside, Report, report_of, report_text};
-use racp_show::Names;
+use racp_show::{Names, Outline};
 use racp_whatif::base_line;
 use std::alloc::{AllocError, Global};
 
@@ -24,23 +26,33 @@ pub(crate) fn changed(
     alloc: Global,
     found: &Checked,
     names: &Names,
+    outline: &Outline,
     curve: &str,
     page: Page<'_>,
 ) -> Result<(u8, Vec<u8>), AllocError>
     requires terms { AreTermsOf found.now.net found.now.order }
     requires capacities { length found.now.plan.capacities ≡ found.now.net.resources }
     requires fitting { IsFitting found.now.net found.now.order found.now.plan }
+    requires outline { IsOutlineOf found.now.net (outlined outline.now) }
     ensures { IfOk result (λ answer. IsChanged page.entry curve.now found.now.net found.now.order found.now.plan
-        names.now answer.0 answer.1.items) }
+        names.now (outlined outline.now) answer.0 answer.1.items) }
 {
     let Some(bytes) = page.changes else {
-        let beside = Beside { curve, changes: "" };
+        let beside = Beside {
+            outline,
+            curve,
+            changes: "",
+        };
         let text = page_text(alloc, found, names, beside, page.calendar)?;
         return Ok((DONE, text));
     };
     match std::str::from_utf8(bytes) {
         Ok(changes) => {
-            let beside = Beside { curve, changes };
+            let beside = Beside {
+                outline,
+                curve,
+                changes,
+            };
             begun(alloc, found, names, beside, page.calendar)
         }
         Err(_) => Ok((REFUSED, b"refused whatif 1 NotUtf8\n".to_vec(alloc)?)),
@@ -60,14 +72,21 @@ fn begun(
     requires terms { AreTermsOf found.now.net found.now.order }
     requires capacities { length found.now.plan.capacities ≡ found.now.net.resources }
     requires fitting { IsFitting found.now.net found.now.order found.now.plan }
+    requires outline { IsOutlineOf found.now.net (outlined beside.outline.now) }
     ensures { IfOk result (λ answer. IsBegun calendar beside.entry.curve.now beside.entry.changes.now found.now.net
-        found.now.order found.now.plan names.now answer.0 answer.1.items) }
+        found.now.order found.now.plan names.now (outlined beside.entry.outline.now) answer.0 answer.1.items) }
 {
     let Some(changes) = behind_plan(alloc, found, beside.changes)? else {
         return Ok((REFUSED, b"refused whatif 2 OtherPlan\n".to_vec(alloc)?));
     };
+    let outline = beside.outline;
     let curve = beside.curve;
-    let text = page_text(alloc, found, names, Beside { curve, changes }, calendar)?;
+    let beside = Beside {
+        outline,
+        curve,
+        changes,
+    };
+    let text = page_text(alloc, found, names, beside, calendar)?;
     Ok((DONE, text))
 }
 
@@ -94,8 +113,9 @@ fn page_text(
     requires terms { AreTermsOf found.now.net found.now.order }
     requires capacities { length found.now.plan.capacities ≡ found.now.net.resources }
     requires fitting { IsFitting found.now.net found.now.order found.now.plan }
+    requires outline { IsOutlineOf found.now.net (outlined beside.outline.now) }
     ensures { IfOk result (λ text. IsPageOf calendar beside.entry.curve.now beside.entry.changes.now found.now.net
-        found.now.order found.now.plan names.now text.items) }
+        found.now.order found.now.plan names.now (outlined beside.entry.outline.now) text.items) }
 {
     let report = report_of(alloc, &found.net, &found.order, &found.plan, names, beside)?;
     let report = dated(report, calendar);
@@ -106,9 +126,9 @@ fn page_text(
 /// A report whose times a calendar tells.
 fn dated(report: Report<'_>, calendar: Calendar) -> Report<'_>
     ensures told { result.plan.calendar ≡ calendar }
-    ensures right { (network : Project) (terms : Terms) (plan : Plan) (names : List (List ℕ)) (curve changes : List ℕ) →
-        IsReport network terms plan names curve changes report.entry →
-        IsReport network terms plan names curve changes result }
+    ensures right { (network : Project) (terms : Terms) (plan : Plan) (names : List (List ℕ)) (outline : Outlined)
+        (curve changes : List ℕ) → IsReport network terms plan names outline curve changes report.entry →
+        IsReport network terms plan names outline curve changes result }
 {
     let Report {
         plan,
@@ -119,7 +139,8 @@ fn dated(report: Report<'_>, calendar: Calendar) -> Report<'_>
         deadline,
         critical,
         cost,
-        tasks,
+        task_count,
+        rows,
         choices,
         ..
     } = plan;
@@ -128,7 +149,8 @@ fn dated(report: Report<'_>, calendar: Calendar) -> Report<'_>
         critical,
         cost,
         calendar,
-        tasks,
+        task_count,
+        rows,
         choices,
     };
     Report {

@@ -3,6 +3,8 @@
 ghost use Rattle.std.specs.Prelude.{◌≡◌, IfOk, length};
 ghost use Rattle.racp_model.specs.Terms.{AreTermsOf};
 ghost use Rattle.racp_check.specs.PlanFaults.{IsFitting};
+ghost use Rattle.racp_show.specs.Entries.{outlined};
+ghost use Rattle.racp_show.specs.Outlines.{IsOutlineOf};
 ghost use Rattle.racp_cli.specs.ShowAnswers.{IsCounted, IsDrawn, IsNamed, IsPicture, IsSheetTable, IsShowAnswer, IsShowRun};
 
 use crate::check::{Checked, read_checked};
@@ -15,7 +17,7 @@ use racp_charts::{drawing_of, plan_svg};
 use racp_model::Network;
 use racp_plan::Plan;
 use racp_prices::Order;
-use racp_show::{Form, Names, chart_text, csv_text, json_text, sheet_of};
+use racp_show::{Form, Lettering, Names, Outline, chart_text, csv_text, json_text, sheet_of};
 use std::alloc::{AllocError, Global};
 use std::io::{Read, Write};
 
@@ -34,8 +36,10 @@ pub struct Look {
 
 /// Reads a network text, an order text, a plan text and names, all of each before the next, and writes to `out` the
 /// plan in the form that is asked for; or, if something is wrong with the plan, what `check_over` writes. The names are
-/// those of the jobs and then of the resources, one a line; there may be none. Returns the status that belongs to what
-/// was written: 0 for a plan, 5 if the names are not UTF-8, or neither none nor one for each job and resource, else that of `check_over`.
+/// those of the jobs and then of the resources, one a line; there may be none, and other lines tell which jobs are tasks
+/// and which phases there are. Returns the status that belongs to what
+/// was written: 0 for a plan, 5 if the names are not UTF-8, or neither none nor one for each job and resource, else that
+/// of `check_over`.
 ///
 /// # Errors
 ///
@@ -85,6 +89,7 @@ fn answer(
 }
 
 /// The status and the text if nothing is wrong with a plan.
+#[tactic(auto, unfolding(racp_plan::specs::Texts::line))]
 fn named(
     alloc: Global,
     found: &Checked,
@@ -96,74 +101,114 @@ fn named(
     requires fitting { IsFitting found.now.net found.now.order found.now.plan }
     ensures { IfOk result (λ answer. IsNamed look found.now.net found.now.order found.now.plan names.now answer.0 answer.1.items) }
 {
-    match Names::read(alloc, names)? {
-        Some(names) => counted(alloc, found, &names, look),
-        None => Ok((REFUSED, b"refused names 1 NotUtf8\n".to_vec(alloc)?)),
+    match std::str::from_utf8(names) {
+        Ok(text) => counted(alloc, found, text, look),
+        Err(_) => Ok((REFUSED, b"refused names 1 NotUtf8\n".to_vec(alloc)?)),
     }
 }
 
-/// The status and the text if nothing is wrong with a plan, for these names.
+/// The status and the text if nothing is wrong with a plan, for the text of its names.
 #[tactic(auto, unfolding(racp_plan::specs::Texts::line))]
 fn counted(
     alloc: Global,
     found: &Checked,
-    names: &Names,
+    text: &str,
     look: Look,
 ) -> Result<(u8, Vec<u8>), AllocError>
     requires terms { AreTermsOf found.now.net found.now.order }
     requires capacities { length found.now.plan.capacities ≡ found.now.net.resources }
     requires fitting { IsFitting found.now.net found.now.order found.now.plan }
-    ensures { IfOk result (λ answer. IsCounted look found.now.net found.now.order found.now.plan names.now answer.0 answer.1.items) }
+    ensures { IfOk result (λ answer. IsCounted look found.now.net found.now.order found.now.plan text.now answer.0 answer.1.items) }
 {
+    let names = Names::of_text(alloc, text)?;
     if !names.are_for(found.net.job_count() + found.net.resource_count()) {
         return Ok((REFUSED, b"refused names 2 Count\n".to_vec(alloc)?));
     }
-    let text = picture(alloc, &found.net, &found.order, &found.plan, names, look)?;
+    let outline = Outline::of_text(alloc, text, found.net.job_count())?;
+    let text = picture(alloc, found, &names, &outline, look)?;
     Ok((DONE, text))
 }
 
 /// The plan in the form that is asked for.
 fn picture(
     alloc: Global,
-    net: &Network,
-    order: &Order,
-    plan: &Plan,
+    found: &Checked,
     names: &Names,
+    outline: &Outline,
     look: Look,
 ) -> Result<Vec<u8>, AllocError>
-    requires terms { AreTermsOf net.now order.now }
-    requires capacities { length plan.now.capacities ≡ net.now.resources }
-    requires fitting { IsFitting net.now order.now plan.now }
-    ensures { IfOk result (λ text. IsPicture look net.now order.now plan.now names.now text.items) }
+    requires terms { AreTermsOf found.now.net found.now.order }
+    requires capacities { length found.now.plan.capacities ≡ found.now.net.resources }
+    requires fitting { IsFitting found.now.net found.now.order found.now.plan }
+    requires outline { IsOutlineOf found.now.net (outlined outline.now) }
+    ensures { IfOk result (λ text. IsPicture look found.now.net found.now.order found.now.plan names.now
+        (outlined outline.now) text.items) }
 {
-    let text = match look.form {
-        Form::Text => chart_text(alloc, net, order, plan, names, look.width, false)?,
-        Form::Ascii => chart_text(alloc, net, order, plan, names, look.width, true)?,
-        Form::Svg => return drawn(alloc, net, order, plan, names, look),
-        Form::Json => json_text(alloc, &sheet_of(alloc, net, order, plan, names)?)?,
-        Form::Csv => return sheet_table(alloc, net, order, plan, names),
-    };
+    match look.form {
+        Form::Text => chart(alloc, found, names, outline, look.width, false),
+        Form::Ascii => chart(alloc, found, names, outline, look.width, true),
+        Form::Svg => drawn(alloc, found, names, outline, look),
+        Form::Json => sheet_json(alloc, &found.net, &found.order, &found.plan, names),
+        Form::Csv => sheet_table(alloc, &found.net, &found.order, &found.plan, names),
+    }
+}
+
+/// The chart of a plan.
+fn chart(
+    alloc: Global,
+    found: &Checked,
+    names: &Names,
+    outline: &Outline,
+    width: usize,
+    is_ascii: bool,
+) -> Result<Vec<u8>, AllocError>
+    requires terms { AreTermsOf found.now.net found.now.order }
+    requires capacities { length found.now.plan.capacities ≡ found.now.net.resources }
+    requires fitting { IsFitting found.now.net found.now.order found.now.plan }
+{
+    let (net, order, plan) = (&found.net, &found.order, &found.plan);
+    let lettering = Lettering { width, is_ascii };
+    let text = chart_text(alloc, net, order, plan, names, outline, lettering)?;
     Ok(text.into_bytes())
 }
 
 /// The picture of a plan.
 fn drawn(
     alloc: Global,
+    found: &Checked,
+    names: &Names,
+    outline: &Outline,
+    look: Look,
+) -> Result<Vec<u8>, AllocError>
+    requires terms { AreTermsOf found.now.net found.now.order }
+    requires capacities { length found.now.plan.capacities ≡ found.now.net.resources }
+    requires fitting { IsFitting found.now.net found.now.order found.now.plan }
+    requires outline { IsOutlineOf found.now.net (outlined outline.now) }
+    ensures { IfOk result (λ text. IsDrawn look found.now.net found.now.order found.now.plan names.now
+        (outlined outline.now) text.items) }
+{
+    let (net, order, plan) = (&found.net, &found.order, &found.plan);
+    let mut drawing = drawing_of(alloc, net, order, plan, names, outline)?;
+    drawing.calendar = look.calendar;
+    let picture = plan_svg(alloc, &drawing, look.has_links)?;
+    Ok(picture.into_bytes())
+}
+
+/// The numbers of a plan as JSON.
+fn sheet_json(
+    alloc: Global,
     net: &Network,
     order: &Order,
     plan: &Plan,
     names: &Names,
-    look: Look,
 ) -> Result<Vec<u8>, AllocError>
     requires terms { AreTermsOf net.now order.now }
     requires capacities { length plan.now.capacities ≡ net.now.resources }
     requires fitting { IsFitting net.now order.now plan.now }
-    ensures { IfOk result (λ text. IsDrawn look net.now order.now plan.now names.now text.items) }
 {
-    let mut drawing = drawing_of(alloc, net, order, plan, names)?;
-    drawing.calendar = look.calendar;
-    let picture = plan_svg(alloc, &drawing, look.has_links)?;
-    Ok(picture.into_bytes())
+    let sheet = sheet_of(alloc, net, order, plan, names)?;
+    let text = json_text(alloc, &sheet)?;
+    Ok(text.into_bytes())
 }
 
 /// The table of a plan.

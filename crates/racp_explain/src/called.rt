@@ -7,12 +7,9 @@ use crate::finding::{push_more, push_short};
 use crate::input::Input;
 use crate::subject::Subject;
 use racp_model::Network;
-use racp_model::limits::{MOST_JOBS, MOST_RESOURCES};
+use racp_show::Names;
 use racp_sm::read_sm;
 use std::alloc::{AllocError, Global};
-
-/// The byte order mark.
-const MARK: char = '\u{FEFF}';
 
 /// What is wrong with the texts of a network, an order, a plan and names, in lines that begin with `racp: `; nothing if
 /// the plan is right, and there are no names or one for each job and resource.
@@ -71,14 +68,22 @@ fn or_of_names(
 /// Memory was refused.
 pub fn names_cause(alloc: Global, net: &Network, names: &Input<'_>) -> Result<String, AllocError> {
     let mut text = String::new(alloc);
-    push_names(&mut text, net, names)?;
+    push_names(alloc, &mut text, net, names)?;
     Ok(text)
 }
 
 /// Adds what is wrong with names for a network.
-fn push_names(text: &mut String, net: &Network, names: &Input<'_>) -> Result<(), AllocError> {
+fn push_names(
+    alloc: Global,
+    text: &mut String,
+    net: &Network,
+    names: &Input<'_>,
+) -> Result<(), AllocError> {
     match std::str::from_utf8(names.bytes) {
-        Ok(lines) => push_count(text, net, names.name, lines),
+        Ok(lines) => {
+            let called = Names::of_text(alloc, lines)?;
+            push_count(text, net, names.name, &called)
+        }
         Err(_) => push_no_utf8(text, names.name),
     }
 }
@@ -95,13 +100,18 @@ fn push_no_utf8(text: &mut String, name: &str) -> Result<(), AllocError> {
 }
 
 /// Adds how many names there are, if there is neither none nor one for each job and resource.
-fn push_count(text: &mut String, net: &Network, name: &str, names: &str) -> Result<(), AllocError> {
+fn push_count(
+    text: &mut String,
+    net: &Network,
+    name: &str,
+    names: &Names,
+) -> Result<(), AllocError> {
     let (jobs, resources) = (net.job_count(), net.resource_count());
     let wanted = jobs.saturating_add(resources);
-    let lines = line_count(names, wanted);
-    if lines == 0 || lines == wanted {
+    if names.are_for(wanted) {
         return Ok(());
     }
+    let lines = line_count(names, wanted);
     write!(text, "racp: {name}: names 2 Count")?;
     push_short(text, Subject::NamesCount)?;
     write!(
@@ -112,27 +122,16 @@ fn push_count(text: &mut String, net: &Network, name: &str, names: &str) -> Resu
 }
 
 /// How many lines names have: up to the last that is not empty, or, if these are fewer than are wanted, also the empty lines
-/// behind it that are wanted; 0 if all are empty. A byte order mark before them is no part of them.
-fn line_count(names: &str, wanted: usize) -> usize {
-    let mut count = 0usize;
+/// behind it that are wanted.
+fn line_count(names: &Names, wanted: usize) -> usize {
+    let count = names.count();
     let mut named = 0usize;
-    let lines = names.strip_prefix(MARK).unwrap_or(names).lines();
-    for line in lines.take(MOST_JOBS + MOST_RESOURCES + 1) {
-        count = count.saturating_add(1);
-        if line.chars().any(is_shown) {
-            named = count;
+    for place in 0..count {
+        if !names.at(place).is_empty() {
+            named = place.saturating_add(1);
         }
     }
-    if named == 0 {
-        0
-    } else {
-        named.max(count.min(wanted))
-    }
-}
-
-/// Whether a letter is no control character.
-fn is_shown(letter: char) -> bool {
-    !letter.is_control()
+    named.max(count.min(wanted))
 }
 
 /// What is wrong with the text of a curve for a page, in lines that begin with `racp: `; nothing if a line of it begins

@@ -25,6 +25,8 @@ mod head;
 mod line_of;
 mod looks;
 mod network_text;
+mod no_plan;
+mod numbered;
 mod order_text;
 mod plan_faults;
 mod plan_text;
@@ -36,8 +38,7 @@ pub(crate) const THERE: &str = "\nracp: there:  ";
 
 pub(crate) use changes_text::push_changes_finding;
 pub(crate) use network_text::push_network_finding;
+pub(crate) use no_plan::{push_no_room, push_too_late, push_too_long};
 pub(crate) use order_text::{Sizes, push_order_finding};
-pub(crate) use plan_faults::{
-    push_head_finding, push_no_room, push_plan_finding, push_too_late, push_too_long,
-};
+pub(crate) use plan_faults::{push_head_finding, push_plan_finding};
 pub(crate) use plan_text::push_text_finding;

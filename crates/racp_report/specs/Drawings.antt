@@ -10,7 +10,7 @@ use Rattle.racp_charts.specs.Pictures.{key_element}
 use Rattle.racp_charts.specs.declared.axis.Span.{Span}
 use Rattle.racp_charts.specs.declared.choice.Choice.{Choice}
 use Rattle.racp_charts.specs.declared.costs.Corner.{Corner}
-use Rattle.racp_show.specs.declared.task.Task.{Task}
+use Rattle.racp_show.specs.declared.row.Row.{Row}
 
 -- the beginning of a drawing of this height
 unfoldable pub drawing_begin : List ℕ → ℕ → List ℕ
@@ -21,7 +21,7 @@ drawing_begin label height = codes "<figure><svg viewBox=\"0 0 1000 " ⋅ decima
 unfoldable pub frame : Span → ℕ → List ℕ
 frame span bottom = drawing_begin (codes "The tasks over time") (bottom + 24) ⋅ frame_element span bottom
 
--- a drawing has 30 tasks: it begins before the first of them, and ends behind the last
+-- a drawing has 30 rows: it begins before the first of them, and ends behind the last
 abbrev pub block_begin : Span → ℕ → ℕ → List ℕ
 block_begin span count place =
     if place % 30 == 0 then frame span (40 + min (count - place) 30 * 20) else []
@@ -29,15 +29,15 @@ block_begin span count place =
 abbrev pub block_end : ℕ → ℕ → List ℕ
 block_end count place = if place % 30 == 29 || (count - place) == 1 then codes "</svg></figure>\n" else []
 
-unfoldable pub task_block : Span → ℕ → ℕ → Task → List ℕ
-task_block span count place task =
-    block_begin span count place ⋅ row_element span task (40 + place % 30 * 20) ⋅ block_end count place
+unfoldable pub row_block : Span → ℕ → ℕ → Row → List ℕ
+row_block span count place row =
+    block_begin span count place ⋅ row_element span row (40 + place % 30 * 20) ⋅ block_end count place
 
--- the tasks from a place on, of so many
-abbrev pub task_blocks : Span → ℕ → ℕ → List Task → List ℕ
-task_blocks span count place [] = []
-task_blocks span count place (task ∷ tasks) =
-    task_block span count place task ++ task_blocks span count (place + 1) tasks
+-- the rows from a place on, of so many
+abbrev pub row_blocks : Span → ℕ → ℕ → List Row → List ℕ
+row_blocks span count place [] = []
+row_blocks span count place (row ∷ rows) =
+    row_block span count place row ++ row_blocks span count (place + 1) rows
 
 -- the drawing of a resource
 unfoldable pub panel_figure : Span → Choice → List ℕ

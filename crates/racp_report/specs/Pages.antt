@@ -9,11 +9,13 @@ use Rattle.std.specs.Str.Lines.{lines}
 use Rattle.racp_charts.specs.Texts.{◌⋅◌, escaped}
 use Rattle.racp_charts.specs.declared.choice.Choice.{Choice}
 use Rattle.racp_report.specs.declared.report.Report.{Report}
+use Rattle.racp_show.specs.declared.row.Row.{Row}
+use Rattle.racp_show.specs.declared.row.Row.TheVariants.{Heading, Bar}
 use Rattle.racp_show.specs.declared.task.Task.{Task}
 use Rattle.racp_charts.specs.Pictures.{plan_title, whole}
 use Rattle.racp_charts.specs.declared.drawing.Drawing.{Drawing}
-use Rattle.racp_report.specs.Drawings.{cost_figure, key_figure, panel_figure, task_blocks}
-use Rattle.racp_charts.specs.Elements.{name_text, number_list, shape_class}
+use Rattle.racp_report.specs.Drawings.{cost_figure, key_figure, panel_figure, row_blocks}
+use Rattle.racp_charts.specs.Elements.{name_text, predecessor_list, shape_class}
 
 -- the beginning of a page, up to its style
 unfoldable pub opening_element : Drawing → List ℕ
@@ -52,7 +54,7 @@ claim_element =
 -- the heading
 unfoldable pub heading_element : Drawing → List ℕ
 heading_element plan =
-    title_element plan ⋅ times_element plan ⋅ lengths_element plan.critical (length plan.tasks.items) ⋅ claim_element
+    title_element plan ⋅ times_element plan ⋅ lengths_element plan.critical plan.task_count ⋅ claim_element
 
 -- how the plan is checked, and the end of the page
 unfoldable pub checking_element : List ℕ
@@ -93,7 +95,7 @@ choice_table report =
 unfoldable pub charts : Report → List ℕ
 charts report =
     codes "<h2>When each task runs</h2>\n" ⋅ key_figure
-    ⋅ task_blocks (whole report.plan) (length report.plan.tasks.items) 0 report.plan.tasks.items
+    ⋅ row_blocks (whole report.plan) (length report.plan.rows.items) 0 report.plan.rows.items
     ⋅ codes "<h2>How much of each resource is used</h2>\n"
     ⋅ flat_map (panel_figure (whole report.plan)) report.plan.choices.items
 
@@ -101,7 +103,14 @@ charts report =
 unfoldable pub task_row_begin : Task → List ℕ
 task_row_begin task =
     codes "<tr class=\"" ⋅ shape_class task.is_critical ⋅ codes "\"><td class=\"left\">" ⋅ decimal task.job
-    ⋅ codes "</td><th scope=\"row\">"
+    ⋅ codes "</td><th scope=\"row\""
+
+-- how far in a cell begins that stands in so many phases
+unfoldable pub padding_style : ℕ → List ℕ
+padding_style depth = codes " style=\"padding-left:" ⋅ decimal (depth * 2) ⋅ codes "em\""
+
+abbrev pub padding : ℕ → List ℕ
+padding depth = if depth == 0 then [] else padding_style depth
 
 -- whether a task is on the critical chain
 abbrev pub yes_text : Bool → List ℕ
@@ -125,19 +134,31 @@ unfoldable pub task_cells : Calendar → Task → List ℕ
 task_cells calendar task = task_times calendar task ⋅ yes_text task.is_critical ⋅ codes "</td><td class=\"left\">"
 
 -- the row of a task: its number, its name, how long it takes, when it starts and ends, its slack, whether it is on the
--- critical chain, and what comes right before it
-unfoldable pub task_row : Calendar → Task → List ℕ
-task_row calendar task =
-    task_row_begin task ⋅ name_text (option_map (λ name. name.now) task.name) (codes "task") task.job
-    ⋅ task_cells calendar task ⋅ number_list 0 task.predecessors.items ⋅ codes "</td></tr>\n"
+-- critical chain, and what it waits for
+unfoldable pub task_row : Calendar → ℕ → Task → List ℕ
+task_row calendar depth task =
+    task_row_begin task ⋅ padding depth ⋅ codes ">"
+    ⋅ name_text (option_map (λ name. name.now) task.name) (codes "task") task.job
+    ⋅ task_cells calendar task ⋅ predecessor_list 0 task.predecessors.items ⋅ codes "</td></tr>\n"
 
--- the table of the tasks
+-- the row of a phase: its title
+unfoldable pub phase_row : ℕ → List ℕ → List ℕ
+phase_row depth title =
+    codes "<tr class=\"phase\"><td class=\"left\" colspan=\"8\"" ⋅ padding depth ⋅ codes "><b>" ⋅ escaped title
+    ⋅ codes "</b></td></tr>\n"
+
+-- a row
+abbrev pub table_row : Calendar → Row → List ℕ
+table_row calendar (Heading depth title) = phase_row depth title.now
+table_row calendar (Bar depth task) = task_row calendar depth task
+
+-- the table of the phases and the tasks
 unfoldable pub task_table : Report → List ℕ
 task_table report =
     (codes "<h2>The tasks</h2>\n<div class=\"wide\"><table>\n<thead><tr><th>No.</th><th class=\"left\">"
     ⋅ codes "Task</th><th>Duration</th><th>Start</th><th>End</th><th>Slack</th><th class=\"left\">"
     ⋅ codes "Critical</th><th class=\"left\">After</th></tr></thead>\n<tbody>\n")
-    ⋅ flat_map (task_row report.plan.calendar) report.plan.tasks.items ⋅ codes "</tbody></table></div>\n"
+    ⋅ flat_map (table_row report.plan.calendar) report.plan.rows.items ⋅ codes "</tbody></table></div>\n"
 
 -- the deadline and the cost of a step
 unfoldable pub cost_text : ℕ → List ℕ

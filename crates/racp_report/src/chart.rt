@@ -1,53 +1,53 @@
 //! The chart of the tasks.
 
 ghost use Rattle.std.specs.Prelude.{◌≡◌, ◌<◌, ◌^◌, ◌++◌, OnOk, length, string_bytes};
-ghost use Rattle.racp_report.specs.Drawings.{block_begin, block_end, frame, task_block, task_blocks};
+ghost use Rattle.racp_report.specs.Drawings.{block_begin, block_end, frame, row_block, row_blocks};
 
 use crate::figure::push_drawing;
 use racp_charts::{Span, push_row};
-use racp_show::Task;
+use racp_show::Row;
 use std::alloc::{AllocError, Global};
 
-/// How many tasks a drawing has at most, so that it fits half a printed page.
+/// How many rows a drawing has at most, so that it fits half a printed page.
 const MOST_ROWS: usize = 30;
 
 /// Where the rows of a drawing begin, from above.
 const TOP: u128 = 40;
 
-/// Adds the drawings of the tasks, a row for each.
+/// Adds the drawings of the rows.
 pub(crate) fn push_chart(
     alloc: Global,
     text: &mut String,
-    tasks: &[Task<'_>],
+    rows: &[Row<'_>],
     span: Span,
 ) -> Result<(), AllocError>
     ensures { OnOk result
-        (string_bytes text.new ≡ string_bytes text.old ++ task_blocks span (length tasks.now) 0 tasks.now) }
+        (string_bytes text.new ≡ string_bytes text.old ++ row_blocks span (length rows.now) 0 rows.now) }
 {
-    for (place, task) in tasks.iter().enumerate() {
-        push_block(alloc, text, task, span, place, tasks.len())?;
+    for (place, row) in rows.iter().enumerate() {
+        push_block(alloc, text, row, span, place, rows.len())?;
     }
     Ok(())
 }
 
-/// Adds the row of the task at this place of so many, with the beginning of a drawing before the first of it, and its
+/// Adds the row at this place of so many, with the beginning of a drawing before the first of it, and its
 /// end behind the last.
 fn push_block(
     alloc: Global,
     text: &mut String,
-    task: &Task<'_>,
+    row: &Row<'_>,
     span: Span,
     place: usize,
     count: usize,
 ) -> Result<(), AllocError>
     ensures { OnOk result
-        (string_bytes text.new ≡ string_bytes text.old ++ task_block span count place task.now) }
+        (string_bytes text.new ≡ string_bytes text.old ++ row_block span count place row.now) }
 {
     push_block_begin(text, span, place, count)?;
     push_row(
         alloc,
         text,
-        task,
+        row,
         span,
         TOP + (place % MOST_ROWS) as u128 * 20,
     )?;

@@ -26,7 +26,7 @@ pub(crate) fn push_heading(text: &mut String, plan: &Drawing<'_>) -> Result<(), 
 {
     push_title(text, plan)?;
     push_times(text, plan)?;
-    push_lengths(text, plan.critical, plan.tasks.len())?;
+    push_lengths(text, plan.critical, plan.task_count)?;
     push_claim(text)?;
     Ok(())
 }

@@ -12,7 +12,7 @@ use crate::key::push_key_figure;
 use crate::panels::push_panels;
 use crate::report::Report;
 use crate::style::PAGE_STYLE;
-use crate::task_table::push_tasks;
+use crate::task_table::push_rows;
 use racp_charts::{STYLE, Span};
 use std::alloc::{AllocError, Global};
 
@@ -72,7 +72,7 @@ fn push_charts(alloc: Global, text: &mut String, report: &Report<'_>) -> Result<
     };
     text.push_str("<h2>When each task runs</h2>\n")?;
     push_key_figure(text)?;
-    push_chart(alloc, text, report.plan.tasks.as_slice(), span)?;
+    push_chart(alloc, text, report.plan.rows.as_slice(), span)?;
     text.push_str("<h2>How much of each resource is used</h2>\n")?;
     push_panels(alloc, text, report.plan.choices.as_slice(), span)?;
     Ok(())
@@ -87,7 +87,7 @@ fn push_task_table(text: &mut String, report: &Report<'_>) -> Result<(), AllocEr
          <th>Duration</th><th>Start</th><th>End</th><th>Slack</th><th class=\"left\">Critical</th>\
          <th class=\"left\">After</th></tr></thead>\n<tbody>\n",
     )?;
-    push_tasks(text, report.plan.tasks.as_slice(), report.plan.calendar)?;
+    push_rows(text, report.plan.rows.as_slice(), report.plan.calendar)?;
     text.push_str("</tbody></table></div>\n")?;
     Ok(())
 }

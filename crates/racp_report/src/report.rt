@@ -3,6 +3,8 @@
 ghost use Rattle.std.specs.Prelude.{◌≡◌, IfOk, length};
 ghost use Rattle.racp_model.specs.Terms.{AreTermsOf};
 ghost use Rattle.racp_model.specs.Plan.{FitsTerms};
+ghost use Rattle.racp_show.specs.Entries.{outlined};
+ghost use Rattle.racp_show.specs.Outlines.{IsOutlineOf};
 ghost use Rattle.racp_report.specs.Reports.{IsReport};
 
 use racp_charts::{Drawing, drawing_of};
@@ -10,7 +12,7 @@ use racp_json::{Step, steps_of};
 use racp_model::Network;
 use racp_plan::Plan;
 use racp_prices::Order;
-use racp_show::Names;
+use racp_show::{Names, Outline};
 use std::alloc::{AllocError, Global};
 
 /// What a page says of a plan.
@@ -27,6 +29,8 @@ pub struct Report<'a> {
 /// What is told beside a plan.
 #[derive(Clone, Copy)]
 pub struct Beside<'a> {
+    /// Which jobs are tasks, and in which phases they stand.
+    pub outline: &'a Outline,
     /// The text of a curve; empty if there is none.
     pub curve: &'a str,
     /// The lines of what changes would cost; empty if there are none.
@@ -49,11 +53,12 @@ pub fn report_of<'a>(
     requires terms { AreTermsOf net.now order.now }
     requires capacities { length plan.now.capacities ≡ net.now.resources }
     requires fits { FitsTerms net.now order.now plan.now.capacities plan.now.starts }
-    ensures { IfOk result (IsReport net.now order.now plan.now names.now
+    requires outline { IsOutlineOf net.now (outlined beside.outline.now) }
+    ensures { IfOk result (IsReport net.now order.now plan.now names.now (outlined beside.entry.outline.now)
         beside.entry.curve.now beside.entry.changes.now) }
 {
     let costs = steps_of(alloc, beside.curve)?;
-    let plan = drawing_of(alloc, net, order, plan, names)?;
+    let plan = drawing_of(alloc, net, order, plan, names, beside.outline)?;
     Ok(Report {
         plan,
         costs,

@@ -1,35 +1,85 @@
-//! The tasks as a table.
+//! The phases and the tasks as a table.
 
-ghost use Rattle.std.specs.Prelude.{◌≡◌, ◌++◌, OnOk, flat_map, option_map, string_bytes};
-ghost use Rattle.racp_report.specs.Pages.{task_cells, task_duration, task_row, task_row_begin, task_slack, task_times, yes_text};
+ghost use Rattle.std.specs.Prelude.{◌≡◌, ◌<◌, ◌^◌, ◌++◌, OnOk, flat_map, option_map, string_bytes};
+ghost use Rattle.racp_report.specs.Pages.{padding, padding_style, phase_row, table_row, task_cells, task_duration, task_row, task_row_begin, task_slack, task_times, yes_text};
 
 use racp_calendar::{Calendar, push_time};
-use racp_charts::{class_of, push_name, push_numbers};
-use racp_show::Task;
+use racp_charts::{class_of, push_escaped, push_name, push_predecessors};
+use racp_show::{Row, Task};
 use std::alloc::AllocError;
 
-/// Adds a row for each task.
-pub(crate) fn push_tasks(
+/// Adds each row.
+pub(crate) fn push_rows(
     text: &mut String,
-    tasks: &[Task<'_>],
+    rows: &[Row<'_>],
     calendar: Calendar,
 ) -> Result<(), AllocError>
-    ensures { OnOk result (string_bytes text.new ≡ string_bytes text.old ++ flat_map (task_row calendar) tasks.now) }
+    ensures { OnOk result (string_bytes text.new ≡ string_bytes text.old ++ flat_map (table_row calendar) rows.now) }
 {
-    for task in tasks {
-        push_task(text, task, calendar)?;
+    for row in rows {
+        push_row(text, row, calendar)?;
     }
     Ok(())
 }
 
-/// Adds the row of a task.
-fn push_task(text: &mut String, task: &Task<'_>, calendar: Calendar) -> Result<(), AllocError>
-    ensures { OnOk result (string_bytes text.new ≡ string_bytes text.old ++ task_row calendar task.now) }
+/// Adds a row.
+fn push_row(text: &mut String, row: &Row<'_>, calendar: Calendar) -> Result<(), AllocError>
+    ensures { OnOk result (string_bytes text.new ≡ string_bytes text.old ++ table_row calendar row.now) }
+{
+    match row {
+        Row::Heading { depth, title } => push_phase(text, *depth, title),
+        Row::Bar { depth, task } => push_task(text, *depth, task, calendar),
+    }
+}
+
+/// Adds the row of a phase.
+fn push_phase(text: &mut String, depth: usize, title: &str) -> Result<(), AllocError>
+    ensures { OnOk result (string_bytes text.new ≡ string_bytes text.old ++ phase_row depth title.now) }
+{
+    text.push_str("<tr class=\"phase\"><td class=\"left\" colspan=\"8\"")?;
+    push_padding(text, depth)?;
+    text.push_str("><b>")?;
+    push_escaped(text, title)?;
+    text.push_str("</b></td></tr>\n")?;
+    Ok(())
+}
+
+/// Adds how far in a cell begins that stands in so many phases, if it stands in one.
+fn push_padding(text: &mut String, depth: usize) -> Result<(), AllocError>
+    ensures { OnOk result (string_bytes text.new ≡ string_bytes text.old ++ padding depth) }
+{
+    if depth == 0 {
+        Ok(())
+    } else {
+        push_style(text, depth as u128)
+    }
+}
+
+/// Adds how far in a cell begins that stands in so many phases.
+#[tactic(auto, unfolding(crate::specs::Pages::padding_style))]
+fn push_style(text: &mut String, depth: u128) -> Result<(), AllocError>
+    requires { depth < 2 ^ 64 }
+    ensures { OnOk result (string_bytes text.new ≡ string_bytes text.old ++ padding_style depth) }
+{
+    let blanks = depth * 2;
+    write!(text, " style=\"padding-left:{blanks}em\"")
+}
+
+/// Adds the row of a task that stands in so many phases.
+fn push_task(
+    text: &mut String,
+    depth: usize,
+    task: &Task<'_>,
+    calendar: Calendar,
+) -> Result<(), AllocError>
+    ensures { OnOk result (string_bytes text.new ≡ string_bytes text.old ++ task_row calendar depth task.now) }
 {
     push_begin(text, task)?;
+    push_padding(text, depth)?;
+    text.push_str(">")?;
     push_name(text, task.name, "task", task.job)?;
     push_cells(text, task, calendar)?;
-    push_numbers(text, task.predecessors.as_slice())?;
+    push_predecessors(text, task.predecessors.as_slice())?;
     text.push_str("</td></tr>\n")?;
     Ok(())
 }
@@ -43,7 +93,7 @@ fn push_begin(text: &mut String, task: &Task<'_>) -> Result<(), AllocError>
     let class = class_of(task);
     write!(
         text,
-        "<tr class=\"{class}\"><td class=\"left\">{job}</td><th scope=\"row\">"
+        "<tr class=\"{class}\"><td class=\"left\">{job}</td><th scope=\"row\""
     )
 }
 

@@ -7,3 +7,8 @@ mod Drawn
 mod Naming
 mod Cutting
 mod Criticals
+mod Reading
+mod Within
+mod Outlining
+mod Behind
+mod Shown

@@ -3,9 +3,13 @@ pub mod Uses
 pub mod Changes
 pub mod Charts
 pub mod Sheets
+pub mod Lines
 pub mod Called
+pub mod Outlines
+pub mod Entries
 pub mod Tables
 pub mod Laws
 pub mod Labels
 pub mod Levels
 pub mod Tasks
+pub mod Rows

@@ -4,7 +4,9 @@ ghost use Rattle.std.specs.Prelude.{◌≡◌, ◌≤◌, ◌++◌, IfOk, All, c
 ghost use Rattle.unicode_width.specs.Width.{str_width};
 ghost use Rattle.racp_show.specs.Labels.{IsWithinColumns, cut, label_text};
 
+use crate::entry::Entry;
 use crate::names::Names;
+use crate::outline::Outline;
 use racp_model::Network;
 use std::alloc::{AllocError, Global};
 use unicode_width::UnicodeWidthStr;
@@ -12,25 +14,63 @@ use unicode_width::UnicodeWidthStr;
 /// The most characters of a label: some of them may take no column.
 const MOST_LETTERS: usize = 96;
 
-/// The labels of the jobs and then of the resources, by place from 0: their names cut to this many columns, or their
-/// numbers.
+/// The labels of the rows of an outline and then of the resources, cut to this many columns: of a task its name, or its number,
+/// cut to fewer if blanks stand before it; of a phase, which has a line of its own, none.
 pub(crate) fn labels(
     alloc: Global,
     net: &Network,
     names: &Names,
+    outline: &Outline,
     most: usize,
 ) -> Result<Vec<String>, AllocError>
     ensures { IfOk result (λ labels. All (IsWithinColumns most) labels.items) }
 {
     let mut labels = Vec::new(alloc);
-    let jobs = net.job_count();
-    for i in 0..jobs {
-        labels.push(label_within(alloc, names.job(i), "job", i + 1, most)?)?;
+    for entry in outline.rows() {
+        labels.push(row_label(alloc, names, entry, most)?)?;
     }
+    let jobs = net.job_count();
     for k in 0..net.resource_count() {
         labels.push(label_within(alloc, names.resource(jobs, k), "resource", k + 1, most)?)?;
     }
     Ok(labels)
+}
+
+/// The label of a row.
+fn row_label(alloc: Global, names: &Names, entry: &Entry, most: usize) -> Result<String, AllocError>
+    ensures { IfOk result (IsWithinColumns most) }
+{
+    match entry {
+        Entry::Heading { .. } => label_within(alloc, Some(""), "", 0, most),
+        Entry::Bar { depth, job } => {
+            task_label(
+                alloc,
+                names,
+                *job,
+                most.saturating_sub(indent(*depth, most)),
+                most,
+            )
+        }
+    }
+}
+
+/// The name of a job, or its number, cut to `room` columns, if these are no more than `most`.
+fn task_label(
+    alloc: Global,
+    names: &Names,
+    job: usize,
+    room: usize,
+    most: usize,
+) -> Result<String, AllocError>
+    ensures { IfOk result (IsWithinColumns most) }
+{
+    let name = names.job(job.saturating_sub(1));
+    label_within(alloc, name, "job", job, room.min(most))
+}
+
+/// How many blanks stand before what stands in so many phases: two for each, and half of the room at most.
+pub(crate) fn indent(depth: usize, room: usize) -> usize {
+    depth.saturating_mul(2).min(room / 2)
 }
 
 /// A name cut to this many columns; or a word and a number, if there is none.

@@ -8,7 +8,7 @@ ghost use Rattle.racp_show.specs.Sheets.{AreJobEntries, AreResourceEntries, IsJo
 use crate::latest::{Room, room_of};
 use crate::names::Names;
 use crate::order::{deadline_of, owned_of, price_of};
-use crate::task::{Task, task_of};
+use crate::task::numbers_before;
 use crate::times::Times;
 use crate::usage::{Step, usage_steps};
 use racp_model::Network;
@@ -113,8 +113,6 @@ fn job_entries<'a>(
     names: &'a Names,
 ) -> Result<Vec<JobEntry<'a>>, AllocError>
     requires latest { length room.now.latest ≡ length times.now.net.now.jobs }
-    requires early { length room.now.early ≡ length times.now.net.now.jobs }
-    requires late { length room.now.late ≡ length times.now.net.now.jobs }
     ensures { IfOk result (λ entries.
         AreJobEntries times.now.net.now times.now.starts.now room.now.latest names.now entries.items) }
 {
@@ -135,30 +133,20 @@ fn job_entry<'a>(
 ) -> Result<JobEntry<'a>, AllocError>
     requires job { i < length times.now.net.now.jobs }
     requires latest { length room.now.latest ≡ length times.now.net.now.jobs }
-    requires early { length room.now.early ≡ length times.now.net.now.jobs }
-    requires late { length room.now.late ≡ length times.now.net.now.jobs }
     ensures { IfOk result (IsJobEntry times.now.net.now times.now.starts.now room.now.latest names.now i) }
 {
     prove!(i < times.net.job_count());
     let requests = times.net.requests(i).to_vec(alloc)?;
     let end = times.end(i);
-    let task = task_of(alloc, times, room, names, i)?;
-    let Task {
-        job,
-        name,
-        duration,
-        start,
-        latest,
-        is_critical: _,
-        predecessors,
-    } = task;
+    let predecessors = numbers_before(alloc, times.net, i)?;
+    let start = times.start(i);
     Ok(JobEntry {
-        job,
-        name,
+        job: i + 1,
+        name: names.job(i),
         start,
         end,
-        duration,
-        slack: latest.saturating_sub(start),
+        duration: times.net.duration(i),
+        slack: room.latest_of(i).saturating_sub(start),
         predecessors,
         requests,
     })

@@ -1,41 +1,15 @@
-//! What is wrong with a plan that was read, and why an order has no plan.
+//! What is wrong with a plan that was read.
 
 ghost use Rattle.std.specs.Prelude.{◌≡◌, length};
 ghost use Rattle.racp_model.specs.Terms.{AreTermsOf};
 
 use crate::faults::THERE;
+use crate::faults::numbered::{at, due_of, end_of, place_of};
 use racp_check::PlanFault;
-use racp_cpm::early;
 use racp_model::{Network, usage_at};
 use racp_plan::Plan;
 use racp_prices::{Order, cost_of};
-use std::alloc::{AllocError, Global};
-
-/// The place, from 0, of the resource or job with a number from 1.
-fn place_of(number: u32) -> usize {
-    number.saturating_sub(1) as usize
-}
-
-/// The number at the place of the resource or job with this number, or 0.
-fn at(numbers: &[u32], number: u32) -> u32 {
-    numbers.get(place_of(number)).copied().unwrap_or(0)
-}
-
-/// When a job ends that starts then.
-fn end_of(net: &Network, job: u32, start: u32) -> u64 {
-    let place = place_of(job);
-    let duration = if place < net.job_count() {
-        net.duration(place)
-    } else {
-        0
-    };
-    start as u64 + duration as u64
-}
-
-/// By when a job has to end.
-fn due_of(order: &Order, job: u32) -> u32 {
-    at(&order.due, job).min(order.deadline)
-}
+use std::alloc::AllocError;
 
 /// Adds what the head of a plan has to say, and what it says.
 ///
@@ -215,77 +189,4 @@ fn push_early(
         text,
         "job {job} starts at {release} or later{THERE}it starts at {start}"
     )
-}
-
-/// Adds the shortest deadline, and the order's.
-///
-/// # Errors
-///
-/// Memory was refused.
-pub(crate) fn push_too_long(
-    text: &mut String,
-    order: &Order,
-    critical: u64,
-) -> Result<(), AllocError> {
-    let deadline = order.deadline;
-    write!(
-        text,
-        "a deadline of {critical} or later, the length of the longest chain of jobs{THERE}deadline = {deadline}"
-    )
-}
-
-/// Adds the earliest end of a job, and when it has to end.
-///
-/// # Errors
-///
-/// Memory was refused.
-pub(crate) fn push_too_late(
-    alloc: Global,
-    text: &mut String,
-    net: &Network,
-    order: &Order,
-    job: u32,
-) -> Result<(), AllocError>
-    requires { AreTermsOf net.now order.now }
-{
-    let end = earliest_end(alloc, net, order, job)?;
-    let due = due_of(order, job);
-    write!(
-        text,
-        "a due time of job {job} of {end} or later, when it can end at the earliest{THERE}due time {due}"
-    )
-}
-
-/// When a job can end at the earliest.
-fn earliest_end(alloc: Global, net: &Network, order: &Order, job: u32) -> Result<u64, AllocError>
-    requires { AreTermsOf net.now order.now }
-{
-    let starts = early(alloc, net, order.release.as_slice())?;
-    Ok(end_of(net, job, at(starts.as_slice(), job)))
-}
-
-/// Adds that the ceilings of an order leave no room, and the ceilings.
-///
-/// # Errors
-///
-/// Memory was refused.
-pub(crate) fn push_no_room(
-    text: &mut String,
-    order: &Order,
-    ceilings: &[u32],
-) -> Result<(), AllocError> {
-    let deadline = order.deadline;
-    write!(
-        text,
-        "more units than the ceilings allow, or a later deadline than {deadline}{THERE}the ceilings"
-    )?;
-    push_units(text, ceilings)
-}
-
-/// Adds numbers of units.
-fn push_units(text: &mut String, numbers: &[u32]) -> Result<(), AllocError> {
-    for units in numbers {
-        write!(text, " {units}")?;
-    }
-    Ok(())
 }

@@ -7,4 +7,4 @@ use Rattle.racp_charts.proofs.panel.push_title.Goals as goal
 pub returns : goal.returns
 unfolding panel_title
 returns c =
-    in_three (string_bytes c.args.text.now) (codes "<text class=\"head\" x=\"8\" y=\"32\">") (short_text (option_map (λ name. name.now) c.args.choice.now.name) (codes "resource") c.args.choice.now.resource) (panel_numbers c.args.choice.now) c.in_ok-push_str.ensures.bytes c.in_ok-push_short.ensures c.in_ok-push_title_end.ensures
+    in_three (string_bytes c.args.text.now) (codes "<text class=\"head\" x=\"8\" y=\"32\">") (short_text 40 (option_map (λ name. name.now) c.args.choice.now.name) (codes "resource") c.args.choice.now.resource) (panel_numbers c.args.choice.now) c.in_ok-push_str.ensures.bytes c.in_ok-push_short.ensures c.in_ok-push_title_end.ensures

@@ -1,18 +1,17 @@
-use Rattle.std.proofs.Common.{◌≡◌, ◌∙◌, ◌-◌, ℕ, List, ap, ap₂, length, slice_index}
+use Rattle.std.proofs.Common.{◌≡◌, ◌∙◌, ◌-◌, ℕ, List, ap, ap₂, length, refl, slice_index}
 use Rattle.racp_show.proofs.sheet.job_entry.Goals as goal
 
 pub returns : goal.returns
 returns c =
-    let task = c.in_ok-task.ensures in
     let requests : c.in_ok-requests.requests.items ≡ c.requests.result.now = c.in_ok-requests.ensures.items_if_clones_equal (λ x y e. e) in
     record {
-      numbered = task.numbered;
-      called = task.called;
-      begins = task.begins;
+      numbered = refl;
+      called = c.job.ensures;
+      begins = c.start-start.ensures;
       stops = c.end-end.ensures;
-      runs = task.runs;
-      slack_is = c.saturating_sub.ensures ∙ ap₂ (λ (x y : ℕ). x - y) task.latest_is task.begins;
-      after = task.after;
+      runs = c.duration.ensures;
+      slack_is = c.saturating_sub.ensures ∙ ap₂ (λ (x y : ℕ). x - y) c.latest_of.ensures c.start-start.ensures;
+      after = c.in_ok-predecessors.ensures;
       request_places = ap length requests ∙ c.requests.ensures.count;
       requests_are = λ k. ap (λ (row : List ℕ). slice_index row k) requests ∙ c.requests.ensures.requests k;
     }

@@ -1,4 +1,4 @@
-use Rattle.std.proofs.Common.{◌≢◌, ◌∙◌, ◌≡◌, ap, List, ℕ}
+use Rattle.std.proofs.Common.{◌≢◌, ◌∙◌, ap}
 use Rattle.csv.specs.Records.{Row, fields_of}
 use Rattle.csv.specs.Writing.{default_writer, row_text}
 use Rattle.csv.specs.declared.writer.QuoteStyle.TheVariants as style
