@@ -16,7 +16,7 @@ use Rattle.racp_links.proofs.Kept.{all_left, all_right}
 
 -- what holds of all pieces that are joined, and of each piece
 module _ {X Y : Type 0} (P : Y → Type 0) where
-  all_joined : (f : X → List Y) (xs : List X) → ((x : X) → Contains xs x → All P (f x)) → All P (flat_map f xs)
+  pub all_joined : (f : X → List Y) (xs : List X) → ((x : X) → Contains xs x → All P (f x)) → All P (flat_map f xs)
   all_joined f [] each = All-nil P
   all_joined f (x ∷ xs) each =
       All-append P (f x) (flat_map f xs) (each x (member_first x xs x refl))
@@ -31,7 +31,7 @@ module _ {X Y : Type 0} (P : Y → Type 0) where
     | inr later ↦ each_piece f xs (all_right P (f y) (flat_map f xs) all) x later
   ]
 
-  each_value : (f : X → Y) (xs : List X) → All P (map f xs) → (x : X) → Contains xs x → P (f x)
+  pub each_value : (f : X → Y) (xs : List X) → All P (map f xs) → (x : X) → Contains xs x → P (f x)
   each_value f [] all x inside = absurd (no_member x inside)
   each_value f (y ∷ xs) all x inside = elim (member_cases y xs x inside) [
     | inl same ↦
@@ -87,6 +87,21 @@ module _ (R : ℕ → ℕ → Type 0) (same : (a b : ℕ) → a ≡ b → R a b)
   some_last [] x inside = absurd (no_member x inside)
   some_last (z ∷ xs) x inside = last_of z xs
 
+-- the links that a link of a phase stands for
+pub of_phase : (parents : List ℕ) (link : Link) → ties_phase parents link ≡ true →
+    leaf_links_of parents link ≡ links_between link.lag (leaves_in parents link.before) (leaves_in parents link.after)
+of_phase parents link ties =
+    ap (λ (b : Bool). if b then links_between link.lag (leaves_in parents link.before) (leaves_in parents link.after) else link ∷ []) ties
+
+-- and of tasks
+pub of_tasks : (parents : List ℕ) (link : Link) → ties_phase parents link ≡ false → leaf_links_of parents link ≡ link ∷ []
+of_tasks parents link ties =
+    ap (λ (b : Bool). if b then links_between link.lag (leaves_in parents link.before) (leaves_in parents link.after) else link ∷ []) ties
+
+-- a link between leaves
+abbrev pub leaf_link : ℕ → ℕ → ℕ → Link
+leaf_link lag before after = record { before = before; after = after; kind = FinishToStart; lag = lag }
+
 -- a task that has a leaf has an end and a start
 module _ (durations parents starts : List ℕ) where
   end_of : (task leaf : ℕ) → Contains (leaves_in parents task) leaf → (time : ℕ) × IsEndOf durations parents starts task time
@@ -105,28 +120,13 @@ module _ (durations parents starts : List ℕ) where
       (λ task. of_task starts task) (leaves_in parents task) leaf inside in
       (found.0, record { least = found.1.0; some = (found.1.1.0, found.1.1.1, found.1.1.2) })
 
-  -- the links that a link of a phase stands for
-  of_phase : (link : Link) → ties_phase parents link ≡ true →
-      leaf_links_of parents link ≡ links_between link.lag (leaves_in parents link.before) (leaves_in parents link.after)
-  of_phase link ties =
-      ap (λ (b : Bool). if b then links_between link.lag (leaves_in parents link.before) (leaves_in parents link.after) else link ∷ []) ties
-
-  -- and of tasks
-  of_tasks : (link : Link) → ties_phase parents link ≡ false → leaf_links_of parents link ≡ link ∷ []
-  of_tasks link ties =
-      ap (λ (b : Bool). if b then links_between link.lag (leaves_in parents link.before) (leaves_in parents link.after) else link ∷ []) ties
-
-  -- a link between leaves
-  abbrev leaf_link : ℕ → ℕ → ℕ → Link
-  leaf_link lag before after = record { before = before; after = after; kind = FinishToStart; lag = lag }
-
   forth : (link : Link) → IsSpreadable parents link → KeepsPhaseLink durations parents starts link →
       All (KeepsLink durations starts) (leaf_links_of parents link)
   forth link can kept = elim (cases_Bool (ties_phase parents link)) [
     | inl ties ↦
         let firsts : List ℕ = leaves_in parents link.before in
         let seconds : List ℕ = leaves_in parents link.after in
-        subst (All (KeepsLink durations starts)) (sym (of_phase link ties))
+        subst (All (KeepsLink durations starts)) (sym (of_phase parents link ties))
         (all_joined (KeepsLink durations starts) (links_to link.lag seconds) firsts (λ first is_first.
         All-map (KeepsLink durations starts) (leaf_link link.lag first) seconds
         (all_members (λ second. KeepsLink durations starts (leaf_link link.lag first second)) seconds (λ second is_second.
@@ -134,7 +134,7 @@ module _ (durations parents starts : List ℕ) where
         let start = start_of link.after second is_second in
         omega (arith, kept.phases ties (can.kind ties) finish.0 start.0 finish.1 start.1, finish.1.most first is_first, start.1.least second is_second)))))
     | inr apart ↦
-        subst (All (KeepsLink durations starts)) (sym (of_tasks link apart))
+        subst (All (KeepsLink durations starts)) (sym (of_tasks parents link apart))
         (All-cons (KeepsLink durations starts) link [] (kept.tasks apart) (All-nil (KeepsLink durations starts)))
   ]
 
@@ -144,14 +144,14 @@ module _ (durations parents starts : List ℕ) where
         let firsts : List ℕ = leaves_in parents link.before in
         let seconds : List ℕ = leaves_in parents link.after in
         let between : All (KeepsLink durations starts) (links_between link.lag firsts seconds) =
-        subst (All (KeepsLink durations starts)) (of_phase link ties) all in
+        subst (All (KeepsLink durations starts)) (of_phase parents link ties) all in
         let piece : All (KeepsLink durations starts) (links_to link.lag seconds ends.some.0) =
         each_piece (KeepsLink durations starts) (links_to link.lag seconds) firsts between ends.some.0 ends.some.1 in
         let one : KeepsLink durations starts (leaf_link link.lag ends.some.0 begins.some.0) =
         each_value (KeepsLink durations starts) (leaf_link link.lag ends.some.0) seconds piece begins.some.0 begins.some.1 in
         omega (arith, one, ends.some.2, begins.some.2);
     tasks = λ apart.
-        let alone : All (KeepsLink durations starts) (link ∷ []) = subst (All (KeepsLink durations starts)) (of_tasks link apart) all in
+        let alone : All (KeepsLink durations starts) (link ∷ []) = subst (All (KeepsLink durations starts)) (of_tasks parents link apart) all in
         All-head (KeepsLink durations starts) link [] alone;
   }
 

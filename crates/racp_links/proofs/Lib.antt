@@ -4,6 +4,7 @@ pub mod Gaps
 pub mod Kept
 pub mod LeafLinks
 pub mod Marks
+pub mod Numbered
 pub mod Outlines
 pub mod Told
 pub mod ToldOfPhases

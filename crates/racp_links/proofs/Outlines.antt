@@ -64,7 +64,7 @@ range_more a n = ap (range_with_len a) (add-one n) ∙ grow a n
         ∙ ap (λ (last : ℕ). a ∷ (range_with_len (a + 1) n ++ last ∷ [])) same
 
 -- of the numbers from 1 on, one more that passes a test
-filter_more : (test : ℕ → Bool) (n task : ℕ) → task ≡ n + 1 →
+pub filter_more : (test : ℕ → Bool) (n task : ℕ) → task ≡ n + 1 →
     filter test (range_with_len 1 (n + 1)) ≡ filter test (range_with_len 1 n) ++ cond (test task) (task ∷ []) []
 filter_more test n task is =
     let same : 1 + n ≡ task = omega arith in

@@ -9,7 +9,7 @@ use Rattle.racp_links.specs.declared.waits.Waits.{Waits}
 use Rattle.racp_links.specs.declared.fault.LinkFault.{LinkFault}
 use Rattle.racp_links.specs.declared.fault.PhaseFault.{PhaseFault}
 use Rattle.racp_links.specs.Faults.{AreWell, IsAt, IsFirstWrong, IsMapped}
-use Rattle.racp_links.specs.Phases.{IsOutline, leaves_in, ties_phase, all_leaf_links}
+use Rattle.racp_links.specs.Phases.{IsOutline, leaves_in, ties_phase, all_leaf_links, numbered_links, of_leaves}
 use Rattle.racp_links.specs.PhaseFaults.{is_finish_to_start, AreSpreadable, IsOfLink, IsFirstUnspread, IsSpread}
 
 -- the jobs of a project are the tasks and then the waiting jobs of their links, and its relation is that of their pairs
@@ -49,6 +49,13 @@ abbrev pub LeafLinksAreLinks : Type 0
 LeafLinksAreLinks =
     (durations parents : List ℕ) (links : List Link) (starts : List ℕ) → AreSpreadable parents links →
     All (KeepsPhaseLink durations parents starts) links ↔ KeepsLinks durations (all_leaf_links parents links) starts
+
+-- starts keep links of phases exactly if the starts of the leaves alone keep the links between these
+abbrev pub NumberedLinksAreLinks : Type 0
+NumberedLinksAreLinks =
+    (durations parents : List ℕ) (links : List Link) (starts : List ℕ) → AreSpreadable parents links →
+    All (KeepsPhaseLink durations parents starts) links ↔
+    KeepsLinks (of_leaves parents durations) (numbered_links parents links) (of_leaves parents starts)
 
 -- each task has a leaf in it, and so an end and a start
 abbrev pub EachTaskHasLeaf : Type 0

@@ -8,7 +8,7 @@ use Rattle.racp_links.specs.declared.fault.PhaseFault.{PhaseFault}
 use Rattle.racp_links.specs.declared.fault.PhaseFault.TheVariants.{TooMany, Parent, NoTask, Inside, Kind, Memory}
 use Rattle.racp_links.specs.Links.{NamesTasks}
 use Rattle.racp_links.specs.Faults.{most_number, link_at}
-use Rattle.racp_links.specs.Phases.{IsOutline, is_in, ties_phase, all_leaf_links}
+use Rattle.racp_links.specs.Phases.{IsOutline, is_in, ties_phase, all_leaf_links, numbered_links}
 
 -- whether a link goes from finish to start
 abbrev pub is_finish_to_start : LinkKind → Bool
@@ -74,6 +74,12 @@ abbrev pub IsSpread : List ℕ → List Link → Result (Vec Link Global) PhaseF
 IsSpread parents links (Ok made) =
     IsOutline parents × AreSpreadable parents links × (made.items ≡ all_leaf_links parents links)
 IsSpread parents links (Err fault) = IsNotSpread parents links fault
+
+-- what is answered to an outline and links whose tasks are to be numbered among the leaves alone
+abbrev pub IsNumbered : List ℕ → List Link → Result (Vec Link Global) PhaseFault → Type 0
+IsNumbered parents links (Ok made) =
+    IsOutline parents × AreSpreadable parents links × (made.items ≡ numbered_links parents links)
+IsNumbered parents links (Err fault) = IsNotSpread parents links fault
 
 -- what looking at an outline alone answers
 abbrev pub IsOutlined : List ℕ → Result (Unit {0}) PhaseFault → Type 0

@@ -1,5 +1,5 @@
 -- Phases: tasks of which others are parts, and links between them, which stand for all of their leaves.
-use Rattle.std.specs.Prelude.{◌≡◌, ℕ, zero, suc, ◌≤◌, ◌<◌, Bool, false, not, List, [], ◌∷◌, length, slice_index, slice_index_or, map, filter, ◌==◌, ◌||◌, if◌then◌else◌}
+use Rattle.std.specs.Prelude.{◌≡◌, ℕ, zero, suc, ◌+◌, ◌≤◌, ◌<◌, Bool, false, not, List, [], ◌∷◌, ◌++◌, length, slice_index, slice_index_or, map, filter, ◌==◌, ◌||◌, if◌then◌else◌}
 use Rattle.std.specs.List.{flat_map, list_any, range_with_len}
 use Rattle.racp_model.specs.Project.{place, number}
 use Rattle.racp_links.specs.declared.link.LinkKind.TheVariants.{FinishToStart}
@@ -62,3 +62,30 @@ leaf_links_of parents link =
 -- those of all links, in their order
 abbrev pub all_leaf_links : List ℕ → List Link → List Link
 all_leaf_links parents links = flat_map (leaf_links_of parents) links
+
+-- the number of a leaf among the leaves alone: how many leaves have a number up to its own
+abbrev pub leaf_number : List ℕ → ℕ → ℕ
+leaf_number parents task = length (filter (λ leaf. not (is_phase parents leaf)) (range_with_len 1 task))
+
+-- the same link, whose tasks are numbered among the leaves alone
+abbrev pub numbered : List ℕ → Link → Link
+numbered parents link = record {
+  before = leaf_number parents link.before;
+  after = leaf_number parents link.after;
+  kind = link.kind;
+  lag = link.lag;
+}
+
+-- the links between leaves that links stand for, so numbered
+abbrev pub numbered_links : List ℕ → List Link → List Link
+numbered_links parents links = map (numbered parents) (all_leaf_links parents links)
+
+-- of what stands for tasks from a number on, what stands for leaves
+abbrev pub leaf_items : {A : Type 0} → List ℕ → ℕ → List A → List A
+leaf_items parents task [] = []
+leaf_items parents task (item ∷ items) =
+    (if is_phase parents task then [] else item ∷ []) ++ leaf_items parents (task + 1) items
+
+-- of what stands for tasks, by places, what stands for leaves
+abbrev pub of_leaves : {A : Type 0} → List ℕ → List A → List A
+of_leaves parents items = leaf_items parents 1 items

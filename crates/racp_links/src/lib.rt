@@ -35,26 +35,31 @@
 //! the first of its leaves does, and ends when the last of them has ended. So a link from finish to start that ties a phase
 //! stands for links between leaves, each of the one with each of the other (`leaf_links`); a link of another kind is
 //! refused. If 2 and 3 are parts of 1, and 5 and 6 of 4, the link 1 to 4 stands for 2 to 5, 2 to 6, 3 to 5 and 3 to 6.
+//! `numbered_links` gives the same links with the leaves alone numbered, from 1: here 1 to 3, 1 to 4, 2 to 3 and 2 to 4.
 //!
 //! All links are looked at before any pair is made, so lack of memory is told only if no link is wrong. The work
 //! for a link grows with the number of tasks if it ties a phase or does not go from finish to start, and else does not.
 //!
-//! Proved: `with_waits` answers exactly the pairs and waiting jobs of the links, and `leaf_links` exactly the links between
-//! leaves; or the first link that is wrong and why. In `laws`: starts of the tasks keep all links exactly if there are
-//! starts of the waiting jobs with which they keep the precedence of a network of these jobs and pairs; links of phases
-//! are kept exactly if those between leaves are, and each phase has a leaf. Not proved: that memory is not refused without
-//! need.
+//! Proved: `with_waits` answers exactly the pairs and waiting jobs of the links, `leaf_links` exactly the links between
+//! leaves, and `numbered_links` exactly these with their numbers among the leaves; or the first link that is wrong and why.
+//! In `laws`: starts of the tasks keep all links exactly if there are starts of the waiting jobs with which they keep the
+//! precedence of a network of these jobs and pairs; links of phases are kept exactly if those between leaves are, and
+//! exactly if the starts of the leaves alone keep the numbered ones; and each phase has a leaf. Not proved: that memory is
+//! not refused without need.
 #![tactic(auto)]
 
 mod check;
 mod fault;
 pub mod laws;
 mod link;
+mod numbering;
 mod outline;
 mod spreading;
 mod waits;
 
 pub use fault::{LinkFault, PhaseFault};
 pub use link::{Link, LinkKind};
+pub use numbering::numbered_links;
+pub use outline::is_phase;
 pub use spreading::leaf_links;
 pub use waits::{Wait, Waits, with_waits};

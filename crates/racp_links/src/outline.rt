@@ -1,8 +1,9 @@
 //! Which tasks are parts of which.
 
-ghost use Rattle.std.specs.Prelude.{◌≡◌, ◌≤◌, false, length, filter, replicate, All, IfOk};
+ghost use Rattle.std.specs.Prelude.{◌≡◌, ◌+◌, ◌<◌, ◌≤◌, false, length, filter, if◌then◌else◌, map, replicate, All, IfOk};
+ghost use Rattle.std.specs.List.{range_with_len};
 ghost use Rattle.racp_links.specs.Faults.{most_number};
-ghost use Rattle.racp_links.specs.Phases.{IsOutline, is_in, is_phase, leaves, MarksPhases};
+ghost use Rattle.racp_links.specs.Phases.{IsOutline, is_in, is_phase, leaf_number, leaves, MarksPhases};
 ghost use Rattle.racp_links.specs.PhaseFaults.{IsOutlined};
 
 use crate::check::MOST_NUMBER;
@@ -37,8 +38,9 @@ pub(crate) fn is_in(parents: &[u32], whole: u32, task: u32) -> bool
     at == whole
 }
 
-/// Whether some task is a part of a task.
-pub(crate) fn is_phase(parents: &[u32], task: u32) -> bool
+/// Whether some task is a part of a task. `parents` has for each task, by place from 0, the number of the task that it is a
+/// part of, or 0 if it is a part of none.
+pub fn is_phase(parents: &[u32], task: u32) -> bool
     ensures { result ≡ is_phase parents.now task }
 {
     parents.contains(&task)
@@ -80,6 +82,33 @@ pub(crate) fn leaves(alloc: Global, parents: &[u32], marks: &[bool]) -> Result<V
         }
     }
     Ok(found)
+}
+
+/// The numbers of the tasks among the leaves alone, by places: of each how many leaves have a number up to its own.
+pub(crate) fn leaf_numbers(
+    alloc: Global,
+    parents: &[u32],
+    marks: &[bool],
+) -> Result<Vec<u32>, AllocError>
+    requires few { length parents.now ≤ most_number }
+    requires marks { MarksPhases parents.now marks.now }
+    ensures { IfOk result (λ numbers. numbers.items ≡ map (leaf_number parents.now) (range_with_len 1 (length parents.now))) }
+{
+    let mut numbers = Vec::new(alloc);
+    let mut count = 0;
+    for place in 0..parents.len() {
+        count = with_next(count, marks[place]);
+        numbers.push(count)?;
+    }
+    Ok(numbers)
+}
+
+/// How many leaves there are with one more task, which may be a phase.
+fn with_next(count: u32, is_phase: bool) -> u32
+    requires { count < most_number }
+    ensures { result ≡ count + (if is_phase then 0 else 1) }
+{
+    if is_phase { count } else { count + 1 }
 }
 
 /// Those of some tasks that are in a whole.

@@ -30,7 +30,7 @@ fn ties_phase(parents: &[u32], link: &Link) -> bool
 }
 
 /// Finds the first link that is wrong.
-fn check_links(parents: &[u32], links: &[Link]) -> Result<(), PhaseFault>
+pub(crate) fn check_links(parents: &[u32], links: &[Link]) -> Result<(), PhaseFault>
     requires { IsOutline parents.now }
     ensures { AreLooked parents.now links.now result }
 {
@@ -117,7 +117,11 @@ fn push_leaf_links(
 }
 
 /// The links between leaves that links stand for.
-fn spread(alloc: Global, parents: &[u32], links: &[Link]) -> Result<Vec<Link>, AllocError>
+pub(crate) fn spread(
+    alloc: Global,
+    parents: &[u32],
+    links: &[Link],
+) -> Result<Vec<Link>, AllocError>
     requires outline { IsOutline parents.now }
     requires spreadable { AreSpreadable parents.now links.now }
     ensures { IfOk result (λ made. made.items ≡ all_leaf_links parents.now links.now) }
