@@ -117,6 +117,7 @@ fn texts_of(
 fn texts_in(alloc: Global, words: &TableWords<'_>, table: Table) -> Result<Texts, Failure> {
     let Table {
         names,
+        headings,
         resources,
         jobs,
         pairs,
@@ -135,7 +136,7 @@ fn texts_in(alloc: Global, words: &TableWords<'_>, table: Table) -> Result<Texts
         due,
     };
     let order = order_of(alloc, words, network.as_bytes(), &resources, times)?;
-    let names = names_text(alloc, &names, &resources)?;
+    let names = names_text(alloc, &names, &headings, notes.tasks, &resources)?;
     Ok(Texts {
         network,
         names,

@@ -1,2 +1,11 @@
-mod Equal
-mod Lines
+pub mod Equal
+pub mod Parts
+pub mod Tables
+mod Cuts
+mod RowsRead
+mod CellTies
+mod Shares
+mod Blanks
+mod Groups
+mod AllNeeds
+mod Places

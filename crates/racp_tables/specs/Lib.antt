@@ -1,2 +1,17 @@
 pub mod Tables
+pub mod Names
+pub mod Outlines
 pub mod Rows
+pub mod Joined
+pub mod Pieces
+pub mod Amounts
+pub mod Times
+pub mod Cells
+pub mod Assigned
+pub mod CellRows
+pub mod Rosters
+pub mod Records
+pub mod TablesRead
+pub mod Called
+pub mod LinkWords
+pub mod CellTies

@@ -1,15 +1,10 @@
 -- What is written of a table of tasks.
-use Rattle.std.specs.Prelude.{ℕ, List, [], ◌∷◌, ◌++◌, Ok, Err}
+use Rattle.std.specs.Prelude.{ℕ, List, Ok, Err}
 use Rattle.racp_model.specs.Project.{Project}
 use Rattle.racp_model.specs.Made.{IsMade, IsSameProject}
 use Rattle.racp_model.specs.declared.fault.NetFault.{NetFault}
 use Rattle.racp_model.specs.declared.fault.NetFault.TheVariants.{Limit, BadJob, Cycle, Memory}
 use Rattle.racp_sm.specs.Reading.{IsReading}
-
--- a line for each name
-abbrev pub name_lines : List (List ℕ) → List ℕ
-name_lines [] = []
-name_lines (name ∷ names) = (name ++ 10 ∷ []) ++ name_lines names
 
 -- a text that is read as a network of what a table says
 abbrev pub IsNetworkText : Project → List ℕ → Type 0

@@ -40,6 +40,8 @@ pub(crate) struct Columns {
     pub(crate) due: Option<usize>,
     /// Which resources they need, by name.
     pub(crate) assigned: Option<usize>,
+    /// How deep they lie in the outline.
+    pub(crate) level: Option<usize>,
     /// How many units they need of each resource.
     pub(crate) resources: Vec<Column>,
     /// The titles of columns that are passed over.
@@ -84,6 +86,7 @@ fn no_columns(alloc: Global, head: &StringRecord) -> Columns {
         earliest: None,
         due: None,
         assigned: None,
+        level: None,
         resources: Vec::new(alloc),
         passed_over: Vec::new(alloc),
         count: head.len(),
@@ -131,6 +134,7 @@ fn note_known(
         Title::Earliest => note_once(&mut columns.earliest, place),
         Title::Due => note_once(&mut columns.due, place),
         Title::Assigned => note_once(&mut columns.assigned, place),
+        Title::Level => note_once(&mut columns.level, place),
         Title::Nothing => None,
         Title::Other => return Ok(pass_over(alloc, columns, title)?),
         Title::Unknown => return note_unknown(alloc, columns, (title, key), place),

@@ -1,113 +1,164 @@
 //! Tables of rows and cells.
 
-use crate::cell::is_empty_from;
-use crate::columns::{Columns, columns_of};
+ghost use Rattle.std.specs.Prelude.{◌≡◌, ◌+◌, ◌++◌, ◌∷◌, [], IfOk, OnOk, false, map, string_bytes, vec_len};
+ghost use Rattle.csv.specs.Records.{fields_of};
+ghost use Rattle.racp_tables.specs.CellRows.{AreRowsOf, IsRowAdded};
+ghost use Rattle.racp_tables.specs.Records.{with_text};
+ghost use Rattle.racp_tables.specs.TablesRead.{IsTableBelow, IsTableRead};
+
+use crate::cell::{is_empty_from, line_of};
+use crate::columns::columns_of;
 use crate::fault::TableFault;
 use crate::layout::layout_of;
-use crate::reading::{Reading, Scale};
-use crate::roster::fill;
+use crate::levels::{ids_in, outline_of};
+use crate::outline::{is_phase_at, parents_of};
+use crate::reading::Reading;
+use crate::records::records_of;
+use crate::roster::roster_of;
 use crate::row::{Cells, Row, row_of};
 use crate::rows::table_of;
 use crate::sheet::{sheet_of, with_line_feeds};
 use crate::table::Table;
-use csv::{Reader, ReaderBuilder, StringRecord};
+use crate::taken::Taken;
+use csv::StringRecord;
 use racp_model::limits::MOST_JOBS;
 use std::alloc::{AllocError, Global};
 
-/// The rows of tasks, and the resources that they name.
-#[derive(Drop)]
-struct Rows {
-    rows: Vec<Row>,
-    roster: Vec<String>,
-}
+/// How many rows there may be, those of phases too.
+const MOST_ROWS: usize = 2 * MOST_JOBS;
 
 /// The table of a text of rows and cells.
 pub(crate) fn read_rows(
     alloc: Global,
     text: &str,
     reading: &Reading<'_>,
-) -> Result<Table, TableFault> {
+) -> Result<Table, TableFault>
+    ensures { IfOk result (IsTableRead reading.now.scale) }
+{
     let lines = with_line_feeds(alloc, text)?;
     let layout = layout_of(alloc, &lines)?;
     let sheet = sheet_of(alloc, &lines, layout)?;
-    let mut reader = ReaderBuilder::new()
-        .has_headers(false)
-        .flexible(true)
-        .delimiter(layout.separator)
-        .from_reader(alloc, sheet.as_bytes());
-    let mut record = StringRecord::new(alloc);
-    if !read_record(&mut reader, &mut record)? || is_empty_from(&record, 0) {
-        let words = String::from_str(alloc, "the table is empty");
-        return Err(TableFault::at(0, words));
-    }
-    let columns = columns_of(alloc, &record, reading)?;
-    let mut found = rows_of(alloc, &mut reader, &columns, reading.scale)?;
-    let resources = columns.resources.len().saturating_add(found.roster.len());
-    fill_rows(&mut found.rows, resources)?;
-    table_of(alloc, &columns, &found.roster, &found.rows, reading.scale)
-}
-
-/// Reads the next row, if there is one. A row of a text in memory fails only if memory is refused.
-fn read_record(reader: &mut Reader<&[u8]>, record: &mut StringRecord) -> Result<bool, TableFault> {
-    match reader.read_record(record) {
-        Ok(found) => Ok(found),
-        Err(_) => Err(TableFault::Memory),
+    let records = records_of(alloc, &sheet, layout.separator)?;
+    match records.split_first() {
+        Some((head, records)) => table_below(alloc, head, records, reading),
+        None => Err(no_rows(alloc)),
     }
 }
 
-/// The rows of tasks; empty rows are passed over.
-fn rows_of(
+/// What is wrong with a text without rows.
+fn no_rows(alloc: Global) -> TableFault {
+    TableFault::at(0, String::from_str(alloc, "the table is empty"))
+}
+
+/// The table of the records below a row of titles.
+fn table_below(
     alloc: Global,
-    reader: &mut Reader<&[u8]>,
-    columns: &Columns,
-    scale: Scale,
-) -> Result<Rows, TableFault> {
-    let mut found = Rows {
-        rows: Vec::new(alloc),
-        roster: Vec::new(alloc),
-    };
-    let mut record = StringRecord::new(alloc);
-    for _ in 0..u64::MAX {
-        if !read_record(reader, &mut record)? {
-            break;
-        }
-        if !is_empty_from(&record, 0) {
-            let cells = Cells {
-                columns,
-                record: &record,
-                scale,
-            };
-            push_row(alloc, &mut found, cells)?;
-        }
+    head: &StringRecord,
+    records: &[StringRecord],
+    reading: &Reading<'_>,
+) -> Result<Table, TableFault>
+    ensures { IfOk result (IsTableBelow reading.now.scale (map fields_of records.now)) }
+{
+    if is_empty_from(head, 0) {
+        return Err(no_rows(alloc));
     }
-    Ok(found)
+    let columns = columns_of(alloc, head, reading)?;
+    test_rows(alloc, records)?;
+    let outline = outline_of(alloc, &columns, records)?;
+    let ids = ids_in(alloc, &columns, records)?;
+    let parents = parents_of(alloc, &ids, &outline)?;
+    test_tasks(alloc, records, &parents)?;
+    let roster = roster_of(alloc, columns.assigned, records)?;
+    let taken = Taken {
+        columns: &columns,
+        roster: &roster,
+        parents: &parents,
+        scale: reading.scale,
+    };
+    let rows = rows_of(alloc, taken, records)?;
+    table_of(alloc, taken, &rows, &outline)
 }
 
-/// Adds the row of a task.
-fn push_row(alloc: Global, found: &mut Rows, cells: Cells<'_>) -> Result<(), TableFault> {
-    let number = found.rows.len().saturating_add(1);
-    let row = row_of(alloc, cells, number, &mut found.roster)?;
-    if number > MOST_JOBS {
-        let words = format!(in alloc; "there are more than {MOST_JOBS} tasks");
-        return Err(TableFault::at(row.line, words));
+/// Tests how many rows have some text.
+fn test_rows(alloc: Global, records: &[StringRecord]) -> Result<(), TableFault> {
+    let mut count = 0usize;
+    for record in records {
+        if !is_empty_from(record, 0) {
+            count = count.saturating_add(1);
+            if count > MOST_ROWS {
+                return Err(TableFault::at(line_of(record), too_many_tasks(alloc)));
+            }
+        }
     }
-    if found
-        .rows
-        .iter()
-        .any(|other| has_id(other, row.id.as_str()))
-    {
-        let words = format!(in alloc; "two tasks have the id '{}'", row.id);
-        return Err(TableFault::at(row.line, words));
-    }
-    keep_row(&mut found.rows, row)?;
     Ok(())
 }
 
-/// Adds zeros until each row has so many requests.
-fn fill_rows(rows: &mut [Row], resources: usize) -> Result<(), AllocError> {
-    for row in rows {
-        fill(&mut row.requests, resources)?;
+/// Tests how many of the rows with some text are no phases, which are parts of each other so.
+fn test_tasks(alloc: Global, records: &[StringRecord], parents: &[u32]) -> Result<(), TableFault> {
+    let (mut place, mut tasks) = (0usize, 0usize);
+    for record in records {
+        if !is_empty_from(record, 0) {
+            tasks = tasks.saturating_add(usize::from(!is_phase_at(parents, place)?));
+            place = place.saturating_add(1);
+            if tasks > MOST_JOBS {
+                return Err(TableFault::at(line_of(record), too_many_tasks(alloc)));
+            }
+        }
     }
+    Ok(())
+}
+
+/// What is wrong with a table of too many tasks.
+fn too_many_tasks(alloc: Global) -> Result<String, AllocError> {
+    format!(in alloc; "there are more than {MOST_JOBS} tasks")
+}
+
+/// The rows of tasks and phases; empty rows are passed over.
+fn rows_of(
+    alloc: Global,
+    taken: Taken<'_>,
+    records: &[StringRecord],
+) -> Result<Vec<Row>, TableFault>
+    ensures { IfOk result (λ rows. AreRowsOf taken.entry.columns.now (map string_bytes taken.entry.roster.now) taken.entry.parents.now taken.entry.scale 1
+        (with_text (map fields_of records.now)) rows.items) }
+{
+    let mut rows = Vec::new(alloc);
+    for record in records {
+        if !is_empty_from(record, 0) {
+            push_row(alloc, &mut rows, taken, record)?;
+        }
+    }
+    Ok(rows)
+}
+
+/// Adds the row of a task or a phase.
+fn push_row(
+    alloc: Global,
+    rows: &mut Vec<Row>,
+    taken: Taken<'_>,
+    record: &StringRecord,
+) -> Result<(), TableFault>
+    ensures { OnOk result (IsRowAdded taken.entry.columns.now (map string_bytes taken.entry.roster.now) taken.entry.parents.now taken.entry.scale (fields_of «record».now)
+        rows.old.items rows.new.items) }
+{
+    let place = rows.len();
+    let number = place.saturating_add(1);
+    let cells = Cells {
+        columns: taken.columns,
+        roster: taken.roster,
+        record,
+        scale: taken.scale,
+        is_phase: is_phase_at(taken.parents, place)?,
+    };
+    let row = row_of(alloc, cells, number)?;
+    if number > MOST_ROWS {
+        return Err(TableFault::at(row.line, too_many_tasks(alloc)));
+    }
+    if rows.iter().any(|other| has_id(other, row.id.as_str())) {
+        let words = format!(in alloc; "two tasks have the id '{}'", row.id);
+        return Err(TableFault::at(row.line, words));
+    }
+    keep_row(rows, row)?;
     Ok(())
 }
 
@@ -117,7 +168,9 @@ fn has_id(row: &Row, id: &str) -> bool {
 }
 
 /// Adds a row.
-fn keep_row(rows: &mut Vec<Row>, row: Row) -> Result<(), AllocError> {
+fn keep_row(rows: &mut Vec<Row>, row: Row) -> Result<(), AllocError>
+    ensures { OnOk result (rows.new.items ≡ rows.old.items ++ row ∷ []) }
+{
     rows.push(row)?;
     Ok(())
 }

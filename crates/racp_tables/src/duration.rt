@@ -1,18 +1,29 @@
 //! Durations and times, as planners write them.
 
-use crate::amount::{Amount, amount_of};
+ghost use Rattle.std.specs.Prelude.{◌≡◌, ◌≤◌, IfOk, bytes_eq, encode_utf8_all, length, string_bytes};
+ghost use Rattle.std.specs.Str.{trim};
+ghost use Rattle.std.specs.StrCase.Lower.{str_to_lowercase};
+ghost use Rattle.racp_tables.specs.Pieces.{without_end};
+ghost use Rattle.std.specs.List.{list_any, position_or_len};
+ghost use Rattle.std.specs.Char.Unicode.Alphabetic.{is_alphabetic};
+ghost use Rattle.racp_tables.specs.Times.{hours, is_day, is_hour, is_week, number_part, time_in, time_letters, time_said, unit_part};
+
+use crate::amount::{Amount, amount_of, wholly};
 use crate::fault::TableFault;
+use crate::pieces::{text_of, without_end};
 use crate::reading::Scale;
 use std::alloc::{AllocError, Global};
 
-/// The words for a day, between blanks.
-const DAYS: &str = "d day days t tag tage tagen";
+/// The words for a day.
+const DAYS: &[&str] = &["d", "day", "days", "t", "tag", "tage", "tagen"];
 
 /// The words for a week.
-const WEEKS: &str = "w wk wks week weeks woche wochen";
+const WEEKS: &[&str] = &["w", "wk", "wks", "week", "weeks", "woche", "wochen"];
 
 /// The words for an hour.
-const HOURS: &str = "h hr hrs hour hours std stunde stunden";
+const HOURS: &[&str] = &[
+    "h", "hr", "hrs", "hour", "hours", "std", "stunde", "stunden",
+];
 
 /// How many days a week has.
 const WORKDAYS: u64 = 5;
@@ -25,11 +36,11 @@ pub(crate) struct Said<'a> {
     pub(crate) cell: &'a str,
 }
 
-/// A number of time units as a fraction.
-#[derive(Clone, Copy)]
-struct Length {
-    above: u64,
-    below: u64,
+/// The number of a time, and its unit in small letters, which may be empty.
+#[derive(Drop)]
+struct Parts {
+    number: String,
+    unit: String,
 }
 
 /// How many time units a cell says, up to the most. A number alone counts days, if time units are days or halves.
@@ -38,7 +49,9 @@ pub(crate) fn units_of(
     said: Said<'_>,
     scale: Scale,
     most: u32,
-) -> Result<u32, TableFault> {
+) -> Result<u32, TableFault>
+    ensures { IfOk result (λ units. time_said said.entry.cell.now scale most ≡ Some units) }
+{
     match units_in(alloc, said.cell, scale, most)? {
         Some(units) => Ok(units),
         None => Err(TableFault::at(said.line, not_whole(alloc, said, scale, most))),
@@ -51,74 +64,118 @@ pub(crate) fn units_in(
     word: &str,
     scale: Scale,
     most: u32,
-) -> Result<Option<u32>, AllocError> {
-    match length_of(alloc, word, scale)? {
-        Some(length) => Ok(whole(length, most)),
-        None => Ok(None),
+) -> Result<Option<u32>, AllocError>
+    ensures { IfOk result (λ found. found ≡ time_said word.now scale most) }
+{
+    let Parts { number, unit } = parts_of(alloc, word)?;
+    match amount_of(alloc, number.as_str())? {
+        Amount::Hundredths(amount) => Ok(time_in(amount, unit.as_str(), scale, most)),
+        Amount::Ambiguous => Ok(None),
+        Amount::Nothing => Ok(None),
     }
 }
 
-/// A length that is a whole number, up to the most.
-fn whole(length: Length, most: u32) -> Option<u32> {
-    let below = length.below.max(1);
-    if length.above % below != 0 {
-        return None;
+/// The number before a unit, and the unit.
+fn parts_of(alloc: Global, word: &str) -> Result<Parts, AllocError>
+    ensures number { IfOk result (λ parts. string_bytes parts.number ≡ number_part word.now) }
+    ensures unit { IfOk result (λ parts. string_bytes parts.unit ≡ unit_part word.now) }
+{
+    let letters = letters_of(alloc, word)?;
+    let (front, back) = letters.split_at(unit_place(&letters));
+    Ok(Parts {
+        number: number_of(alloc, front)?,
+        unit: unit_of(alloc, back)?,
+    })
+}
+
+/// The letters of a time, without the question marks of an estimate.
+fn letters_of(alloc: Global, word: &str) -> Result<Vec<char>, AllocError>
+    ensures { IfOk result (λ letters. letters.items ≡ time_letters word.now) }
+{
+    without_end(word, b'?').trim().chars().collect(alloc)
+}
+
+/// Where the unit begins: at the first letter of the alphabet, or at the end.
+fn unit_place(letters: &[char]) -> usize
+    ensures place { result ≡ position_or_len is_alphabetic letters.now }
+    ensures within { result ≤ length letters.now }
+{
+    for (place, letter) in letters.iter().enumerate() {
+        if letter.is_alphabetic() {
+            return place;
+        }
     }
-    let units = u32::try_from(length.above / below).ok()?;
-    if units <= most { Some(units) } else { None }
+    letters.len()
 }
 
-/// How long a word says, if it is a number and perhaps a unit.
-fn length_of(alloc: Global, word: &str, scale: Scale) -> Result<Option<Length>, AllocError> {
-    let (digits, unit) = parted(word);
-    let Amount::Hundredths(amount) = amount_of(alloc, digits)? else {
-        return Ok(None);
-    };
-    let unit = unit.to_lowercase(alloc)?;
-    Ok(length_in(amount, unit.as_str(), scale))
+/// The text of these letters, without the blanks around it.
+fn number_of(alloc: Global, letters: &[char]) -> Result<String, AllocError>
+    ensures { IfOk result (λ number. string_bytes number ≡ trim (encode_utf8_all letters.now)) }
+{
+    let text = text_of(alloc, letters)?;
+    String::from_str(alloc, text.as_str().trim())
 }
 
-/// The number before a unit, and the unit, which may be empty.
-fn parted(word: &str) -> (&str, &str) {
-    let word = word.trim_end_matches('?').trim();
-    match word.find(is_of_unit) {
-        Some(place) => match word.split_at_checked(place) {
-            Some((digits, unit)) => (digits.trim(), unit.trim().trim_end_matches('.')),
-            None => (word, ""),
-        },
-        None => (word, ""),
-    }
+/// The same in small letters, without points at the end.
+fn unit_of(alloc: Global, letters: &[char]) -> Result<String, AllocError>
+    ensures { IfOk result (λ unit. string_bytes unit ≡ str_to_lowercase (without_end 46 (trim (encode_utf8_all letters.now)))) }
+{
+    let text = text_of(alloc, letters)?;
+    without_end(text.as_str().trim(), b'.').to_lowercase(alloc)
 }
 
-/// Whether a letter begins a unit.
-fn is_of_unit(letter: char) -> bool {
-    letter.is_alphabetic()
-}
-
-/// So many hundredths of a unit with this name, as time units.
-fn length_in(hundredths: u64, unit: &str, scale: Scale) -> Option<Length> {
-    let above = hundredths.saturating_mul(scale.units_a_day());
-    if unit.is_empty() || is_in(DAYS, unit) {
-        Some(Length { above, below: 100 })
-    } else if is_in(WEEKS, unit) {
-        let above = above.saturating_mul(WORKDAYS);
-        Some(Length { above, below: 100 })
-    } else if is_in(HOURS, unit) {
-        let below = (scale.hours_a_day? as u64).saturating_mul(100);
-        Some(Length { above, below })
+/// So many hundredths of a unit that is called so, as time units up to the most.
+fn time_in(hundredths: u64, unit: &str, scale: Scale, most: u32) -> Option<u32>
+    ensures { result ≡ time_in hundredths unit.now scale most }
+{
+    let days = hundredths.saturating_mul(scale.units_a_day());
+    if is_day(unit) {
+        wholly(days, 100, most)
+    } else if is_week(unit) {
+        wholly(days.saturating_mul(WORKDAYS), 100, most)
+    } else if is_hour(unit) {
+        hours(days, scale.hours_a_day, most)
     } else {
         None
     }
 }
 
-/// Whether a word is among those between blanks.
-fn is_in(words: &str, word: &str) -> bool {
-    for known in words.split_whitespace() {
-        if known == word {
-            return true;
-        }
+/// So many hundredths of time units that a day has, as hours; none if it is not told how many hours make a day.
+fn hours(days: u64, hours_a_day: Option<u32>, most: u32) -> Option<u32>
+    ensures { result ≡ hours days hours_a_day most }
+{
+    match hours_a_day {
+        Some(hours) => wholly(days, (hours.max(1) as u64) * 100, most),
+        None => None,
     }
-    false
+}
+
+/// Whether a word stands for days, as no word does.
+fn is_day(unit: &str) -> bool
+    ensures { result ≡ is_day unit.now }
+{
+    unit.is_empty() || is_in(DAYS, unit)
+}
+
+/// Whether a word stands for weeks.
+fn is_week(unit: &str) -> bool
+    ensures { result ≡ is_week unit.now }
+{
+    is_in(WEEKS, unit)
+}
+
+/// Whether a word stands for hours.
+fn is_hour(unit: &str) -> bool
+    ensures { result ≡ is_hour unit.now }
+{
+    is_in(HOURS, unit)
+}
+
+/// Whether a word is among these.
+fn is_in(words: &[&str], word: &str) -> bool
+    ensures { result ≡ list_any (λ known. bytes_eq known.now word.now) words.now }
+{
+    words.contains(&word)
 }
 
 /// What is wrong with a cell that is no whole number of time units.
@@ -130,12 +187,11 @@ fn not_whole(alloc: Global, said: Said<'_>, scale: Scale, most: u32) -> Result<S
 
 /// What helps where a cell is no whole number of time units.
 fn help_for(alloc: Global, cell: &str, scale: Scale) -> Result<&'static str, AllocError> {
-    let (digits, unit) = parted(cell);
-    if matches!(amount_of(alloc, digits)?, Amount::Ambiguous) {
+    let Parts { number, unit } = parts_of(alloc, cell)?;
+    if matches!(amount_of(alloc, number.as_str())?, Amount::Ambiguous) {
         return Ok("; write thousands without a mark");
     }
-    let unit = unit.to_lowercase(alloc)?;
-    if is_in(HOURS, unit.as_str()) && scale.hours_a_day.is_none() {
+    if is_hour(unit.as_str()) && scale.hours_a_day.is_none() {
         return Ok("; --hours-a-day 8 says how many hours make a day");
     }
     let halves = Scale {

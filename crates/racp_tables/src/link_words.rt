@@ -1,55 +1,19 @@
 //! Links as planners write them: `3`, `3FS`, `3FS+2 days`, `3SS+1`.
 
+ghost use Rattle.std.specs.Prelude.{◌≡◌, IfOk};
+ghost use Rattle.std.specs.Str.{str_eq_ignore_ascii_case};
+ghost use Rattle.racp_tables.specs.LinkWords.{is_either, is_one, kind_of, kinded, lag_or, lagged, lead_said, led, link_said, of_kind, with_letters, without_lag};
+ghost use Rattle.racp_tables.specs.Pieces.{parts_at_last};
+
 use crate::duration::units_in;
 use crate::named::{Named, task_of};
+use crate::pieces::parts_at_last;
 use crate::reading::Scale;
 use crate::row::Row;
 use crate::ties::Tie;
 use racp_links::LinkKind;
 use racp_model::limits::MOST_DURATION;
 use std::alloc::{AllocError, Global};
-
-/// A kind of link, and its two letters.
-struct Letters {
-    letters: &'static str,
-    kind: LinkKind,
-}
-
-/// The letters of the kinds of links, in English and German.
-const KINDS: &[Letters] = &[
-    Letters {
-        letters: "FS",
-        kind: LinkKind::FinishToStart,
-    },
-    Letters {
-        letters: "SS",
-        kind: LinkKind::StartToStart,
-    },
-    Letters {
-        letters: "FF",
-        kind: LinkKind::FinishToFinish,
-    },
-    Letters {
-        letters: "SF",
-        kind: LinkKind::StartToFinish,
-    },
-    Letters {
-        letters: "EA",
-        kind: LinkKind::FinishToStart,
-    },
-    Letters {
-        letters: "AA",
-        kind: LinkKind::StartToStart,
-    },
-    Letters {
-        letters: "EE",
-        kind: LinkKind::FinishToFinish,
-    },
-    Letters {
-        letters: "AE",
-        kind: LinkKind::StartToFinish,
-    },
-];
 
 /// What a word says of a link.
 #[derive(Clone, Copy)]
@@ -70,52 +34,96 @@ pub(crate) fn word_of(
     rows: &[Row],
     word: &str,
     scale: Scale,
-) -> Result<Word, AllocError> {
+) -> Result<Word, AllocError>
+    ensures { IfOk result (λ said. said ≡ link_said rows.now scale word.now) }
+{
     if word.is_empty() {
         return Ok(Word::None);
     }
-    let plain = kinded(rows, word);
-    if !matches!(plain, Word::None) {
-        return Ok(plain);
+    match kinded(rows, word) {
+        Word::Tie(tie) => Ok(Word::Tie(tie)),
+        Word::Lead(place) => Ok(Word::Lead(place)),
+        Word::Several => Ok(Word::Several),
+        Word::None => timed_of(alloc, rows, word, scale),
     }
-    if let Some((front, lag)) = word.rsplit_once('+') {
-        return match units_in(alloc, lag.trim(), scale, MOST_DURATION)? {
-            Some(lag) => Ok(lagged(kinded(rows, front.trim()), lag)),
-            None => Ok(Word::None),
-        };
+}
+
+/// What a word with a lag or a lead says.
+fn timed_of(alloc: Global, rows: &[Row], word: &str, scale: Scale) -> Result<Word, AllocError>
+    ensures { IfOk result (λ said. said ≡ lag_or rows.now scale (parts_at_last 43 word.now) (lead_said rows.now scale (parts_at_last 45 word.now))) }
+{
+    match parts_at_last(word, b'+') {
+        Some((front, lag)) => {
+            let lag = units_in(alloc, lag.trim(), scale, MOST_DURATION)?;
+            Ok(lagged(kinded(rows, front.trim()), lag))
+        }
+        None => lead_of(alloc, rows, word, scale),
     }
-    lead_of(alloc, rows, word, scale)
 }
 
 /// A link with this lag.
-fn lagged(word: Word, lag: u32) -> Word {
+fn lagged(word: Word, lag: Option<u32>) -> Word
+    ensures { result ≡ lagged word lag }
+{
+    let Some(lag) = lag else {
+        return Word::None;
+    };
     match word {
         Word::Tie(tie) => {
             let Tie { place, kind, .. } = tie;
             Word::Tie(Tie { place, kind, lag })
         }
-        other => other,
+        Word::Lead(place) => Word::Lead(place),
+        Word::Several => Word::Several,
+        Word::None => Word::None,
     }
 }
 
 /// What a word says of a link with a lead, such as `3FS-2`; `3-2` is none.
-fn lead_of(alloc: Global, rows: &[Row], word: &str, scale: Scale) -> Result<Word, AllocError> {
-    let Some((front, lead)) = word.rsplit_once('-') else {
-        return Ok(Word::None);
-    };
-    let is_time = units_in(alloc, lead.trim(), scale, MOST_DURATION)?.is_some();
-    let front = front.trim();
-    if !is_time || matches!(task_of(rows, front), Named::One(_)) {
-        return Ok(Word::None);
+fn lead_of(alloc: Global, rows: &[Row], word: &str, scale: Scale) -> Result<Word, AllocError>
+    ensures { IfOk result (λ said. said ≡ lead_said rows.now scale (parts_at_last 45 word.now)) }
+{
+    match parts_at_last(word, b'-') {
+        Some((front, lead)) => {
+            let time = units_in(alloc, lead.trim(), scale, MOST_DURATION)?;
+            let front = front.trim();
+            if time.is_some() && !is_one(task_of(rows, front)) {
+                Ok(led(kinded(rows, front)))
+            } else {
+                Ok(Word::None)
+            }
+        }
+        None => Ok(Word::None),
     }
-    match kinded(rows, front) {
-        Word::Tie(tie) => Ok(Word::Lead(tie.place)),
-        other => Ok(other),
+}
+
+/// Whether one task is named.
+fn is_one(task: Named) -> bool
+    ensures { result ≡ is_one task }
+{
+    match task {
+        Named::One(_) => true,
+        Named::Several => false,
+        Named::None => false,
+    }
+}
+
+/// A link with a lead.
+fn led(word: Word) -> Word
+    ensures { result ≡ led word }
+{
+    match word {
+        Word::Tie(tie) => Word::Lead(tie.place),
+        Word::Lead(place) => Word::Lead(place),
+        Word::Several => Word::Several,
+        Word::None => Word::None,
     }
 }
 
 /// What a word without a lag says of a link.
-fn kinded(rows: &[Row], word: &str) -> Word {
+fn kinded(rows: &[Row], word: &str) -> Word
+    ensures { result ≡ kinded rows.now word.now }
+{
     match task_of(rows, word) {
         Named::One(place) => Word::Tie(without_lag(place, LinkKind::FinishToStart)),
         Named::Several => Word::Several,
@@ -124,32 +132,64 @@ fn kinded(rows: &[Row], word: &str) -> Word {
 }
 
 /// What a word that ends with the letters of a kind says of a link.
-fn with_letters(rows: &[Row], word: &str) -> Word {
-    let Some((front, letters)) = word.split_at_checked(word.len().saturating_sub(2)) else {
+fn with_letters(rows: &[Row], word: &str) -> Word
+    ensures { result ≡ with_letters rows.now word.now }
+{
+    match word.split_at_checked(word.len().saturating_sub(2)) {
+        Some((front, letters)) => of_kind(rows, front.trim(), kind_of(letters)),
+        None => Word::None,
+    }
+}
+
+/// A link of a kind, if there is one, to the task that a word names.
+fn of_kind(rows: &[Row], word: &str, kind: Option<LinkKind>) -> Word
+    ensures { result ≡ of_kind rows.now word.now kind }
+{
+    let Some(kind) = kind else {
         return Word::None;
     };
-    let Some(kind) = kind_of(letters) else {
-        return Word::None;
-    };
-    match task_of(rows, front.trim()) {
+    match task_of(rows, word) {
         Named::One(place) => Word::Tie(without_lag(place, kind)),
         Named::Several => Word::Several,
         Named::None => Word::None,
     }
 }
 
-/// The kind of link with these letters, large or small.
-fn kind_of(letters: &str) -> Option<LinkKind> {
-    for kind in KINDS {
-        if kind.letters.eq_ignore_ascii_case(letters) {
-            return Some(kind.kind);
-        }
+/// The kind of link with these letters, in English or German.
+fn kind_of(letters: &str) -> Option<LinkKind>
+    ensures { result ≡ kind_of letters.now }
+{
+    if is_either(letters, "FS", "EA") {
+        Some(LinkKind::FinishToStart)
+    } else if is_either(letters, "SS", "AA") {
+        Some(LinkKind::StartToStart)
+    } else if is_either(letters, "FF", "EE") {
+        Some(LinkKind::FinishToFinish)
+    } else if is_either(letters, "SF", "AE") {
+        Some(LinkKind::StartToFinish)
+    } else {
+        None
     }
-    None
+}
+
+/// Whether letters are one of these two, large or small.
+fn is_either(letters: &str, english: &str, german: &str) -> bool
+    ensures { result ≡ is_either english.now german.now letters.now }
+{
+    is_like(letters, english) || is_like(letters, german)
+}
+
+/// Whether letters are these, large or small.
+fn is_like(letters: &str, known: &str) -> bool
+    ensures { result ≡ str_eq_ignore_ascii_case letters.now known.now }
+{
+    letters.eq_ignore_ascii_case(known)
 }
 
 /// A link without lag.
-fn without_lag(place: usize, kind: LinkKind) -> Tie {
+pub(crate) fn without_lag(place: usize, kind: LinkKind) -> Tie
+    ensures { result ≡ without_lag place kind }
+{
     Tie {
         place,
         kind,

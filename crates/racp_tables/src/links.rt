@@ -1,8 +1,15 @@
 //! The ties between the tasks of rows, as their cells name them.
 
+ghost use Rattle.std.specs.Prelude.{◌≡◌, ◌++◌, ◌∷◌, [], IfOk, OnOk, map};
+ghost use Rattle.racp_tables.specs.CellTies.{AreTiesOf, all_ties, cell_ties, part_ties};
+ghost use Rattle.racp_tables.specs.LinkWords.{without_lag};
+ghost use Rattle.racp_tables.specs.Pieces.{between};
+
 use crate::fault::TableFault;
-use crate::link_words::{Word, word_of};
-use crate::named::{Named, is_within, no_task, range_of, task_of};
+use crate::link_cells::{Cell, called, keep_tie, push_part};
+use crate::link_words::without_lag;
+use crate::named::{Named, task_of};
+use crate::pieces::between;
 use crate::reading::Scale;
 use crate::row::Row;
 use crate::ties::{Tie, Ties};
@@ -10,26 +17,15 @@ use crate::warning::{Warning, warn};
 use racp_links::LinkKind;
 use std::alloc::{AllocError, Global};
 
-/// A cell with links of the task at a place.
-#[derive(Clone, Copy)]
-struct Cell<'a> {
-    rows: &'a [Row],
-    scale: Scale,
-    /// The place of the row, from 0.
-    place: usize,
-    line: u64,
-    text: &'a str,
-    /// Whether the cell names the tasks before, and not those after.
-    is_before: bool,
-}
-
 /// The ties that the rows of tasks name.
 pub(crate) fn ties_of(
     alloc: Global,
     rows: &[Row],
     scale: Scale,
     warnings: &mut Vec<Warning>,
-) -> Result<Vec<Ties>, TableFault> {
+) -> Result<Vec<Ties>, TableFault>
+    ensures { IfOk result (λ all. AreTiesOf rows.now scale all.items) }
+{
     let mut all = Vec::new(alloc);
     for (place, row) in rows.iter().enumerate() {
         let before = Cell {
@@ -53,7 +49,9 @@ pub(crate) fn ties_of(
 }
 
 /// Adds the ties of a row.
-fn keep_ties(all: &mut Vec<Ties>, ties: Ties) -> Result<(), AllocError> {
+fn keep_ties(all: &mut Vec<Ties>, ties: Ties) -> Result<(), AllocError>
+    ensures { OnOk result (all.new.items ≡ all.old.items ++ ties ∷ []) }
+{
     all.push(ties)?;
     Ok(())
 }
@@ -63,18 +61,50 @@ fn ties_in(
     alloc: Global,
     cell: &Cell<'_>,
     warnings: &mut Vec<Warning>,
-) -> Result<Vec<Tie>, TableFault> {
+) -> Result<Vec<Tie>, TableFault>
+    ensures { IfOk result (λ ties. cell_ties cell.now.rows.now cell.now.scale cell.now.text.now ≡ Some ties.items) }
+{
+    match task_of(cell.rows, cell.text) {
+        Named::One(place) => Ok(one_tie(alloc, place)?),
+        Named::Several => ties_of_words(alloc, cell, warnings),
+        Named::None => ties_of_words(alloc, cell, warnings),
+    }
+}
+
+/// The tie from the end of the task at a place.
+fn one_tie(alloc: Global, place: usize) -> Result<Vec<Tie>, AllocError>
+    ensures { IfOk result (λ ties. ties.items ≡ without_lag place LinkKind.FinishToStart ∷ []) }
+{
     let mut ties = Vec::new(alloc);
-    if let Named::One(other) = task_of(cell.rows, cell.text) {
-        keep_tie(&mut ties, after_end_of(other))?;
-        return Ok(ties);
+    keep_tie(&mut ties, without_lag(place, LinkKind::FinishToStart))?;
+    Ok(ties)
+}
+
+/// The ties of the words of a cell.
+fn ties_of_words(
+    alloc: Global,
+    cell: &Cell<'_>,
+    warnings: &mut Vec<Warning>,
+) -> Result<Vec<Tie>, TableFault>
+    ensures { IfOk result (λ ties. all_ties (map (part_ties cell.now.rows.now cell.now.scale) (between 59 cell.now.text.now)) ≡ Some ties.items) }
+{
+    let mut ties = Vec::new(alloc);
+    let parts = between(alloc, cell.text, ';')?;
+    for part in &parts {
+        push_part(alloc, &mut ties, cell, part)?;
     }
-    for part in cell.text.split(';') {
-        for word in part.split(',') {
-            push_word(alloc, &mut ties, cell, word.trim())?;
-        }
-    }
-    if has_twin(&ties) {
+    warn_of_twins(alloc, cell, &ties, warnings)?;
+    Ok(ties)
+}
+
+/// Adds a warning if two of these ties are to the same task.
+fn warn_of_twins(
+    alloc: Global,
+    cell: &Cell<'_>,
+    ties: &[Tie],
+    warnings: &mut Vec<Warning>,
+) -> Result<(), AllocError> {
+    if has_twin(ties) {
         let words = format!(in alloc;
             "{} '{}' names a task twice; a spreadsheet may have made 1,1 of 1,10",
             called(cell),
@@ -82,7 +112,7 @@ fn ties_in(
         );
         warn(warnings, cell.line, words)?;
     }
-    Ok(ties)
+    Ok(())
 }
 
 /// Whether two of these are ties to the same task.
@@ -95,96 +125,6 @@ fn has_twin(ties: &[Tie]) -> bool {
         }
     }
     false
-}
-
-/// What the column of a cell is called.
-fn called(cell: &Cell<'_>) -> &'static str {
-    if cell.is_before {
-        "predecessor"
-    } else {
-        "successor"
-    }
-}
-
-/// Adds the tie that a word says; none if it is empty.
-fn push_word(
-    alloc: Global,
-    ties: &mut Vec<Tie>,
-    cell: &Cell<'_>,
-    word: &str,
-) -> Result<(), TableFault> {
-    if word.is_empty() {
-        return Ok(());
-    }
-    match word_of(alloc, cell.rows, word, cell.scale)? {
-        Word::Tie(tie) => Ok(keep_tie(ties, tie)?),
-        Word::Lead(place) => Err(TableFault::at(cell.line, lead_words(alloc, cell, place))),
-        Word::Several => Err(TableFault::at(cell.line, several(alloc, cell, word))),
-        Word::None => push_words(alloc, ties, cell, word),
-    }
-}
-
-/// Adds the ties of a word that is none itself: a range, or words between blanks.
-fn push_words(
-    alloc: Global,
-    ties: &mut Vec<Tie>,
-    cell: &Cell<'_>,
-    word: &str,
-) -> Result<(), TableFault> {
-    if let Some(range) = range_of(cell.rows, word) {
-        return Ok(push_range(ties, cell, range)?);
-    }
-    for part in word.split_whitespace() {
-        match word_of(alloc, cell.rows, part, cell.scale)? {
-            Word::Tie(tie) => keep_tie(ties, tie)?,
-            _ => {
-                let words = no_task(alloc, cell.rows, called(cell), word);
-                return Err(TableFault::at(cell.line, words));
-            }
-        }
-    }
-    Ok(())
-}
-
-/// Adds a tie.
-fn keep_tie(ties: &mut Vec<Tie>, tie: Tie) -> Result<(), AllocError> {
-    ties.push(tie)?;
-    Ok(())
-}
-
-/// Adds ties to the tasks of a range.
-fn push_range(ties: &mut Vec<Tie>, cell: &Cell<'_>, range: (u64, u64)) -> Result<(), AllocError> {
-    for (place, row) in cell.rows.iter().enumerate() {
-        if is_within(row, range) {
-            keep_tie(ties, after_end_of(place))?;
-        }
-    }
-    Ok(())
-}
-
-/// A tie from the end of one task to the start of another, without lag.
-fn after_end_of(place: usize) -> Tie {
-    Tie {
-        place,
-        kind: LinkKind::FinishToStart,
-        lag: 0,
-    }
-}
-
-/// What is wrong with a word that is the name of several tasks.
-fn several(alloc: Global, cell: &Cell<'_>, word: &str) -> Result<String, AllocError> {
-    let called = called(cell);
-    format!(in alloc; "{called} '{word}' is the name of several tasks; write an id")
-}
-
-/// What is wrong with a link with a lead to the task at a place.
-fn lead_words(alloc: Global, cell: &Cell<'_>, place: usize) -> Result<String, AllocError> {
-    let (own, other) = (name_at(cell.rows, cell.place), name_at(cell.rows, place));
-    if cell.is_before {
-        overlap(alloc, other, own)
-    } else {
-        overlap(alloc, own, other)
-    }
 }
 
 /// The name of the task at a place.

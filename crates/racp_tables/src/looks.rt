@@ -1,5 +1,6 @@
 //! Rows that look like something else than tasks.
 
+use crate::outline::is_phase_at;
 use crate::row::Row;
 use crate::titles::key_of;
 use crate::warning::{Warning, warn};
@@ -8,15 +9,18 @@ use std::alloc::{AllocError, Global};
 /// What sums are called, between blanks.
 const SUMS: &str = "total totals grandtotal subtotal sum summe gesamt gesamtsumme zwischensumme";
 
-/// Adds a warning for each row that looks like a sum, a summary of the rows below it, or a task that others cannot name.
+/// Adds a warning for each row of a task that looks like a sum, or like a task that others cannot name.
 pub(crate) fn warn_of_rows(
     alloc: Global,
     rows: &[Row],
+    parents: &[u32],
     warnings: &mut Vec<Warning>,
 ) -> Result<(), AllocError> {
     let some_have_ids = rows.iter().any(has_some_id);
-    let mut last: Option<&Row> = None;
-    for row in rows {
+    for (place, row) in rows.iter().enumerate() {
+        if is_phase_at(parents, place)? {
+            continue;
+        }
         if is_sum(alloc, row)? {
             warn(warnings, row.line, words_of(alloc, row, "looks like a sum"))?;
         } else if some_have_ids && !has_some_id(row) {
@@ -26,13 +30,6 @@ pub(crate) fn warn_of_rows(
                 words_of(alloc, row, "has no id, and others have"),
             )?;
         }
-        if let Some(last) = last
-            && is_part_of(row.id.as_str(), last.id.as_str())
-        {
-            let looks = "looks like a summary of the rows below it";
-            warn(warnings, last.line, words_of(alloc, last, looks))?;
-        }
-        last = Some(row);
     }
     Ok(())
 }
@@ -56,15 +53,4 @@ fn is_sum(alloc: Global, row: &Row) -> Result<bool, AllocError> {
         }
     }
     Ok(false)
-}
-
-/// Whether an id is another one with a point and more behind it.
-fn is_part_of(id: &str, whole: &str) -> bool {
-    if whole.is_empty() {
-        return false;
-    }
-    match id.strip_prefix(whole) {
-        Some(more) => more.starts_with('.'),
-        None => false,
-    }
 }

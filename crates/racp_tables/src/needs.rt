@@ -1,6 +1,11 @@
 //! What tasks need of resources.
 
-use crate::amount::{Amount, amount_of};
+ghost use Rattle.std.specs.Prelude.{◌≡◌, ◌++◌, ◌∷◌, [], IfOk, OnOk, ◌<◌, map};
+ghost use Rattle.csv.specs.Records.{fields_of};
+ghost use Rattle.racp_tables.specs.Amounts.{amount_said, units_of};
+ghost use Rattle.racp_tables.specs.Cells.{need_at};
+
+use crate::amount::{Amount, amount_of, wholly};
 use crate::cell::{cell_at, line_of};
 use crate::columns::Column;
 use crate::fault::TableFault;
@@ -13,7 +18,9 @@ pub(crate) fn requests_of(
     alloc: Global,
     resources: &[Column],
     record: &StringRecord,
-) -> Result<Vec<u32>, TableFault> {
+) -> Result<Vec<u32>, TableFault>
+    ensures { IfOk result (λ requests. map (need_at (fields_of «record».now)) resources.now ≡ map (λ units. Some units) requests.items) }
+{
     let mut requests = Vec::new(alloc);
     for column in resources {
         let request = request_of(alloc, column, record)?;
@@ -23,13 +30,17 @@ pub(crate) fn requests_of(
 }
 
 /// Adds a request.
-pub(crate) fn push_request(requests: &mut Vec<u32>, request: u32) -> Result<(), AllocError> {
+pub(crate) fn push_request(requests: &mut Vec<u32>, request: u32) -> Result<(), AllocError>
+    ensures { OnOk result (requests.new.items ≡ requests.old.items ++ request ∷ []) }
+{
     requests.push(request)?;
     Ok(())
 }
 
 /// What the task of a row needs of a resource.
-fn request_of(alloc: Global, column: &Column, record: &StringRecord) -> Result<u32, TableFault> {
+fn request_of(alloc: Global, column: &Column, record: &StringRecord) -> Result<u32, TableFault>
+    ensures { IfOk result (λ request. need_at (fields_of «record».now) column.now ≡ Some request) }
+{
     let cell = cell_at(record, column.place);
     if cell.is_empty() {
         return Ok(0);
@@ -42,24 +53,14 @@ fn request_of(alloc: Global, column: &Column, record: &StringRecord) -> Result<u
 }
 
 /// How many units a cell says, of which one is so many hundredths; none if that is no whole number, or too great.
-pub(crate) fn units_in(alloc: Global, cell: &str, one: u64) -> Result<Option<u32>, AllocError> {
+pub(crate) fn units_in(alloc: Global, cell: &str, one: u64) -> Result<Option<u32>, AllocError>
+    requires { 0 < one }
+    ensures { IfOk result (λ units. units ≡ units_of (amount_said cell.now) one 10000) }
+{
     match amount_of(alloc, cell)? {
-        Amount::Hundredths(amount) => Ok(whole(amount, one.max(1))),
-        _ => Ok(None),
-    }
-}
-
-/// A whole number of units of so many hundredths, if it is not too great.
-fn whole(amount: u64, one: u64) -> Option<u32> {
-    let one = one.max(1);
-    if amount % one != 0 {
-        return None;
-    }
-    let units = u32::try_from(amount / one).ok()?;
-    if units <= MOST_REQUEST {
-        Some(units)
-    } else {
-        None
+        Amount::Hundredths(amount) => Ok(wholly(amount, one, MOST_REQUEST)),
+        Amount::Ambiguous => Ok(None),
+        Amount::Nothing => Ok(None),
     }
 }
 

@@ -37,6 +37,7 @@ fn table_of(
     }
     Ok(Table {
         names: numbered(alloc, "Job", count)?,
+        headings: Vec::new(alloc),
         resources: numbered(alloc, "R", resources)?,
         jobs,
         pairs,
@@ -44,6 +45,7 @@ fn table_of(
         due: None,
         notes: Notes {
             tasks: count as usize,
+            phases: 0,
             is_half_day: false,
             passed_over: Vec::new(alloc),
             warnings: Vec::new(alloc),

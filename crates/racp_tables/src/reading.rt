@@ -25,8 +25,13 @@ pub struct Scale {
 }
 
 impl Scale {
+    ghost use Rattle.std.specs.Prelude.{◌≡◌};
+    ghost use Rattle.racp_tables.specs.Times.{units_a_day};
+
     /// How many time units a day has.
-    pub(crate) fn units_a_day(&self) -> u64 {
+    pub(crate) fn units_a_day(&self) -> u64
+        ensures { result ≡ units_a_day self.now }
+    {
         if self.is_half_day { 2 } else { 1 }
     }
 }

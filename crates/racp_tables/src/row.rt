@@ -1,12 +1,18 @@
-//! The rows of a table, each of a task.
+//! The rows of a table, each of a task or of a phase.
 
+ghost use Rattle.std.specs.Prelude.{◌≡◌, ◌++◌, IfOk, map, nat_lt, string_bytes};
+ghost use Rattle.std.specs.List.{list_any};
+ghost use Rattle.csv.specs.Records.{fields_of};
+ghost use Rattle.racp_tables.specs.CellRows.{IsRowOf, duration_said, needs_said, time_or};
+ghost use Rattle.racp_tables.specs.Cells.{cell_of, id_said, plain};
+
+use crate::assigned::{Assigned, assigned_in, push_named};
 use crate::cell::{cell_at, is_empty_from, line_of, optional_cell, plain};
 use crate::columns::Columns;
 use crate::duration::{Said, units_of};
 use crate::fault::TableFault;
 use crate::needs::requests_of;
 use crate::reading::Scale;
-use crate::roster::add_assigned;
 use csv::StringRecord;
 use racp_model::limits::{LATEST_TIME, MOST_DURATION};
 use std::alloc::{AllocError, Global};
@@ -26,7 +32,7 @@ pub(crate) struct Row {
     pub(crate) successors: String,
     /// How long it takes, in time units.
     pub(crate) duration: u32,
-    /// How many units it needs of each resource; none of those that are missing at the end.
+    /// How many units it needs of each resource.
     pub(crate) requests: Vec<u32>,
     /// From which time on it may start.
     pub(crate) earliest: u32,
@@ -38,17 +44,19 @@ pub(crate) struct Row {
 #[derive(Clone, Copy)]
 pub(crate) struct Cells<'a> {
     pub(crate) columns: &'a Columns,
+    /// The resources that rows name.
+    pub(crate) roster: &'a [String],
     pub(crate) record: &'a StringRecord,
     pub(crate) scale: Scale,
+    /// Whether other rows are parts of this one, which is no task then.
+    pub(crate) is_phase: bool,
 }
 
-/// The row of the task with this number. Resources that it names first are added to the roster.
-pub(crate) fn row_of(
-    alloc: Global,
-    cells: Cells<'_>,
-    number: usize,
-    roster: &mut Vec<String>,
-) -> Result<Row, TableFault> {
+/// The row of the task with this number.
+pub(crate) fn row_of(alloc: Global, cells: Cells<'_>, number: usize) -> Result<Row, TableFault>
+    ensures { IfOk result (IsRowOf cells.entry.columns.now (map string_bytes cells.entry.roster.now) cells.entry.is_phase number
+        cells.entry.scale (fields_of cells.entry.record.now)) }
+{
     let Cells {
         columns,
         record,
@@ -60,7 +68,7 @@ pub(crate) fn row_of(
         return Err(TableFault::at(line, words));
     }
     let name = name_of(alloc, line, optional_cell(record, columns.name))?;
-    let requests = needs_of(alloc, cells, roster)?;
+    let requests = needs_of(alloc, cells)?;
     let duration = duration_of(alloc, cells, &requests)?;
     let earliest = time_of(alloc, cells, columns.earliest, ("earliest", 0))?;
     let due = time_of(alloc, cells, columns.due, ("due", LATEST_TIME))?;
@@ -78,7 +86,9 @@ pub(crate) fn row_of(
 }
 
 /// The name in a cell.
-fn name_of(alloc: Global, line: u64, cell: &str) -> Result<String, TableFault> {
+fn name_of(alloc: Global, line: u64, cell: &str) -> Result<String, TableFault>
+    ensures { IfOk result (λ name. string_bytes name ≡ plain cell.now) }
+{
     if cell.is_empty() {
         let words = String::from_str(alloc, "the task has no name");
         return Err(TableFault::at(line, words));
@@ -87,29 +97,41 @@ fn name_of(alloc: Global, line: u64, cell: &str) -> Result<String, TableFault> {
 }
 
 /// What a task is called in other rows: what the row says, or its number if no column says it.
-fn id_of(alloc: Global, cells: Cells<'_>, number: usize) -> Result<String, AllocError> {
+fn id_of(alloc: Global, cells: Cells<'_>, number: usize) -> Result<String, AllocError>
+    ensures { IfOk result (λ id. string_bytes id ≡ id_said (fields_of cells.entry.record.now) cells.entry.columns.now.id number) }
+{
     match cells.columns.id {
         Some(place) => String::from_str(alloc, cell_at(cells.record, place)),
         None => format!(in alloc; "{number}"),
     }
 }
 
-/// What the task of a row needs of each resource.
-fn needs_of(
-    alloc: Global,
-    cells: Cells<'_>,
-    roster: &mut Vec<String>,
-) -> Result<Vec<u32>, TableFault> {
+/// What the task of a row needs of each resource: those of columns, and then those that rows name.
+fn needs_of(alloc: Global, cells: Cells<'_>) -> Result<Vec<u32>, TableFault>
+    ensures { IfOk result (λ requests. needs_said cells.entry.columns.now (map string_bytes cells.entry.roster.now) cells.entry.is_phase
+        (fields_of cells.entry.record.now) ≡ map (λ units. Some units) requests.items) }
+{
+    if cells.is_phase {
+        return Ok(Vec::new(alloc));
+    }
     let mut requests = requests_of(alloc, &cells.columns.resources, cells.record)?;
+    let line = line_of(cells.record);
     let cell = optional_cell(cells.record, cells.columns.assigned);
-    add_assigned(alloc, roster, &mut requests, (line_of(cells.record), cell))?;
+    let assigned = assigned_in(alloc, line, cell)?;
+    push_named(alloc, &mut requests, line, cells.roster, &assigned)?;
     Ok(requests)
 }
 
 /// How long the task of a row takes, which needs this. A task without duration and needs is a milestone.
-fn duration_of(alloc: Global, cells: Cells<'_>, requests: &[u32]) -> Result<u32, TableFault> {
+fn duration_of(alloc: Global, cells: Cells<'_>, requests: &[u32]) -> Result<u32, TableFault>
+    ensures { IfOk result (λ duration. duration_said cells.entry.columns.now cells.entry.is_phase cells.entry.scale
+        (fields_of cells.entry.record.now) requests.now ≡ Some duration) }
+{
+    if cells.is_phase {
+        return Ok(0);
+    }
     let cell = optional_cell(cells.record, cells.columns.duration);
-    if cell.is_empty() && !requests.iter().any(is_some_need) {
+    if cell.is_empty() && !has_needs(requests) {
         return Ok(0);
     }
     let said = Said {
@@ -120,9 +142,11 @@ fn duration_of(alloc: Global, cells: Cells<'_>, requests: &[u32]) -> Result<u32,
     units_of(alloc, said, cells.scale, MOST_DURATION)
 }
 
-/// Whether a request asks for a unit.
-fn is_some_need(request: &u32) -> bool {
-    *request > 0
+/// Whether some request asks for a unit.
+fn has_needs(requests: &[u32]) -> bool
+    ensures { result ≡ list_any (λ units. nat_lt 0 units) requests.now }
+{
+    requests.iter().any(|units| *units > 0)
 }
 
 /// The time that the cell of a column says, which is called so; another where there is no such column, or the cell is
@@ -132,7 +156,9 @@ fn time_of(
     cells: Cells<'_>,
     place: Option<usize>,
     called: (&str, u32),
-) -> Result<u32, TableFault> {
+) -> Result<u32, TableFault>
+    ensures { IfOk result (λ time. time_or called.entry.1 (cell_of (fields_of cells.entry.record.now) place) cells.entry.scale ≡ Some time) }
+{
     let (column, other) = called;
     let cell = optional_cell(cells.record, place);
     if cell.is_empty() {

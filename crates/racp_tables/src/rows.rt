@@ -1,54 +1,74 @@
 //! The table that rows make.
 
-ghost use Rattle.std.specs.Prelude.{◌≡◌, IfOk};
-ghost use Rattle.racp_tables.specs.Rows.{IsOfRows, IsTableOf};
+ghost use Rattle.std.specs.Prelude.{◌≡◌, IfOk, map};
+ghost use Rattle.racp_tables.specs.CellTies.{AreTiesOf};
+ghost use Rattle.racp_tables.specs.Outlines.{AreParts};
+ghost use Rattle.racp_tables.specs.Rows.{IsOfRows, IsTableOf, id_of};
 
-use crate::columns::{Column, Columns};
 use crate::columns_tested::too_many;
 use crate::fault::TableFault;
-use crate::faults::link_fault;
-use crate::links::{name_at, ties_of};
+use crate::faults::{Linked, made_fault};
+use crate::leaves::{Found, put_together};
+use crate::links::ties_of;
 use crate::looks::warn_of_rows;
-use crate::made::{Made, made_of};
+use crate::made::{Made, MadeFault, made_of};
+use crate::outline::{Outline, count_leaves, parents_of_rows};
 use crate::reading::Scale;
 use crate::ring::test_rings;
 use crate::row::Row;
-use crate::table::{Notes, Table};
+use crate::table::Table;
+use crate::taken::Taken;
 use crate::ties::{Ties, links_of};
 use crate::warning::{Warning, warn};
-use racp_links::{Link, Wait};
-use racp_model::limits::{LATEST_TIME, MOST_JOBS, MOST_RESOURCES};
+use racp_links::{Link, leaf_links};
+use racp_model::limits::{MOST_JOBS, MOST_RESOURCES};
 use std::alloc::{AllocError, Global};
 
-/// What was found of rows.
-#[derive(Drop)]
-struct Found {
-    made: Made,
-    warnings: Vec<Warning>,
-    is_half_day: bool,
-}
-
-/// The table of these rows, whose resources are those of the columns and then those of the roster.
+/// The table of these rows, which are parts of each other by their ids or levels, as they were read.
 pub(crate) fn table_of(
     alloc: Global,
-    columns: &Columns,
-    roster: &[String],
+    taken: Taken<'_>,
     rows: &[Row],
-    scale: Scale,
+    outline: &Outline,
 ) -> Result<Table, TableFault>
-    ensures { IfOk result (IsTableOf rows.now) }
+    ensures { IfOk result (IsTableOf outline.now taken.entry.parents.now taken.entry.scale rows.now) }
 {
+    let Taken {
+        columns,
+        roster,
+        parents,
+        scale,
+    } = taken;
     let resources = columns.resources.len().saturating_add(roster.len());
     test_counts(alloc, columns.line, resources, rows.len())?;
+    test_parents(alloc, rows, outline, parents)?;
     let mut warnings = Vec::new(alloc);
-    let ties = tested_ties(alloc, rows, scale, &mut warnings)?;
-    let made = made_tested(alloc, rows, &ties, resources)?;
+    let ties = tested_ties(alloc, rows, parents, scale, &mut warnings)?;
+    let made = made_tested(alloc, rows, &ties, parents, resources)?;
     let found = Found {
         made,
+        parents: Vec::from_slice(alloc, parents)?,
         warnings,
         is_half_day: scale.is_half_day,
     };
     Ok(put_together(alloc, columns, roster, rows, found)?)
+}
+
+/// Tests that rows are parts of each other so. The ids of their cells are theirs, so they are.
+fn test_parents(
+    alloc: Global,
+    rows: &[Row],
+    outline: &Outline,
+    parents: &[u32],
+) -> Result<(), AllocError>
+    ensures { IfOk result (λ _. AreParts outline.now (map id_of rows.now) parents.now) }
+{
+    let own = parents_of_rows(alloc, rows, outline)?;
+    if own.as_slice() == parents {
+        Ok(())
+    } else {
+        Err(AllocError)
+    }
 }
 
 /// Tests that there is a task, and how many resources there are.
@@ -67,18 +87,31 @@ fn test_counts(alloc: Global, line: u64, resources: usize, tasks: usize) -> Resu
     Ok(())
 }
 
-/// The ties of rows, if no task waits for itself.
+/// The ties of rows, if links can tie them, and no task waits for itself.
 fn tested_ties(
     alloc: Global,
     rows: &[Row],
+    parents: &[u32],
     scale: Scale,
     warnings: &mut Vec<Warning>,
-) -> Result<Vec<Ties>, TableFault> {
+) -> Result<Vec<Ties>, TableFault>
+    ensures { IfOk result (λ ties. AreTiesOf rows.now scale ties.items) }
+{
     let ties = ties_of(alloc, rows, scale, warnings)?;
     let links = links_of(alloc, &ties)?;
-    test_rings(alloc, rows, &pairs_of(alloc, &links)?)?;
-    warn_of_rows(alloc, rows, warnings)?;
-    warn_of_links(alloc, rows, &links, warnings)?;
+    match leaf_links(alloc, parents, &links) {
+        Ok(links) => test_rings(alloc, rows, &pairs_of(alloc, &links)?)?,
+        Err(fault) => {
+            let linked = Linked {
+                rows,
+                ties: &ties,
+                parents,
+            };
+            return Err(made_fault(alloc, linked, MadeFault::Phase(fault)));
+        }
+    }
+    warn_of_rows(alloc, rows, parents, warnings)?;
+    warn_of_links(alloc, parents, &links, warnings)?;
     Ok(ties)
 }
 
@@ -94,32 +127,40 @@ fn pairs_of(alloc: Global, links: &[Link]) -> Result<Vec<(u32, u32)>, AllocError
 /// Adds a warning if there are tasks, and none waits for another.
 fn warn_of_links(
     alloc: Global,
-    rows: &[Row],
+    parents: &[u32],
     links: &[Link],
     warnings: &mut Vec<Warning>,
 ) -> Result<(), AllocError> {
-    if links.is_empty() && rows.len() > 1 {
+    if links.is_empty() && count_leaves(parents)? > 1 {
         let words = String::from_str(alloc, "no task waits for another");
         warn(warnings, 0, words)?;
     }
     Ok(())
 }
 
-/// What rows with these ties make, if a network may have so many jobs.
+/// What rows make that are parts of each other so and have these ties, if a network may have so many jobs.
 fn made_tested(
     alloc: Global,
     rows: &[Row],
     ties: &[Ties],
+    parents: &[u32],
     resources: usize,
 ) -> Result<Made, TableFault>
-    ensures { IfOk result (λ made. IsOfRows rows.now ties.now resources made.jobs.items made.pairs.items) }
+    ensures { IfOk result (λ made. IsOfRows parents.now rows.now ties.now resources made.jobs.items made.pairs.items) }
 {
-    match made_of(alloc, rows, ties, resources) {
+    match made_of(alloc, rows, ties, parents, resources) {
         Ok(made) => {
             test_jobs(alloc, made.jobs.len())?;
             Ok(made)
         }
-        Err(fault) => Err(link_fault(alloc, rows, ties, fault)),
+        Err(fault) => {
+            let linked = Linked {
+                rows,
+                ties,
+                parents,
+            };
+            Err(made_fault(alloc, linked, fault))
+        }
     }
 }
 
@@ -132,120 +173,4 @@ fn test_jobs(alloc: Global, jobs: usize) -> Result<(), TableFault> {
         "with those of links with lags there are {jobs} jobs; a network has at most {MOST_JOBS}"
     );
     Err(TableFault::at(0, words))
-}
-
-/// The table of these rows, and of what was found of them.
-fn put_together(
-    alloc: Global,
-    columns: &Columns,
-    roster: &[String],
-    rows: &[Row],
-    found: Found,
-) -> Result<Table, AllocError>
-    ensures jobs { IfOk result (λ table. table.jobs.items ≡ found.made.jobs.items) }
-    ensures pairs { IfOk result (λ table. table.pairs.items ≡ found.made.pairs.items) }
-{
-    let Found {
-        made,
-        warnings,
-        is_half_day,
-    } = found;
-    let Made { jobs, pairs, waits } = made;
-    let earliest = earliest_of(alloc, columns, rows, waits.len())?;
-    let due = due_of(alloc, columns, rows, waits.len())?;
-    let names = names_of(alloc, rows, &waits)?;
-    let resources = resources_of(alloc, &columns.resources, roster)?;
-    let passed_over = copied(alloc, &columns.passed_over)?;
-    Ok(Table {
-        names,
-        resources,
-        jobs,
-        pairs,
-        earliest,
-        due,
-        notes: Notes {
-            tasks: rows.len(),
-            is_half_day,
-            passed_over,
-            warnings,
-        },
-    })
-}
-
-/// A copy of these words.
-fn copied(alloc: Global, words: &[String]) -> Result<Vec<String>, AllocError> {
-    let mut copies = Vec::new(alloc);
-    for word in words {
-        copies.push(String::from_str(alloc, word.as_str())?)?;
-    }
-    Ok(copies)
-}
-
-/// The names of the tasks, and of the jobs that wait for them.
-fn names_of(alloc: Global, rows: &[Row], waits: &[Wait]) -> Result<Vec<String>, AllocError> {
-    let mut names = Vec::new(alloc);
-    for row in rows {
-        names.push(String::from_str(alloc, row.name.as_str())?)?;
-    }
-    for wait in waits {
-        let name = name_at(rows, (wait.after as usize).saturating_sub(1));
-        names.push(format!(in alloc; "wait for {name}")?)?;
-    }
-    Ok(names)
-}
-
-/// The names of the resources.
-fn resources_of(
-    alloc: Global,
-    columns: &[Column],
-    roster: &[String],
-) -> Result<Vec<String>, AllocError> {
-    let mut names = Vec::new(alloc);
-    for column in columns {
-        names.push(String::from_str(alloc, column.name.as_str())?)?;
-    }
-    for name in roster {
-        names.push(String::from_str(alloc, name.as_str())?)?;
-    }
-    Ok(names)
-}
-
-/// The times from which jobs may start, if a column says them.
-fn earliest_of(
-    alloc: Global,
-    columns: &Columns,
-    rows: &[Row],
-    waits: usize,
-) -> Result<Option<Vec<u32>>, AllocError> {
-    if columns.earliest.is_none() {
-        return Ok(None);
-    }
-    let mut times = Vec::new(alloc);
-    for row in rows {
-        times.push(row.earliest)?;
-    }
-    for _ in 0..waits {
-        times.push(0)?;
-    }
-    Ok(Some(times))
-}
-
-/// The times by which jobs have to end, if a column says them.
-fn due_of(
-    alloc: Global,
-    columns: &Columns,
-    rows: &[Row],
-    waits: usize,
-) -> Result<Option<Vec<u32>>, AllocError> {
-    if columns.due.is_none() {
-        return Ok(None);
-    }
-    let mut times = Vec::new(alloc);
-    for row in rows {
-        times.push(row.due)?;
-    }
-    for _ in 0..waits {
-        times.push(LATEST_TIME)?;
-    }
-    Ok(Some(times))
 }

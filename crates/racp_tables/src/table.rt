@@ -1,5 +1,6 @@
 //! Tables of tasks.
 
+use crate::heading::Heading;
 use crate::warning::Warning;
 use racp_model::Job;
 
@@ -8,6 +9,8 @@ use racp_model::Job;
 pub struct Table {
     /// The name of each task and waiting job.
     pub names: Vec<String>,
+    /// The phases, as headings above the names of tasks, in the order of these.
+    pub headings: Vec<Heading>,
     /// The name of each resource.
     pub resources: Vec<String>,
     /// How long each task or waiting job takes, and what it needs of each resource.
@@ -27,6 +30,8 @@ pub struct Table {
 pub struct Notes {
     /// How many tasks there are; the jobs behind them wait.
     pub tasks: usize,
+    /// How many phases there are.
+    pub phases: usize,
     /// Whether a time unit is half a day, so that durations and times were doubled.
     pub is_half_day: bool,
     /// The titles of columns that were passed over.

@@ -77,7 +77,7 @@ fn push_link(links: &mut Vec<Link>, tie: &Tie, before: u32, after: u32) -> Resul
 }
 
 /// The number of the task at a place; there are far fewer tasks than numbers.
-fn number_at(place: usize) -> Result<u32, AllocError>
+pub(crate) fn number_at(place: usize) -> Result<u32, AllocError>
     ensures { IfOk result (λ number. number ≡ place + 1) }
 {
     let Ok(place) = u32::try_from(place) else {

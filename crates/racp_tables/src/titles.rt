@@ -22,6 +22,8 @@ pub(crate) enum Title {
     Due,
     /// Which resources they need, by name.
     Assigned,
+    /// How deep they lie in the outline.
+    Level,
     /// What a plan has no use for.
     Other,
     /// It has no title.
@@ -71,11 +73,15 @@ const KINDS: &[Kind] = &[
         keys: "resourcenames resources ressourcennamen ressourcen",
     },
     Kind {
+        title: Title::Level,
+        keys: "outlinelevel level gliederungsebene",
+    },
+    Kind {
         title: Title::Other,
         keys: "start finish end begin begindate startdate enddate finishdate scheduledstart scheduledfinish \
             actualstart actualfinish anfang ende deadline stichtag cost costs kosten priority priorität \
             %complete complete completion percentcomplete progress %abgeschlossen fortschritt wbs wbscode pspcode \
-            outlinelevel outlinenumber gliederungsebene gliederungsnummer slack totalslack freeslack \
+            outlinenumber gliederungsnummer slack totalslack freeslack \
             gesamtepufferzeit puffer critical kritisch notes note comment comments notizen bemerkung \
             constrainttype constraintdate constraint einschränkungsart einschränkungstermin work arbeit \
             indicators indikatoren active aktiv taskmode vorgangsmodus coordinator taskcolor weblink \

@@ -57,7 +57,7 @@ fn are_times(numbers: &[u32], count: usize) -> bool
     numbers.len() == count && numbers.iter().all(|x| *x <= LATEST_TIME)
 }
 
-/// What is told: how many tasks, links and resources there are, and what was passed over.
+/// What is told: how many tasks, phases, links and resources there are, and what was passed over.
 fn words_of(
     alloc: Global,
     net: &Network,
@@ -69,6 +69,10 @@ fn words_of(
     let links = net.arcs().len().saturating_sub(waits);
     let mut words = counted(alloc, notes.tasks, "task")?;
     words.push_str(", ")?;
+    if notes.phases > 0 {
+        words.push_str(counted(alloc, notes.phases, "phase")?.as_str())?;
+        words.push_str(", ")?;
+    }
     words.push_str(counted(alloc, links, "link")?.as_str())?;
     if waits > 0 {
         words.push_str(" (")?;

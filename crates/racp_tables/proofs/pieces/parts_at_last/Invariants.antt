@@ -1,0 +1,10 @@
+use Rattle.std.proofs.Common.{◌≡◌, ◌+◌, ◌≤◌, eqb, not, length, take}
+use Rattle.std.specs.List.{suffix_len}
+use Rattle.racp_tables.proofs.pieces.parts_at_last.Given as goal
+
+abbrev pub invariant-loop-end : goal.invariant-loop-end
+invariant-loop-end l =
+    (l.end ≤ length l.bytes) × (l.end + suffix_len (λ b. not (eqb b l.letter)) l.bytes ≡ length l.bytes + suffix_len (λ b. not (eqb b l.letter)) (take l.end l.bytes))
+
+abbrev pub decreases-loop-end : goal.decreases-loop-end
+decreases-loop-end l = l.end
