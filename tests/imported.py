@@ -31,18 +31,19 @@ def changed(chance, body):
     return body
 
 
-def made(folder, body, table):
-    """What `import` gives for a table, with the words of an order if the table can be one, and the files that it makes."""
-    (folder / "table").write_bytes(body)
+def made(folder, bodies, table):
+    """What `import` gives for tables, with the words of an order if there can be one, and the files that it makes."""
+    for name, body in bodies.items():
+        (folder / name).write_bytes(body)
     prices = ",".join(["3"] * (table.network.resources if table else 1))
-    words = ["import", "table", "--out", "made", "--prices", prices, "--deadline", "30"]
+    words = ["import", *bodies, "--out", "made", "--prices", prices, "--deadline", "30"]
     done = subprocess.run(command(*words), cwd=folder, stdin=subprocess.DEVNULL, capture_output=True)
     return (Run(done.returncode, done.stdout, done.stderr),
-            {path.name: path.read_bytes() for path in folder.iterdir() if path.name != "table"})
+            {path.name: path.read_bytes() for path in folder.iterdir() if path.name not in bodies})
 
 
 def wrong_refusal(got, files):
-    is_told = got.error.startswith(b"racp: table") and got.error.count(b"\n") == 1
+    is_told = got.error.startswith((b"racp: table", b"racp: made: with all tables")) and got.error.count(b"\n") == 1
     return None if got.status == 5 and not got.output and is_told and not files else f"it is to be refused: {got}, {sorted(files)}"
 
 
@@ -67,13 +68,15 @@ def checksum(text):
     return f"{found:016x}"
 
 
-def told_of(table):
-    """What is to be told of a table that is taken."""
-    critical = table.critical()
-    lines = [f"racp: table: {table.understood()}"]
-    lines += [f"racp: table:{line}: warning: {words}" if line else f"racp: table: warning: {words}" for line, words in table.warnings]
+def told_of(parts, table):
+    """What is to be told of tables that are taken, by their paths, and of the one that they are joined to."""
+    critical, name = table.critical(), "made" if len(parts) > 1 else "table"
+    lines = [f"racp: {path}: {part.understood()}" for path, part in parts.items()]
+    lines += [f"racp: made: {table.understood()}"] if len(parts) > 1 else []
+    lines += [f"racp: {path}:{line}: warning: {words}" if line else f"racp: {path}: warning: {words}"
+              for path, part in parts.items() for line, words in part.warnings]
     if critical > 30:
-        lines.append(f"racp: table: warning: the deadline 30 is before the critical length {critical}, so nothing can be planned")
+        lines.append(f"racp: {name}: warning: the deadline 30 is before the critical length {critical}, so nothing can be planned")
     return "".join(f"{plain(line)}\n" for line in lines).encode()
 
 
@@ -91,17 +94,17 @@ def wrong_order(text, table):
     return None if found == wanted and list(found) == sorted(found) else f"order {found}, wanted {wanted}"
 
 
-def wrong_files(folder, got, files, table):
-    """What is wrong with the files of a table, or nothing."""
+def wrong_files(folder, got, files, parts, table):
+    """What is wrong with the files of tables, or nothing."""
     if got.status != 0 or set(files) != {"made.sm", "made.names", "made.toml"}:
         return f"it is to be taken: {got}, {sorted(files)}"
-    if got.error != told_of(table):
-        return f"told {got.error}, wanted {told_of(table)}"
+    if got.error != told_of(parts, table):
+        return f"told {got.error}, wanted {told_of(parts, table)}"
     found = network_of(files["made.sm"])
     if found != table.network:
         return f"network {found}, wanted {table.network}"
-    if files["made.names"] != "".join(f"{name}\n" for name in table.names).encode():
-        return f"names {files['made.names']}, wanted {table.names}"
+    if files["made.names"] != "".join(f"{line}\n" for line in table.names_lines()).encode():
+        return f"names {files['made.names']}, wanted {table.names_lines()}"
     read = run("cpm", folder / "made.sm")
     planned = run("plan", folder / "made.sm", folder / "made.toml", "--turns", "1")
     if read.status != 0 or planned.status not in (0, 3, 4):
@@ -111,20 +114,28 @@ def wrong_files(folder, got, files, table):
 
 def compared_text(name, body):
     """The name of a table, the kind of what becomes of it, and what is wrong, or nothing."""
+    return compared_texts(name, {"table": body})
+
+
+def compared_texts(name, bodies):
+    """The name of some tables, which are told by their paths, the kind of what becomes of them, and what is wrong, or nothing."""
+    parts = {}
     try:
-        table = imports.read(body)
+        parts = {path: imports.read(body) for path, body in bodies.items()}
+        labels = [path.partition(".")[0] + ("" if place == 0 else f" {place + 1}") for place, path in enumerate(parts)]
+        table = imports.joined(list(zip(labels, parts.values()))) if len(parts) > 1 else parts["table"]
     except imports.Refused:
         table = None
     except imports.Open:
         table = imports.Open
     with tempfile.TemporaryDirectory() as home:
         folder = pathlib.Path(home)
-        got, files = made(folder, body, table if table is not imports.Open else None)
+        got, files = made(folder, bodies, table if table is not imports.Open else None)
         if table is imports.Open:
             return name, "left open", None if got.status in (0, 2, 5) else f"status {got.status}"
         if table is None:
             return name, "refused", wrong_refusal(got, files)
-        return name, "a network", wrong_files(folder, got, files, table)
+        return name, "a network", wrong_files(folder, got, files, parts, table)
 
 
 def random_text(seed):

@@ -9,7 +9,7 @@ from fractions import Fraction
 
 from slow.networks import Network, early_starts, random_network
 
-LATEST, MOST_JOBS, MOST_RESOURCES, MOST = 10_000_000, 512, 16, 10_000
+LATEST, MOST_JOBS, MOST_RESOURCES, MOST, MOST_LEVEL = 10_000_000, 512, 16, 10_000, 2 ** 64 - 1
 NAMES = ["Walls", "Roof", "First fix", "walls", "A, B", "C; D", "3FS", "7", "Über", "<b>", "Walls 2FS", "Sum", "1-3"]
 TITLES = {
     "id": "id no nr # number job taskid jobid taskno tasknumber nummer vorgangsnummer",
@@ -20,11 +20,12 @@ TITLES = {
     "earliest": "earliest startnoearlierthan anfangnichtfrüherals",
     "due": "due finishnolaterthan endenichtspäterals",
     "needs": "resourcenames resources ressourcennamen ressourcen",
+    "level": "outlinelevel level gliederungsebene",
 }
 USED = {key: kind for kind, keys in TITLES.items() for key in keys.split()}
 PASSED_OVER = """start finish end begin begindate startdate enddate finishdate scheduledstart scheduledfinish actualstart actualfinish
     anfang ende deadline stichtag cost costs kosten priority priorität %complete complete completion percentcomplete progress
-    %abgeschlossen fortschritt wbs wbscode pspcode outlinelevel outlinenumber gliederungsebene gliederungsnummer slack totalslack
+    %abgeschlossen fortschritt wbs wbscode pspcode outlinenumber gliederungsnummer slack totalslack
     freeslack gesamtepufferzeit puffer critical kritisch notes note comment comments notizen bemerkung constrainttype constraintdate
     constraint einschränkungsart einschränkungstermin work arbeit indicators indikatoren active aktiv taskmode vorgangsmodus
     coordinator taskcolor weblink assignments milestone meilenstein summary status guid type""".split()
@@ -46,11 +47,13 @@ class Open(Exception):
 
 class Table:
     """What a table says: a network, the names of the jobs and then of the resources, release and due times or none; how many
-    tasks it has, the titles of columns that are passed over, and the lines and words of warnings."""
+    tasks it has, of each the titles of the phases that it is in, how many phases there are, the titles of columns that are passed
+    over, and the lines and words of warnings."""
 
-    def __init__(self, network, names, earliest, due, tasks=None, passed_over=(), warnings=()):
+    def __init__(self, network, names, earliest, due, tasks=None, paths=None, phases=0, passed_over=(), warnings=()):
         self.network, self.names, self.earliest, self.due = network, names, earliest, due
         self.tasks = len(network.durations) if tasks is None else tasks
+        self.paths, self.phases = [[]] * self.tasks if paths is None else paths, phases
         self.passed_over, self.warnings = list(passed_over), list(warnings)
 
     def critical(self):
@@ -61,12 +64,40 @@ class Table:
         """The words for what was understood."""
         jobs = len(self.network.durations)
         waits = jobs - self.tasks
-        words = f"{counted(self.tasks, 'task')}, {counted(len(self.network.pairs) - waits, 'link')}"
+        words = f"{counted(self.tasks, 'task')}, " + (f"{counted(self.phases, 'phase')}, " if self.phases else "")
+        words += counted(len(self.network.pairs) - waits, "link")
         words += f" ({counted(waits, 'job')} behind the tasks for lags)" if waits else ""
         needs = [f"{name} (most needed at once by a task: {max(row[k] for row in self.network.requests)})"
                  for k, name in enumerate(self.names[jobs:])]
         words += f", critical length {self.critical()}; resources: {', '.join(needs)}"
         return words + (f"; passed over: {', '.join(self.passed_over)}" if self.passed_over else "")
+
+
+    def names_lines(self):
+        """The lines of the names file."""
+        lines, before = [], []
+        for j, name in enumerate(self.names):
+            if j < self.tasks:
+                lines += headings(before, self.paths[j])
+                before = self.paths[j]
+            elif j == self.tasks < len(self.network.durations):
+                lines.append("#wait")
+            lines.append(f" {name}" if is_mark(name) else name)
+        return lines
+
+
+def headings(before, path):
+    """The lines between two tasks that are in these phases, told by places and titles from the outermost on."""
+    same = 0
+    while same < min(len(before), len(path)) and before[same] == path[same]:
+        same += 1
+    begun = ["#" * (depth + 1) + " " + title for depth, (_, title) in enumerate(path) if depth >= same]
+    return begun or (["#" * (same + 1)] if len(before) > same else [])
+
+
+def is_mark(line):
+    """Whether a line of a names file is no name."""
+    return line == "#wait" or re.fullmatch("#+( .*)?", line, re.DOTALL) is not None
 
 
 def counted(count, thing):
@@ -225,18 +256,49 @@ def assigned(cell):
     return found
 
 
-def row_of(line, cells, width, places, resources, number):
-    """The row of a task; its requests by the names of resources."""
+def mentioned(cell):
+    """The names of resources in a cell, whatever stands in brackets behind them."""
+    words = [part.strip() for part in re.split("[;,]", cell)]
+    told = [re.fullmatch(r"(?s)(.*)\[([^\[]*)\]", word) for word in words]
+    names = [it[1].strip() if it else word for it, word in zip(told, words)]
+    return [plain(name) for name in names if name]
+
+
+def cell_at(cells, place):
+    return cells[place] if place is not None and place < len(cells) else ""
+
+
+def parents_of(tasks, places):
+    """Of each row the place of the one that it is a part of, or none."""
+    said = lambda kind: [cell_at(cells, places.get(kind)) for _, cells in tasks]
+    ids, found = said("id"), []
+    levels = [min(number(word, 10 ** 10_000), MOST_LEVEL) for word in said("level")] if "level" in places else None
+    for k in range(len(tasks)):
+        if levels:
+            found.append(next((q for q in reversed(range(k)) if levels[q] < levels[k]), None))
+        else:
+            wholes = [q for q in range(k) if ids[q] and ids[k].startswith(ids[q] + ".") and ids[k] != ids[q] + "."]
+            found.append(max(wholes, key=lambda q: (len(ids[q]), q), default=None))
+    return found
+
+
+def row_of(line, cells, width, places, resources, number, is_phase):
+    """The row of a task or a phase; its requests by the names of resources."""
     if any(cells[width:]):
         raise Refused("too many cells")
-    cell = lambda place: cells[place] if place is not None and place < len(cells) else ""
+    cell = lambda place: cell_at(cells, place)
     said = lambda kind: cell(places.get(kind))
-    requests = {name: needed(whole(amount(cell(place) or "0"), MOST)) for name, place in resources.items()}
-    requests.update(assigned(said("needs")))
+    requests, duration = {}, 0
+    if not is_phase:
+        requests = {name: needed(whole(amount(cell(place) or "0"), MOST)) for name, place in resources.items()}
+        requests.update(assigned(said("needs")))
+    else:
+        requests = dict.fromkeys(mentioned(said("needs")), 0)
     if not said("name"):
         raise Refused("no name")
-    is_milestone = not said("duration") and not any(requests.values())
-    duration = 0 if is_milestone else needed(units_in(said("duration"), MOST))
+    if not is_phase:
+        is_milestone = not said("duration") and not any(requests.values())
+        duration = 0 if is_milestone else needed(units_in(said("duration"), MOST))
     earliest = needed(units_in(said("earliest") or "0", LATEST))
     due = needed(units_in(said("due") or str(LATEST), LATEST))
     own = said("id") if "id" in places else str(number)
@@ -336,54 +398,84 @@ def has_ring(count, pairs):
     return False
 
 
-def with_waits(rows, links):
-    """The pairs of links, and the waiting jobs: the duration of each, and the place of the task that waits."""
-    pairs, waits = set(), []
+def is_in(parents, whole, part):
+    """Whether a row is another, a part of it, a part of a part and so on."""
+    while part is not None and part != whole:
+        part = parents[part]
+    return part == whole
+
+
+def leaf_links(parents, leaves, links):
+    """The links between tasks that links stand for, from and to phases too."""
+    found = []
+    for i, j, kind, lag in links:
+        if is_in(parents, i, j) or is_in(parents, j, i) or kind != "FS" and not {i, j} <= set(leaves):
+            raise Refused("a link of a phase")
+        inside = lambda whole: [leaf for leaf in leaves if is_in(parents, whole, leaf)]
+        found += [(first, second, kind, lag) for first in inside(i) for second in inside(j)]
+    return found
+
+
+def with_waits(rows, leaves, links):
+    """The pairs of links between tasks, which alone are numbered, and the waiting jobs: the duration of each, and the row of the task
+    that waits."""
+    pairs, waits, numbers = set(), [], {leaf: number for number, leaf in enumerate(leaves)}
     for i, j, kind, lag in links:
         first, second = rows[i].duration, rows[j].duration
         distance = {"FS": first + lag, "SS": lag, "FF": first + lag - second, "SF": lag - second}[kind]
         if distance < first or distance - first > MOST:
             raise Refused("a link")
         if distance == first:
-            pairs.add((i, j))
+            pairs.add((numbers[i], numbers[j]))
         else:
-            place = len(rows) + len(waits)
+            place = len(leaves) + len(waits)
             waits.append((distance - first, j))
-            pairs |= {(i, place), (place, j)}
+            pairs |= {(numbers[i], place), (place, numbers[j])}
     return pairs, waits
 
 
-def row_warnings(rows):
-    """What looks wrong in rows."""
+def row_warnings(rows, leaves):
+    """What looks wrong in the rows of tasks."""
     some_have_ids, found = any(row.id for row in rows), []
-    for last, row in zip([None, *rows], rows):
+    for row in (rows[leaf] for leaf in leaves):
         if key_of(row.name) in SUMS:
             found.append((row.line, f"'{row.name}' looks like a sum; it is taken as a task"))
         elif some_have_ids and not row.id:
             found.append((row.line, f"'{row.name}' has no id, and others have; it is taken as a task"))
-        if last and last.id and row.id.startswith(last.id + "."):
-            found.append((last.line, f"'{last.name}' looks like a summary of the rows below it; it is taken as a task"))
     return found
 
 
-def table_of(rows, names, places, passed_over):
+def phases_of(rows, parents, k):
+    """The places and titles of the phases that a row is in, from the outermost on."""
+    path = []
+    while parents[k] is not None:
+        k = parents[k]
+        path.insert(0, (k, rows[k].name))
+    return path
+
+
+def table_of(rows, parents, names, places, passed_over):
     warnings = []
+    leaves = [k for k in range(len(rows)) if k not in parents]
     links = links_of(rows, warnings)
-    if has_ring(len(rows), {(i, j) for i, j, _, _ in links}):
+    between = leaf_links(parents, leaves, links)
+    if has_ring(len(rows), {(i, j) for i, j, _, _ in between}):
         raise Refused("a ring")
-    warnings += row_warnings(rows)
-    if not links and len(rows) > 1:
+    warnings += row_warnings(rows, leaves)
+    if not links and len(leaves) > 1:
         warnings.append((0, "no task waits for another"))
-    pairs, waits = with_waits(rows, links)
-    if len(rows) + len(waits) > MOST_JOBS or not 1 <= len(names) <= MOST_RESOURCES:
+    pairs, waits = with_waits(rows, leaves, between)
+    if not 1 <= len(leaves) <= len(leaves) + len(waits) <= MOST_JOBS or not 1 <= len(names) <= MOST_RESOURCES:
         raise Refused("too many")
-    durations = [row.duration for row in rows] + [duration for duration, _ in waits]
-    requests = [[row.requests.get(name, 0) for name in names] for row in rows] + [[0] * len(names) for _ in waits]
-    earliest = [row.earliest for row in rows] + [0] * len(waits) if "earliest" in places else None
-    due = [row.due for row in rows] + [LATEST] * len(waits) if "due" in places else None
-    called = [row.name for row in rows] + [f"wait for {rows[j].name}" for _, j in waits]
-    network = Network(len(names), durations, requests, pairs)
-    return Table(network, [*called, *names], earliest, due, len(rows), passed_over, warnings)
+    durations = [rows[leaf].duration for leaf in leaves] + [duration for duration, _ in waits]
+    requests = [[rows[leaf].requests.get(name, 0) for name in names] for leaf in leaves] + [[0] * len(names) for _ in waits]
+    above = lambda k: [k, *(phase for phase, _ in phases_of(rows, parents, k))]
+    earliest = [max(rows[k].earliest for k in above(leaf)) for leaf in leaves] + [0] * len(waits)
+    due = [min(rows[k].due for k in above(leaf)) for leaf in leaves] + [LATEST] * len(waits)
+    called = [rows[leaf].name for leaf in leaves] + [f"wait for {rows[j].name}" for _, j in waits]
+    return Table(Network(len(names), durations, requests, pairs), [*called, *names], earliest if "earliest" in places else None,
+                 due if "due" in places else None, len(leaves), [phases_of(rows, parents, leaf) for leaf in leaves],
+                 len(rows) - len(leaves), passed_over, warnings)
 
 
 def read_cells(text):
@@ -399,14 +491,43 @@ def read_cells(text):
         raise Refused("columns")
     places, resources, passed_over = columns_of(head)
     tasks = [(line, [cell.strip() for cell in row]) for line, row in rows[1:] if any(cell.strip() for cell in row)]
-    if not 1 <= len(tasks) <= MOST_JOBS:
+    if not 1 <= len(tasks) <= 2 * MOST_JOBS:
         raise Refused("rows")
-    found = [row_of(line, cells, len(head), places, resources, j + 1) for j, (line, cells) in enumerate(tasks)]
+    parents = parents_of(tasks, places)
+    found = [row_of(line, cells, len(head), places, resources, j + 1, j in parents) for j, (line, cells) in enumerate(tasks)]
     ids = [row.id for row in found if row.id]
     if len(set(ids)) < len(ids):
         raise Refused("an id twice")
     names = [*resources, *dict.fromkeys(name for row in found for name in row.requests if name not in resources)]
-    return table_of(found, names, places, passed_over)
+    return table_of(found, parents, names, places, passed_over)
+
+
+# Several tables.
+
+def joined(parts):
+    """The table of several, each told by its name and what it says."""
+    of_all = list(dict.fromkeys(name for _, table in parts for name in table.names[len(table.network.durations):]))
+    durations, requests, called, places = [], [], [], {}
+    earliest, due = [], []
+    for are_tasks in (True, False):
+        for t, (label, table) in enumerate(parts):
+            jobs = len(table.network.durations)
+            for i in range(table.tasks) if are_tasks else range(table.tasks, jobs):
+                needs = dict(zip(table.names[jobs:], table.network.requests[i]))
+                places[t, i] = len(durations)
+                durations.append(table.network.durations[i])
+                requests.append([needs.get(name, 0) for name in of_all])
+                called.append(f"{label}: {table.names[i]}")
+                earliest.append(table.earliest[i] if table.earliest else 0)
+                due.append(table.due[i] if table.due else LATEST)
+    if len(durations) > MOST_JOBS or len(of_all) > MOST_RESOURCES:
+        raise Refused("too many")
+    pairs = {(places[t, i], places[t, j]) for t, (_, table) in enumerate(parts) for i, j in table.network.pairs}
+    paths = [[((t, None), label), *(((t, place), title) for place, title in path)] for t, (label, table) in enumerate(parts)
+             for path in table.paths]
+    return Table(Network(len(of_all), durations, requests, pairs), [*called, *of_all],
+                 earliest if any(table.earliest for _, table in parts) else None, due if any(table.due for _, table in parts) else None,
+                 sum(table.tasks for _, table in parts), paths, len(parts) + sum(table.phases for _, table in parts))
 
 
 # Patterson's format.
@@ -477,35 +598,74 @@ def random_links(chance, network, called, j, is_before):
     return chance.choice([",", ";", ", ", " "]).join(called(i) + chance.choice(lags) for i in others)
 
 
+def random_outline(chance, count):
+    """Rows of an outline: of each its level, and the number of its task, or none of a phase."""
+    rows, level = [], 0
+    for task in range(count):
+        level = chance.randint(0, level)
+        while chance.random() < 0.3:
+            rows.append((level, None))
+            level += chance.choice([1, 1, 2])
+        rows.append((level, task))
+    return rows
+
+
+def outline_ids(rows):
+    """Ids by which rows with these levels are parts of each other."""
+    ids, open_rows, counts = [], [], {}
+    for level, _ in rows:
+        open_rows = [(other, own) for other, own in open_rows if other < level]
+        whole = open_rows[-1][1] if open_rows else ""
+        counts[whole] = counts.get(whole, 0) + 1
+        ids.append(f"{whole}.{counts[whole]}" if whole else str(counts[whole]))
+        open_rows.append((level, ids[-1]))
+    return ids
+
+
 def random_table(chance):
     """The text of a random table."""
     network = random_network(chance, 7)
     if chance.random() < 0.2:
         return numbers_text(network)
-    jobs = range(len(network.durations))
-    has_ids, is_named, is_before = chance.random() < 0.6, chance.random() < 0.4, chance.random() < 0.8
-    names = [chance.choice(NAMES) + ("" if chance.random() < 0.3 else f" {j}") for j in jobs]
-    ids = [chance.choice(["", "T", "0", "1."]) + str(j + chance.choice([1, 1, 4])) for j in jobs] if has_ids else [str(j + 1) for j in jobs]
-    called = lambda i: names[i] if is_named else ids[i]
+    count = len(network.durations)
+    has_phases = chance.random() < 0.4
+    rows = random_outline(chance, count) if has_phases else [(0, task) for task in range(count)]
+    by_level, has_ids = chance.random() < 0.5, has_phases or chance.random() < 0.6
+    is_named, is_before = chance.random() < 0.4, chance.random() < 0.8
+    names = [chance.choice(NAMES) + ("" if chance.random() < 0.3 else f" {j}") for j in range(len(rows))]
+    ids = [str(j + 1) for j in range(len(rows))]
+    if has_phases and not by_level:
+        ids = outline_ids(rows)
+    elif has_ids:
+        ids = [chance.choice(["", "T", "0", "1."]) + str(j + chance.choice([1, 1, 4])) for j in range(len(rows))]
+    row_of_task = {task: j for j, (_, task) in enumerate(rows) if task is not None}
+    called = lambda task: names[row_of_task[task]] if is_named else ids[row_of_task[task]]
     units = lambda number: chance.choice(["", "", "", " days", "d", ".0", " Tage?"]) if number else ""
+    per_row = lambda of_task, of_phase: [of_phase(j) if task is None else of_task(task) for j, (_, task) in enumerate(rows)]
+    parents = [next((q for q in reversed(range(j)) if rows[q][0] < rows[j][0]), None) for j in range(len(rows))]
+    apart = lambda j: [ids[q] + chance.choice(["", "", "FS", "FS+2", "SS"]) for q in range(j) if not is_in(parents, q, j)]
+    phase_links = lambda j: chance.choice(["", ids[j], *apart(j), *apart(j)]) if is_before else ""
     columns = [[random_title(chance, "name"), *names],
-               [random_title(chance, "duration"), *(f"{number}{units(number)}" for number in network.durations)],
+               [random_title(chance, "duration"), *per_row(lambda task: f"{network.durations[task]}{units(network.durations[task])}",
+                                                           lambda _: chance.choice(["", "9", "12 days?", "much"]))],
                [random_title(chance, "predecessors" if is_before else "successors"),
-                *(random_links(chance, network, called, j, is_before) for j in jobs)]]
+                *per_row(lambda task: random_links(chance, network, called, task, is_before), phase_links)]]
     columns += [[random_title(chance, "id"), *ids]] if has_ids else []
+    if has_phases and by_level:
+        columns.append([random_title(chance, "level"), *(str(level + 1) for level, _ in rows)])
     if chance.random() < 0.2:
-        columns.append([random_title(chance, "needs"), *(chance.choice([";", ", "]).join(
-            f"R{k}" + chance.choice([f"[{units}]", f"[{units}00%]"]) for k, units in enumerate(row) if units) for row in network.requests)])
+        columns.append([random_title(chance, "needs"), *per_row(lambda task: chance.choice([";", ", "]).join(
+            f"R{k}" + chance.choice([f"[{units}]", f"[{units}00%]"]) for k, units in enumerate(network.requests[task]) if units), lambda _: "")])
     else:
-        columns += [[f"R{k}", *(str(row[k]) if row[k] or chance.random() < 0.5 else "" for row in network.requests)]
-                    for k in range(network.resources)]
+        columns += [[f"R{k}", *per_row(lambda task: str(network.requests[task][k]) if network.requests[task][k] or chance.random() < 0.5
+                                       else "", lambda _: chance.choice(["", "7", "-"]))] for k in range(network.resources)]
     for kind in ["earliest", "due"]:
         if chance.random() < 0.3:
-            columns.append([random_title(chance, kind), *(chance.choice(["", "0", "3", "17", str(LATEST)]) for _ in jobs)])
+            columns.append([random_title(chance, kind), *(chance.choice(["", "0", "3", "17", str(LATEST)]) for _ in rows)])
     if chance.random() < 0.3:
-        columns.append([chance.choice(["Cost", "% Complete", "Start", "Slack"]), *("9" for _ in jobs)])
+        columns.append([chance.choice(["Cost", "% Complete", "Start", "Slack"]), *("9" for _ in rows)])
     chance.shuffle(columns)
     between = chance.choice(",,;\t")
     above = chance.choice(["", "", "", f"sep={between}\n", "The house\n\n"])
     return above + "".join(between.join(quoted(chance, column[row], between) for column in columns) + chance.choice(["\n", "\r\n"])
-                           for row in range(len(jobs) + 1))
+                           for row in range(len(rows) + 1))
