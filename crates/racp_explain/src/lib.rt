@@ -48,6 +48,7 @@ mod explain;
 mod faults;
 mod faulty;
 mod finding;
+mod heads;
 mod input;
 pub mod laws;
 mod line_topics;
