@@ -2,7 +2,7 @@ use Rattle.std.proofs.Common.{sym, subst}
 use Rattle.racp_model.specs.Project.{Project}
 use Rattle.racp_by_questions.specs.Crowds.{HaveTaken}
 use Rattle.racp_curve.proofs.Telling.{crew_end}
-use Rattle.racp_curve.proofs.crowd.curve_named.Goals as goal
+use Rattle.racp_curve.proofs.by_desks.curve_named.Goals as goal
 
 pub returns : goal.returns
 returns g c =

@@ -1,4 +1,4 @@
-use Rattle.racp_curve.proofs.crowd.curve_by.Given as goal
+use Rattle.racp_curve.proofs.by_desks.curve_by.Given as goal
 
 abbrev pub ghosts-curve_named-K-OfNetwork : goal.ghosts-curve_named-K-OfNetwork
 ghosts-curve_named-K-OfNetwork g a = record { network = a.ground.now.net.now }
