@@ -8,9 +8,9 @@ ghost use Rattle.racp_explain.specs.Causes.{IsNetworkCause, network_head, order_
 use crate::faults::{Sizes, THERE, push_network_finding, push_order_finding, push_text_finding};
 use crate::faulty::of_fault;
 use crate::finding::{push_more, push_short};
-use crate::heads::{line_text, placed};
 use crate::input::Input;
 use crate::opening::of_opening;
+use crate::placing::{line_text, placed};
 use crate::subject::{Line, Subject};
 use racp_model::Network;
 use racp_plan::{TextFault, read_plan};

@@ -2,7 +2,7 @@ use Rattle.std.proofs.Common.{◌≡◌, ◌++◌, IfOk, string_bytes, rules}
 use Rattle.std.proofs.lemmas.Result.{IfOk-weaker}
 use Rattle.racp_explain.specs.Causes.{placed_head}
 use Rattle.racp_explain.proofs.Heads.{begins, placed_pieces}
-use Rattle.racp_explain.proofs.heads.placed.Goals as goal
+use Rattle.racp_explain.proofs.placing.placed.Goals as goal
 
 pub returns : goal.returns
 returns c =

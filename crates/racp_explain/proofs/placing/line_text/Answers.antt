@@ -1,7 +1,7 @@
 use Rattle.std.proofs.Common.{◌≡◌, ℕ, List, IfOk, string_bytes, subst, rules}
 use Rattle.std.specs.Io.{StartsWith}
 use Rattle.racp_explain.specs.Causes.{line_place, placed_head}
-use Rattle.racp_explain.proofs.heads.line_text.Goals as goal
+use Rattle.racp_explain.proofs.placing.line_text.Goals as goal
 
 pub returns : goal.returns
 returns c =
