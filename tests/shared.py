@@ -6,6 +6,7 @@ is missing or older than its sources."""
 import collections
 import concurrent.futures
 import contextlib
+import itertools
 import os
 import pathlib
 import re
@@ -21,6 +22,10 @@ NAMED = os.environ.get("RACP_PROGRAM")
 START = pathlib.Path(NAMED).resolve() if NAMED else ROOT / "racp"
 PROGRAM = START if NAMED else ROOT / "out" / "racp"
 RUNS_AT_ONCE = 4
+
+# Of the cases of each group the first and then every so many-th one is looked at: all, unless this variable says other, as
+# `./test quick` does for the comparisons that take longest.
+EVERY = int(os.environ.get("EVERY", "1"))
 
 # Charts are as wide as this variable says; here they have the width that counts without it.
 os.environ.pop("COLUMNS", None)
@@ -111,22 +116,23 @@ def broken(text):
         yield f"byte {at} as x", text[:at] + "x" + text[at + 1:]
 
 
-def compare(group, compared, cases, least=None):
+def compare(group, compared, cases, least=None, every=EVERY):
     """Looks at the cases of a group, several at a time: `compared` gives the name of a case, the kind of answer that is
     wanted, and what is wrong, or nothing. Prints what is wrong; how many passed and how many failed. It is a failure too if there
-    are fewer cases of a kind than `least` says."""
+    are fewer cases of a kind than `least` says, where all are looked at."""
     began = time.perf_counter()
     kinds = collections.Counter()
     failed = 0
     with concurrent.futures.ThreadPoolExecutor(RUNS_AT_ONCE) as runs:
-        for name, kind, wrong in runs.map(compared, cases):
+        for name, kind, wrong in runs.map(compared, itertools.islice(cases, 0, None, every)):
             kinds[kind] += 1
             if wrong is not None:
                 failed += 1
                 print(f"failed: {name}\n  {wrong}")
-    print(f"{group}: {failed} of {kinds.total()} differ; {time.perf_counter() - began:.1f} s")
+    share = "" if every == 1 else f", of which every {every}th is looked at"
+    print(f"{group}{share}: {failed} of {kinds.total()} differ; {time.perf_counter() - began:.1f} s")
     print("  wanted: " + ", ".join(f"{kind} {count}" for kind, count in kinds.most_common()))
-    few = [kind for kind, count in (least or {}).items() if kinds[kind] < count]
+    few = [kind for kind, count in (least or {}).items() if kinds[kind] < count and every == 1]
     for kind in few:
         print(f"failed: {group}: {kinds[kind]} cases of {kind}, fewer than {least[kind]}")
     return kinds.total() - failed, failed + len(few)
