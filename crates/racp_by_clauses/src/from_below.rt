@@ -41,8 +41,7 @@ impl<N: OfProblem> Below<N> {
             ..
         } = whole;
         let seed = limits.seed.wrapping_add(1);
-        let mut search = Search::new(alloc, net, order, root, seed, limits.bytes / SHARE)?;
-        search.look_at_energies();
+        let search = Search::new(alloc, net, order, root, seed, limits.bytes / SHARE)?;
         Ok(Below { search })
     }
 
@@ -181,7 +180,7 @@ impl<P: OfProblem> Descent<P> {
     }
 
     /// What is still of interest costs at most so much.
-    pub(crate) fn most_cost(&self, task: Task<'_>) -> u64 {
+    fn most_cost(&self, task: Task<'_>) -> u64 {
         self.value(task, cost_place(task)).saturating_sub(1)
     }
 }

@@ -36,7 +36,6 @@ mod drawing;
 mod escape;
 mod frame;
 mod heading;
-mod labels;
 mod links;
 mod mark;
 mod names;

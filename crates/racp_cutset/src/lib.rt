@@ -70,7 +70,6 @@ mod local;
 mod node;
 mod nogood;
 mod outline;
-mod reading;
 mod rows;
 mod shares;
 

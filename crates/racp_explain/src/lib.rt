@@ -53,7 +53,6 @@ pub mod laws;
 mod line_topics;
 mod opening;
 mod order_topics;
-mod placing;
 mod plan_topics;
 mod sm_topics;
 mod subject;

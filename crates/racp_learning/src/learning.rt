@@ -37,9 +37,7 @@ impl<N: OfProblem> Search<N> {
             return Ok(None);
         };
         if !is_last && !self.engine.analysis.asserts() {
-            if !self.engine.back_to_conflict() {
-                self.lose();
-            }
+            self.lose();
             return Ok(None);
         }
         if self.shares {

@@ -87,7 +87,6 @@ mod understanding;
 mod warning;
 mod widened;
 mod within;
-mod words;
 
 pub use fault::TableFault;
 pub use format::{Format, read_table};

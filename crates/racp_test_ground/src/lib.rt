@@ -8,8 +8,6 @@ mod all_schedules;
 #[cfg(test)]
 mod asking;
 #[cfg(test)]
-mod behind;
-#[cfg(test)]
 mod bounds;
 #[cfg(test)]
 mod certificates;
@@ -17,10 +15,6 @@ mod certificates;
 mod conflicts;
 #[cfg(test)]
 mod descents;
-#[cfg(test)]
-mod fitting;
-#[cfg(test)]
-mod job_sets;
 #[cfg(test)]
 mod links;
 #[cfg(test)]
