@@ -13,7 +13,7 @@ complete -c racp -n "$none" -a curve -d "what each deadline costs"
 complete -c racp -n "$none" -a whatif -d "what one unit fewer or more changes"
 complete -c racp -n "$none" -a order -d "the text of an order"
 complete -c racp -n "$none" -a batch -d "a table of what networks cost"
-complete -c racp -n "$none" -a import -d "a network of a table of tasks"
+complete -c racp -n "$none" -a import -d "a network of tables of tasks"
 complete -c racp -n "$none" -a explain -d "what a fault means"
 complete -c racp -n "$none" -a help -d help
 complete -c racp -n "$none" -l version -d "print the version"

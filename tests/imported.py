@@ -1,7 +1,9 @@
 """What `racp import` makes of a table beside what slow/imports.py reads in it, and random tables."""
 
+import contextlib
 import pathlib
 import random
+import re
 import subprocess
 import tempfile
 import tomllib
@@ -19,6 +21,10 @@ SIGNS = [bytes([byte]) for byte in BYTES] + [b",", b";", b"\"", b"FS", b"SS", b"
 # Which of the files of a table were changed since they were written, and whether --force is given.
 CHANGES = [(changed, forced) for changed in ((), ("sm",), ("names",), ("toml",), ("sm", "toml"), ("names", "toml"))
            for forced in (False, True)]
+
+# How the table is told of to which several are joined, by the path of the network.
+WHOLE = "made.sm"
+
 FIRST = b"name,duration,Masons\nDig,3,2\n"
 SECOND = b"name,duration,Masons\nDig,4,2\nWall,1,1\n"
 
@@ -42,9 +48,10 @@ def made(folder, bodies, table):
             {path.name: path.read_bytes() for path in folder.iterdir() if path.name not in bodies})
 
 
-def wrong_refusal(got, files):
-    is_told = got.error.startswith((b"racp: table", b"racp: made: with all tables")) and got.error.count(b"\n") == 1
-    return None if got.status == 5 and not got.output and is_told and not files else f"it is to be refused: {got}, {sorted(files)}"
+def wrong_refusal(got, files, path):
+    """What is wrong with what is given for tables of which the one in a file is refused, or nothing."""
+    is_told = re.match(f"racp: {re.escape(path)}(:[0-9]+)?: ".encode(), got.error) and got.error.count(b"\n") == 1
+    return None if got.status == 5 and not got.output and is_told and not files else f"{path} is to be refused: {got}, {sorted(files)}"
 
 
 def wrong_mark(files):
@@ -70,9 +77,9 @@ def checksum(text):
 
 def told_of(parts, table):
     """What is to be told of tables that are taken, by their paths, and of the one that they are joined to."""
-    critical, name = table.critical(), "made" if len(parts) > 1 else "table"
+    critical, name = table.critical(), WHOLE if len(parts) > 1 else next(iter(parts))
     lines = [f"racp: {path}: {part.understood()}" for path, part in parts.items()]
-    lines += [f"racp: made: {table.understood()}"] if len(parts) > 1 else []
+    lines += [f"racp: {WHOLE}: {table.understood()}"] if len(parts) > 1 else []
     lines += [f"racp: {path}:{line}: warning: {words}" if line else f"racp: {path}: warning: {words}"
               for path, part in parts.items() for line, words in part.warnings]
     if critical > 30:
@@ -119,22 +126,22 @@ def compared_text(name, body):
 
 def compared_texts(name, bodies):
     """The name of some tables, which are told by their paths, the kind of what becomes of them, and what is wrong, or nothing."""
-    parts = {}
-    try:
-        parts = {path: imports.read(body) for path, body in bodies.items()}
-        labels = [path.partition(".")[0] + ("" if place == 0 else f" {place + 1}") for place, path in enumerate(parts)]
-        table = imports.joined(list(zip(labels, parts.values()))) if len(parts) > 1 else parts["table"]
-    except imports.Refused:
-        table = None
-    except imports.Open:
-        table = imports.Open
     with tempfile.TemporaryDirectory() as home:
         folder = pathlib.Path(home)
-        got, files = made(folder, bodies, table if table is not imports.Open else None)
-        if table is imports.Open:
+        parts, table, path = {}, None, WHOLE
+        try:
+            for path, body in bodies.items():
+                parts[path] = imports.read(body)
+            path = WHOLE
+            table = imports.joined(list(zip(imports.labels(parts), parts.values()))) if len(parts) > 1 else parts["table"]
+        except imports.Refused:
+            pass
+        except imports.Open:
+            got, _ = made(folder, bodies, None)
             return name, "left open", None if got.status in (0, 2, 5) else f"status {got.status}"
+        got, files = made(folder, bodies, table)
         if table is None:
-            return name, "refused", wrong_refusal(got, files)
+            return name, "refused", wrong_refusal(got, files, path)
         return name, "a network", wrong_files(folder, got, files, parts, table)
 
 
@@ -143,6 +150,28 @@ def random_text(seed):
     chance = random.Random(f"tables {seed}")
     body = imports.random_table(chance).encode()
     return changed(chance, body) if chance.random() < 0.6 else body
+
+
+def tried_table(chance):
+    """The text of a random table; mostly of one that is taken."""
+    body = b""
+    for _ in range(5):
+        body = imports.random_table(chance).encode()
+        with contextlib.suppress(imports.Refused, imports.Open):
+            imports.read(body)
+            break
+    return body
+
+
+def random_texts(seed):
+    """The texts of random tables that are joined, by their paths, of which one is changed now and then."""
+    chance = random.Random(f"joined tables {seed}")
+    paths = chance.sample(["a.csv", "b.csv", "b.of.csv", ".csv", "North wing.txt", "5", "# c.csv"], chance.choice([2, 2, 2, 3, 4]))
+    texts = {path: tried_table(chance) for path in paths}
+    if chance.random() < 0.3:
+        path = chance.choice(paths)
+        texts[path] = changed(chance, texts[path])
+    return texts
 
 
 def compared_change(change):

@@ -256,14 +256,6 @@ def assigned(cell):
     return found
 
 
-def mentioned(cell):
-    """The names of resources in a cell, whatever stands in brackets behind them."""
-    words = [part.strip() for part in re.split("[;,]", cell)]
-    told = [re.fullmatch(r"(?s)(.*)\[([^\[]*)\]", word) for word in words]
-    names = [it[1].strip() if it else word for it, word in zip(told, words)]
-    return [plain(name) for name in names if name]
-
-
 def cell_at(cells, place):
     return cells[place] if place is not None and place < len(cells) else ""
 
@@ -292,8 +284,6 @@ def row_of(line, cells, width, places, resources, number, is_phase):
     if not is_phase:
         requests = {name: needed(whole(amount(cell(place) or "0"), MOST)) for name, place in resources.items()}
         requests.update(assigned(said("needs")))
-    else:
-        requests = dict.fromkeys(mentioned(said("needs")), 0)
     if not said("name"):
         raise Refused("no name")
     if not is_phase:
@@ -504,6 +494,15 @@ def read_cells(text):
 
 # Several tables.
 
+def labels(paths):
+    """What the tables in these files are called beside each other; refused if two are called the same."""
+    names = [path.rpartition("/")[2] for path in paths]
+    found = [name.rpartition(".")[0] or name for name in names]
+    if len(set(found)) < len(found):
+        raise Refused("two of one name")
+    return found
+
+
 def joined(parts):
     """The table of several, each told by its name and what it says."""
     of_all = list(dict.fromkeys(name for _, table in parts for name in table.names[len(table.network.durations):]))
@@ -655,7 +654,8 @@ def random_table(chance):
         columns.append([random_title(chance, "level"), *(str(level + 1) for level, _ in rows)])
     if chance.random() < 0.2:
         columns.append([random_title(chance, "needs"), *per_row(lambda task: chance.choice([";", ", "]).join(
-            f"R{k}" + chance.choice([f"[{units}]", f"[{units}00%]"]) for k, units in enumerate(network.requests[task]) if units), lambda _: "")])
+            f"R{k}" + chance.choice([f"[{units}]", f"[{units}00%]"]) for k, units in enumerate(network.requests[task]) if units),
+            lambda _: chance.choice(["", "", "Crew[2]", "R1, Crew", "R0[x]"]))])
     else:
         columns += [[f"R{k}", *per_row(lambda task: str(network.requests[task][k]) if network.requests[task][k] or chance.random() < 0.5
                                        else "", lambda _: chance.choice(["", "7", "-"]))] for k in range(network.resources)]

@@ -75,7 +75,7 @@ pub(crate) enum Failure {
     NotText,
     /// The options for an order or for a time are refused, or the words for a fault.
     Option(OptionFault),
-    /// The word of an option that lists values of the resources is refused, and these words say why.
+    /// The word of an option that lists values of the resources is refused, or words for tables, and these words say why.
     Value(String),
     /// A file or a stream failed, or memory ran out.
     Stream(StreamFault),

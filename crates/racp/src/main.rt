@@ -12,7 +12,7 @@
 //! - `racp whatif NET ORDER` says what becomes of an order if one term is changed.
 //! - `racp order NET` writes an order.
 //! - `racp batch NET.. --factors F,..` writes a table of what networks cost with deadlines.
-//! - `racp import FILE --out PROJECT` makes a network of a table of tasks.
+//! - `racp import FILE.. --out PROJECT` makes a network of tables of tasks.
 //! - `racp cpm NET` prints the critical length and the early starts.
 //! - `racp explain` says what faults mean.
 //!
@@ -31,10 +31,11 @@
 //! is wrong with them: in one line, in several with `--explain`, and not at all with `--quiet`. A file with the path `-` is
 //! standard input.
 //!
-//! Files are opened in the order of the words, before the first is read; those of `batch` one after another. A file that
-//! cannot be opened counts as a read that failed, and is a row of the table of `batch`. Answers go to standard output, and so do help and the version. Words that are refused, a file or a
-//! stream that failed, and lack of memory for the words or the inputs are told on standard error. If nothing can be
-//! written there, the status alone tells.
+//! Files are opened in the order of the words, before the first is read; those of `batch` and `import` one after another.
+//! A file that cannot be opened counts as a read that failed, and is a row of the table of `batch`. Answers go to
+//! standard output, and so do help and the version. Words that are refused, a file or a stream that failed, and lack of
+//! memory for the words or the inputs are told on standard error. If nothing can be written there, the status alone
+//! tells.
 //!
 //! Proved: `failure::report` answers 2, 5, 6 or 7 by the reason why no answer is written, and 0 or 7 after help and the
 //! version; `run::status` answers a status that some answer or some reason has. Not proved, and tested over the built
@@ -67,10 +68,13 @@ mod machine;
 mod making;
 mod memory;
 mod ordering;
+mod parts;
 mod planning;
 mod pricing;
 mod progress;
 mod proving;
+mod reading;
+mod refusing;
 mod replacing;
 mod reporting;
 mod resources;
@@ -79,6 +83,7 @@ mod seconds;
 mod shown;
 mod telling;
 mod terms;
+mod texts;
 mod tools;
 mod until;
 mod verifying;

@@ -9,12 +9,12 @@ use racp_explain::{asked_cause, one_line};
 use racp_words::{TableWords, Terms};
 use std::alloc::Global;
 
-/// The text of the order that the words ask for, for the text of a network with these resources, and with these times, if
-/// they ask for one.
+/// The text of the order that the words ask for, for the text of a network that is told of by a name, with these resources, and
+/// with these times, if they ask for one.
 pub(crate) fn order_of(
     alloc: Global,
     words: &TableWords<'_>,
-    network: &[u8],
+    network: (&str, &[u8]),
     resources: &[String],
     times: Times,
 ) -> Result<Option<Vec<u8>>, Failure> {
@@ -29,7 +29,7 @@ pub(crate) fn order_of(
         ceiling: words.ceiling,
     };
     let asked = asked_order(alloc, &terms, resources, times)?;
-    Ok(Some(order_text(alloc, words.file, network, asked)?))
+    Ok(Some(order_text(alloc, network, asked)?))
 }
 
 /// No order, if the words for a table ask for none, which has no prices, and the table says nothing that stands in one.
@@ -44,14 +44,15 @@ fn no_order(words: &TableWords<'_>, times: &Times) -> Result<Option<Vec<u8>>, Fa
     Ok(None)
 }
 
-/// The text of the order that is asked for, for the text of the network of a table with this path.
-fn order_text(alloc: Global, path: &str, network: &[u8], asked: Asked) -> Result<Vec<u8>, Failure> {
+/// The text of the order that is asked for, for the text of a network that is told of by a name.
+fn order_text(alloc: Global, network: (&str, &[u8]), asked: Asked) -> Result<Vec<u8>, Failure> {
+    let (name, network) = network;
     let numbers = numbers_of(&asked);
     let mut order = Vec::new(alloc);
     match order_written(alloc, network, asked, &mut order)? {
         DONE => Ok(order),
         REFUSED => {
-            let cause = asked_cause(alloc, &text(path, network), numbers, true)?;
+            let cause = asked_cause(alloc, &text(name, network), numbers, true)?;
             Err(Failure::Refused(one_line(alloc, &cause)?))
         }
         // The network is read, so memory ran out.

@@ -2,8 +2,8 @@
 
 use crate::failure::Failure;
 use crate::files::Output;
-use crate::importing::Texts;
 use crate::inputs::{told, whole};
+use crate::texts::Texts;
 use racp_cli::StreamFault;
 use racp_tables::{are_own_names, is_own_network, is_own_order};
 use std::alloc::{AllocError, Global};

@@ -1,45 +1,50 @@
-//! What is told of a table of tasks that is taken.
+//! What is told of tables of tasks that are taken.
 
-use crate::importing::in_one_line;
-use crate::inputs::shown;
+use crate::refusing::in_one_line;
 use racp_tables::{Notes, Warning, understood};
-use racp_words::TableWords;
 use std::alloc::{AllocError, Global};
 
-/// What is told of a table that is taken, each in lines with their ends.
+/// What is told of tables that are taken, each in lines with their ends.
 #[derive(Drop)]
 pub(crate) struct Told {
-    /// What was understood of it.
+    /// What was understood of them.
     pub(crate) understood: String,
     /// What looks wrong.
     pub(crate) warnings: String,
 }
 
-/// What is told of a table with these notes, by the text of its network, and the times from which jobs may start and the resources.
-pub(crate) fn told_of(
+impl Told {
+    /// Nothing is told.
+    pub(crate) fn nothing(alloc: Global) -> Told {
+        Told {
+            understood: String::new(alloc),
+            warnings: String::new(alloc),
+        }
+    }
+}
+
+/// Adds what was understood of a table and what looks wrong, by how it is told of and the text of its network, the times from which
+/// jobs may start and the resources, and these notes; answers the critical length of the network.
+pub(crate) fn tell_table(
     alloc: Global,
-    words: &TableWords<'_>,
-    network: &str,
+    told: &mut Told,
+    network: (&str, &str),
     table: (&Option<Vec<u32>>, &[String]),
     notes: &Notes,
-) -> Result<Told, AllocError> {
+) -> Result<u64, AllocError> {
+    let (name, network) = network;
     let (earliest, resources) = table;
     let times: &[u32] = match earliest {
         Some(times) => times,
         None => &[],
     };
     let found = understood(alloc, network, times, resources, notes)?;
-    let name = shown(words.file);
-    let mut told = Told {
-        understood: in_one_line(alloc, found.words.as_str())?,
-        warnings: String::new(alloc),
-    };
-    told.understood = format!(in alloc; "racp: {name}: {}\n", told.understood)?;
+    let words = in_one_line(alloc, found.words.as_str())?;
+    write!(told.understood, "racp: {name}: {words}\n")?;
     for warning in &notes.warnings {
-        push_warning(alloc, &mut told, name, warning)?;
+        push_warning(alloc, told, name, warning)?;
     }
-    push_deadline(&mut told, words, found.critical)?;
-    Ok(told)
+    Ok(found.critical)
 }
 
 /// Adds a warning about the file with this name.
@@ -61,9 +66,27 @@ fn push_warning(
     }
 }
 
-/// Adds a warning if the deadline that the words tell is before the critical length.
-fn push_deadline(told: &mut Told, words: &TableWords<'_>, critical: u64) -> Result<(), AllocError> {
-    let Some(word) = words.deadline else {
+/// The same of the table of a network, with a warning if the deadline that a word tells is before its critical length.
+pub(crate) fn tell_whole(
+    alloc: Global,
+    told: &mut Told,
+    deadline: Option<&str>,
+    network: (&str, &str),
+    table: (&Option<Vec<u32>>, &[String]),
+    notes: &Notes,
+) -> Result<(), AllocError> {
+    let critical = tell_table(alloc, told, network, table, notes)?;
+    push_deadline(told, deadline, network.0, critical)
+}
+
+/// Adds a warning if the deadline that a word tells is before the critical length of the table that is told of by this name.
+fn push_deadline(
+    told: &mut Told,
+    word: Option<&str>,
+    name: &str,
+    critical: u64,
+) -> Result<(), AllocError> {
+    let Some(word) = word else {
         return Ok(());
     };
     let deadline: u64 = match word.parse() {
@@ -73,7 +96,6 @@ fn push_deadline(told: &mut Told, words: &TableWords<'_>, critical: u64) -> Resu
     if deadline >= critical {
         return Ok(());
     }
-    let name = shown(words.file);
     write!(
         told.warnings,
         "racp: {name}: warning: the deadline {deadline} is before the critical length {critical}, so nothing can be planned\n"

@@ -1,11 +1,11 @@
 //! What searches for one optimum have in common.
 
 ghost use Rattle.std.proofs.Props.{props};
-ghost use Rattle.racp_by_clauses.specs.Optima.{IsTaskOf};
+ghost use Rattle.racp_by_clauses.specs.Optima.{AreTasksOf, IsTaskOf};
 
 use crate::from_below::copy_of_clause;
 use crate::limits::Limits;
-use crate::task::Task;
+use crate::task::{Task, Tasks};
 use racp_clauses::{Clause, OfProblem};
 use racp_drafts::Draft;
 use racp_learning::Search;
@@ -56,6 +56,16 @@ impl<'a, N: OfProblem> Common<'a, N> {
             best: Mutex::new(None),
             is_done: AtomicBool::new(false),
         })
+    }
+
+    /// What is looked for: the order is its own part.
+    pub(crate) fn tasks(&self) -> Tasks<'a>
+        ensures { AreTasksOf N.problem N.problem result }
+    {
+        Tasks {
+            whole: self.task,
+            part: self.task,
+        }
     }
 
     /// Whether one has finished, or all are to stop.

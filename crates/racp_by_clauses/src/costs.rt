@@ -14,7 +14,7 @@ use std::alloc::AllocError;
 use std::sync::Wait;
 
 /// The search in this seat, the third one, asks for the cost from the least one on, as long as that is not known.
-const FROM_BELOW: usize = 2;
+pub(crate) const FROM_BELOW: usize = 2;
 
 impl<N: OfProblem> Worker<N> {
     /// Goes on from the best draft down, or from below, for so many conflicts.

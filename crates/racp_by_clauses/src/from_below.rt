@@ -41,7 +41,8 @@ impl<N: OfProblem> Below<N> {
             ..
         } = whole;
         let seed = limits.seed.wrapping_add(1);
-        let search = Search::new(alloc, net, order, root, seed, limits.bytes / SHARE)?;
+        let mut search = Search::new(alloc, net, order, root, seed, limits.bytes / SHARE)?;
+        search.look_at_energies();
         Ok(Below { search })
     }
 
@@ -180,7 +181,7 @@ impl<P: OfProblem> Descent<P> {
     }
 
     /// What is still of interest costs at most so much.
-    fn most_cost(&self, task: Task<'_>) -> u64 {
+    pub(crate) fn most_cost(&self, task: Task<'_>) -> u64 {
         self.value(task, cost_place(task)).saturating_sub(1)
     }
 }

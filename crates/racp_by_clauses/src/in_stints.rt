@@ -39,11 +39,7 @@ impl<N: OfProblem> Optimizer<N> {
         descent.raise_by_halves::<N, H>(&mut self.search, tasks, hearer)?;
         let mut stints = Stints::new(self.limits.seed);
         for _stint in 0..u64::MAX {
-            let conflicts = if descent.is_cost_known() {
-                left
-            } else {
-                left.min(stints.conflicts(tasks.part))
-            };
+            let conflicts = stints.share(tasks.part, descent, left);
             if !self.search_on::<P, H>(tasks, descent, hearer, conflicts)? {
                 break;
             }
@@ -54,6 +50,9 @@ impl<N: OfProblem> Optimizer<N> {
             }
             if !descent.is_cost_known() {
                 stints.work(tasks.part, descent, hearer)?;
+                let search = &mut self.search;
+                let met = stints.ask_near::<N, P, H>(search, tasks, descent, hearer, left)?;
+                left = left.saturating_sub(met);
                 self.ask_from_below::<P, H>(tasks, descent, hearer, conflicts)?;
             }
         }

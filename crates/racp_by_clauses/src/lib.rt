@@ -24,11 +24,19 @@
 //!
 //! What is easy ends within the first conflicts, 10,000 for 60 jobs and fewer for more. From then on, as long as it is not
 //! known that nothing costs less, there are stints of what makes drafts better (`Drafting` of racp_drafts): some thousand
-//! rounds after each thousand conflicts with 60 jobs, and after fewer with more, counted and not timed; where drafts do not become
-//! better, after up to eight times as many with 60 jobs, and up to three with 160. Each better draft tightens the question at
-//! once, and those that the search finds are told to what makes drafts. A second search asks from the least cost on, in such
-//! stints too: what it refutes is what the hearer is told that every plan costs at least. After the first 300 conflicts
-//! questions of few conflicts each halve what is left between the least cost and the best draft.
+//! rounds, four times as many with 200 jobs as with 60, after each thousand conflicts with 60 jobs, and after fewer with
+//! more, counted and not timed; where drafts do not become better, after up to eight times as many with 60 jobs, and up to
+//! three with 160. Each better draft tightens the question at once, and those that the search finds are told to what makes
+//! drafts.
+//!
+//! To such a stint belong up to 24 questions about neighbourhoods (large neighbourhood search, Shaw 1998), of a thousand
+//! conflicts in all with 60 jobs: is there a solution within units that cost less than the best draft, where most jobs
+//! start as in the schedule that exceeds these units least, and those that run near the excess are free? These conflicts
+//! count as any others of the search, and what is learned of them serves each later question.
+//!
+//! A second search asks from the least cost on, in such stints too: what it refutes is what the hearer is told that every
+//! plan costs at least. After the first 300 conflicts questions of few conflicts each halve what is left between the least
+//! cost and the best draft.
 //!
 //! `optimum_of(task, limits, &hearer)` answers the plan, or that no capacities are enough, or neither (`Found` of racp_found),
 //! where the search was given a bound on its conflicts and reached it, was stopped, or left a question open. A `Hearer` is told
@@ -65,6 +73,7 @@ mod hearer;
 mod hearing;
 mod in_stints;
 mod limits;
+mod near;
 mod optimizer;
 mod optimum;
 mod places;

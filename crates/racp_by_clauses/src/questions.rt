@@ -18,20 +18,44 @@ pub(crate) fn bounds_of(
     ensures lower { IfOk result (λ bounds. length bounds.lower ≡ places) }
     ensures upper { IfOk result (λ bounds. length bounds.upper ≡ places) }
 {
-    let lower = lower_row(alloc, root, places)?;
+    bounds_between(alloc, root, places, &[], most)
+}
+
+/// The root bounds, with each lower bound raised to the number at its place in a row, as far as the upper one lets it, and each
+/// upper bound lowered to the number at its place in another row, if that is less.
+pub(crate) fn bounds_between(
+    alloc: Global,
+    root: &Domain,
+    places: usize,
+    least: &[u64],
+    most: &[u64],
+) -> Result<Domain, AllocError>
+    requires lower { length root.now.lower ≡ places }
+    requires upper { length root.now.upper ≡ places }
+    ensures lower { IfOk result (λ bounds. length bounds.lower ≡ places) }
+    ensures upper { IfOk result (λ bounds. length bounds.upper ≡ places) }
+{
+    let lower = lower_row(alloc, root, places, least)?;
     let upper = upper_row(alloc, root, places, most)?;
     Ok(Domain::new(lower, upper))
 }
 
-/// The lower bounds.
-fn lower_row(alloc: Global, root: &Domain, places: usize) -> Result<Vec<u64>, AllocError>
-    requires { length root.now.lower ≡ places }
+/// The lower bounds, each at least the number at its place in a row, as far as the upper bound lets it.
+fn lower_row(
+    alloc: Global,
+    root: &Domain,
+    places: usize,
+    least: &[u64],
+) -> Result<Vec<u64>, AllocError>
+    requires lower { length root.now.lower ≡ places }
+    requires upper { length root.now.upper ≡ places }
     ensures places { IfOk result (λ row. length row.items ≡ places) }
     ensures small { IfOk result (λ row. All (λ x. x ≤ most_value) row.items) }
 {
     let mut row = Vec::with_capacity(alloc, places)?;
     for x in 0..places {
-        row.push(root.lower(x))?;
+        let raised = least.get(x).copied().unwrap_or(0).min(root.upper(x));
+        row.push(root.lower(x).max(raised))?;
     }
     Ok(row)
 }

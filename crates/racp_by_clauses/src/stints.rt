@@ -21,18 +21,23 @@ const MOST_TIMES: u64 = 480;
 /// A better draft is told after so many rounds.
 const ROUNDS: u32 = 4_000;
 
-/// The first stint has so many times as many rounds, each other one has them once.
+/// The first stint has so many times as many rounds.
 const FIRST_TIMES: u32 = 5;
+
+/// Each other one has them once for so many jobs, at least once and at most so many times.
+const JOBS_PER_TIME: usize = 50;
+
+const MOST_TIMES_EACH: usize = 4;
 
 /// Stints of what makes drafts better, between the conflicts of a search. They are counted and not timed.
 #[derive(Drop)]
 pub(crate) struct Stints {
-    drafting: Option<Drafting>,
+    pub(crate) drafting: Option<Drafting>,
     seed: u64,
     /// The next stint has so many times the rounds.
     times: u32,
     /// How many stints in turn have brought nothing.
-    idle: u64,
+    pub(crate) idle: u64,
 }
 
 impl Stints {
@@ -56,6 +61,20 @@ impl Stints {
         }
     }
 
+    /// How many of the conflicts that are left the search has before the next stint: all where the least cost is known.
+    pub(crate) fn share<P: OfProblem>(
+        &self,
+        task: Task<'_>,
+        descent: &Descent<P>,
+        left: u64,
+    ) -> u64 {
+        if descent.is_cost_known() {
+            left
+        } else {
+            left.min(self.conflicts(task))
+        }
+    }
+
     /// A stint. A better draft is the best of the descent from now on, and the hearer is told of it.
     pub(crate) fn work<P: OfProblem, H: Hearer>(
         &mut self,
@@ -73,7 +92,7 @@ impl Stints {
                 self.idle = 0;
             }
         }
-        self.times = 1;
+        self.times = times_for(task.net.job_count());
         Ok(())
     }
 
@@ -117,4 +136,10 @@ impl Stints {
         self.drafting = Some(Drafting::new(alloc, net, order, window, self.seed)?);
         Ok(())
     }
+}
+
+/// How many times the rounds a stint has that is not the first one.
+fn times_for(jobs: usize) -> u32 {
+    let times = (jobs / JOBS_PER_TIME).clamp(1, MOST_TIMES_EACH);
+    u32::try_from(times).unwrap_or(1)
 }

@@ -1,9 +1,10 @@
 //! One of several searches for one optimum.
 
-ghost use Rattle.racp_by_clauses.specs.Optima.{IsTaskOf, MayBeTold};
+ghost use Rattle.racp_by_clauses.specs.Optima.{AreTasksOf, MayBeTold};
 
 use crate::by_resource::Parts;
 use crate::common::Common;
+use crate::costs::FROM_BELOW;
 use crate::descent::Descent;
 use crate::hearer::Hearer;
 use crate::stints::Stints;
@@ -54,6 +55,9 @@ impl<N: OfProblem> Worker<N> {
         let seed = common.limits.seed.wrapping_add(seat as u64);
         let mut search = Search::new(alloc, net, order, root, seed, common.limits.bytes)?;
         search.share();
+        if seat == FROM_BELOW {
+            search.look_at_energies();
+        }
         let stints = Stints::new(seed);
         Ok(Worker {
             search,
@@ -86,11 +90,7 @@ impl<N: OfProblem> Worker<N> {
     ) -> Result<(), AllocError>
         requires may { MayBeTold N.problem H.may_hear_cost H.may_hear_draft }
     {
-        let task = common.task;
-        let tasks = Tasks {
-            whole: task,
-            part: task,
-        };
+        let tasks = common.tasks();
         let mut left = common.limits.conflicts;
         for _i in 0..u64::MAX {
             if left == 0 || hearer.stops() {
@@ -100,7 +100,7 @@ impl<N: OfProblem> Worker<N> {
             let slice = left.min(SLICE);
             self.go_on(tasks, hearer, slice)?;
             hearer.hear_tally(self.search.tally());
-            if self.descent.is_finished(task) {
+            if self.descent.is_finished(common.task) {
                 common.finish();
             }
             let is_lost = lost.saturating_add(slice) <= self.search.tally().lost;
@@ -110,28 +110,35 @@ impl<N: OfProblem> Worker<N> {
                 left.saturating_sub(slice)
             };
             self.tell(rt, common, hearer)?;
-            self.draft(task, hearer, slice)?;
+            let met = self.draft(tasks, hearer, slice, left)?;
+            left = left.saturating_sub(met);
         }
         Ok(())
     }
 
-    /// Counts conflicts, and makes drafts better where it is time for it, as long as the least cost is not known.
+    /// Counts conflicts, and makes drafts better where it is time for it, as long as the least cost is not known. For that it meets
+    /// at most so many as are left, and tells how many.
     fn draft<H: Hearer>(
         &mut self,
-        task: Task<'_>,
+        tasks: Tasks<'_>,
         hearer: &H,
         conflicts: u64,
-    ) -> Result<(), AllocError>
-        requires is_of { IsTaskOf N.problem task }
+        left: u64,
+    ) -> Result<u64, AllocError>
+        requires are_of { AreTasksOf N.problem N.problem tasks }
         requires may { MayBeTold N.problem H.may_hear_cost H.may_hear_draft }
     {
         self.until_stint = self.until_stint.saturating_sub(conflicts);
         if self.until_stint > 0 || self.descent.is_cost_known() || hearer.stops() {
-            return Ok(());
+            return Ok(0);
         }
-        self.stints.work(task, &mut self.descent, hearer)?;
-        self.until_stint = self.stints.conflicts(task);
-        Ok(())
+        let (search, descent) = (&mut self.search, &mut self.descent);
+        self.stints.work(tasks.part, descent, hearer)?;
+        let met = self
+            .stints
+            .ask_near::<N, N, H>(search, tasks, descent, hearer, left)?;
+        self.until_stint = self.stints.conflicts(tasks.part);
+        Ok(met)
     }
 
     /// Tells the others what was learned and found, and learns from them.

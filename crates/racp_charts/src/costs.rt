@@ -2,9 +2,10 @@
 
 ghost use Rattle.std.specs.Prelude.{◌≡◌, ◌<◌, ◌^◌, ◌++◌, ◌≤◌, OnOk, string_bytes};
 ghost use Rattle.racp_charts.specs.Texts.{texts_before};
-ghost use Rattle.racp_charts.specs.CostDrawings.{cost_axis, cost_corners, cost_down, cost_element, cost_label, cost_labels, cost_mark, cost_stair, cost_steps, costs_element, costs_in, corner_begin, corner_element, corner_end, first_deadline, label_above, label_below, most_cost};
+ghost use Rattle.racp_charts.specs.CostDrawings.{cost_axis, cost_corners, cost_down, cost_element, cost_mark, cost_stair, cost_steps, costs_element, costs_in, corner_begin, corner_element, corner_end, first_deadline, most_cost};
 
 use crate::axis::{Span, push_axis, push_place, push_step};
+use crate::labels::push_labels;
 use crate::mark::{MOST_MARKS, mark_of};
 use racp_calendar::{Calendar, push_time};
 use std::alloc::AllocError;
@@ -78,7 +79,7 @@ fn most_cost(corners: &[Corner]) -> u64
 }
 
 /// Where a cost is drawn, from above: the costs are drawn from 250 up to 50.
-fn down(cost: u64, most: u64) -> u128
+pub(crate) fn down(cost: u64, most: u64) -> u128
     requires { 1 ≤ most }
     ensures place { result ≡ cost_down most cost }
     ensures within { result ≤ 250 }
@@ -221,61 +222,4 @@ fn push_corner_end(text: &mut String, cost: u64) -> Result<(), AllocError>
     ensures { OnOk result (string_bytes text.new ≡ string_bytes text.old ++ corner_end cost) }
 {
     write!(text, ": {cost}</title></circle>\n")
-}
-
-/// Adds the costs of corners, and leaves out each that would stand on the last that was written.
-fn push_labels(
-    text: &mut String,
-    corners: &[Corner],
-    span: Span,
-    most: u64,
-) -> Result<(), AllocError>
-    requires { 1 ≤ most }
-    ensures { OnOk result
-        (string_bytes text.new ≡ string_bytes text.old ++ cost_labels span most 0 0 corners.now) }
-{
-    let mut x = 0u128;
-    let mut y = 0u128;
-    for corner in corners {
-        let right = span.across(corner.deadline as u128);
-        let below = down(corner.cost, most);
-        if x + 48 <= right || y + 14 <= below {
-            push_label(text, right, below, corner.cost)?;
-            x = right;
-            y = below;
-        }
-    }
-    Ok(())
-}
-
-/// Adds the cost of a corner beside it: above its step, or at the right end of the drawing below it.
-fn push_label(text: &mut String, x: u128, y: u128, cost: u64) -> Result<(), AllocError>
-    requires x { x < 2 ^ 32 }
-    requires y { y < 2 ^ 32 }
-    ensures { OnOk result (string_bytes text.new ≡ string_bytes text.old ++ cost_label x y cost) }
-{
-    if x <= 930 {
-        push_above(text, x + 6, y.saturating_sub(6), cost)
-    } else {
-        push_below(text, min(y + 14, 246), cost)
-    }
-}
-
-/// Adds a cost that begins at `x`.
-#[tactic(auto, unfolding(crate::specs::CostDrawings::label_above))]
-fn push_above(text: &mut String, x: u128, y: u128, cost: u64) -> Result<(), AllocError>
-    ensures { OnOk result (string_bytes text.new ≡ string_bytes text.old ++ label_above x y cost) }
-{
-    write!(text, "<text x=\"{x}\" y=\"{y}\">{cost}</text>\n")
-}
-
-/// Adds a cost that ends at the right end of the drawing.
-#[tactic(auto, unfolding(crate::specs::CostDrawings::label_below))]
-fn push_below(text: &mut String, y: u128, cost: u64) -> Result<(), AllocError>
-    ensures { OnOk result (string_bytes text.new ≡ string_bytes text.old ++ label_below y cost) }
-{
-    write!(
-        text,
-        "<text class=\"cost\" x=\"992\" y=\"{y}\">{cost}</text>\n"
-    )
 }

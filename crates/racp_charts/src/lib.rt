@@ -36,6 +36,7 @@ mod drawing;
 mod escape;
 mod frame;
 mod heading;
+mod labels;
 mod links;
 mod mark;
 mod names;

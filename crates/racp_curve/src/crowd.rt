@@ -1,31 +1,25 @@
 //! The curve, followed by workers.
 
 ghost use Rattle.std.specs.Prelude.{◌≡◌, ◌≤◌, IfOk, IfErr, ⊤};
-ghost use Rattle.racp_model.specs.Formed.{AreFormed};
 ghost use Rattle.racp_model.specs.Terms.{AreTermsOf};
 ghost use Rattle.racp_by_clauses.specs.Optima.{IsTaskOf};
-ghost use Rattle.racp_candidates.specs.AnySeries.{any_questions};
-ghost use Rattle.racp_desk.specs.Closing.{IsRunClosed};
 ghost use Rattle.racp_by_questions.specs.Crowds.{MayStop};
 ghost use Rattle.racp_curve.specs.Curves.{IsCurveAnswer, IsCurveStop};
 ghost use Rattle.racp_curve.specs.Following.{IsFollowedByCrew, IsGroundOf};
 
 use crate::ahead::Ahead;
-use crate::dated::Dated;
+use crate::by_desks::{curve_by, curve_named};
 use crate::facts::Facts;
-use crate::following::curve_with;
 use crate::ground::Ground;
 use crate::helping::{join_helpers, start_helpers};
 use crate::start::start_of;
 use crate::step::{CurveAnswer, CurveStop, out_of_memory};
 use racp_by_clauses::{Limits, Task};
-use racp_by_questions::{Crowd, Observer, OfTurns, Pricing};
-use racp_candidates::AnySeries;
+use racp_by_questions::{Observer, OfTurns};
 use racp_clauses::OfProblem;
-use racp_cutset::MemoryLimit;
-use racp_desk::{Closed, DeskFault, Gate, Records, RunLimits};
+use racp_desk::Gate;
 use racp_lexfix::{Crew, limits_of};
-use racp_model::{Network, OfNetwork, Stop};
+use racp_model::{Network, Stop};
 use racp_prices::Order;
 use std::alloc::{AllocError, Global};
 use std::marker::Brand;
@@ -199,67 +193,4 @@ fn led<
         }
         Err(_) => Err(out_of_memory(ahead.base.alloc)),
     }
-}
-
-/// The curve of an order, made by these workers, with what is learned of it, if anything is.
-fn curve_by<N: OfProblem, G: Gate + Sync, P: Stop + Sync, O: Observer, R: Threads + Wait + Sync>(
-    rt: &R,
-    ground: &Ground,
-    facts: &mut Option<Facts<'_, N>>,
-    crew: &Crew<'_, G, P, O>,
-) -> Result<CurveAnswer, CurveStop>
-    requires of { IsGroundOf N.problem ground.now }
-    ensures { IsFollowedByCrew ground.now.net.now ground.now.order.now (MayStop ground.now.net.now (P.is_quiet crew.now.stop.now) crew.now.turns) result }
-{
-    curve_named::<Brand, Brand, N, G, P, O, R>(rt, ground, facts, crew)
-}
-
-/// The same, for the network that `K` names, with the turns and as quiet a stop as `M` says.
-fn curve_named<
-    K: OfNetwork + Send + Sync,
-    M: OfTurns,
-    N: OfProblem,
-    G: Gate + Sync,
-    P: Stop + Sync,
-    O: Observer,
-    R: Threads + Wait + Sync,
->(
-    rt: &R,
-    ground: &Ground,
-    facts: &mut Option<Facts<'_, N>>,
-    crew: &Crew<'_, G, P, O>,
-) -> Result<CurveAnswer, CurveStop>
-    requires named { ground.now.net.now ≡ K.network }
-    requires named_turns { crew.now.turns ≡ M.turns }
-    requires named_quiet { P.is_quiet crew.now.stop.now ≡ M.quiet }
-    requires of { IsGroundOf N.problem ground.now }
-    ensures { IsFollowedByCrew ground.now.net.now ground.now.order.now (MayStop ground.now.net.now M.quiet M.turns) result }
-{
-    let Ground {
-        alloc,
-        net,
-        order,
-        at,
-    } = *ground;
-    let limit = MemoryLimit {
-        mebibytes: crew.memory,
-        workers: crew.workers,
-    };
-    let records: Records<K> = match Records::within(alloc, net, limit) {
-        Ok(records) => records,
-        Err(_) => return Err(out_of_memory(alloc)),
-    };
-    let dated = Dated::new(at, Pricing::new(net, order, crew.observer));
-    let crowd: Crowd<'_, K, M, P, Dated<'_, Pricing<'_, O>>, _> = Crowd::new(
-        crew.workers,
-        crew.turns,
-        dated,
-        |series: AnySeries, limits: RunLimits| -> Result<Closed, DeskFault>
-            requires { (net.now ≡ K.network) × AreFormed net.now (any_questions series) }
-            ensures { IfOk result (IsRunClosed net.entry.now (any_questions series) limits.turns
-                (P.is_quiet crew.entry.now.stop.now)) }
-        { records.run(rt, alloc, net, series, limits, crew.gate, crew.stop) },
-    );
-    let mut crowd = crowd.with_search(crew.leeway(), crew.stop);
-    curve_with(ground, facts, &mut crowd)
 }

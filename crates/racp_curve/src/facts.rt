@@ -10,15 +10,15 @@ ghost use Rattle.racp_plan.specs.Plans.{IsPlanOf};
 ghost use Rattle.racp_clauses.specs.Roots.{IsOpen};
 ghost use Rattle.racp_lexfix.specs.Answers.{IsAnswer};
 ghost use Rattle.racp_lexfix.specs.Stages.{MayBeTold};
-ghost use Rattle.racp_by_clauses.specs.Optima.{IsFeasible, IsTaskOf, MayBeTold as MayTell};
+ghost use Rattle.racp_by_clauses.specs.Optima.{IsTaskOf, MayBeTold as MayTell};
 ghost use Rattle.racp_curve.specs.Curves.{order_by};
 ghost use Rattle.racp_curve.specs.Following.{ArePlannedFrom, IsEarlier, IsGroundOf, IsVariantOf, IsVariantTask, problem_of};
 
 use crate::ahead::Ahead;
 use crate::earlier::Earlier;
 use crate::ground::Ground;
-use crate::hearers::{Awaited, Stopping, Telling};
-use racp_by_clauses::{Feasible, Hearer, Limits, Optimizer, Task};
+use crate::hearers::{Awaited, Telling};
+use racp_by_clauses::{Hearer, Limits, Optimizer, Task};
 use racp_candidates::AnySeries;
 use racp_check::{Opening, opening_of};
 use racp_clauses::OfProblem;
@@ -35,8 +35,8 @@ use std::marker::Brand;
 /// With other workers, what they have found ahead.
 #[derive(Drop)]
 pub(crate) struct Facts<'a, N: OfProblem> {
-    whole: Task<'a>,
-    optimizer: Optimizer<N>,
+    pub(crate) whole: Task<'a>,
+    pub(crate) optimizer: Optimizer<N>,
     ahead: Option<&'a Ahead<'a, N>>,
     ghost of: { IsTaskOf N.problem whole } by { Prim.hlevel props },
 }
@@ -130,12 +130,10 @@ impl<'a, N: OfProblem> Facts<'a, N> {
         requires heard { MayBeTold ground.now.net.now other.now A.may_hear_floors A.may_hear_cost A.may_hear_plan }
         ensures { IfOk result (λ told. IfSome told (IsAnswer ground.now.net.now other.now)) }
     {
-        match opening_of(ground.alloc, ground.net, other)? {
-            Opening::Root { critical, window } => {
-                self.answer_within(ground, other, critical, &window, asker)
-            }
-            _ => Ok(None),
-        }
+        let Opening::Root { critical, window } = opening_of(ground.alloc, ground.net, other)? else {
+            return Ok(None);
+        };
+        self.answer_within(ground, other, critical, &window, asker)
     }
 
     /// The same within the root window, with the critical length.
@@ -174,16 +172,20 @@ impl<'a, N: OfProblem> Facts<'a, N> {
         self.answer_of(part, critical, &telling)
     }
 
+    /// Whether other workers plan ahead.
+    pub(crate) fn has_helpers(&self) -> bool {
+        self.ahead.is_some()
+    }
+
     /// What is awaited of other workers.
-    fn awaited(&self, deadline: u32) -> Awaited<'a, N> {
+    pub(crate) fn awaited(&self, deadline: u32) -> Awaited<'a, N> {
         Awaited {
             ahead: self.ahead,
             deadline,
         }
     }
 
-    /// The plan of a part of the order, with the critical length, or that no capacities are enough. `None` where neither is
-    /// found.
+    /// The plan of a part of the order, or that no capacities are enough. `None` where neither is found.
     pub(crate) fn answer_of<H: Hearer>(
         &mut self,
         part: Task<'_>,
@@ -214,45 +216,5 @@ impl<'a, N: OfProblem> Facts<'a, N> {
             Found::NoneEnough => Ok(Some(Answer::Ceiling)),
             Found::Open => Ok(None),
         }
-    }
-
-    /// Whether some capacities are enough for a variant of the order, with an earlier deadline and lower ceilings. Where no
-    /// starts are in time, that is left to others.
-    pub(crate) fn feasible<A: Asker<AnySeries>>(
-        &mut self,
-        ground: &Ground,
-        other: &Order,
-        asker: &A,
-    ) -> Result<Feasible, AllocError>
-        requires of { IsGroundOf N.problem ground.now }
-        requires terms { AreTermsOf ground.now.net.now other.now }
-        requires variant { IsVariantOf ground.now.order.now other.now }
-        ensures { IfOk result (IsFeasible ground.now.net.now other.now) }
-    {
-        let Ground { alloc, net, .. } = *ground;
-        let window = match opening_of(alloc, net, other)? {
-            Opening::Root {
-                critical: _,
-                window,
-            } => window,
-            Opening::TooLong { critical: _ } => return Ok(Feasible::Unknown),
-            Opening::TooLate { job: _ } => return Ok(Feasible::Unknown),
-        };
-        let Some(root) = root_bounds(alloc, net, other, &window)? else {
-            return Ok(Feasible::NoneFits);
-        };
-        let part = Task {
-            alloc,
-            net,
-            order: other,
-            window: &window,
-            root: &root.bounds,
-        };
-        let stopping = Stopping {
-            relay: Relay { asker },
-            awaited: self.awaited(other.deadline),
-        };
-        self.optimizer
-            .feasible::<Brand, Stopping<'_, '_, A, N>>(self.whole, part, &stopping)
     }
 }

@@ -53,11 +53,13 @@
 
 mod ahead;
 mod alone;
+mod by_desks;
 mod crowd;
 mod dated;
 mod deadline;
 mod earlier;
 mod ending;
+mod enough;
 mod facts;
 mod following;
 mod ground;

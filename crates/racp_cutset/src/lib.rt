@@ -70,6 +70,7 @@ mod local;
 mod node;
 mod nogood;
 mod outline;
+mod reading;
 mod rows;
 mod shares;
 

@@ -10,23 +10,11 @@ use crate::index::{Entry, Index, Place};
 use crate::node::Node;
 use crate::nogood::Nogood;
 use crate::outline::Outline;
+use crate::reading::{Reading, entry_of, read_from};
 use crate::shares::{DEFAULT_MEMORY, most_records};
 use racp_model::{Network, OfNetwork};
 use std::alloc::Global;
 use std::marker::Model;
-
-/// How many places of the board, after those of the records that are still to be read, are looked at. A place stays
-/// empty if the push to it was refused.
-const EMPTY_PLACES: usize = 8;
-
-/// How far the board has been read.
-#[derive(Clone, Copy, Drop)]
-struct Reading {
-    /// The place from which to read the next time: after the last that had a record.
-    next: usize,
-    /// How many records were read.
-    records: usize,
-}
 
 /// One thread's own part of the records: the records that it made and has not given away, and an index of these and of
 /// what it has read of the board. It keeps no more records than it was made for. Contracts see the records that it
@@ -74,10 +62,7 @@ impl<N: OfNetwork> Local<N> {
         Local {
             kept: Vec::new(alloc),
             index: Index::new(alloc),
-            reading: Reading {
-                next: 0,
-                records: 0,
-            },
+            reading: Reading::nothing(),
             limit: most,
             turn: 0,
         }
@@ -246,39 +231,6 @@ impl<N: OfNetwork> Local<N> {
             Place::Kept(i) => self.kept.get(i),
         }
     }
-}
-
-/// The entry of a record that stands at a place.
-fn entry_of<N: OfNetwork>(nogood: &Nogood<N>, place: Place) -> Entry {
-    Entry {
-        place,
-        outline: nogood.outline(),
-    }
-}
-
-/// Enters the records of the board that were not read, and answers how far it has been read. Places that are empty are
-/// read past if a record stands after them.
-fn read_from<N: OfNetwork>(reading: Reading, index: &mut Index, board: &Board<N>) -> Reading {
-    let mut read = reading;
-    let unread = board.count().saturating_sub(read.records);
-    if unread == 0 {
-        return read;
-    }
-    let end = read
-        .next
-        .saturating_add(unread)
-        .saturating_add(EMPTY_PLACES);
-    for i in read.next..end {
-        if let Some(nogood) = board.record(i) {
-            index.forget_written(board, nogood);
-            index.enter(nogood.key(), entry_of(nogood, Place::Board(i)));
-            read = Reading {
-                next: i + 1,
-                records: read.records.saturating_add(1),
-            };
-        }
-    }
-    read
 }
 
 /// Forgets the places of the kept records from one on.

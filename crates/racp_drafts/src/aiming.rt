@@ -37,6 +37,11 @@ impl Aiming {
         }
     }
 
+    /// How many units of each resource of the problem are aimed at.
+    pub(crate) fn aims(&self) -> &[u32] {
+        &self.aims
+    }
+
     /// Sets the aims: from the peaks, lowered where the usage is above for the least time (somewhat by chance) until they
     /// cost at most so much. What is left to spend goes back to where the usage is above for the longest. Where nothing
     /// bounds the cost, the ceilings are the aims.

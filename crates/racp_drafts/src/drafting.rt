@@ -4,6 +4,7 @@ ghost use Rattle.std.specs.Prelude.{IfOk, IfSome};
 ghost use Rattle.racp_model.specs.Terms.{AreTermsOf};
 ghost use Rattle.racp_drafts.specs.Drafts.{IsDraft};
 
+use crate::around::Around;
 use crate::draft::Draft;
 use crate::effort::Effort;
 use crate::family::Family;
@@ -28,6 +29,9 @@ const FEWEST_CHILDREN: u32 = 20;
 
 /// The numbers by chance of the family are others than those of the rounds.
 const FAMILY_SEED: u64 = 911;
+
+/// So are those of the neighbourhoods.
+const AROUND_SEED: u64 = 77;
 
 /// A draft of an order, within its root window: a list schedule that was made better in rounds. The stop is asked
 /// before each round. `None` if the schedule that was made does not fit, as it does not where it breaks a ceiling.
@@ -62,9 +66,10 @@ fn patience_for(jobs: usize) -> u32 {
 /// Drafts of an order that become better, stint by stint: a schedule that is made better in rounds, and a family of lists.
 #[derive(Drop)]
 pub struct Drafting {
-    alloc: Global,
-    problem: Problem,
-    polish: Polish,
+    pub(crate) alloc: Global,
+    pub(crate) problem: Problem,
+    pub(crate) polish: Polish,
+    pub(crate) around: Around,
     family: Family,
     has_family: bool,
     /// So many children there are at most in the next stint.
@@ -88,11 +93,13 @@ impl Drafting {
     ) -> Result<Drafting, AllocError> {
         let problem = Problem::new(alloc, net, order, root)?;
         let polish = Polish::new(alloc, &problem, seed)?;
+        let around = Around::new(alloc, &problem, seed ^ AROUND_SEED);
         let family = Family::new(alloc, &problem, seed ^ FAMILY_SEED)?;
         Ok(Drafting {
             alloc,
             problem,
             polish,
+            around,
             family,
             has_family: false,
             children: u32::MAX,

@@ -28,9 +28,14 @@
 //! another's, and units by chance from both; the better of two members by chance is a parent, and the worst one makes room.
 //!
 //! `draft_of` makes a list schedule better in rounds, which end where many in turn have brought nothing: 50 for up to 31
-//! jobs, 80 for 40, and so on by the square of the jobs, up to 200. `Drafting` goes on in stints, with the family, and is told
-//! of drafts that others have found. The numbers by chance come from a seed, so that the same calls give the same drafts on
-//! every machine.
+//! jobs, 80 for 40, and so on by the square of the jobs, up to 200. `Drafting` goes on in stints, with the family, and is
+//! told of drafts that others have found. The numbers by chance come from a seed, so that the same calls give the same
+//! drafts on every machine.
+//!
+//! `Drafting` keeps the schedule of least excess since the aims were set, and tells neighbourhoods of it (large
+//! neighbourhood search, Shaw 1998) to who looks for a schedule by other means: the aims, and which jobs may start
+//! anywhere. These are at first the 12 jobs that run nearest to where the schedule exceeds the aims; the others keep their
+//! starts. It is told whether more or fewer are to be free in the next one.
 //!
 //! Usages are kept from one change to the next: nothing grows with the deadline. The starts that are weighed are the first
 //! and the last, and those at which a run begins or ends with a change, since between two of these the excess grows evenly;
@@ -44,14 +49,18 @@
 #![tactic(auto)]
 
 mod aiming;
+mod around;
 mod draft;
 mod drafting;
 mod effort;
 mod family;
+mod least;
 mod member;
+mod neighbourhood;
 mod orders;
 mod peaks;
 mod polish;
+mod polished;
 mod problem;
 mod random;
 mod ranks;
@@ -67,3 +76,4 @@ mod windows;
 pub use draft::Draft;
 pub use drafting::{Drafting, draft_of};
 pub use effort::Effort;
+pub use neighbourhood::Neighbourhood;

@@ -1,6 +1,7 @@
 //! A schedule that is made cheaper in rounds.
 
 use crate::aiming::Aiming;
+use crate::least::Least;
 use crate::problem::Problem;
 use crate::random::Random;
 use crate::rows::{copy, number_at, set_number, stored};
@@ -21,9 +22,10 @@ const COOLNESS: u64 = 32;
 /// A schedule that is made cheaper in rounds, and the best one so far. Starts stand by rank.
 #[derive(Drop)]
 pub(crate) struct Polish {
-    starts: Vec<u32>,
+    pub(crate) starts: Vec<u32>,
     usages: Usages,
-    aiming: Aiming,
+    pub(crate) aiming: Aiming,
+    pub(crate) least: Least,
     ruin: Ruin,
     windows: Windows,
     growths: Growths,
@@ -37,8 +39,8 @@ pub(crate) struct Polish {
     heat: u64,
     /// How many rounds have gone since the aims were set.
     since: u32,
-    best: Vec<u32>,
-    best_cost: u64,
+    pub(crate) best: Vec<u32>,
+    pub(crate) best_cost: u64,
 }
 
 impl Polish {
@@ -49,6 +51,7 @@ impl Polish {
             starts: Vec::from_elem(alloc, 0, problem.jobs())?,
             usages: Usages::new(alloc, problem)?,
             aiming: Aiming::new(alloc),
+            least: Least::new(alloc),
             ruin: Ruin::new(alloc, mean_duration),
             windows: Windows::new(alloc, problem)?,
             growths: Growths::new(alloc),
@@ -82,21 +85,6 @@ impl Polish {
         self.aim(problem)
     }
 
-    /// What the best schedule costs; the greatest number if there is none within the ceilings.
-    pub(crate) fn best_cost(&self) -> u64 {
-        self.best_cost
-    }
-
-    /// The starts of the best schedule; none if there is none.
-    pub(crate) fn best(&self) -> &[u32] {
-        &self.best
-    }
-
-    /// The starts of the schedule as it is, which may be above its aims.
-    pub(crate) fn starts(&self) -> &[u32] {
-        &self.starts
-    }
-
     /// At most so many rounds, until nothing can cost less, or so many in turn have brought nothing. The stop is asked before
     /// each.
     pub(crate) fn improve<S: Stop>(
@@ -120,6 +108,9 @@ impl Polish {
 
     /// One round. Whether it found a better schedule.
     fn round(&mut self, problem: &Problem) -> Result<bool, AllocError> {
+        if PATIENCE <= self.since {
+            self.aim(problem)?;
+        }
         if problem.jobs().saturating_mul(3) < self.usages.times.len() {
             self.usages.squeeze();
         }
@@ -131,9 +122,10 @@ impl Polish {
         if most < self.usages.excess {
             self.undo(problem)?;
         }
+        self.least.note(&self.starts, self.usages.excess)?;
         self.since = self.since.saturating_add(1);
         let is_better = self.usages.excess == 0 && self.keep(problem)?;
-        if self.usages.excess == 0 || PATIENCE <= self.since {
+        if self.usages.excess == 0 {
             self.aim(problem)?;
         }
         Ok(is_better)
@@ -241,6 +233,6 @@ impl Polish {
             .aim(problem, &mut self.usages, most, &mut self.random)?;
         self.usages.recount(&mut self.weights)?;
         self.since = 0;
-        Ok(())
+        self.least.begin(&self.starts, self.usages.excess)
     }
 }

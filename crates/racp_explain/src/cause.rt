@@ -1,15 +1,16 @@
 //! What is wrong with the texts of a command.
 
-ghost use Rattle.std.specs.Prelude.{◌≡◌, ◌++◌, IfOk, string_bytes};
+ghost use Rattle.std.specs.Prelude.{◌++◌, IfOk, string_bytes};
 ghost use Rattle.std.specs.Io.{StartsWith};
 ghost use Rattle.racp_model.specs.Terms.{AreTermsOf};
-ghost use Rattle.racp_explain.specs.Causes.{IsNetworkCause, line_head, line_place, placed_head, network_head, order_head, plan_head};
+ghost use Rattle.racp_explain.specs.Causes.{IsNetworkCause, network_head, order_head, plan_head};
 
 use crate::faults::{Sizes, THERE, push_network_finding, push_order_finding, push_text_finding};
 use crate::faulty::of_fault;
 use crate::finding::{push_more, push_short};
 use crate::input::Input;
 use crate::opening::of_opening;
+use crate::placing::{line_text, placed};
 use crate::subject::{Line, Subject};
 use racp_model::Network;
 use racp_plan::{TextFault, read_plan};
@@ -237,47 +238,4 @@ fn push_text(
     push_short(text, subject)?;
     push_text_finding(text, fault, bytes, network)?;
     push_more(text, subject)
-}
-
-/// The words `racp: NAME:LINE: FORMAT NUMBER FAULT`, or `racp: NAME: FORMAT NUMBER FAULT` of no one line, and the rest.
-fn line_text(
-    alloc: Global,
-    name: &str,
-    line: usize,
-    format: &str,
-    number: u8,
-    fault: &str,
-    rest: &str,
-) -> Result<String, AllocError>
-    ensures { IfOk result (λ text. StartsWith (string_bytes text) (line_head name.now line format.now number fault.now)) }
-{
-    let place = line_place(alloc, line)?;
-    placed(alloc, name, place.as_str(), format, number, fault, rest)
-}
-
-/// The words `racp: NAMEPLACE: FORMAT NUMBER FAULT`, and the rest.
-fn placed(
-    alloc: Global,
-    name: &str,
-    place: &str,
-    format: &str,
-    number: u8,
-    fault: &str,
-    rest: &str,
-) -> Result<String, AllocError>
-    ensures { IfOk result (λ text. StartsWith (string_bytes text)
-        (placed_head name.now place.now format.now number fault.now)) }
-{
-    format!(in alloc; "racp: {name}{place}: {format} {number} {fault}{rest}")
-}
-
-/// The words `:LINE`, and nothing of no one line.
-fn line_place(alloc: Global, line: usize) -> Result<String, AllocError>
-    ensures { IfOk result (λ text. string_bytes text ≡ line_place line) }
-{
-    if line == 0 {
-        Ok(String::new(alloc))
-    } else {
-        format!(in alloc; ":{line}")
-    }
 }

@@ -53,6 +53,7 @@ pub mod laws;
 mod line_topics;
 mod opening;
 mod order_topics;
+mod placing;
 mod plan_topics;
 mod sm_topics;
 mod subject;

@@ -153,7 +153,7 @@ impl Analysis {
                 self.learned.add(other)?;
                 self.pile.push(other);
             }
-            Why::Peak(_) => {
+            Why::Peak(_) | Why::Energy(..) => {
                 let x = conflict.bound.variable();
                 let need = self.needs.upper(x).wrapping_add(1);
                 let named = self.explain(scene, &conflict, need)?;

@@ -83,8 +83,28 @@ pub(crate) enum Why {
     Usage(u32),
     /// The units of a resource are at least the core usage at a time.
     Peak(u32),
+    /// The units of a resource are at least what the work at some times takes: from one to before another.
+    Energy(u32, u32),
     /// By prices.
     Cost,
     /// By the clause of a number.
     Clause(u32),
+}
+
+/// The literal at a place.
+#[inline]
+pub(crate) fn literal_at(row: &[Bound], i: usize) -> Bound {
+    if i < row.len() {
+        row[i]
+    } else {
+        Bound { side: 0, value: 0 }
+    }
+}
+
+/// Writes a literal at a place.
+#[inline]
+pub(crate) fn set_literal(row: &mut [Bound], i: usize, literal: Bound) {
+    if i < row.len() {
+        row[i] = literal;
+    }
 }

@@ -232,21 +232,3 @@ pub(crate) fn make_even(row: &mut Vec<Bound>) -> Result<(), AllocError> {
     }
     Ok(())
 }
-
-/// The literal at a place.
-#[inline]
-pub(crate) fn literal_at(row: &[Bound], i: usize) -> Bound {
-    if i < row.len() {
-        row[i]
-    } else {
-        Bound { side: 0, value: 0 }
-    }
-}
-
-/// Writes a literal at a place.
-#[inline]
-pub(crate) fn set_literal(row: &mut [Bound], i: usize, literal: Bound) {
-    if i < row.len() {
-        row[i] = literal;
-    }
-}

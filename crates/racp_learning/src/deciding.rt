@@ -1,13 +1,12 @@
 //! What to try next: a job of a minimal delaying alternative is put off, or there are fewer units.
 
-use crate::activity::Activity;
 use crate::alternatives::Alternatives;
 use crate::bound::Bound;
 use crate::candidate::Candidate;
 use crate::events::Events;
 use crate::lanes::{Lanes, lanes_at, set_lanes, set_units};
 use crate::problem::Problem;
-use crate::trail::Trail;
+use crate::view::View;
 use std::alloc::{AllocError, Global};
 
 /// What to do where nothing more follows.
@@ -19,14 +18,6 @@ pub(crate) enum Choice {
     Try(Bound),
     /// There is nothing to try.
     Nothing,
-}
-
-/// What deciding reads.
-#[derive(Clone, Copy)]
-pub(crate) struct View<'a> {
-    pub(crate) problem: &'a Problem,
-    pub(crate) trail: &'a Trail,
-    pub(crate) activity: &'a Activity,
 }
 
 /// Goes over the usage of the early starts.
@@ -66,7 +57,8 @@ impl Deciding {
     }
 
     /// What to do next. Where the early starts exceed some units, a job is put off that is active then, or there are fewer
-    /// units; where they fit but cost too much there are fewer units: whichever took part most.
+    /// units; where they fit but cost too much there are fewer units: whichever took part most. A guide may say that the job
+    /// starts sooner instead.
     pub(crate) fn choose(&mut self, view: View<'_>) -> Choice {
         self.begin(view);
         self.sweep(view);
@@ -82,7 +74,7 @@ impl Deciding {
         }
         let best = self.best;
         Choice::Try(if best.variable < problem.jobs {
-            Bound::at_least(best.variable, best.threshold)
+            view.side(best.variable, best.threshold)
         } else {
             Bound::at_most(best.variable, best.threshold.wrapping_sub(1))
         })

@@ -1,16 +1,17 @@
 //! The search itself, which nobody trusts: it is safe, and it ends.
 
 use crate::activity::Activity;
-use crate::analysis::{Analysis, Scene};
+use crate::analysis::Analysis;
 use crate::bound::{Bound, Why};
 use crate::clauses::Clauses;
-use crate::deciding::{Choice, Deciding, View};
+use crate::deciding::{Choice, Deciding};
+use crate::energies::Energies;
 use crate::following::follow;
 use crate::problem::Problem;
 use crate::restarts::Restarts;
-use crate::rows::stored;
 use crate::trail::{Entry, Trail};
 use crate::usage::CoreUsage;
+use crate::view::View;
 use std::alloc::{AllocError, Global};
 
 /// So many bounds are followed before the search pauses.
@@ -45,10 +46,13 @@ pub(crate) struct Engine {
     pub(crate) trail: Trail,
     pub(crate) clauses: Clauses,
     pub(crate) analysis: Analysis,
-    activity: Activity,
+    pub(crate) activity: Activity,
     usage: CoreUsage,
+    pub(crate) energies: Energies,
     deciding: Deciding,
-    restarts: Restarts,
+    pub(crate) restarts: Restarts,
+    /// Starts that decisions keep to; none if there are none.
+    pub(crate) guide: Vec<u32>,
     assumed: Vec<Bound>,
     decisions: u64,
 }
@@ -68,8 +72,10 @@ impl Engine {
             analysis: Analysis::new(alloc, problem.root.len())?,
             activity: Activity::new(alloc, &problem, seed)?,
             usage: CoreUsage::new(alloc, &problem)?,
+            energies: Energies::new(alloc, &problem)?,
             deciding: Deciding::new(alloc, &problem)?,
             restarts: Restarts::new(),
+            guide: Vec::new(alloc),
             assumed: Vec::new(alloc),
             decisions: 0,
             problem,
@@ -86,6 +92,7 @@ impl Engine {
     pub(crate) fn back(&mut self, level: usize) {
         self.trail.back(level);
         self.usage.reset();
+        self.energies.reset();
     }
 
     /// Goes on until it halts.
@@ -128,6 +135,7 @@ impl Engine {
             || self.clauses.are_short()
             || self.analysis.is_short()
             || self.usage.is_short()
+            || self.energies.is_short()
             || self.deciding.is_short()
     }
 
@@ -146,6 +154,7 @@ impl Engine {
             problem: &self.problem,
             trail: &self.trail,
             activity: &self.activity,
+            guide: &self.guide,
         });
         match choice {
             Choice::Found => return Some(Halt::Found),
@@ -164,71 +173,27 @@ impl Engine {
     /// Follows all bounds, and says why it halts, if it does.
     fn propagate(&mut self) -> Option<Halt> {
         for _i in 0..MOST_STEPS {
-            match self.trail.next() {
-                Some(entry) => {
-                    self.usage
-                        .note_moved(&self.problem, &self.trail, entry.bound);
-                    if !self.follow(&entry) {
-                        return Some(Halt::Conflict);
-                    }
+            let is_open = match self.trail.next() {
+                Some(entry) => self.follow(&entry),
+                None if self.usage.has_moved() => self.usage.follow(&self.problem, &mut self.trail),
+                None if self.energies.are_due() => {
+                    self.energies.follow(&self.problem, &mut self.trail)
                 }
-                None => {
-                    if !self.usage.has_moved() {
-                        return None;
-                    }
-                    if !self.usage.follow(&self.problem, &mut self.trail) {
-                        return Some(Halt::Conflict);
-                    }
-                }
+                None => return None,
+            };
+            if !is_open {
+                return Some(Halt::Conflict);
             }
         }
         Some(Halt::Pause)
     }
 
+    /// Follows a bound, and says whether there is no conflict.
     fn follow(&mut self, entry: &Entry) -> bool {
+        self.usage
+            .note_moved(&self.problem, &self.trail, entry.bound);
+        self.energies.note_moved(&self.problem, entry.bound);
         follow(&self.problem, &mut self.trail, entry) && self.clauses.follow(&mut self.trail, entry)
-    }
-
-    /// Analyses the conflict, which then can be learned.
-    pub(crate) fn analyse(&mut self) -> Result<(), AllocError> {
-        self.restarts.count();
-        let scene = Scene {
-            problem: &self.problem,
-            trail: &self.trail,
-            clauses: &self.clauses,
-        };
-        self.analysis.run(scene, &mut self.activity)?;
-        self.activity.decay();
-        self.clauses.decay();
-        self.analysis.bump(&mut self.clauses);
-        Ok(())
-    }
-
-    /// Learns the clause of the last analysis, goes back to where its first literal follows, and gives its number.
-    pub(crate) fn learn(&mut self) -> Result<u32, AllocError> {
-        let clause = self.analysis.add_to(&mut self.clauses)?;
-        let learned = self.analysis.learned();
-        let first = learned.first();
-        let level = learned.level();
-        let is_unit = learned.literals().len() == 1;
-        let is_last = self.trail.level() <= 1;
-        self.back(level);
-        if let Some(literal) = first {
-            if is_unit || !is_last {
-                self.trail.put(literal, Why::Clause(clause));
-            }
-        }
-        Ok(clause)
-    }
-
-    /// Takes a clause of another search over, of which no literal is false without a decision, and gives its number. Nothing
-    /// is tried at that moment.
-    pub(crate) fn adopt(&mut self, literals: &[Bound]) -> Result<u32, AllocError> {
-        let clause = self.clauses.add(literals, stored(literals.len()))?;
-        if literals.len() == 1 {
-            self.trail.put(literals[0], Why::Clause(clause));
-        }
-        Ok(clause)
     }
 
     /// How many decisions were made.

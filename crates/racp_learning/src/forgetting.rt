@@ -1,6 +1,7 @@
 //! Clauses that are forgotten.
 
-use crate::clauses::{Clauses, Rank, bytes_of, literal_at, make_even, set_literal};
+use crate::bound::{literal_at, set_literal};
+use crate::clauses::{Clauses, Rank, bytes_of, make_even};
 use crate::rows::stored;
 use crate::trail::Trail;
 use std::alloc::{AllocError, Global};

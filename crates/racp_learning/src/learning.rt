@@ -37,7 +37,9 @@ impl<N: OfProblem> Search<N> {
             return Ok(None);
         };
         if !is_last && !self.engine.analysis.asserts() {
-            self.lose();
+            if !self.engine.back_to_conflict() {
+                self.lose();
+            }
             return Ok(None);
         }
         if self.shares {

@@ -7,12 +7,13 @@
 //!
 //! The variables are the start of each job, the units of each resource, and the cost. A question is a lower and an upper
 //! bound on each of them, and a search asks whether some schedule lies within these. It narrows bounds as far as it can:
-//! along precedence, by core usage, by prices, and by the clauses that it has learned. Where nothing more follows, it
-//! looks at the usage of the early starts. If they fit and cost little enough, that is an answer. If not, it tries: a job
-//! that runs at a time of excess and is a member of a minimal delaying alternative then is put off to start after that
-//! time, or there are fewer units of a resource. Which job, until when and which units is decided by what took part in
-//! conflicts of late; where nothing did, the job that starts last gives way, until the first of those that run has ended.
-//! Demeulemeester and Herroelen (1992) branch over all alternatives of the first such time, and put off to that end.
+//! along precedence, by core usage, by prices, by the clauses that it has learned, and, if that is turned on, by the work
+//! that jobs have to do in windows of time. Where nothing more follows, it looks at the usage of the early starts. If
+//! they fit and cost little enough, that is an answer. If not, it tries: a job that runs at a time of excess and is a
+//! member of a minimal delaying alternative then is put off to start after that time, or there are fewer units of a
+//! resource. Which job, until when and which units is decided by what took part in conflicts of late; where nothing did,
+//! the job that starts last gives way, until the first of those that run has ended. Demeulemeester and Herroelen (1992)
+//! branch over all alternatives of the first such time, and put off to that end.
 //!
 //! A conflict, here, is a bound that cannot be: a lower one above an upper one. It follows from some bounds that were
 //! there before, and these from others; going back to the first place that all goes through gives bounds that cannot be
@@ -27,12 +28,13 @@
 //!
 //! This one a search knows before any question: at the root it takes in requests and energies too.
 //!
-//! `Search::new(alloc, &net, &order, &root, seed, most_bytes)` makes a search over the problem that `N` names (racp_clauses).
-//! `ask(&net, &order, &bounds, conflicts, &stop)` asks a question, and tells starts with their units, a clause that is
-//! false within the bounds, or that the question is left open, with the reason. What it has learned serves the next
-//! question too. Searches over one problem can learn from each other: `take_short` gives short clauses, and `learn_from`
-//! derives one anew where it is of use. After `record` it keeps what its clauses are derived from (`Derivations`), for who
-//! wants to show them.
+//! `Search::new(alloc, &net, &order, &root, seed, most_bytes)` makes a search over the problem that `N` names
+//! (racp_clauses). `ask(&net, &order, &bounds, conflicts, &stop)` asks a question, and tells starts with their units, a
+//! clause that is false within the bounds, or that the question is left open, with the reason. What it has learned serves
+//! the next question too. Searches over one problem can learn from each other: `take_short` gives short clauses, and
+//! `learn_from` derives one anew where it is of use. `guide` gives it starts that decisions keep to, as to look for a
+//! schedule near these, and `look_at_energies` has it look at windows. After `record` it keeps what its clauses are
+//! derived from (`Derivations`), for who wants to show them.
 //!
 //! Nothing of this has to be trusted. Each clause is derived by the rules of racp_clauses from the steps that the search
 //! names, and what is not confirmed is dropped and counted. Starts that are found are tested. So the parts below `Search`
@@ -55,13 +57,18 @@ mod analysis;
 mod bound;
 mod candidate;
 mod clauses;
+mod conflicts;
 mod deciding;
 mod derivations;
+mod energies;
+mod energy_reasons;
+mod energy_windows;
 mod engine;
 mod events;
 mod following;
 mod forgetting;
 mod found;
+mod guiding;
 mod lanes;
 mod learned;
 mod learning;
@@ -78,12 +85,14 @@ mod scale;
 mod search;
 mod settling;
 mod sharing;
+mod sides;
 mod steps;
 mod tight;
 mod told;
 mod trail;
 mod usage;
 mod usage_reasons;
+mod view;
 mod watches;
 mod watching;
 

@@ -5,6 +5,7 @@ use crate::clauses::Clauses;
 use crate::problem::Problem;
 use crate::rows::{value_at, value_of};
 use crate::trail::Entry;
+use crate::usage_reasons::Span;
 
 /// Bounds that are collected. What is beyond the room is left out.
 #[derive(Drop)]
@@ -104,6 +105,13 @@ impl Past<'_> {
             Why::Arc(arc) => self.explain_pair(bound, arc, pile),
             Why::Usage(time) => self.explain_usage(bound, value_of(time), pile),
             Why::Peak(time) => self.explain_peak(bound, value_of(time), pile),
+            Why::Energy(from, until) => {
+                let span = Span {
+                    from: value_of(from),
+                    until: value_of(until),
+                };
+                self.explain_energy(bound, span, pile)
+            }
             Why::Cost => self.explain_prices(bound, pile),
             Why::Clause(clause) => self.explain_clause(entry.bound, clause, pile),
         }

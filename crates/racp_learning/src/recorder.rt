@@ -103,7 +103,9 @@ fn step_of(kept: &Derivations, net: &Network, hint: Hint) -> Option<Step> {
         Why::Decision => None,
         Why::Arc(arc) => Some(Step::Pair(arc)),
         Why::Usage(_) => Some(Step::TimeTable(stored(x), hint.resource, hint.from, hint.until)),
-        Why::Peak(_) => Some(Step::Energy(hint.resource, hint.from, hint.until)),
+        Why::Peak(_) | Why::Energy(..) => {
+            Some(Step::Energy(hint.resource, hint.from, hint.until))
+        }
         Why::Cost if x == net.job_count() + net.resource_count() => Some(Step::Prices),
         Why::Cost => Some(Step::Budget(hint.resource)),
         Why::Clause(number) => Some(Step::Clause(kept.of_number(number))),

@@ -11,6 +11,7 @@ use crate::found::answers;
 use crate::problem::Problem;
 use crate::recorder::Recorder;
 use crate::settling::settle;
+use crate::sides::{implied_of, sides_of};
 use crate::told::{Reason, Tally, Told};
 use racp_clauses::{Clause, Derivation, Domain, OfProblem};
 use racp_model::{Capacities, Network, Starts, Stop, peaks};
@@ -243,31 +244,4 @@ fn units_of(
         units.push(peaks[k].max(u32::try_from(least).unwrap_or(0)))?;
     }
     Ok(Capacities::new(units))
-}
-
-/// The bounds by sides.
-fn sides_of(alloc: Global, net: &Network, bounds: &Domain) -> Result<Vec<i64>, AllocError> {
-    let mut row = Vec::new(alloc);
-    for x in 0..net.job_count() + net.resource_count() + 1 {
-        let upper = i64::try_from(bounds.upper_at(x)).unwrap_or(0);
-        row.push(i64::try_from(bounds.lower_at(x)).unwrap_or(0))?;
-        row.push(upper.wrapping_neg())?;
-    }
-    Ok(row)
-}
-
-/// Which jobs start no later than their upper bounds if those that come behind them do.
-fn implied_of(alloc: Global, net: &Network, bounds: &Domain) -> Result<Vec<bool>, AllocError> {
-    let mut implied = Vec::from_elem(alloc, false, net.job_count())?;
-    for &(before, after) in net.arcs() {
-        let i = (before as usize).saturating_sub(1);
-        let j = (after as usize).saturating_sub(1);
-        if i < implied.len() && j < implied.len() {
-            let end = bounds.upper_at(i).saturating_add(net.duration(i) as u64);
-            if bounds.upper_at(j) <= end {
-                implied[i] = true;
-            }
-        }
-    }
-    Ok(implied)
 }

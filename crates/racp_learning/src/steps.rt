@@ -45,7 +45,7 @@ pub(crate) fn apply<N: OfProblem>(
         Why::Decision => {}
         Why::Arc(arc) => derivation.precedence(net, arc as usize),
         Why::Usage(_) => derivation.time_table(net, x, resource, times),
-        Why::Peak(_) => derivation.energy(net, resource, times),
+        Why::Peak(_) | Why::Energy(..) => derivation.energy(net, resource, times),
         Why::Cost if x == net.job_count() + net.resource_count() => derivation.cost(net, order),
         Why::Cost => derivation.units(net, order, resource),
         Why::Clause(number) => {
@@ -73,7 +73,7 @@ pub(crate) fn apply_entry<N: OfProblem>(
     for k in 0..net.resource_count() {
         let is_tried = match entry.why {
             Why::Usage(_) => true,
-            Why::Peak(_) => net.job_count() + k == entry.bound.variable(),
+            Why::Peak(_) | Why::Energy(..) => net.job_count() + k == entry.bound.variable(),
             Why::Cost => {
                 let x = entry.bound.variable();
                 net.job_count() + k == x || k == 0 && net.job_count() + net.resource_count() == x
@@ -121,6 +121,10 @@ fn hint_of(net: &Network, entry: &Entry, resource: u32) -> Hint {
         Why::Peak(time) => {
             from = time;
             until = time.wrapping_add(1);
+        }
+        Why::Energy(first, behind) => {
+            from = first;
+            until = behind;
         }
         _ => {}
     }

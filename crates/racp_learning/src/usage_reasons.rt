@@ -8,9 +8,9 @@ use crate::reasons::{Named, Past, Pile};
 
 /// Some times, from one to before another.
 #[derive(Clone, Copy)]
-struct Span {
-    from: i64,
-    until: i64,
+pub(crate) struct Span {
+    pub(crate) from: i64,
+    pub(crate) until: i64,
 }
 
 /// A resource that is short, and what is used of it.

@@ -1,7 +1,7 @@
 //! What follows from clauses of which all literals but one are false.
 
-use crate::bound::{Bound, Why};
-use crate::clauses::{Clauses, literal_at, set_literal};
+use crate::bound::{Bound, Why, literal_at, set_literal};
+use crate::clauses::Clauses;
 use crate::trail::{Entry, Trail};
 use crate::watches::Watch;
 

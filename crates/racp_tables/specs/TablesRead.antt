@@ -15,7 +15,7 @@ use Rattle.racp_tables.specs.declared.table.Table.{Table}
 abbrev pub IsTableBelow : Scale → List (List (List ℕ)) → Table → Type 0
 IsTableBelow scale records table =
     (columns : Columns) × (outline : Outline) × (parents : List ℕ) × (rows : List Row)
-    × AreRowsOf columns (roster_said columns.assigned records) parents scale 1 (with_text records) rows
+    × AreRowsOf columns (roster_said columns.assigned parents (with_text records)) parents scale 1 (with_text records) rows
     × IsTableOf outline parents scale rows table
 
 -- the records are those of some sheet: titles and rows between separators

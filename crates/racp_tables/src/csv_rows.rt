@@ -20,6 +20,7 @@ use crate::rows::table_of;
 use crate::sheet::{sheet_of, with_line_feeds};
 use crate::table::Table;
 use crate::taken::Taken;
+use crate::words::test_words;
 use csv::StringRecord;
 use racp_model::limits::MOST_JOBS;
 use std::alloc::{AllocError, Global};
@@ -64,11 +65,12 @@ fn table_below(
     }
     let columns = columns_of(alloc, head, reading)?;
     test_rows(alloc, records)?;
+    test_words(alloc, &columns, records)?;
     let outline = outline_of(alloc, &columns, records)?;
     let ids = ids_in(alloc, &columns, records)?;
     let parents = parents_of(alloc, &ids, &outline)?;
     test_tasks(alloc, records, &parents)?;
-    let roster = roster_of(alloc, columns.assigned, records)?;
+    let roster = roster_of(alloc, columns.assigned, &parents, records)?;
     let taken = Taken {
         columns: &columns,
         roster: &roster,

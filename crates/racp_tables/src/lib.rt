@@ -87,6 +87,7 @@ mod understanding;
 mod warning;
 mod widened;
 mod within;
+mod words;
 
 pub use fault::TableFault;
 pub use format::{Format, read_table};

@@ -17,6 +17,9 @@ use crate::warning::{Warning, warn};
 use racp_links::LinkKind;
 use std::alloc::{AllocError, Global};
 
+/// So many letters of a cell are told.
+const MOST_LETTERS: usize = 60;
+
 /// The ties that the rows of tasks name.
 pub(crate) fn ties_of(
     alloc: Global,
@@ -108,11 +111,23 @@ fn warn_of_twins(
         let words = format!(in alloc;
             "{} '{}' names a task twice; a spreadsheet may have made 1,1 of 1,10",
             called(cell),
-            cell.text
+            beginning(alloc, cell.text)?
         );
         warn(warnings, cell.line, words)?;
     }
     Ok(())
+}
+
+/// A text as it is told: of a long one the beginning.
+fn beginning(alloc: Global, text: &str) -> Result<String, AllocError> {
+    let mut told = String::new(alloc);
+    for letter in text.chars().take(MOST_LETTERS) {
+        told.push(letter)?;
+    }
+    if told.len() < text.len() {
+        told.push_str(" ..")?;
+    }
+    Ok(told)
 }
 
 /// Whether two of these are ties to the same task.

@@ -39,8 +39,9 @@ struct Gathered {
 pub fn joined(alloc: Global, parts: &[Part]) -> Result<Table, TableFault>
     ensures { IfOk result (IsJoined parts.now) }
 {
+    test_jobs(alloc, parts)?;
     let found = found_of(alloc, parts)?;
-    test_sizes(alloc, found.resources.len(), found.jobs.len())?;
+    test_resources(alloc, found.resources.len())?;
     Ok(put_together(alloc, parts, found)?)
 }
 
@@ -61,21 +62,30 @@ fn found_of(alloc: Global, parts: &[Part]) -> Result<Gathered, AllocError>
     })
 }
 
-/// Tests that a network may have so many resources and jobs.
-fn test_sizes(alloc: Global, resources: usize, jobs: usize) -> Result<(), TableFault> {
-    if resources > MOST_RESOURCES {
-        let words = format!(in alloc;
-            "with all tables there are {resources} resources; a network has at most {MOST_RESOURCES}"
-        );
-        return Err(TableFault::at(0, words));
+/// Tests that a network may have as many jobs as several tables.
+fn test_jobs(alloc: Global, parts: &[Part]) -> Result<(), TableFault> {
+    let mut jobs = 0usize;
+    for part in parts {
+        jobs = jobs.saturating_add(part.table.jobs.len());
     }
-    if jobs > MOST_JOBS {
-        let words = format!(in alloc;
-            "with all tables there are {jobs} jobs; a network has at most {MOST_JOBS}"
-        );
-        return Err(TableFault::at(0, words));
+    if jobs <= MOST_JOBS {
+        return Ok(());
     }
-    Ok(())
+    let words = format!(in alloc;
+        "with all tables there are {jobs} jobs; a network has at most {MOST_JOBS}"
+    );
+    Err(TableFault::at(0, words))
+}
+
+/// Tests that a network may have so many resources.
+fn test_resources(alloc: Global, resources: usize) -> Result<(), TableFault> {
+    if resources <= MOST_RESOURCES {
+        return Ok(());
+    }
+    let words = format!(in alloc;
+        "with all tables there are {resources} resources; a network has at most {MOST_RESOURCES}"
+    );
+    Err(TableFault::at(0, words))
 }
 
 /// The table of several tables, and of what they are joined of.

@@ -165,12 +165,23 @@ fn ask_each<N: OfProblem>(
     Ok(record)
 }
 
-/// Limits of a search.
+/// Limits of a search, and whether it looks at windows and has the latest starts as a guide.
 #[derive(Clone, Copy)]
 pub struct Limits {
     pub conflicts: u64,
     pub bytes: u64,
     pub seed: u64,
+    pub is_helped: bool,
+}
+
+/// Has a search look at windows, and keep to the latest starts.
+fn help<N: OfProblem>(task: Task<'_>, search: &mut Search<N>) -> Result<(), AllocError> {
+    let mut latest = Vec::with_capacity(task.alloc, task.net.job_count())?;
+    for i in 0..task.net.job_count() {
+        latest.push(u32::try_from(task.root.upper_at(i)).unwrap_or(0))?;
+    }
+    search.look_at_energies();
+    search.guide(&latest)
 }
 
 /// What a new search tells of questions that begin with this state of chance.
@@ -190,5 +201,8 @@ pub fn asked<N: OfProblem>(
         limits.seed,
         limits.bytes,
     )?;
+    if limits.is_helped {
+        help(task, &mut search)?;
+    }
     ask_each(task, &mut search, random, limits.conflicts)
 }

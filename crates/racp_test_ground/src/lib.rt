@@ -8,6 +8,8 @@ mod all_schedules;
 #[cfg(test)]
 mod asking;
 #[cfg(test)]
+mod behind;
+#[cfg(test)]
 mod bounds;
 #[cfg(test)]
 mod certificates;
@@ -15,6 +17,10 @@ mod certificates;
 mod conflicts;
 #[cfg(test)]
 mod descents;
+#[cfg(test)]
+mod fitting;
+#[cfg(test)]
+mod job_sets;
 #[cfg(test)]
 mod links;
 #[cfg(test)]

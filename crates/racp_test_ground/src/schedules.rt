@@ -1,6 +1,7 @@
 //! Drafts of small orders, and of random ones.
 
-use crate::samples::{Sample, sampled};
+use crate::samples::sampled;
+use crate::schedules::wishes::{WISHES, Wish, ordered};
 use racp_cpm::root;
 use racp_delay::Steps;
 use racp_drafts::{Effort, draft_of};
@@ -9,196 +10,7 @@ use racp_prices::{Order, due_times};
 use racp_samples::{Random, random_network, random_order};
 use std::alloc::{AllocError, Global};
 
-/// What an order says, each list up to its last number that is not as in an order of the first version.
-struct Wish {
-    name: &'static str,
-    sample: Sample,
-    deadline: u32,
-    prices: &'static [u32],
-    owned: &'static [u32],
-    ceilings: Option<&'static [u32]>,
-    release: &'static [u32],
-    due: &'static [u32],
-    /// What the draft costs, if there is one.
-    cost: Option<u64>,
-}
-
-/// Orders of which the cheapest plan is known by hand.
-const WISHES: &[Wish] = &[
-    Wish {
-        name: "three jobs in four time units",
-        sample: Sample::Parallel,
-        deadline: 4,
-        prices: &[10],
-        owned: &[],
-        ceilings: None,
-        release: &[],
-        due: &[],
-        cost: Some(30),
-    },
-    Wish {
-        name: "no slack",
-        sample: Sample::Parallel,
-        deadline: 3,
-        prices: &[10],
-        owned: &[],
-        ceilings: None,
-        release: &[],
-        due: &[],
-        cost: Some(40),
-    },
-    Wish {
-        name: "too long",
-        sample: Sample::Parallel,
-        deadline: 2,
-        prices: &[10],
-        owned: &[],
-        ceilings: None,
-        release: &[],
-        due: &[],
-        cost: None,
-    },
-    Wish {
-        name: "a release time",
-        sample: Sample::Parallel,
-        deadline: 5,
-        prices: &[10],
-        owned: &[],
-        ceilings: None,
-        release: &[0, 1],
-        due: &[],
-        cost: Some(20),
-    },
-    Wish {
-        name: "a due time",
-        sample: Sample::Parallel,
-        deadline: 5,
-        prices: &[10],
-        owned: &[],
-        ceilings: None,
-        release: &[],
-        due: &[5, 5, 2],
-        cost: Some(20),
-    },
-    Wish {
-        name: "two resources",
-        sample: Sample::Crossed,
-        deadline: 3,
-        prices: &[1, 1],
-        owned: &[],
-        ceilings: None,
-        release: &[],
-        due: &[],
-        cost: Some(3),
-    },
-    Wish {
-        name: "owned units",
-        sample: Sample::Crossed,
-        deadline: 3,
-        prices: &[1, 1],
-        owned: &[2],
-        ceilings: None,
-        release: &[],
-        due: &[],
-        cost: Some(1),
-    },
-    Wish {
-        name: "ceilings",
-        sample: Sample::Crossed,
-        deadline: 3,
-        prices: &[1, 1],
-        owned: &[],
-        ceilings: Some(&[2, 1]),
-        release: &[],
-        due: &[],
-        cost: Some(3),
-    },
-    Wish {
-        name: "ceilings that are too low",
-        sample: Sample::Crossed,
-        deadline: 3,
-        prices: &[1, 1],
-        owned: &[],
-        ceilings: Some(&[1, 1]),
-        release: &[],
-        due: &[],
-        cost: None,
-    },
-    Wish {
-        name: "a ceiling of what costs nothing",
-        sample: Sample::Parallel,
-        deadline: 7,
-        prices: &[0],
-        owned: &[],
-        ceilings: Some(&[2]),
-        release: &[],
-        due: &[],
-        cost: Some(0),
-    },
-    Wish {
-        name: "a chain",
-        sample: Sample::Chained,
-        deadline: 8,
-        prices: &[1],
-        owned: &[],
-        ceilings: None,
-        release: &[],
-        due: &[],
-        cost: Some(2),
-    },
-    Wish {
-        name: "a far deadline",
-        sample: Sample::Free(
-            1,
-            &[(10_000, &[7]), (10_000, &[5]), (9_999, &[7]), (0, &[9])],
-        ),
-        deadline: 10_000_000,
-        prices: &[1_000_000],
-        owned: &[],
-        ceilings: None,
-        release: &[],
-        due: &[],
-        cost: Some(7_000_000),
-    },
-];
-
-/// Puts this many numbers into a list: those given, and then the same one.
-fn fill(list: &mut Vec<u32>, first: &[u32], rest: u32, count: usize) -> Result<(), AllocError> {
-    for i in 0..count {
-        list.push(first.get(i).copied().unwrap_or(rest))?;
-    }
-    Ok(())
-}
-
-/// The ceilings of a wish.
-fn ceilings(alloc: Global, first: &[u32], count: usize) -> Result<Vec<u32>, AllocError> {
-    let mut list = Vec::new(alloc);
-    match fill(&mut list, first, 0, count) {
-        Ok(()) => Ok(list),
-        Err(fault) => {
-            drop(list);
-            Err(fault)
-        }
-    }
-}
-
-/// Puts what a wish says into an order.
-fn fill_order(
-    alloc: Global,
-    net: &Network,
-    wish: &Wish,
-    order: &mut Order,
-) -> Result<(), AllocError> {
-    let (resources, jobs) = (net.resource_count(), net.job_count());
-    fill(&mut order.prices, wish.prices, 0, resources)?;
-    fill(&mut order.owned, wish.owned, 0, resources)?;
-    fill(&mut order.release, wish.release, 0, jobs)?;
-    fill(&mut order.due, wish.due, wish.deadline, jobs)?;
-    if let Some(first) = wish.ceilings {
-        order.ceilings = Some(ceilings(alloc, first, resources)?);
-    }
-    Ok(())
-}
+mod wishes;
 
 /// An order of a deadline without entries.
 pub fn empty_order(alloc: Global, deadline: u32) -> Order {
@@ -209,18 +21,6 @@ pub fn empty_order(alloc: Global, deadline: u32) -> Order {
         ceilings: None,
         release: Vec::new(alloc),
         due: Vec::new(alloc),
-    }
-}
-
-/// The order that a wish is.
-fn ordered(alloc: Global, net: &Network, wish: &Wish) -> Result<Order, AllocError> {
-    let mut order = empty_order(alloc, wish.deadline);
-    match fill_order(alloc, net, wish, &mut order) {
-        Ok(()) => Ok(order),
-        Err(fault) => {
-            drop(order);
-            Err(fault)
-        }
     }
 }
 

@@ -17,32 +17,49 @@ const ENOUGH: u64 = 100_000;
 /// The bits of all questions.
 const ALL: u32 = 0xFF;
 
-/// A search with little memory, and some with few conflicts, which may leave questions open.
+/// A search with little memory; some with few conflicts, which may leave questions open; and some that are helped.
 const LIMITS: &[Limits] = &[
     Limits {
         conflicts: ENOUGH,
         bytes: 1_000_000,
         seed: 1,
+        is_helped: false,
     },
     Limits {
         conflicts: ENOUGH,
         bytes: 0,
         seed: 2,
+        is_helped: false,
     },
     Limits {
         conflicts: 0,
         bytes: 1_000_000,
         seed: 3,
+        is_helped: false,
     },
     Limits {
         conflicts: 1,
         bytes: 1_000_000,
         seed: 4,
+        is_helped: false,
     },
     Limits {
         conflicts: 2,
         bytes: 1_000_000,
         seed: 5,
+        is_helped: false,
+    },
+    Limits {
+        conflicts: ENOUGH,
+        bytes: 1_000_000,
+        seed: 6,
+        is_helped: true,
+    },
+    Limits {
+        conflicts: 2,
+        bytes: 1_000_000,
+        seed: 7,
+        is_helped: true,
     },
 ];
 

@@ -4,7 +4,7 @@ use Rattle.clap.specs.Words.{App, Row, Rule, Text, all_of, first_of, new_app, ne
 use Rattle.clap.specs.Lexer.{usize_max}
 use Rattle.clap.specs.declared.builder.action.ArgAction.TheVariants.{Append}
 use Rattle.racp_words.specs.Rules.{IsWorkerCount, flag_rule, lettered, number_rule, path_at, ranged_rule, text_rule}
-use Rattle.racp_words.specs.declared.request.BatchWords.{BatchWords}
+use Rattle.racp_words.specs.declared.table_requests.BatchWords.{BatchWords}
 
 -- one word or more
 abbrev pub files_rule : Text → Rule

@@ -1,15 +1,14 @@
 -- What the commands `show`, `report`, `curve`, `whatif`, `order`, `batch`, `import` and `explain` ask for.
-use Rattle.std.specs.Prelude.{◌≡◌, ◌≢◌, ℕ, List, Option, None, codes, false, true, Some}
-use Rattle.std.specs.Prelude.{option_map}
+use Rattle.std.specs.Prelude.{◌≡◌, ◌≢◌, ℕ, List, Option, None, codes, false, map, option_map, true, Some}
 use Rattle.clap.specs.Words.{App, IsUnsignedIn, Row, Text, first_of, new_app, new_rule, with_rule}
 use Rattle.racp_words.specs.Rules.{AreOrderFiles, ArePlanFiles, IsCrew, IsNumberOf, answering, by_workers, file_rule, flag_rule, is_set, number_in, number_rule, of_order, of_plan, of_workers, path_at, telling, text_rule}
 use Rattle.racp_show.specs.declared.form.Form.{Form}
 use Rattle.racp_show.specs.declared.form.Form.TheVariants.{Text as Blocks, Ascii, Svg, Json, Csv}
-use Rattle.racp_words.specs.Batches.{AreBatchWords}
+use Rattle.racp_words.specs.Batches.{AreBatchWords, files_rule, words_at}
 use Rattle.racp_words.specs.declared.request.Dates.{Dates}
 use Rattle.racp_words.specs.declared.request.Look.{Look}
 use Rattle.racp_words.specs.declared.request.NamedNet.{NamedNet}
-use Rattle.racp_words.specs.declared.request.TableWords.{TableWords}
+use Rattle.racp_words.specs.declared.table_requests.TableWords.{TableWords}
 use Rattle.racp_words.specs.declared.request.Terms.{Terms}
 use Rattle.racp_words.specs.declared.request.Tool.{Tool}
 use Rattle.racp_words.specs.declared.request.Tool.TheVariants.{Show, Report, Curve, WhatIf, Order, Batch, Import, Explain}
@@ -86,17 +85,17 @@ order_priced = with_rule (with_rule order_scaled (text_rule (codes "deadline")))
 abbrev pub order : App
 order = answering (with_rule (with_rule order_priced (text_rule (codes "owned"))) (text_rule (codes "ceiling")))
 
--- `import FILE --out PROJECT [--from FORMAT]`
+-- `import FILE.. --out PROJECT [--from FORMAT]`
 abbrev pub import_from : App
-import_from = with_rule (with_rule (with_rule (new_app (codes "import")) (file_rule (codes "FILE")))
+import_from = with_rule (with_rule (with_rule (new_app (codes "import")) (files_rule (codes "FILE")))
     (record (text_rule (codes "out")) { required = true })) (text_rule (codes "from"))
 
--- `import FILE --out PROJECT [--from FORMAT] [--prices N,..] [--factor F] [--deadline T]`
+-- `import FILE.. --out PROJECT [--from FORMAT] [--prices N,..] [--factor F] [--deadline T]`
 abbrev pub import_priced : App
 import_priced = with_rule (with_rule (with_rule import_from (text_rule (codes "prices"))) (text_rule (codes "factor")))
     (text_rule (codes "deadline"))
 
--- `import FILE --out PROJECT [--from FORMAT] [--prices N,..] [--factor F] [--deadline T] [--owned N,..] [--ceiling N,..]
+-- `import FILE.. --out PROJECT [--from FORMAT] [--prices N,..] [--factor F] [--deadline T] [--owned N,..] [--ceiling N,..]
 -- [--resources A,..] [--ignore A,..]`
 abbrev pub import_chosen : App
 import_chosen = with_rule (with_rule (with_rule (with_rule import_priced (text_rule (codes "owned"))) (text_rule (codes "ceiling")))
@@ -155,9 +154,9 @@ pub record AreTerms (words : List Row) (terms : Terms) : Type 0 where
   pub owned : option_map (λ word. word.now) terms.owned ≡ first_of (codes "owned") words
   pub ceiling : option_map (λ word. word.now) terms.ceiling ≡ first_of (codes "ceiling") words
 
--- the words for a table of tasks
+-- the words for tables of tasks
 pub record AreTableWords (words : List Row) (table : TableWords) : Type 0 where
-  pub file : table.file.now ≡ path_at (codes "FILE") words
+  pub files : map (λ file. file.now) table.files.items ≡ words_at (codes "FILE") words
   pub out : table.out.now ≡ path_at (codes "out") words
   pub from : option_map (λ word. word.now) table.from ≡ first_of (codes "from") words
   pub prices : option_map (λ word. word.now) table.prices ≡ first_of (codes "prices") words

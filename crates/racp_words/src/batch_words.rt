@@ -1,13 +1,13 @@
 //! The words of the command that writes a table of results.
 
-ghost use Rattle.std.specs.Prelude.{◌≡◌, IfOk, codes, map};
+ghost use Rattle.std.specs.Prelude.{IfOk};
 ghost use Rattle.clap.specs.Words.{found_of, rows_of};
-ghost use Rattle.racp_words.specs.Batches.{AreBatchWords, words_at};
+ghost use Rattle.racp_words.specs.Batches.{AreBatchWords};
 
 use crate::most::MOST_WORKERS;
-use crate::options::{path_of, text_of, worker_count};
-use crate::request::BatchWords;
+use crate::options::{path_of, paths_of, text_of, worker_count};
 use crate::table::{MEMORY, QUIET, Word};
+use crate::table_requests::BatchWords;
 use clap::ArgMatches;
 use std::alloc::{AllocError, Global};
 
@@ -52,7 +52,7 @@ pub(crate) fn batch_of<'a>(
 ) -> Result<BatchWords<'a>, AllocError>
     ensures { IfOk result (AreBatchWords (rows_of (found_of words.now))) }
 {
-    let nets = nets_of(alloc, words)?;
+    let nets = paths_of(alloc, words, "NET")?;
     Ok(BatchWords {
         nets,
         factors: path_of(words, "factors"),
@@ -61,17 +61,4 @@ pub(crate) fn batch_of<'a>(
         jobs: worker_count(text_of(words, "jobs")),
         out: text_of(words, "out"),
     })
-}
-
-/// The paths of the networks.
-fn nets_of<'a>(alloc: Global, words: &ArgMatches<'a>) -> Result<Vec<&'a str>, AllocError>
-    ensures { IfOk result (λ nets. map (λ net. net.now) nets.items ≡ words_at (codes "NET") (rows_of (found_of words.now))) }
-{
-    match words.get_strs("NET") {
-        Some(nets) => {
-            let nets = nets.to_vec(alloc)?;
-            Ok(nets)
-        }
-        None => Ok(Vec::new(alloc)),
-    }
 }

@@ -14,7 +14,8 @@ use crate::request::{
     OrderFiles, PlanFiles, ProofFiles, ReportWords, Request, Source, Task, Telling, Tool,
     WhatIfWords,
 };
-use crate::tool_words::{look_of, named_net, table_of, terms_of};
+use crate::table_words::table_of;
+use crate::tool_words::{look_of, named_net, terms_of};
 use clap::{ArgMatches, Error};
 use std::alloc::{AllocError, Global};
 
@@ -117,14 +118,18 @@ fn request_among<'a>(
     if name == "batch" {
         let table = batch_of(alloc, words)?;
         Ok(Request::Tool(Tool::Batch(table, memory_of(words))))
+    } else if name == "import" {
+        let tables = table_of(alloc, words)?;
+        Ok(Request::Tool(Tool::Import(tables)))
     } else {
         Ok(request_named(name, words))
     }
 }
 
-/// The same of a command other than `batch`.
+/// The same of a command other than `batch` and `import`.
 fn request_named<'a>(name: &str, words: &ArgMatches<'a>) -> Request<'a>
-    requires { name.now ≢ codes "batch" }
+    requires batch { name.now ≢ codes "batch" }
+    requires import { name.now ≢ codes "import" }
     ensures { IsRequested (Some (name.now, rows_of (found_of words.now))) result }
 {
     if name == "plan" {
@@ -144,9 +149,10 @@ fn request_named<'a>(name: &str, words: &ArgMatches<'a>) -> Request<'a>
     }
 }
 
-/// The tool with this name other than `batch` that these words ask for, if there is one of the name.
+/// The tool with this name other than `batch` and `import` that these words ask for, if there is one of the name.
 fn tool_named<'a>(name: &str, words: &ArgMatches<'a>) -> Option<Tool<'a>>
-    requires { name.now ≢ codes "batch" }
+    requires batch { name.now ≢ codes "batch" }
+    requires import { name.now ≢ codes "import" }
     ensures some { IfSome result (IsToolOf (name.now, rows_of (found_of words.now))) }
     ensures none { IfNone result (IsNoTool name.now) }
 {
@@ -173,8 +179,6 @@ fn tool_named<'a>(name: &str, words: &ArgMatches<'a>) -> Option<Tool<'a>>
         Some(Tool::WhatIf(order_files(words), options, memory_of(words), crew))
     } else if name == "order" {
         Some(Tool::Order(named_net(words), terms_of(words)))
-    } else if name == "import" {
-        Some(Tool::Import(table_of(words)))
     } else if name == "explain" {
         Some(Tool::Explain(text_of(words, "FORMAT"), text_of(words, "FAULT")))
     } else {

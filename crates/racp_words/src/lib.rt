@@ -23,7 +23,7 @@
 //! racp whatif a.sm a4.toml p               Tool, WhatIf with these paths, 1,024 MiB, one thread, and no names
 //! racp order a.sm --factor 1.2 --prices 3  Tool, Order with the path a.sm, no names, the factor 1.2 and the prices 3, as words
 //! racp batch a.sm b.sm --factors 1.0,1.5   Tool, Batch with the paths a.sm and b.sm, the word 1.0,1.5 and 1,024 MiB
-//! racp import t.csv --out t                Tool, Import with the path t.csv and the word t for the files
+//! racp import t.csv u.csv --out t          Tool, Import with the paths t.csv and u.csv and the word t for the files
 //! racp explain sm 12                       Tool, Explain with the words sm and 12
 //! racp plan b.sm b3.toml --workers 65      an error: this is no number from 0 to 64
 //! racp plan b.sm                           an error: a word is missing
@@ -65,12 +65,14 @@ mod most;
 mod options;
 mod request;
 mod table;
+mod table_requests;
 mod table_words;
 mod tool_words;
 mod tools;
 
 pub use command_line::asked;
 pub use request::{
-    BatchWords, CrewOptions, Dates, Look, Memory, NamedNet, OrderFiles, PlanFiles, ProofFiles,
-    ReportWords, Request, Source, TableWords, Task, Telling, Terms, Tool, WhatIfWords,
+    CrewOptions, Dates, Look, Memory, NamedNet, OrderFiles, PlanFiles, ProofFiles, ReportWords,
+    Request, Source, Task, Telling, Terms, Tool, WhatIfWords,
 };
+pub use table_requests::{BatchWords, TableWords};

@@ -1,13 +1,15 @@
 //! What the options of a command say.
 
-ghost use Rattle.std.specs.Prelude.{◌≡◌, ◌≤◌, option_map, codes};
+ghost use Rattle.std.specs.Prelude.{◌≡◌, ◌≤◌, IfOk, map, option_map, codes};
 ghost use Rattle.clap.specs.Words.{first_of, found_of, rows_of};
+ghost use Rattle.racp_words.specs.Batches.{words_at};
 ghost use Rattle.racp_words.specs.Tools.{AreDates};
 ghost use Rattle.racp_words.specs.Rules.{IsCrew, IsNumberOf, IsWorkerCount, is_set, path_at};
 
 use crate::most::{MOST_MEBIBYTES, MOST_TURNS, MOST_WORKERS};
 use crate::request::{CrewOptions, Dates, Memory};
 use clap::ArgMatches;
+use std::alloc::{AllocError, Global};
 
 /// How many mebibytes records are given if no option says so.
 const DEFAULT_MEBIBYTES: u64 = 1024;
@@ -19,6 +21,23 @@ pub(crate) fn path_of<'a>(words: &ArgMatches<'a>, id: &str) -> &'a str
     match words.get_str(id) {
         Some(path) => path,
         None => "",
+    }
+}
+
+/// The paths that words give, in their order.
+pub(crate) fn paths_of<'a>(
+    alloc: Global,
+    words: &ArgMatches<'a>,
+    id: &str,
+) -> Result<Vec<&'a str>, AllocError>
+    ensures { IfOk result (λ paths. map (λ path. path.now) paths.items ≡ words_at id.now (rows_of (found_of words.now))) }
+{
+    match words.get_strs(id) {
+        Some(paths) => {
+            let paths = paths.to_vec(alloc)?;
+            Ok(paths)
+        }
+        None => Ok(Vec::new(alloc)),
     }
 }
 

@@ -1,6 +1,14 @@
-//! The words of the command that reads a table of tasks, and those that others have too.
+//! The words of the command that reads tables of tasks, and those that others have too.
 
+ghost use Rattle.std.specs.Prelude.{IfOk};
+ghost use Rattle.clap.specs.Words.{found_of, rows_of};
+ghost use Rattle.racp_words.specs.Tools.{AreTableWords};
+
+use crate::options::{is_set, path_of, paths_of, text_of};
 use crate::table::{QUIET, Word};
+use crate::table_requests::TableWords;
+use clap::ArgMatches;
+use std::alloc::{AllocError, Global};
 
 /// The option for the date of the time 0.
 pub(crate) const START_DATE: Word<'static> = Word::Text(
@@ -32,9 +40,9 @@ pub(crate) const CEILING: Word<'static> = Word::Text(
 
 /// The words of `import`.
 pub(crate) const IMPORT: &[Word] = &[
-    Word::File(
+    Word::Files(
         "FILE",
-        "The table: rows and cells, CSV, or Patterson's format, .rcp",
+        "The table: rows and cells, CSV, or Patterson's format, .rcp; several are joined, and resources of one name are one",
     ),
     Word::Needed(
         "out",
@@ -44,7 +52,7 @@ pub(crate) const IMPORT: &[Word] = &[
     Word::Text(
         "from",
         "FORMAT",
-        "The format of the table, csv or rcp; else its first line tells",
+        "The format of each table, csv or rcp; else its first line tells",
     ),
     Word::Text(
         "prices",
@@ -87,3 +95,29 @@ pub(crate) const IMPORT: &[Word] = &[
     ),
     QUIET,
 ];
+
+/// The words for tables of tasks.
+pub(crate) fn table_of<'a>(
+    alloc: Global,
+    words: &ArgMatches<'a>,
+) -> Result<TableWords<'a>, AllocError>
+    ensures { IfOk result (AreTableWords (rows_of (found_of words.now))) }
+{
+    let files = paths_of(alloc, words, "FILE")?;
+    Ok(TableWords {
+        files,
+        out: path_of(words, "out"),
+        from: text_of(words, "from"),
+        prices: text_of(words, "prices"),
+        factor: text_of(words, "factor"),
+        deadline: text_of(words, "deadline"),
+        owned: text_of(words, "owned"),
+        ceiling: text_of(words, "ceiling"),
+        resources: text_of(words, "resources"),
+        ignored: text_of(words, "ignore"),
+        hours_a_day: text_of(words, "hours-a-day"),
+        unit: text_of(words, "unit"),
+        is_strict: is_set(words, "strict"),
+        is_forced: is_set(words, "force"),
+    })
+}

@@ -1,12 +1,12 @@
-//! What the words of `show`, `order` and `import` say.
+//! What the words of `show` and `order` say.
 
 ghost use Rattle.std.specs.Prelude.{◌≤◌, IfSome, codes};
 ghost use Rattle.clap.specs.Words.{first_of, found_of, rows_of};
-ghost use Rattle.racp_words.specs.Tools.{AreTableWords, AreTerms, IsForm, IsLook, IsNamedNet, IsWidth};
+ghost use Rattle.racp_words.specs.Tools.{AreTerms, IsForm, IsLook, IsNamedNet, IsWidth};
 
 use crate::most::MOST_WIDTH;
 use crate::options::{dates_of, is_set, number_of, path_of, text_of};
-use crate::request::{Look, NamedNet, TableWords, Terms};
+use crate::request::{Look, NamedNet, Terms};
 use clap::ArgMatches;
 use racp_show::Form;
 
@@ -70,27 +70,5 @@ pub(crate) fn terms_of<'a>(words: &ArgMatches<'a>) -> Terms<'a>
         prices: path_of(words, "prices"),
         owned: text_of(words, "owned"),
         ceiling: text_of(words, "ceiling"),
-    }
-}
-
-/// The words for a table of tasks.
-pub(crate) fn table_of<'a>(words: &ArgMatches<'a>) -> TableWords<'a>
-    ensures { AreTableWords (rows_of (found_of words.now)) result }
-{
-    TableWords {
-        file: path_of(words, "FILE"),
-        out: path_of(words, "out"),
-        from: text_of(words, "from"),
-        prices: text_of(words, "prices"),
-        factor: text_of(words, "factor"),
-        deadline: text_of(words, "deadline"),
-        owned: text_of(words, "owned"),
-        ceiling: text_of(words, "ceiling"),
-        resources: text_of(words, "resources"),
-        ignored: text_of(words, "ignore"),
-        hours_a_day: text_of(words, "hours-a-day"),
-        unit: text_of(words, "unit"),
-        is_strict: is_set(words, "strict"),
-        is_forced: is_set(words, "force"),
     }
 }

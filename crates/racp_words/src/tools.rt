@@ -146,7 +146,7 @@ pub(crate) const TOOLS: &[Line] = &[
     },
     Line {
         name: "import",
-        about: "Makes a network of a table of tasks, and an order if there are prices",
+        about: "Makes a network of a table of tasks, or of several, and an order if there are prices",
         words: IMPORT,
     },
     Line {

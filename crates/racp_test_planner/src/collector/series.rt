@@ -4,7 +4,8 @@ ghost use Rattle.std.specs.Prelude.{◌≡◌, length, IfOk, IfSome};
 ghost use Rattle.racp_candidates.specs.Box.{ArePrices, AreBounds};
 ghost use Rattle.racp_model.specs.Formed.{AreFormed, HasBounds};
 
-use crate::series::{Boxed, Parts, is_box, parts_of};
+use crate::series::boxes::Boxed;
+use crate::series::parts::{Parts, is_box, parts_of};
 use racp_candidates::Vectors;
 use racp_model::{Capacities, Network, Window};
 use racp_prices::Order;

@@ -1,71 +1,23 @@
 //! Calls of a collector, told one by one.
 
-ghost use Rattle.std.specs.Prelude.{◌≡◌, length, IfSome};
+ghost use Rattle.std.specs.Prelude.{◌≡◌};
 
+use crate::collector::calls::{Call, Heard, Known};
+use crate::collector::handing::{give_back, hand};
 use crate::collector::series::vectors;
-use crate::series::Boxed;
+use crate::series::boxes::Boxed;
 use racp_candidates::Vectors;
-use racp_core::{Asked, Core, Merged, Outcome, Reply, Verdict};
-use racp_cutset::{Board, Local};
-use racp_model::{Network, Never, OfNetwork, Question};
-use racp_samples::question;
-use racp_search::{Collector, Finding, Piece, explore};
+use racp_core::{Asked, Core, Outcome, Reply, Verdict};
+use racp_model::{Network, OfNetwork, Question};
+use racp_search::{Collector, Piece};
 use std::alloc::Global;
-
-/// In what a piece that comes in differs from the one that was taken.
-#[derive(Clone, Copy)]
-pub(crate) enum Change {
-    Nothing,
-    Number,
-    Seat,
-    Index,
-    NoIndex,
-    Capacities,
-    Window,
-}
-
-/// A call. Pieces are told by their number; a piece that is handed in was searched, where this many nodes at most were
-/// entered.
-#[derive(Clone, Copy)]
-pub(crate) enum Call {
-    Ask,
-    Take(usize),
-    Hand(usize, Change, Option<u64>),
-    GiveBack(usize, Change),
-    Halt,
-}
-
-/// What a call answers: the place of a question, the number of a piece and the place of its question, or why there is
-/// none. `Refused` is a call to which memory was refused when it was made once more.
-#[derive(Clone, Copy, PartialEq)]
-pub(crate) enum Heard {
-    Question(usize),
-    End,
-    Enough,
-    Piece(u64, u64),
-    Nothing,
-    Done,
-    Taken,
-    Stale,
-    Halted,
-    Refused,
-}
-
-/// What is known of the series: the place of the first yes, that there is none, or the place of the first open
-/// question.
-#[derive(Clone, Copy, PartialEq)]
-pub(crate) enum Known {
-    First(usize),
-    NoYes,
-    Pending(usize),
-}
 
 /// A piece that was taken, by its parts.
 #[derive(Drop)]
 pub(crate) struct Held {
-    number: u64,
-    seat: usize,
-    index: u64,
+    pub(crate) number: u64,
+    pub(crate) seat: usize,
+    pub(crate) index: u64,
     pub(crate) question: Question,
 }
 
@@ -171,135 +123,6 @@ fn kept<N: OfNetwork>(piece: Piece<N>, pieces: &mut Vec<Held>) -> Heard {
     match pieces.push(held) {
         Ok(_) => Heard::Piece(number, index),
         Err(_) => Heard::Refused,
-    }
-}
-
-/// The piece, with a change; or `None` if memory is refused.
-pub(crate) fn piece<N: OfNetwork>(
-    alloc: Global,
-    net: &Network,
-    held: &Held,
-    change: Change,
-) -> Option<Piece<N>>
-    ensures capacities { IfSome result (λ piece. length piece.question.capacities ≡ net.now.resources) }
-    ensures lower { IfSome result (λ piece. length piece.question.window.lower ≡ length net.now.jobs) }
-    ensures upper { IfSome result (λ piece. length piece.question.window.upper ≡ length net.now.jobs) }
-{
-    let (mut number, mut seat, mut index) = (held.number, held.seat, held.index);
-    let (window, times) = (&held.question.window, [0, 0, 1, 1, 2, 3]);
-    let mut units = held.question.capacities.as_slice();
-    let (mut lower, mut upper) = (window.lower(), window.upper());
-    match change {
-        Change::Nothing => {}
-        Change::Number => number = number.wrapping_add(1),
-        Change::Seat => seat = seat.wrapping_add(1),
-        Change::Index => index ^= 1,
-        Change::NoIndex => index = index.wrapping_add(9),
-        Change::Capacities => units = &[3, 3],
-        Change::Window => (lower, upper) = (&times, &times),
-    }
-    match question(alloc, net, units, lower, upper) {
-        Ok(asked) => Some(Piece::new(number, seat, index, asked)),
-        Err(_) => None,
-    }
-}
-
-fn hand<N: OfNetwork>(
-    alloc: Global,
-    net: &Network,
-    trial: &mut Trial<N>,
-    at: usize,
-    change: Change,
-    quantum: Option<u64>,
-) -> Heard
-    requires { net.now ≡ N.network }
-{
-    let Some(held) = trial.pieces.get(at) else {
-        return Heard::Stale;
-    };
-    match explored(alloc, net, held, change, quantum) {
-        Some(finding) => hand_in(&mut trial.core, finding),
-        None => Heard::Refused,
-    }
-}
-
-/// Hands a finding in, and hands it in once more if memory is refused.
-fn hand_in<N: OfNetwork>(core: &mut Core<N, Vectors>, finding: Finding<N>) -> Heard {
-    let finding = match core.hand(finding) {
-        Ok(merged) => return of_merged(merged),
-        Err((finding, _)) => finding,
-    };
-    match core.hand(finding) {
-        Ok(merged) => of_merged(merged),
-        Err((finding, _)) => {
-            let _ = finding.into_found();
-            Heard::Refused
-        }
-    }
-}
-
-/// What a search of the piece finds, with a change. It is searched once more if memory is refused.
-fn explored<N: OfNetwork>(
-    alloc: Global,
-    net: &Network,
-    held: &Held,
-    change: Change,
-    quantum: Option<u64>,
-) -> Option<Finding<N>>
-    requires { net.now ≡ N.network }
-{
-    if let Some(finding) = explored_once(alloc, net, held, change, quantum) {
-        if !finding.short() {
-            return Some(finding);
-        }
-        let _ = finding.into_found();
-    }
-    explored_once(alloc, net, held, change, quantum)
-}
-
-fn explored_once<N: OfNetwork>(
-    alloc: Global,
-    net: &Network,
-    held: &Held,
-    change: Change,
-    quantum: Option<u64>,
-) -> Option<Finding<N>>
-    requires { net.now ≡ N.network }
-{
-    let Ok(board) = Board::new(alloc, net) else {
-        return None;
-    };
-    let mut local: Local<N> = Local::new(alloc, net);
-    match piece(alloc, net, held, change) {
-        Some(piece) => Some(explore(alloc, net, piece, quantum, &board, &mut local, &Never)),
-        None => None,
-    }
-}
-
-fn give_back<N: OfNetwork>(
-    alloc: Global,
-    net: &Network,
-    trial: &mut Trial<N>,
-    at: usize,
-    change: Change,
-) -> Heard {
-    let Some(held) = trial.pieces.get(at) else {
-        return Heard::Stale;
-    };
-    let given = match piece(alloc, net, held, change) {
-        Some(given) => given,
-        None => match piece(alloc, net, held, change) {
-            Some(given) => given,
-            None => return Heard::Refused,
-        },
-    };
-    of_merged(trial.core.give_back(given))
-}
-
-pub(crate) fn of_merged(merged: Merged) -> Heard {
-    match merged {
-        Merged::Taken => Heard::Taken,
-        Merged::Stale => Heard::Stale,
     }
 }
 

@@ -3,7 +3,7 @@
 ghost use Rattle.std.specs.Prelude.{◌≡◌, ◌<◌};
 ghost use Rattle.racp_model.specs.Formed.{AreFormed};
 
-use crate::collector::trial::Heard;
+use crate::collector::calls::Heard;
 use crate::desk::series::units_of_the_first;
 use crate::desk::trial::Call::{Ask, GiveBack, Halt, Hand, Take};
 use crate::desk::trial::How::{NextSeat, Stopped, Whole};

@@ -4,20 +4,16 @@ ghost use Rattle.std.specs.Prelude.{IfSome};
 ghost use Rattle.racp_model.specs.Formed.{AreFormed};
 
 use crate::collector::series::vectors;
-use crate::series::Boxed;
+use crate::series::boxes::{Boxed, UNITS_OF_TWO};
 use racp_candidates::Vectors;
 use racp_model::Network;
 use std::alloc::Global;
 
 /// The vectors of 0, 1, 2 and 3 units of the first resource beside none of the second, if each unit costs 1.
 const NONE: Boxed = Boxed {
-    prices: &[1, 1],
-    owned: &[0, 0],
     floors: &[0, 0],
     roofs: &[3, 0],
-    pairs: &[],
-    vectors: &[],
-    all: false,
+    ..UNITS_OF_TWO
 };
 
 /// Beside one, and beside two.

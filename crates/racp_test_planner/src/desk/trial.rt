@@ -2,7 +2,9 @@
 
 ghost use Rattle.std.specs.Prelude.{◌≡◌, ◌<◌, ◌≤◌, IfSome};
 
-use crate::collector::trial::{Change, Heard, Held, has_room, of_asked, of_merged, piece, told_of};
+use crate::collector::calls::{Change, Heard};
+use crate::collector::handing::{of_merged, piece};
+use crate::collector::trial::{Held, has_room, of_asked, told_of};
 use crate::desk::stops::AtCall;
 use racp_candidates::Vectors;
 use racp_cutset::{Board, Local};

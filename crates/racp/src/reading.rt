@@ -1,0 +1,51 @@
+//! How the words of `import` say that tables are read, and what the files are called.
+
+use crate::failure::OptionFault;
+use racp_tables::{Format, Reading, Scale};
+use racp_words::TableWords;
+
+/// How the words say that a table is read.
+pub(crate) fn reading_of<'a>(words: &TableWords<'a>) -> Result<Reading<'a>, OptionFault> {
+    let hours_a_day = match words.hours_a_day {
+        Some(word) => word.parse().ok(),
+        None => None,
+    };
+    Ok(Reading {
+        format: format_of(words.from)?,
+        resources: words.resources,
+        ignored: words.ignored,
+        scale: Scale {
+            hours_a_day,
+            is_half_day: is_half_day(words.unit)?,
+        },
+    })
+}
+
+/// The format with this name, if one is named.
+fn format_of(word: Option<&str>) -> Result<Option<Format>, OptionFault> {
+    match word {
+        None => Ok(None),
+        Some("csv") => Ok(Some(Format::Csv)),
+        Some("rcp") => Ok(Some(Format::Rcp)),
+        Some(_) => Err(OptionFault::Format),
+    }
+}
+
+/// Whether a time unit that is called so is half a day.
+fn is_half_day(word: Option<&str>) -> Result<bool, OptionFault> {
+    match word {
+        None => Ok(false),
+        Some("day") => Ok(false),
+        Some("half-day") => Ok(true),
+        Some(_) => Err(OptionFault::HalfDay),
+    }
+}
+
+/// How the paths of the files begin, by a word that may be the path of the network.
+pub(crate) fn project_of(word: &str) -> Result<&str, OptionFault> {
+    let out = word.strip_suffix(".sm").unwrap_or(word);
+    if out.is_empty() || out.ends_with('/') {
+        return Err(OptionFault::Project);
+    }
+    Ok(out)
+}

@@ -1,9 +1,0 @@
-use Rattle.std.proofs.Common.{◌≡◌, ℕ, List, IfOk, string_bytes, subst, rules}
-use Rattle.std.specs.Io.{StartsWith}
-use Rattle.racp_explain.specs.Causes.{line_place, placed_head}
-use Rattle.racp_explain.proofs.cause.line_text.Goals as goal
-
-pub returns : goal.returns
-returns c =
-    let place_is : c.as_str.result.now ≡ line_place c.args.line = search rules in
-    subst (λ (place : List ℕ). IfOk c.placed.result (λ text. StartsWith (string_bytes text) (placed_head c.args.name.now place c.args.format.now c.args.number c.args.fault.now))) place_is c.placed.ensures

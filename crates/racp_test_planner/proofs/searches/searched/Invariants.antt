@@ -1,4 +1,0 @@
-use Rattle.racp_test_planner.proofs.searches.searched.Given as goal
-
-abbrev pub ghosts-searched_named : goal.ghosts-searched_named
-ghosts-searched_named a = record { network = a.net.now }
