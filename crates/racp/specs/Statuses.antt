@@ -44,12 +44,12 @@ IsStatusOf (Stream fault) status = status ≡ fault_status fault
 IsStatusOf (Told fault words) status = status ≡ fault_status fault
 IsStatusOf (Refused words) status = status ≡ 5
 
--- the status of a table that is written: what a row lacked tells it, and else 0 says that each case has a row, and 4 that the
--- user wanted a stop before; where the file of a plan cannot be written, there is a failure in place of it
+-- the status of a table that is written: what a row lacked, or the file of its plan, tells it, and else 0 says that each case has
+-- a row, and 4 that the user wanted a stop before
 abbrev pub IsStatusBy : Bool → Option Lack → ℕ → Type 0
 IsStatusBy is_whole (Some Memory) status = status ≡ 6
 IsStatusBy is_whole (Some Thread) status = status ≡ 7
-IsStatusBy is_whole (Some Write) status = ⊥
+IsStatusBy is_whole (Some Write) status = status ≡ 7
 IsStatusBy is_whole None status = status ≡ (if is_whole then 0 else 4)
 
 -- the same of a table that ended so; there is a failure where it has no end

@@ -183,7 +183,8 @@ fn status_by(is_whole: bool, lack: Option<Lack>) -> Result<u8, Failure>
     match lack {
         Some(Lack::Memory) => Ok(OUT_OF_MEMORY),
         Some(Lack::Thread) => Ok(STREAM_FAILED),
-        Some(Lack::Write) => Err(Failure::Stream(StreamFault::Write)),
+        // Standard error has told which file it is.
+        Some(Lack::Write) => Ok(STREAM_FAILED),
         None => Ok(if is_whole { DONE } else { STOPPED }),
     }
 }

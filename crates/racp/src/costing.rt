@@ -5,6 +5,7 @@ ghost use Rattle.racp.specs.Statuses.{IsStatusOfTool};
 
 use crate::asks::Asks;
 use crate::begun::Begun;
+use crate::best::test_best;
 use crate::failure::Failure;
 use crate::inputs::Inputs;
 use crate::limit::Limit;
@@ -43,6 +44,9 @@ pub(crate) fn curve<R: Crewed>(
 {
     let paths = [Some(files.net), Some(files.order)];
     let inputs = Inputs::read(rt, &paths)?;
+    if let Some(crew) = costing.making.crew {
+        test_best(rt, crew.best)?;
+    }
     curve_told(rt, &inputs.text(0), &inputs.text(1), costing)
 }
 

@@ -46,9 +46,16 @@ impl<'a, R: Files + Eprint + AllocGlobal + Drop> Keeping<'a, R> {
         }
     }
 
-    /// What the last row lacked of those that lacked something.
+    /// What the first row lacked of those that lacked something.
     pub(crate) fn lack(&self) -> Option<Lack> {
         self.lack.get()
+    }
+
+    /// Notes that a row lacked this.
+    fn note(&self, lack: Lack) {
+        if self.lack.get().is_none() {
+            self.lack.set(Some(lack));
+        }
     }
 
     /// Keeps the plan of a case in the folder.
@@ -57,10 +64,10 @@ impl<'a, R: Files + Eprint + AllocGlobal + Drop> Keeping<'a, R> {
         match (path_of(alloc, folder, case), write_plan(alloc, plan)) {
             (Ok(path), Ok(text)) => {
                 if !keep(&self.host, &path, &text) {
-                    self.lack.set(Some(Lack::Write));
+                    self.note(Lack::Write);
                 }
             }
-            _ => self.lack.set(Some(Lack::Memory)),
+            _ => self.note(Lack::Memory),
         }
     }
 }
@@ -77,8 +84,8 @@ impl<'a, R: Files + Eprint + AllocGlobal + Drop> Host for Keeping<'a, R> {
                     self.keep_plan(folder, case, plan);
                 }
             }
-            Row::Memory => self.lack.set(Some(Lack::Memory)),
-            Row::NoThread => self.lack.set(Some(Lack::Thread)),
+            Row::Memory => self.note(Lack::Memory),
+            Row::NoThread => self.note(Lack::Thread),
             Row::Late { .. } => {}
             Row::Refused => {}
         }

@@ -3,6 +3,7 @@
 ghost use Rattle.std.specs.Prelude.{IfOk};
 ghost use Rattle.racp.specs.Statuses.{IsStatusOfAnswer};
 
+use crate::best::test_best;
 use crate::crewing::{Made, plan_kept};
 use crate::failure::Failure;
 use crate::inputs::Inputs;
@@ -26,6 +27,9 @@ pub(crate) fn plan<R: Crewed>(
 {
     let paths = [Some(files.net), Some(files.order)];
     let inputs = Inputs::read(rt, &paths)?;
+    if let Some(crew) = making.crew {
+        test_best(rt, crew.best)?;
+    }
     plan_told(rt, &inputs.text(0), &inputs.text(1), making)
 }
 
