@@ -9,7 +9,7 @@ use crate::inputs::Inputs;
 use crate::limit::Limit;
 use crate::listener::{Kept, Listener};
 use crate::machine::Crewed;
-use crate::making::{Making, one_worker, worker_count};
+use crate::making::{Making, memory_of, one_worker, worker_count};
 use crate::telling::{Manner, end};
 use racp_cli::{StreamFault, WhatIfTexts, whatif_to};
 use racp_desk::Open;
@@ -111,10 +111,11 @@ fn written_to<'a, R: Crewed, W: Write>(
         kept,
         &best,
     );
+    let count = worker_count(rt, crew.workers);
     let workers = Crew {
-        workers: worker_count(rt, crew.workers),
+        workers: count,
         turns: crew.turns,
-        memory: making.memory.mebibytes,
+        memory: memory_of(making.memory, count),
         gate: &Open,
         stop: &limit,
         observer: &listener,

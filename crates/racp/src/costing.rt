@@ -11,7 +11,7 @@ use crate::inputs::Inputs;
 use crate::limit::Limit;
 use crate::listener::{Kept, Listener};
 use crate::machine::Crewed;
-use crate::making::{Making, crew_of, progress_of, worker_count};
+use crate::making::{Making, crew_of, memory_of, progress_of, worker_count};
 use crate::progress::Progress;
 use crate::telling::{Manner, end};
 use racp_cli::{StreamFault, curve_crowd_over, curve_over};
@@ -180,10 +180,11 @@ fn curve_by<R: Crewed, W: Write>(
         kept,
         &best,
     );
+    let count = worker_count(rt, crew.workers);
     let workers = Crew {
-        workers: worker_count(rt, crew.workers),
+        workers: count,
         turns: crew.turns,
-        memory: making.memory.mebibytes,
+        memory: memory_of(making.memory, count),
         gate: &Open,
         stop: &limit,
         observer: &listener,

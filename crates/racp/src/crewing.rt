@@ -8,7 +8,7 @@ use crate::best::keep;
 use crate::limit::Limit;
 use crate::listener::{Kept, Listener};
 use crate::machine::Crewed;
-use crate::making::{Making, progress_of, worker_count};
+use crate::making::{Making, memory_of, progress_of, worker_count};
 use racp_by_questions::Effort;
 use racp_cli::{DONE, STOPPED, StreamFault, crowd_over_by};
 use racp_desk::Open;
@@ -122,10 +122,11 @@ fn plan_by<'a, R: Crewed, W: Write>(
         kept,
         &best,
     );
+    let count = worker_count(rt, crew.workers);
     let workers = racp_lexfix::Crew {
-        workers: worker_count(rt, crew.workers),
+        workers: count,
         turns: crew.turns,
-        memory: making.memory.mebibytes,
+        memory: memory_of(making.memory, count),
         gate: &Open,
         stop: &limit,
         observer: &listener,

@@ -1,6 +1,6 @@
 //! How plans are made.
 
-ghost use Rattle.std.specs.Prelude.{◌≤◌};
+ghost use Rattle.std.specs.Prelude.{◌≡◌, ◌≤◌, ◌+◌, if◌then◌else◌, max, nat_lt};
 
 use crate::asks::Asks;
 use crate::failure::OptionFault;
@@ -95,6 +95,20 @@ pub(crate) fn worker_count<R: Threads>(rt: &R, asked: usize) -> usize
     match thread::available_parallelism(rt) {
         Ok(count) => count.get().clamp(1, MOST_WORKERS),
         Err(_) => 1,
+    }
+}
+
+/// How many mebibytes so many workers take: as many as are asked for, and at least one for each of several, and one more for
+/// what they share. With less each would forget what it learns before that is of use.
+pub(crate) fn memory_of(asked: Memory, workers: usize) -> usize
+    requires { workers ≤ 64 }
+    ensures enough { result ≡ if nat_lt workers 2 then asked.mebibytes else max asked.mebibytes (workers + 1) }
+    ensures few { result ≤ 1048576 }
+{
+    if workers < 2 {
+        asked.mebibytes
+    } else {
+        asked.mebibytes.max(workers + 1)
     }
 }
 
