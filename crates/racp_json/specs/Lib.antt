@@ -1,3 +1,4 @@
 pub mod Lines
 pub mod Curves
 pub mod Plans
+pub mod Stops

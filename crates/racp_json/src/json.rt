@@ -1,12 +1,12 @@
 //! Answers as JSON.
 
-use crate::bound::bound_of;
 use crate::curve::{Step, steps_of};
 use crate::early::{Early, early_of};
 use crate::fault::{fault_of, refusal_of};
 use crate::line::rows_of;
 use crate::order::{Terms, terms_of};
 use crate::sheet::sheet_of_plan;
+use crate::stop::stop_of;
 use crate::told::{Command, Told, Words};
 use crate::work::Work;
 use racp_show::{Names, Sheet};
@@ -48,17 +48,6 @@ struct PlanAnswer<'a> {
     status: &'static str,
     #[serde(flatten)]
     plan: Sheet<'a>,
-    #[serde(flatten)]
-    work: Work,
-}
-
-/// A plan that is not known.
-#[derive(Drop, Serialize)]
-struct StopAnswer<'a> {
-    status: &'static str,
-    not_before: Vec<u64>,
-    bound: Option<u64>,
-    best: Option<Sheet<'a>>,
     #[serde(flatten)]
     work: Work,
 }
@@ -180,13 +169,7 @@ fn stopped_plan(
     not_before: Vec<u64>,
 ) -> Result<String, AllocError> {
     let names = Names::none(alloc);
-    let answer = StopAnswer {
-        status: "stopped",
-        bound: bound_of(alloc, told.net, told.order, &not_before)?,
-        not_before,
-        best: sheet_of_plan(alloc, told.net, told.order, told.best, &names)?,
-        work: told.work,
-    };
+    let answer = stop_of(alloc, told, not_before, &names)?;
     written(alloc, &answer)
 }
 

@@ -19,9 +19,9 @@
 //! ```
 //!
 //! Proved: a line's numbers and words are exactly its own, in their order; the steps of a curve, the critical length and
-//! the early starts, and the capacities of a stop are those of the lines of the text; the cost of these capacities is that on
-//! the order's terms; the sheet of a plan is that of the network, the order and the plan that the three texts are read as. All
-//! of them return. Tested alone: which object belongs to which text, and the text of the JSON, which rests on what `serde`
+//! the early starts, and the capacities of a stop are those of the lines of the text; the cost of these capacities, which is the
+//! bound of a stop, is that on the order's terms; the sheet of a plan is that of the network, the order and the plan that the three
+//! texts are read as, and so is that of the best plan of a stop. All of them return. Tested alone: which object belongs to which text, and the text of the JSON, which rests on what `serde`
 //! derives.
 #![tactic(auto)]
 
@@ -33,6 +33,7 @@ mod json;
 mod line;
 mod order;
 mod sheet;
+mod stop;
 mod told;
 mod work;
 
