@@ -18,6 +18,6 @@ memory_right turns quiet is_json net order (Some plan) names = inr (record { fau
 -- what is written where planning ended early
 pub stop_beside : (turns : ℕ) (quiet is_json : Bool) (network : Project) (terms : Terms) (names : List (List ℕ)) (stop : PlanStop) (status : ℕ) (text : List ℕ) → IsCrowdStop turns quiet network terms stop → IsStopTold stop status text →
     IsBesideOwn turns quiet is_json network terms names status text
-stop_beside turns quiet is_json network terms names (Stopped not_before) status text end told = inr (inr (inl (record { not_before = not_before; may_stop = end.0; none = end.1; with_status = sym told.0; with_text = sym told.1 })))
+stop_beside turns quiet is_json network terms names (Stopped not_before) status text end told = inr (inr (inl (record { not_before = not_before; may_stop = end.0; none = end.1; floors = end.2; with_status = sym told.0; with_text = sym told.1 })))
 stop_beside turns quiet is_json network terms names Memory status text end told = absurd told
 stop_beside turns quiet is_json network terms names NoThread status text end told = inr (inr (inr (sym told.0, sym told.1)))

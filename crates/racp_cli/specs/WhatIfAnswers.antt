@@ -6,7 +6,7 @@ use Rattle.racp_model.specs.Terms.{Terms}
 use Rattle.racp_plan.specs.declared.plan.Plan.{Plan}
 use Rattle.racp_plan.specs.Plans.{IsPlanOf}
 use Rattle.racp_by_questions.specs.Crowds.{MayStop}
-use Rattle.racp_by_questions.specs.Stops.{IsNotAfterEnough}
+use Rattle.racp_by_questions.specs.Stops.{AreAboveFloors, IsNotAfterEnough}
 use Rattle.racp_check.specs.PlanFaults.{IsChecked}
 use Rattle.racp_show.specs.Called.{are_names_for, names_of}
 use Rattle.racp_whatif.specs.Lines.{findings_text}
@@ -41,11 +41,13 @@ abbrev pub IsBeside : ℕ → Bool → Bool → Project → Terms → Plan → L
 IsBeside turns quiet is_json network terms base names status text =
     IsToldBeside turns quiet is_json network terms base names status text ⊎ IsNoThreadLine status text
 
--- the plan of the order was not made, by workers that may stop: the line tells capacities before which none are enough
+-- the plan of the order was not made, by workers that may stop: the line tells capacities at or above the floors, before which none
+-- are enough
 pub record IsTextOfStop (turns : ℕ) (quiet : Bool) (network : Project) (terms : Terms) (status : ℕ) (text : List ℕ) : Type 0 where
   pub not_before : List ℕ
   pub may_stop : MayStop network quiet turns
   pub none : IsNotAfterEnough network terms not_before
+  pub floors : AreAboveFloors network terms not_before
   pub with_status : status ≡ 4
   pub with_text : text ≡ stopped_line not_before
 
