@@ -152,7 +152,7 @@ pub(crate) fn report<R: Print + Eprint>(rt: &R, failure: Failure) -> u8
 /// Prints why a table is refused, if that is said.
 fn report_refusal(rt: &impl Eprint, words: &str) {
     if !words.is_empty() {
-        let _ = rt.eprintln(Shown::of(words));
+        let _ = rt.eprintln(Shown::of(words.trim_end()));
     }
 }
 
