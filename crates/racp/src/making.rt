@@ -1,6 +1,6 @@
 //! How plans are made.
 
-ghost use Rattle.std.specs.Prelude.{◌≡◌, ◌≤◌, ◌+◌, if◌then◌else◌, max, nat_lt};
+ghost use Rattle.std.specs.Prelude.{◌≡◌, ◌≤◌, ◌+◌, ◌⊎◌};
 
 use crate::asks::Asks;
 use crate::failure::OptionFault;
@@ -102,13 +102,16 @@ pub(crate) fn worker_count<R: Threads>(rt: &R, asked: usize) -> usize
 /// what they share. With less each would forget what it learns before that is of use.
 pub(crate) fn memory_of(asked: Memory, workers: usize) -> usize
     requires { workers ≤ 64 }
-    ensures enough { result ≡ if nat_lt workers 2 then asked.mebibytes else max asked.mebibytes (workers + 1) }
+    ensures kept { asked.mebibytes ≤ result }
+    ensures enough { 2 ≤ workers → workers + 1 ≤ result }
+    ensures least { (result ≡ asked.mebibytes) ⊎ ((2 ≤ workers) × (result ≡ workers + 1)) }
     ensures few { result ≤ 1048576 }
 {
-    if workers < 2 {
+    let least = workers + 1;
+    if workers < 2 || least < asked.mebibytes {
         asked.mebibytes
     } else {
-        asked.mebibytes.max(workers + 1)
+        least
     }
 }
 
