@@ -8,32 +8,26 @@ use crate::known::Known;
 use crate::progress::Progress;
 use racp_json::Work;
 use racp_model::Stop;
-use std::rt::Files;
-use std::sync::atomic::{AtomicU64, Ordering};
 use std::time::{Clock, Duration};
-
-/// How many milliseconds lie between two looks whether the user has asked for a stop, at least.
-const PERIOD: u64 = 100;
 
 /// Stops a command when so much time has passed since it was made, or when the user asks so; without either it never does.
 /// If there is a limit and the clock cannot be read, it stops at once. Each time that it is asked counts as a node of the
 /// search, of which it tells on standard error if that is wanted.
 #[derive(Drop)]
-pub(crate) struct Limit<R: Clock + Files + Eprint + Drop> {
-    host: R,
+pub(crate) struct Limit<C: Clock + Eprint + Drop> {
+    host: C,
     limit: Option<Duration>,
     begun: Begun,
     progress: Option<Progress>,
     known: Known,
     asks: Option<Asks>,
-    due: AtomicU64,
 }
 
-impl<R: Clock + Files + Eprint + Drop> Limit<R> {
+impl<C: Clock + Eprint + Drop> Limit<C> {
     /// A limit of this time from now on, or none, which counts and tells as this says, or does not, with the file
     /// by which the user asks for a stop, if there is one.
     pub(crate) fn of(
-        host: R,
+        host: C,
         limit: Option<Duration>,
         progress: Option<Progress>,
         asks: Option<Asks>,
@@ -46,7 +40,6 @@ impl<R: Clock + Files + Eprint + Drop> Limit<R> {
             progress,
             known: Known::new(),
             asks,
-            due: AtomicU64::new(0),
         }
     }
 
@@ -89,29 +82,9 @@ impl<R: Clock + Files + Eprint + Drop> Limit<R> {
             (Some(_), None) => true,
         }
     }
-
-    /// Whether the user has asked for a stop, as far as that was looked at.
-    fn is_asked(&self) -> bool {
-        self.known.is_asked()
-    }
-
-    /// Looks whether the user has asked for a stop, if that is due when so much time has passed.
-    fn look(&self, passed: Option<Duration>) {
-        let (Some(asks), Some(passed)) = (&self.asks, passed) else {
-            return;
-        };
-        let now = u64::try_from(passed.as_millis()).unwrap_or(u64::MAX);
-        if now < self.due.load(Ordering::SeqCst) {
-            return;
-        }
-        self.due.store(now.saturating_add(PERIOD), Ordering::SeqCst);
-        if asks.are_made(&self.host) {
-            self.known.note_asked();
-        }
-    }
 }
 
-impl<R: Clock + Files + Eprint + Drop> Stop for Limit<R> {
+impl<C: Clock + Eprint + Drop> Stop for Limit<C> {
     ghost use Rattle.std.specs.Prelude.{◌&&◌, false, is_none};
     ghost use Rattle.std.proofs.Common.{rules};
 
@@ -124,16 +97,18 @@ impl<R: Clock + Files + Eprint + Drop> Stop for Limit<R> {
     const QUIET: bool = false;
 
     fn asked(&self) -> bool {
-        if self.limit.is_none() && self.asks.is_none() && self.progress.is_none() {
+        if self.asks.is_some() && self.known.is_asked() {
+            return true;
+        }
+        if self.limit.is_none() && self.progress.is_none() {
             return false;
         }
         let passed = self.begun.passed(&self.host);
-        self.look(passed);
         if let (Some(progress), Some(passed)) = (&self.progress, passed) {
             if progress.count(passed) {
                 progress.tell(&self.host, passed, &self.known);
             }
         }
-        (self.asks.is_some() && self.is_asked()) || self.is_over(passed)
+        self.is_over(passed)
     }
 }
