@@ -1,7 +1,8 @@
 //! When the planning of a row stops.
 
+use crate::heard::Heard;
 use racp_model::Stop;
-use std::sync::atomic::{AtomicBool, AtomicU64, Ordering};
+use std::sync::atomic::{AtomicBool, Ordering};
 use std::time::{Clock, Duration, Instant};
 
 /// Tells whether all rows are to stop.
@@ -24,7 +25,7 @@ pub(crate) struct Until<C: Clock + Drop, H: Halt + Drop> {
     begun: Option<Instant>,
     limit: Option<Duration>,
     halt: H,
-    nodes: AtomicU64,
+    heard: Heard,
 }
 
 impl<C: Clock + Drop, H: Halt + Drop> Until<C, H> {
@@ -36,13 +37,13 @@ impl<C: Clock + Drop, H: Halt + Drop> Until<C, H> {
             begun,
             limit,
             halt,
-            nodes: AtomicU64::new(0),
+            heard: Heard::new(),
         }
     }
 
-    /// How often it was asked: once for each node.
-    pub(crate) fn nodes(&self) -> u64 {
-        self.nodes.load(Ordering::SeqCst)
+    /// What is heard of the plan.
+    pub(crate) fn heard(&self) -> &Heard {
+        &self.heard
     }
 
     /// How many thousandths of a second have passed, if the clock can be read.
@@ -79,7 +80,7 @@ impl<C: Clock + Drop, H: Halt + Drop> Stop for Until<C, H> {
     const QUIET: bool = false;
 
     fn asked(&self) -> bool {
-        let _ = self.nodes.fetch_add(1, Ordering::SeqCst);
+        self.heard.note_node();
         self.halt.is_set() || self.is_over()
     }
 }

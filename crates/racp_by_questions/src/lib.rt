@@ -35,8 +35,7 @@
 //! a bound on its nodes has as many turns as they make such pieces, and so has each of those that come next. A question
 //! by itself is looked at by one worker first, over 16 nodes, before threads are started for the others.
 //!
-//! An asker is an observer too: it is told floors, what they cost, and what capacities that are enough cost at least. `Crowd` tells
-//! its own observer what it is told.
+//! An `Observer` is told how far planning has come, by the thread that plans.
 //!
 //! ```text
 //! planner  --series-->  Alone  --pieces-->  a search
@@ -99,7 +98,7 @@ mod cut;
 mod found;
 mod halving;
 mod known;
-mod news;
+mod observer;
 mod one_question;
 mod settling;
 mod span;
@@ -114,6 +113,7 @@ pub use alone::Alone;
 pub use bounds::{Ends, first_ends};
 pub use crowd::{Crowd, Effort, OfTurns};
 pub use found::found_by_questions;
+pub use observer::{Observer, Pricing, Unheard};
 pub use racp_bounds::Sharp;
 pub use stop::PlanStop;
 pub use task::Task;

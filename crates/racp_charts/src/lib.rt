@@ -45,7 +45,6 @@ mod parts;
 mod plan_picture;
 mod row;
 mod style;
-mod times;
 
 pub use axis::Span;
 pub use choice::Choice;

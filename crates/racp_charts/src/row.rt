@@ -7,8 +7,7 @@ ghost use Rattle.racp_charts.specs.Elements.{shape_class};
 use crate::axis::Span;
 use crate::escape::push_escaped;
 use crate::names::{push_name, push_predecessors, push_short, push_within};
-use crate::times::push_times;
-use racp_calendar::Calendar;
+use racp_calendar::{Calendar, push_time};
 use racp_show::{Predecessor, Row, Task};
 use std::alloc::{AllocError, Global};
 use std::cmp::min;
@@ -22,11 +21,11 @@ pub fn push_row(
     alloc: Global,
     text: &mut String,
     row: &Row<'_>,
-    span: Span<'_>,
+    span: Span,
     top: u128,
 ) -> Result<(), AllocError>
     requires { top < 2 ^ 72 }
-    ensures { OnOk result (string_bytes text.new ≡ string_bytes text.old ++ row_element span.entry row.now top) }
+    ensures { OnOk result (string_bytes text.new ≡ string_bytes text.old ++ row_element span row.now top) }
 {
     match row {
         Row::Heading { depth, title } => push_phase(alloc, text, title, *depth, top),
@@ -89,11 +88,11 @@ fn push_task(
     text: &mut String,
     task: &Task<'_>,
     depth: usize,
-    span: Span<'_>,
+    span: Span,
     top: u128,
 ) -> Result<(), AllocError>
     requires { top < 2 ^ 72 }
-    ensures { OnOk result (string_bytes text.new ≡ string_bytes text.old ++ task_element span.entry depth task.now top) }
+    ensures { OnOk result (string_bytes text.new ≡ string_bytes text.old ++ task_element span depth task.now top) }
 {
     push_tip(text, task, span.calendar)?;
     push_middle(text, left_of(depth), top)?;
@@ -105,8 +104,8 @@ fn push_task(
 }
 
 /// Adds the tooltip of a task: its name, when it starts and ends, its slack, and what comes before it.
-fn push_tip(text: &mut String, task: &Task<'_>, calendar: Calendar<'_>) -> Result<(), AllocError>
-    ensures { OnOk result (string_bytes text.new ≡ string_bytes text.old ++ tip_element calendar.entry task.now) }
+fn push_tip(text: &mut String, task: &Task<'_>, calendar: Calendar) -> Result<(), AllocError>
+    ensures { OnOk result (string_bytes text.new ≡ string_bytes text.old ++ tip_element calendar task.now) }
 {
     text.push_str("<g><title>")?;
     push_name(text, task.name, "task", task.job)?;
@@ -117,15 +116,13 @@ fn push_tip(text: &mut String, task: &Task<'_>, calendar: Calendar<'_>) -> Resul
 }
 
 /// Adds the times of a tooltip.
-fn push_tip_times(
-    text: &mut String,
-    task: &Task<'_>,
-    calendar: Calendar<'_>,
-) -> Result<(), AllocError>
-    ensures { OnOk result (string_bytes text.new ≡ string_bytes text.old ++ tip_times calendar.entry task.now) }
+fn push_tip_times(text: &mut String, task: &Task<'_>, calendar: Calendar) -> Result<(), AllocError>
+    ensures { OnOk result (string_bytes text.new ≡ string_bytes text.old ++ tip_times calendar task.now) }
 {
     push_tip_begin(text, task.job)?;
-    push_times(text, calendar, task.start as u128, task.duration as u128)?;
+    push_time(text, calendar, task.start as u128)?;
+    text.push_str(" to ")?;
+    push_time(text, calendar, task.start as u128 + task.duration as u128)?;
     push_tip_slack(text, task.latest.saturating_sub(task.start))?;
     Ok(())
 }
@@ -135,7 +132,7 @@ fn push_tip_times(
 fn push_tip_begin(text: &mut String, job: usize) -> Result<(), AllocError>
     ensures { OnOk result (string_bytes text.new ≡ string_bytes text.old ++ tip_begin job) }
 {
-    write!(text, "\ntask {job}, ")
+    write!(text, "\ntask {job}, from ")
 }
 
 /// Adds the slack in a tooltip.
@@ -174,8 +171,8 @@ fn push_middle(text: &mut String, left: usize, top: u128) -> Result<(), AllocErr
 
 /// Adds the thin line of a task's slack at this height.
 #[tactic(auto, unfolding(crate::specs::Drawings::slack_element))]
-fn push_slack(text: &mut String, task: &Task<'_>, span: Span<'_>, y: u128) -> Result<(), AllocError>
-    ensures { OnOk result (string_bytes text.new ≡ string_bytes text.old ++ slack_element span.entry task.now y) }
+fn push_slack(text: &mut String, task: &Task<'_>, span: Span, y: u128) -> Result<(), AllocError>
+    ensures { OnOk result (string_bytes text.new ≡ string_bytes text.old ++ slack_element span task.now y) }
 {
     let from = span.across(task.start as u128 + task.duration as u128);
     let to = span.across(task.latest as u128 + task.duration as u128);
@@ -183,13 +180,8 @@ fn push_slack(text: &mut String, task: &Task<'_>, span: Span<'_>, y: u128) -> Re
 }
 
 /// Adds the bar of a task at this height, or a diamond if it takes no time, and the end of the row.
-fn push_shape(
-    text: &mut String,
-    task: &Task<'_>,
-    span: Span<'_>,
-    top: u128,
-) -> Result<(), AllocError>
-    ensures { OnOk result (string_bytes text.new ≡ string_bytes text.old ++ shape_element span.entry task.now top) }
+fn push_shape(text: &mut String, task: &Task<'_>, span: Span, top: u128) -> Result<(), AllocError>
+    ensures { OnOk result (string_bytes text.new ≡ string_bytes text.old ++ shape_element span task.now top) }
 {
     let x = span.across(task.start as u128);
     let class = class_of(task);

@@ -1,4 +1,5 @@
 pub mod PlanFaults
 pub mod PlanTests
 pub mod CheckLaws
+pub mod Openings
 pub mod Leastness

@@ -1,6 +1,4 @@
 mod Numbering
 mod Splitting
 mod Rooted
-mod TellingBounds
-mod CostLeaving
 mod Halving

@@ -12,4 +12,3 @@ mod Within
 mod Outlining
 mod Behind
 mod Shown
-pub mod Fields

@@ -1,0 +1,16 @@
+use Rattle.std.proofs.Common.{subst}
+use Rattle.racp_model.specs.Plan.{NoneIsEnough}
+use Rattle.racp_found.specs.Finds.{IsFound}
+use Rattle.racp_lexfix.proofs.FirstFloors.{over}
+use Rattle.racp_lexfix.proofs.by_clauses.show_within.Goals as goal
+
+pub plan_of-plan-requires-clause-plan : goal.plan_of-plan-requires-clause-plan
+plan_of-plan-requires-clause-plan g c = subst (IsFound c.args.task.now.net.now c.args.task.now.order.now) c.in-Plan.is c.in_ok-found.ensures
+
+pub answer_none-requires-clause-answer : goal.answer_none-requires-clause-answer
+answer_none-requires-clause-answer g c =
+    let none : NoneIsEnough c.args.task.now.net.now c.args.task.now.order.now = subst (IsFound c.args.task.now.net.now c.args.task.now.order.now) c.in-NoneEnough.is c.in_ok-found.ensures in
+    over c.args.task.now.net.now c.args.task.now.order.now c.args.window.now c.requires.window none
+
+pub answer_none-requires-clause-none : goal.answer_none-requires-clause-none
+answer_none-requires-clause-none g c = λ plan is. absurd (cc is)

@@ -1,2 +1,0 @@
-mod Certified
-mod Shown

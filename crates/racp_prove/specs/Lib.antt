@@ -1,2 +1,0 @@
-pub mod Proving
-pub mod Showing
