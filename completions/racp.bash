@@ -14,8 +14,8 @@ _racp() {
         prove) options="--facts --time-limit --explain --quiet" ;;
         check) options="--json --explain --quiet" ;;
         verify) options="--time-limit --json --explain --quiet" ;;
-        show) options="--names --width --ascii --svg --links --start-date --unit --json --csv --explain --quiet" ;;
-        report) options="--names --curve --whatif --start-date --unit --explain --quiet" ;;
+        show) options="--names --width --ascii --svg --links --calendar --start-date --workdays --unit --json --csv --explain --quiet" ;;
+        report) options="--names --curve --whatif --calendar --start-date --workdays --unit --explain --quiet" ;;
         curve) options="--workers --turns --memory --time-limit --progress --best --svg --json --explain --quiet" ;;
         whatif) options="--names --workers --turns --memory --time-limit --json --explain --quiet" ;;
         order) options="--names --factor --deadline --prices --owned --ceiling --json --explain --quiet" ;;

@@ -34,14 +34,18 @@ complete -c racp -n "__fish_seen_subcommand_from show" -l width -x -d "columns o
 complete -c racp -n "__fish_seen_subcommand_from show" -l ascii -d "plain characters"
 complete -c racp -n "__fish_seen_subcommand_from show" -l svg -d "a picture"
 complete -c racp -n "__fish_seen_subcommand_from show" -l links -d "arrows in a picture"
+complete -c racp -n "__fish_seen_subcommand_from show" -l calendar -r -d "working days and holidays"
 complete -c racp -n "__fish_seen_subcommand_from show" -l start-date -r -d "the date of the time 0"
+complete -c racp -n "__fish_seen_subcommand_from show" -l workdays -r -f -a "mon-fri" -d "days of the week"
 complete -c racp -n "__fish_seen_subcommand_from show" -l unit -r -f -a "day week" -d "how long a time unit is"
 complete -c racp -n "__fish_seen_subcommand_from show" -l json -d JSON
 complete -c racp -n "__fish_seen_subcommand_from show" -l csv -d CSV
 complete -c racp -n "__fish_seen_subcommand_from report" -l names -r -d "names of jobs and resources"
 complete -c racp -n "__fish_seen_subcommand_from report" -l curve -r -d "what each deadline costs"
 complete -c racp -n "__fish_seen_subcommand_from report" -l whatif -r -d "what changes cost"
+complete -c racp -n "__fish_seen_subcommand_from report" -l calendar -r -d "working days and holidays"
 complete -c racp -n "__fish_seen_subcommand_from report" -l start-date -r -d "the date of the time 0"
+complete -c racp -n "__fish_seen_subcommand_from report" -l workdays -r -f -a "mon-fri" -d "days of the week"
 complete -c racp -n "__fish_seen_subcommand_from report" -l unit -r -f -a "day week" -d "how long a time unit is"
 complete -c racp -n "__fish_seen_subcommand_from report" -l explain -d "say what is wrong"
 complete -c racp -n "__fish_seen_subcommand_from report" -l quiet -d "say nothing of what is wrong"

@@ -48,6 +48,13 @@ class Calendar:
         """The earliest time that is told by this first day or a later one: for release times."""
         return next(time for time, days in enumerate(self._units()) if days[0] >= day)
 
+    def text(self) -> str:
+        """The file that `racp show` and `racp report` read with `--calendar`."""
+        names = ("mon", "tue", "wed", "thu", "fri", "sat", "sun")
+        worked = ",".join(name for day, name in enumerate(names) if day not in self.free)
+        holidays = ", ".join(day.isoformat() for day in sorted(self.holidays))
+        return f'start = {self.start.isoformat()}\nworkdays = "{worked}"\nunit = "{self.unit}"\nholidays = [{holidays}]\n'
+
     def _units(self) -> Iterator[list[date]]:
         """The working days of each time unit."""
         length = 7 if self.unit == "week" else 1

@@ -85,17 +85,17 @@ class Plan(Table):
                calendar: Calendar | None = None, time_limit: float | None = None) -> str:
         """A page in HTML to read and to print, which is also written to the path. With `curve` and `whatif` it has what
         other deadlines and changes of the order cost, each planned within the limit of time, in seconds. With a calendar it
-        tells dates. These count all days, and a date is the beginning of its day: so free days raise ValueError."""
-        if calendar and (calendar.free or calendar.holidays):
-            raise ValueError("the page counts all days: its calendar has no free days and no holidays")
+        tells the first and the last day of each job."""
         names = "".join(" ".join(str(key).split()) + "\n" for key in (*self.network.jobs, *self.network.resources))
         texts = {**self.texts(), "names": names}
         if curve:
             texts["curve"] = run(texts, "curve", "net", "order", accept=(0, 4), time_limit=time_limit)
         if whatif:
             texts["whatif"] = run(texts, "whatif", "net", "order", "plan", names="names", accept=(0, 4), time_limit=time_limit)
+        if calendar:
+            texts["calendar"] = calendar.text()
         page = run(texts, "report", "net", "order", "plan", names="names", curve=curve and "curve", whatif=whatif and "whatif",
-                   start_date=calendar and calendar.start, unit=calendar and calendar.unit)
+                   calendar=calendar and "calendar")
         if path is not None:
             Path(path).write_text(page, encoding="utf-8")
         return page

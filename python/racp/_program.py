@@ -126,7 +126,7 @@ def _error(status: int, output: str, said: str, keys: Mapping[str, Sequence[Hash
     """The error of a run: of the object that it wrote, or if it wrote none, of how it ended."""
     ended = f"racp was ended by signal {-status}" if status < 0 else f"racp ended with status {status}"
     answer = json.loads(output) if output.startswith("{") else {
-        "status": {6: "memory", 8: "unproved"}.get(status, ended), "says": said or output.strip() or ended}
+        "status": {4: "unproved", 6: "memory", 8: "unproved"}.get(status, ended), "says": said or output.strip() or ended}
     meanings = zip(_MEANINGS.get(answer.get("name", ""), ()), answer.get("numbers", []))
     where = {word: keys[word][number - 1] if word in keys else number for word, number in meanings}
     return _ERRORS.get(answer["status"], ProgramError)(answer, where)

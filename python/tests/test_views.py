@@ -86,8 +86,9 @@ class Views(unittest.TestCase):
         for words in ("<html", "wiring", "mason", "2026-01-09", "one more owned of crane"):
             self.assertIn(words, page)
         self.assertNotIn("one more owned", self.plan.report())
-        with self.assertRaisesRegex(ValueError, "counts all days"):
-            self.plan.report(calendar=WORK)
+        dated = self.plan.report(calendar=WORK)
+        for words in ("First day", "Last day", "2026-03-09"):
+            self.assertIn(words, dated)
 
 
 if __name__ == "__main__":

@@ -27,6 +27,7 @@ CERTIFICATE = rf"proof\n(?:vector(?: {NUMBER})+\n(?:[DLC] {NUMBER}\n)+)*end\n"
 LITERAL = rf"(?:(?:start|units) {NUMBER}|cost) [<>]= {NUMBER}\n"
 HINT = rf"prices\n|(?:budget|clause) {NUMBER}\n|(?:pair|request) {NUMBER} {NUMBER}\n|(?:times {NUMBER}|energy)(?: {NUMBER}){{3}}\n"
 CLAUSES = rf"proof 2\n(?:{LITERAL}|{HINT}|holds\n|keep\n)*end\n"
+BOUND = rf"proof 2\nat least {NUMBER}\n(?:{LITERAL}|{HINT}|holds\n|keep\n)*end\n"
 STEP = rf"deadline {NUMBER} cost {NUMBER} capacity(?: {NUMBER})+\n"
 
 # For each command the form of standard output by status. None stands for pictures, tables and orders, which have no line of their
@@ -37,9 +38,9 @@ CHECKED = {5: f"{SM}|{ORDER}|{PLAN}", 6: "memory\n", 8: FAULT}
 FORMS = {
     "cpm": {0: rf"critical {NUMBER}\n(?:start {NUMBER} {NUMBER}\n)+end\n", 5: SM, 6: "memory\n"},
     "plan": {**PLANNED, 0: PLAN_TEXT, 4: STOPPED},
-    "prove": {**READ, 0: f"{CERTIFICATE}|{CLAUSES}", 3: IMPOSSIBLE, 8: "unproved\n"},
+    "prove": {**READ, 0: f"{CERTIFICATE}|{CLAUSES}", 3: IMPOSSIBLE, 4: BOUND, 8: "unproved\n"},
     "check": {**CHECKED, 0: "ok\n"},
-    "verify": {**CHECKED, 0: "verified\n", 4: "stopped\n", 8: f"unproved\n|{FAULT}"},
+    "verify": {**CHECKED, 0: f"verified\n|at least {NUMBER}\n", 4: "stopped\n", 8: f"unproved\n|{FAULT}"},
     "show": {**CHECKED, 0: None},
     "curve": {**PLANNED, 0: rf"(?:{STEP})+end\n", 4: f"(?:{STEP})*{STOPPED}"},
     "order": {**READ, 0: None},

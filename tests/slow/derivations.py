@@ -188,12 +188,33 @@ class Checker:
         elif len(left) == 1:
             (bounds.raise_to if left[0].is_least else bounds.lower_to)(left[0].variable, left[0].value)
 
-    def read(self, text):
+    @staticmethod
+    def lines(text):
+        """What stands between the first line and the last one."""
         need(text.endswith("\n"))
         lines = text.split("\n")[:-1]
         need(len(lines) >= 2 and lines[0] == "proof 2" and lines[-1] == "end" and "end" not in lines[:-1])
-        for line in lines[1:-1]:
+        return lines[1:-1]
+
+    def read(self, text):
+        for line in self.lines(text):
             self.line(line)
+
+    def read_bound(self, text):
+        """The bound that a text tells."""
+        lines = self.lines(text)
+        need(lines)
+        words = lines[0].split(" ")
+        need(len(words) == 3 and words[:2] == ["at", "least"])
+        least = self.number(words[2])
+        for line in lines[1:]:
+            self.line(line)
+        return least
+
+    def shows_least(self, least):
+        """Whether a clause says of the cost alone that it is at least so much, or more."""
+        return any(all(literal.variable == COST and literal.is_least and literal.value >= least for literal in clause)
+                   for clause in self.clauses)
 
     def shows(self, plan):
         """Whether the clauses leave out all that is less than the plan."""
@@ -239,6 +260,21 @@ def shows_plan(network, order, plan, text):
     except Unproved:
         return False
     return fits(network, order, plan) and checker.shows(plan)
+
+
+def bound_shown(network, order, text):
+    """The bound that a text shows, or nothing."""
+    try:
+        checker = Checker(network, order)
+        least = checker.read_bound(text)
+    except Unproved:
+        return None
+    return least if checker.shows_least(least) else None
+
+
+def wanted_bound_of(case):
+    least = bound_shown(case.network, case.order, case.proof)
+    return Run(8, b"unproved\n", b"") if least is None else Run(0, b"at least %d\n" % least, b"")
 
 
 def wanted_of(case):

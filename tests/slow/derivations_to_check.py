@@ -72,6 +72,11 @@ class Maker:
             raise TooLong
         checker.clauses.append(list(literals))
 
+    def bound(self, least):
+        """A text that shows that each plan costs at least so much."""
+        self.derive([Literal(COST, True, least)])
+        return "".join(line + "\n" for line in [self.lines[0], f"at least {least}", *self.lines[1:], "end"])
+
     def text(self):
         checker, plan = self.checker, self.plan
         turns = [(COST, cost_of(checker.order, plan.capacities))]
@@ -102,7 +107,15 @@ def plan_of(network, order):
 
 def random_derivation(seed):
     """A network, an order, its plan and a certificate for it."""
-    chance = random.Random(seed)
+    return random_case(random.Random(seed), lambda chance, maker: maker.text())
+
+
+def random_bound(seed):
+    """A network, an order, its plan, and a certificate of what it costs at least, which is its cost or less."""
+    return random_case(random.Random(seed), lambda chance, maker: maker.bound(chance.choice([maker.plan.cost, chance.randint(0, maker.plan.cost)])))
+
+
+def random_case(chance, text_by):
     while True:
         network = random_network(chance, 4)
         order = random_order(chance, network)
@@ -112,7 +125,7 @@ def random_derivation(seed):
         if plan is None:
             continue
         try:
-            return Case(network, order, plan, Maker(network, order, plan).text())
+            return Case(network, order, plan, text_by(chance, Maker(network, order, plan)))
         except TooLong:
             continue
 
@@ -134,7 +147,7 @@ def changed(chance, text):
         if words[place].isdigit():
             words[place] = str(max(0, int(words[place]) + chance.choice([-2, -1, 1, 2, 10**16])))
         else:
-            words[place] = chance.choice(["start", "units", "cost", ">=", "<=", "pair", "times", "energy", "clause", "holds", "keep", ""])
+            words[place] = chance.choice(["start", "units", "cost", ">=", "<=", "pair", "times", "energy", "clause", "holds", "keep", "at", "least", ""])
         lines[at] = " ".join(words)
     elif kind == 4:
         lines.insert(at, chance.choice(["keep", "holds", "prices", "clause 1", "cost >= 0", ""]))

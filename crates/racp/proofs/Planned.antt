@@ -7,7 +7,8 @@ use Rattle.racp_cli.specs.Plans.{IsPlanAnswer}
 use Rattle.racp_cli.specs.Proofs.{IsProofAnswerUntil, IsProofRunUntil}
 use Rattle.racp_cli.specs.ClauseProofs.{IsClauseProofAnswer, IsClauseProofRun}
 use Rattle.racp_cli.specs.Verifies.{IsVerifyAnswerUntil}
-use Rattle.racp_cli.specs.Streams.{IsAnswerWritten, Reader, ToOne, ToTwo, ToFour, IsPlanRun, IsVerifyRunUntil}
+use Rattle.racp_cli.specs.VerifyBounds.{IsBoundAnswer, IsBoundRun}
+use Rattle.racp_cli.specs.Streams.{IsAnswerWritten, Reader, ToOne, ToTwo, ToThree, ToFour, IsPlanRun, IsVerifyRunUntil}
 use Rattle.racp_cli.specs.declared.fault.StreamFault.{StreamFault}
 use Rattle.racp_cli.specs.CurveAnswers.{IsCurveAnswer, IsCurveCrowdAnswer, IsCurveCrowdRun, IsCurveRun}
 use Rattle.racp_cli.specs.OrderAnswers.{IsOrderAnswer, IsOrderRun}
@@ -69,12 +70,24 @@ of_certificate quiet [] status text answer = absurd answer
 of_certificate quiet (net ∷ []) status text answer = absurd answer
 of_certificate quiet (net ∷ (order ∷ [])) status text answer = absurd answer
 of_certificate quiet (net ∷ (order ∷ (plan ∷ []))) status text answer = absurd answer
-of_certificate quiet (net ∷ (order ∷ (plan ∷ (proof ∷ [])))) status text answer = inr (inr (inr (inr (inl (quiet, net, order, plan, proof, text, answer)))))
+of_certificate quiet (net ∷ (order ∷ (plan ∷ (proof ∷ [])))) status text answer = inr (inr (inr (inr (inl (quiet, net, order, plan, proof, text, inl answer)))))
 of_certificate quiet (net ∷ (order ∷ (plan ∷ (proof ∷ (other ∷ inputs))))) status text answer = absurd answer
 
 pub verified : (quiet : Bool) (net order plan proof : Reader) (old new : Option (List ℕ)) (result : Result ℕ StreamFault) → IsVerifyRunUntil quiet net order plan proof old new result → IfOk result IsStatusOfAnswer
 verified quiet net order plan proof old new (Ok status) run = of_certificate quiet run.0 status run.2.0 run.2.1
 verified quiet net order plan proof old new (Err fault) run = tt
+
+-- what is answered to one of a bound
+of_bound : (quiet : Bool) (inputs : List (List ℕ)) (status : ℕ) (text : List ℕ) → ToThree (IsBoundAnswer quiet) inputs status text → IsStatusOfAnswer status
+of_bound quiet [] status text answer = absurd answer
+of_bound quiet (net ∷ []) status text answer = absurd answer
+of_bound quiet (net ∷ (order ∷ [])) status text answer = absurd answer
+of_bound quiet (net ∷ (order ∷ (proof ∷ []))) status text answer = inr (inr (inr (inr (inl (quiet, net, order, [], proof, text, inr answer)))))
+of_bound quiet (net ∷ (order ∷ (proof ∷ (other ∷ inputs)))) status text answer = absurd answer
+
+pub bounded : (quiet : Bool) (net order proof : Reader) (old new : Option (List ℕ)) (result : Result ℕ StreamFault) → IsBoundRun quiet net order proof old new result → IfOk result IsStatusOfAnswer
+bounded quiet net order proof old new (Ok status) run = of_bound quiet run.0 status run.2.0 run.2.1
+bounded quiet net order proof old new (Err fault) run = tt
 
 -- what is shown of a plan
 of_picture : (look : Look) (inputs : List (List ℕ)) (status : ℕ) (text : List ℕ) → ToFour (IsShowAnswer look) inputs status text → IsStatusOfTool status

@@ -17,6 +17,7 @@ use Rattle.racp_cli.specs.declared.show.Look.{Look}
 use Rattle.racp_cli.specs.Proofs.{IsProofAnswerUntil}
 use Rattle.racp_cli.specs.ClauseProofs.{IsClauseProofAnswer}
 use Rattle.racp_cli.specs.Verifies.{IsVerifyAnswerUntil}
+use Rattle.racp_cli.specs.VerifyBounds.{IsBoundAnswer}
 use Rattle.racp_cli.specs.Streams.{fault_status}
 use Rattle.racp_cli.specs.declared.fault.StreamFault.TheVariants as stream
 use Rattle.racp_batch.specs.declared.batch.BatchFault.{BatchFault}
@@ -80,7 +81,7 @@ IsStatusOfAnswer status =
     ((quiet : Bool) × (net order : List ℕ) × (text : List ℕ) ×
     (IsProofAnswerUntil quiet net order status text ⊎ IsClauseProofAnswer net order status text)) ⊎
     ((quiet : Bool) × (net order plan proof : List ℕ) × (text : List ℕ) ×
-    IsVerifyAnswerUntil quiet net order plan proof status text) ⊎
+    (IsVerifyAnswerUntil quiet net order plan proof status text ⊎ IsBoundAnswer quiet net order proof status text)) ⊎
     IsStatusOfTool status
 
 -- some answer, or some reason why there is none, has this status

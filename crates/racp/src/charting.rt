@@ -3,7 +3,7 @@
 ghost use Rattle.std.specs.Prelude.{IfOk};
 ghost use Rattle.racp.specs.Statuses.{IsStatusOfTool};
 
-use crate::dates::calendar_of;
+use crate::dates::{calendar_of, workdays_of};
 use crate::failure::Failure;
 use crate::inputs::Inputs;
 use crate::machine::Machine;
@@ -23,9 +23,9 @@ const DEFAULT_WIDTH: usize = 80;
 
 /// How a plan is shown.
 #[derive(Clone, Copy)]
-struct Showing {
+struct Showing<'a> {
     /// As what picture.
-    look: Look,
+    look: Look<'a>,
     /// How it is told what is wrong.
     manner: Manner,
 }
@@ -50,12 +50,13 @@ pub(crate) fn show<'a, R: Machine>(
 ) -> Result<u8, Failure>
     ensures { IfOk result IsStatusOfTool }
 {
+    let workdays = workdays_of(rt, look.dates)?;
     let asked = Showing {
         look: Look {
             width: width_of(rt, look.width),
             form: look.form,
             has_links: look.has_links,
-            calendar: calendar_of(look.dates)?,
+            calendar: calendar_of(&workdays),
         },
         manner,
     };
@@ -73,7 +74,7 @@ pub(crate) fn show<'a, R: Machine>(
 /// Writes a picture of the plan in these texts, and what is wrong with them.
 fn show_told<R: Print + Eprint + AllocGlobal>(
     rt: &R,
-    asked: &Showing,
+    asked: &Showing<'_>,
     net: &Text<'_>,
     order: &Text<'_>,
     plan: &Text<'_>,
@@ -108,7 +109,7 @@ fn show_of<R: Print + AllocGlobal, N: Read, O: Read, P: Read, M: Read>(
     order: &mut O,
     plan: &mut P,
     names: &mut M,
-    how: Look,
+    how: Look<'_>,
 ) -> Result<u8, StreamFault>
     ensures { IfOk result IsStatusOfTool }
 {

@@ -1,25 +1,86 @@
 //! How times are told, by the words for it.
 
-use crate::failure::OptionFault;
-use racp_calendar::{Calendar, Unit, first_day};
+use crate::failure::{Failure, OptionFault};
+use crate::inputs::{read_file, shown};
+use racp_calendar::{
+    Calendar, CalendarError, CalendarFault, Unit, Workdays, WorkdaysFault, first_day,
+    read_calendar, worked_days,
+};
+use racp_cli::StreamFault;
 use racp_words::Dates;
+use std::alloc::Global;
+use std::rt::Files;
 
-/// How times are told: by their numbers, or by dates if a word names the first day.
+/// How times are told: by their numbers, or by the dates of working days.
+pub(crate) fn calendar_of(workdays: &Option<Workdays>) -> Calendar<'_> {
+    match workdays {
+        Some(workdays) => Calendar::Dates(workdays),
+        None => Calendar::Numbers,
+    }
+}
+
+/// The calendar of working days that words tell of: that of a file, or one with a first day and no holidays; none if no
+/// word tells of one.
 ///
 /// # Errors
 ///
-/// The word for the first day names none; the word for a time unit is neither `day` nor `week`, or there is no first day.
-pub(crate) fn calendar_of(dates: Dates<'_>) -> Result<Calendar, OptionFault> {
+/// A file is named, and a first day, working days or a time unit beside it; the file cannot be read, or is no calendar; the
+/// word for the first day names none, or there is none beside the other words; the word for the working days tells of none;
+/// the word for a time unit is neither `day` nor `week`.
+pub(crate) fn workdays_of<R: Files + AllocGlobal>(
+    rt: &R,
+    dates: Dates<'_>,
+) -> Result<Option<Workdays>, Failure> {
+    let Some(path) = dates.calendar else {
+        return of_words(rt.alloc(), dates);
+    };
+    if dates.start.is_some() || dates.workdays.is_some() || dates.unit.is_some() {
+        return Err(Failure::Option(OptionFault::Calendar));
+    }
+    let text = read_file(rt, path)?;
+    match read_calendar(rt.alloc(), &text) {
+        Ok(workdays) => Ok(Some(workdays)),
+        Err(error) => Err(refused(rt.alloc(), path, error)),
+    }
+}
+
+/// Why a file is no calendar.
+fn refused(alloc: Global, path: &str, error: CalendarError) -> Failure {
+    if matches!(error.fault, CalendarFault::Memory) {
+        return Failure::Stream(StreamFault::Memory);
+    }
+    let name = shown(path);
+    match format!(in alloc; "racp: {name}:{error}") {
+        Ok(words) => Failure::Refused(words),
+        Err(_) => Failure::Stream(StreamFault::Memory),
+    }
+}
+
+/// The calendar that words other than the path of a file tell of.
+fn of_words(alloc: Global, dates: Dates<'_>) -> Result<Option<Workdays>, Failure> {
     let Some(word) = dates.start else {
-        return match dates.unit {
-            Some(_) => Err(OptionFault::Unit),
-            None => Ok(Calendar::Numbers),
-        };
+        return without_start(dates);
     };
     let unit = unit_of(dates.unit)?;
-    match first_day(word) {
-        Some(first) => Ok(Calendar::Dates { first, unit }),
-        None => Err(OptionFault::StartDate),
+    let worked = worked_of(dates.workdays)?;
+    let Some(first) = first_day(word) else {
+        return Err(Failure::Option(OptionFault::StartDate));
+    };
+    match Workdays::of(alloc, first, unit, worked, &[]) {
+        Ok(workdays) => Ok(Some(workdays)),
+        Err(WorkdaysFault::Memory) => Err(Failure::Stream(StreamFault::Memory)),
+        Err(_) => Err(Failure::Option(OptionFault::Workdays)),
+    }
+}
+
+/// No calendar, if no word asks for one.
+fn without_start(dates: Dates<'_>) -> Result<Option<Workdays>, Failure> {
+    if dates.unit.is_some() {
+        Err(Failure::Option(OptionFault::Unit))
+    } else if dates.workdays.is_some() {
+        Err(Failure::Option(OptionFault::Workdays))
+    } else {
+        Ok(None)
     }
 }
 
@@ -29,5 +90,13 @@ fn unit_of(word: Option<&str>) -> Result<Unit, OptionFault> {
         None | Some("day") => Ok(Unit::Day),
         Some("week") => Ok(Unit::Week),
         Some(_) => Err(OptionFault::Unit),
+    }
+}
+
+/// The days of a week that are worked on, from Monday on; all of them without a word.
+fn worked_of(word: Option<&str>) -> Result<[bool; 7], OptionFault> {
+    match word {
+        None => Ok([true; 7]),
+        Some(word) => worked_days(word).ok_or(OptionFault::Workdays),
     }
 }

@@ -35,6 +35,12 @@ pub(crate) enum OptionFault {
     /// The date of the time 0 is no date.
     #[error("--start-date has to be a date such as 2026-01-05")]
     StartDate,
+    /// A file of a calendar is named, and what such a file says is told beside it.
+    #[error("--calendar has the first day, the working days and the time unit: no --start-date, --workdays or --unit beside it")]
+    Calendar,
+    /// The days of a week that are worked on are none that are told, or told without a date.
+    #[error("--workdays has to be days such as mon-fri or mon-thu,sat, with --start-date")]
+    Workdays,
     /// The length of a time unit is none that is told, or told without a date.
     #[error("--unit has to be day or week, with --start-date")]
     Unit,

@@ -5,8 +5,8 @@ use crate::best::keep;
 use crate::known::Known;
 use crate::memory::mebibytes_used;
 use crate::progress::Progress;
-use racp_by_questions::Observer;
 use racp_cli::known_text;
+use racp_found::{News, Observer};
 use std::cell::Cell;
 use std::rt::Files;
 
@@ -76,10 +76,9 @@ impl<'a, 'b, 'k, R: Files + Eprint + AllocGlobal + Drop> Listener<'a, 'b, 'k, R>
             }
         }
     }
-}
 
-impl<'a, 'b, 'k, R: Files + Eprint + AllocGlobal + Drop> Observer for Listener<'a, 'b, 'k, R> {
-    fn hear_deadline(&self, deadline: u32) {
+    /// Notes for which deadline a plan is looked for.
+    fn note_deadline(&self, deadline: u32) {
         let is_other = self.known.note_deadline(deadline);
         if let Some(progress) = self.progress {
             if is_other {
@@ -88,22 +87,16 @@ impl<'a, 'b, 'k, R: Files + Eprint + AllocGlobal + Drop> Observer for Listener<'
         }
     }
 
-    fn hear_floors(&self, floors: &[u32]) {
-        if let Some(progress) = self.progress {
-            progress.note_floors(floors);
-        }
-        self.look();
-    }
-
-    fn hear_cost(&self, cost: u64) {
+    /// Notes what the plan costs at least.
+    fn note_cost(&self, cost: u64) {
         self.known.note_bound(cost);
         if let Some(progress) = self.progress {
             progress.note_cost(cost);
         }
-        self.look();
     }
 
-    fn hear_plan(&self, capacities: &[u32], starts: &[u32], cost: u64) {
+    /// Notes a plan, and keeps its text, if that is wanted.
+    fn note_plan(&self, capacities: &[u32], starts: &[u32], cost: u64) {
         if !self.known.note_plan(cost) || !self.known.is_for_longest() {
             return;
         }
@@ -121,10 +114,28 @@ impl<'a, 'b, 'k, R: Files + Eprint + AllocGlobal + Drop> Observer for Listener<'
             self.keep_text(text);
         }
     }
+}
 
-    fn hear_search(&self, conflicts: u64, clauses: u64) {
-        if let Some(progress) = self.progress {
-            progress.note_search(conflicts, clauses);
+impl<'a, 'b, 'k, R: Files + Eprint + AllocGlobal + Drop> Observer for Listener<'a, 'b, 'k, R> {
+    fn hear(&self, news: News<'_>) {
+        match news {
+            News::Deadline(deadline) => return self.note_deadline(deadline),
+            News::Floors(floors) => {
+                if let Some(progress) = self.progress {
+                    progress.note_floors(floors.as_slice());
+                }
+            }
+            News::Cost(cost) => self.note_cost(cost),
+            News::Plan {
+                capacities,
+                starts,
+                cost,
+            } => return self.note_plan(capacities.as_slice(), starts.as_slice(), cost),
+            News::Work { conflicts, clauses } => {
+                if let Some(progress) = self.progress {
+                    progress.note_search(conflicts, clauses);
+                }
+            }
         }
         self.look();
     }

@@ -5,7 +5,8 @@
 //! - `racp plan NET ORDER` prints the cheapest capacities under which the project ends in time, and the least starts.
 //! - `racp prove NET ORDER` prints a certificate that no capacities before those of the plan are enough.
 //! - `racp check NET ORDER PLAN` says whether a plan is right, whoever made it.
-//! - `racp verify NET ORDER PLAN PROOF` says whether a text is such a certificate, whoever made it.
+//! - `racp verify NET ORDER PLAN PROOF` says whether a text is such a certificate, whoever made it, and
+//!   `racp verify NET ORDER PROOF` what each plan costs at least, as a text shows.
 //! - `racp show NET ORDER PLAN` draws a plan.
 //! - `racp report NET ORDER PLAN` writes a page about a plan.
 //! - `racp curve NET ORDER` says what each deadline costs.
@@ -48,6 +49,7 @@ mod asks;
 mod batching;
 mod begun;
 mod best;
+mod bounding;
 mod changing;
 mod charting;
 mod checking;

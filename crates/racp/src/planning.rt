@@ -6,14 +6,15 @@ ghost use Rattle.racp.specs.Statuses.{IsStatusOfAnswer};
 use crate::best::test_best;
 use crate::crewing::{Made, plan_kept};
 use crate::failure::Failure;
-use crate::inputs::Inputs;
+use crate::inputs::{Inputs, STANDARD_INPUT};
 use crate::machine::Crewed;
 use crate::making::{Making, crew_of};
+use crate::shown::Shown;
 use crate::telling::end;
-use racp_cli::{StreamFault, run_over_within};
+use racp_cli::{STOPPED, StreamFault, run_over_within};
 use racp_explain::{Input as Text, order_cause};
 use racp_json::{Command, FileNames, Told};
-use racp_words::{Memory, OrderFiles};
+use racp_words::{CrewOptions, Memory, OrderFiles};
 use std::io;
 use std::io::Read;
 
@@ -43,8 +44,12 @@ fn plan_told<'a, R: Crewed>(
     ensures { IfOk result IsStatusOfAnswer }
 {
     let manner = making.manner;
+    let word = word_to_prove(making.crew);
     let made = plan_of(rt, net.bytes, order.bytes, making)?;
     let status = made.status;
+    if status == STOPPED && !manner.is_quiet() {
+        tell_command(rt, net.name, order.name, word);
+    }
     let cause = if manner.looks(status) {
         order_cause(rt.alloc(), net, order)
     } else {
@@ -67,6 +72,36 @@ fn plan_told<'a, R: Crewed>(
     };
     end(rt, manner, &told, cause)?;
     Ok(status)
+}
+
+/// The word for the time after which planning stops, if the best plan is kept, too.
+fn word_to_prove<'a>(crew: Option<CrewOptions<'a>>) -> Option<&'a str> {
+    match crew {
+        Some(
+            CrewOptions {
+                best: Some(_),
+                time_limit,
+                ..
+            },
+        ) => time_limit,
+        _ => None,
+    }
+}
+
+/// Tells on standard error which command makes a certificate of what each plan of these files costs at least, in the time of a
+/// word, if there is one.
+fn tell_command<R: Eprint + AllocGlobal>(rt: &R, net: &str, order: &str, word: Option<&str>) {
+    let Some(word) = word else {
+        return;
+    };
+    if net == STANDARD_INPUT || order == STANDARD_INPUT {
+        return;
+    }
+    if let Ok(words) = format!(in rt.alloc();
+        "a certificate of a bound: racp prove {net} {order} --facts --time-limit {word}"
+    ) {
+        let _ = rt.eprintln(Shown::of(&words));
+    }
 }
 
 /// Writes the plan for the texts of a network and an order, or why there is none: made by workers if there is a crew, and

@@ -10,7 +10,7 @@ use crate::machine::Machine;
 use crate::seconds::time_limit;
 use crate::telling::{Manner, tell};
 use crate::until::Until;
-use racp_cli::{CHECK_FAILED, StreamFault, prove_by_clauses_over, prove_over_until};
+use racp_cli::{CHECK_FAILED, STOPPED, StreamFault, prove_by_clauses_over, prove_over_until};
 use racp_explain::{Input as Text, order_cause};
 use racp_model::Stop;
 use racp_words::OrderFiles;
@@ -77,8 +77,8 @@ fn prove_told<R: Machine>(
     Ok(status)
 }
 
-/// Writes a certificate for the plan of a network and an order that are read there, or why there is none. If it was
-/// stopped, after so much time or by the user, standard error says so.
+/// Writes a certificate for the plan of a network and an order that are read there, or of a bound, or why there is none. If it
+/// was stopped, after so much time or by the user, standard error says so.
 fn prove_of<R: Machine, N: Read, O: Read>(
     rt: &R,
     asked: &Proving<'_>,
@@ -93,8 +93,8 @@ fn prove_of<R: Machine, N: Read, O: Read>(
     } else {
         prove_by_trees(rt, net, order, &until)
     };
-    if is_unproved(&status) && until.has_stopped() && !asked.manner.is_quiet() {
-        tell_stop(rt, asked.word, until.is_asked());
+    if until.has_stopped() && !asked.manner.is_quiet() {
+        tell_stop(rt, &status, asked.word, until.is_asked());
     }
     // Dropped here once, not at each way out.
     drop(until);
@@ -125,20 +125,29 @@ fn prove_by_trees<R: Print + AllocGlobal, N: Read, O: Read, S: Stop>(
     prove_over_until(rt.alloc(), net, order, &mut io::writer(rt), stop)
 }
 
-/// Whether no certificate was made.
-fn is_unproved(status: &Result<u8, StreamFault>) -> bool {
+/// What was made by a run that was stopped, if it was no certificate of the plan.
+fn made(status: &Result<u8, StreamFault>) -> Option<&'static str> {
     match status {
-        Ok(status) => *status == CHECK_FAILED,
-        Err(_) => false,
+        Ok(CHECK_FAILED) => Some("no certificate was made"),
+        Ok(STOPPED) => Some("the certificate is one of a bound"),
+        _ => None,
     }
 }
 
-/// Tells on standard error that no certificate was made since the user asked for a stop, or the time of this word was over.
-fn tell_stop<R: Eprint>(rt: &R, word: Option<&str>, is_asked: bool) {
+/// Tells on standard error what was made since the user asked for a stop, or the time of this word was over.
+fn tell_stop<R: Eprint>(
+    rt: &R,
+    status: &Result<u8, StreamFault>,
+    word: Option<&str>,
+    is_asked: bool,
+) {
+    let Some(made) = made(status) else {
+        return;
+    };
     let _ = match word {
         Some(word) if !is_asked => rt.eprintln(format_args!(
-            "racp: stopped after {word} s: no certificate was made"
+            "racp: stopped after {word} s: {made}"
         )),
-        _ => rt.eprintln("racp: stopped as was asked: no certificate was made"),
+        _ => rt.eprintln(format_args!("racp: stopped as was asked: {made}")),
     };
 }

@@ -3,7 +3,7 @@
 ghost use Rattle.std.specs.Prelude.{IfOk};
 ghost use Rattle.racp.specs.Statuses.{IsStatusOfTool};
 
-use crate::dates::calendar_of;
+use crate::dates::{calendar_of, workdays_of};
 use crate::failure::Failure;
 use crate::inputs::Inputs;
 use crate::machine::Machine;
@@ -35,7 +35,8 @@ pub(crate) fn report<R: Machine>(
 ) -> Result<u8, Failure>
     ensures { IfOk result IsStatusOfTool }
 {
-    let calendar = calendar_of(options.dates)?;
+    let workdays = workdays_of(rt, options.dates)?;
+    let calendar = calendar_of(&workdays);
     let paths = [
         options.names,
         options.curve,
@@ -77,7 +78,7 @@ fn bytes_of<'a>(text: Option<Text<'a>>) -> Option<&'a [u8]> {
 fn report_of<R: Print + AllocGlobal>(
     rt: &R,
     texts: Texts<'_>,
-    calendar: Calendar,
+    calendar: Calendar<'_>,
 ) -> Result<u8, StreamFault>
     ensures { IfOk result IsStatusOfTool }
 {

@@ -5,6 +5,7 @@ ghost use Rattle.racp.specs.Statuses.{IsStatus, IsStatusOfAnswer};
 ghost use Rattle.racp.specs.declared.failure.Failure.TheVariants as failures;
 ghost use Rattle.racp_cli.specs.declared.fault.StreamFault.TheVariants as streams;
 
+use crate::bounding::{Bounding, verify_bound};
 use crate::checking::check;
 use crate::early::cpm;
 use crate::failure::{Failure, report};
@@ -137,6 +138,15 @@ fn answered<R: Crewed + Input>(rt: &R, request: Request<'_>, manner: Manner) -> 
                 manner,
             };
             verify(rt, asked)
+        }
+        Request::VerifyBound(files, word) => {
+            let limit = time_limit(word)?;
+            let asked = Bounding {
+                files,
+                limit,
+                manner,
+            };
+            verify_bound(rt, asked)
         }
         Request::Tool(asked) => answer_of_tool(rt, asked, manner),
     }

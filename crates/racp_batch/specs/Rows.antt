@@ -1,6 +1,8 @@
 -- What is right to tell of a case.
-use Rattle.std.specs.Prelude.{◌≡◌, ◌⊎◌, ℕ, Bool, true, false, None, Some, length, not, ⊤}
+use Rattle.std.specs.Prelude.{◌≡◌, ◌⊎◌, ℕ, Bool, true, false, None, Some, IfSome, length, not, ⊤}
 use Rattle.racp_model.specs.Project.{Project}
+use Rattle.racp_model.specs.Terms.{Terms}
+use Rattle.racp_found.specs.Told.{IsKnownCost, IsLeastOfEnough}
 use Rattle.racp_whatif.specs.Outcomes.{IsOutcome, is_settled}
 use Rattle.racp_batch.specs.Cases.{Matter}
 use Rattle.racp_batch.specs.Orders.{IsDeadlineBy, terms_by}
@@ -8,6 +10,7 @@ use Rattle.racp_batch.specs.declared.case.Input.{Input}
 use Rattle.racp_batch.specs.declared.case.Input.TheVariants.{Network, Fault}
 use Rattle.racp_batch.specs.declared.row.Answered.{Answered as AnsweredRow}
 use Rattle.racp_batch.specs.declared.row.Row.{Row}
+use Rattle.racp_batch.specs.declared.row.Work.{Work}
 use Rattle.racp_batch.specs.declared.row.Row.TheVariants.{Answered, Late, Refused, Memory, NoThread}
 
 -- the network has so many jobs and resources
@@ -18,11 +21,17 @@ AreSizes p jobs resources = (jobs ≡ length p.jobs) × (resources ≡ p.resourc
 abbrev pub MayBeOpen : (unlimited quiet : Bool) → Type 0
 MayBeOpen unlimited quiet = (unlimited ≡ false) ⊎ (quiet ≡ false)
 
+-- of an order, what each plan costs at least, and what one costs that is known
+pub record IsWork (p : Project) (terms : Terms) (work : Work) : Type 0 where
+  pub bound : IsLeastOfEnough p terms work.bound
+  pub best : IfSome work.best (IsKnownCost p terms)
+
 -- what becomes of the order with this factor and price: its plan, why there is none, or, if that may be left open, what each
--- plan costs at least
+-- plan costs at least; and what was heard of it is true
 abbrev pub IsAnsweredBy : (may_be_open : Type 0) → Project → ℕ → ℕ → AnsweredRow → Type 0
 IsAnsweredBy may_be_open p factor price row = AreSizes p row.jobs row.resources × IsDeadlineBy p factor (Some row.deadline) ×
-    IsOutcome may_be_open p (terms_by p price row.deadline) row.outcome
+    IsOutcome may_be_open p (terms_by p price row.deadline) row.outcome ×
+    IsWork p (terms_by p price row.deadline) row.work
 
 -- what is right to tell of a file with this factor and price: memory may be refused, and a thread not be started, at any
 abbrev pub IsRowFor : (may_be_open : Type 0) → Input → ℕ → ℕ → Row → Type 0

@@ -1,65 +1,110 @@
 //! What is heard of a plan while it is made.
 
+ghost use Rattle.std.specs.Prelude.{IfSome, max, None};
+ghost use Rattle.std.proofs.Props.{props};
+ghost use Rattle.racp_found.specs.Told.{IsKnownCost, IsLeastOfEnough, IsTrueNews};
+ghost use Rattle.racp_batch.specs.Rows.{IsWork};
+
 use crate::row::Work;
-use racp_by_questions::Observer;
-use std::sync::atomic::{AtomicU64, Ordering};
+use racp_found::{News, Observer, OfOrder};
+use std::cell::Cell;
+use std::marker::PhantomData;
 
-/// What stands for a cost while none is known.
-const NONE: u64 = u64::MAX;
-
-/// What is heard of a plan while it is made: what the cheapest costs that is known, what each costs at least, how many nodes
-/// the search has looked at, and how many conflicts a search that learns has met.
+/// What all capacities that are enough for the order that `N` names cost at least, and what a plan costs that is known, if one
+/// is.
 #[derive(Drop)]
-pub(crate) struct Heard {
-    best: AtomicU64,
-    bound: AtomicU64,
-    nodes: AtomicU64,
-    conflicts: AtomicU64,
+struct Costs<N: OfOrder> {
+    least: u64,
+    best: Option<u64>,
+    of: PhantomData<N>,
+    ghost least_is: { IsLeastOfEnough N.network N.terms least } by { Prim.hlevel props },
+    ghost best_is: { IfSome best (IsKnownCost N.network N.terms) },
 }
 
-impl Heard {
-    /// No plan is known, and it may cost nothing.
-    pub(crate) fn new() -> Self {
-        Heard {
-            best: AtomicU64::new(NONE),
-            bound: AtomicU64::new(0),
-            nodes: AtomicU64::new(0),
-            conflicts: AtomicU64::new(0),
+impl<N: OfOrder> Costs<N> {
+    /// Nothing is known.
+    fn new() -> Self {
+        Costs {
+            least: 0,
+            best: None,
+            of: PhantomData,
         }
     }
 
-    /// Notes that the search looks at a node.
-    pub(crate) fn note_node(&self) {
-        let _ = self.nodes.fetch_add(1, Ordering::SeqCst);
+    /// With what all cost at least.
+    fn with_least(self, least: u64) -> Self
+        requires { IsLeastOfEnough N.network N.terms least }
+    {
+        Costs {
+            least: self.least.max(least),
+            best: self.best,
+            of: PhantomData,
+        }
     }
 
-    /// The work that was done in so many thousandths of a second, and what was heard meanwhile.
-    pub(crate) fn work(&self, milliseconds: Option<u64>) -> Work {
-        let best = self.best.load(Ordering::SeqCst);
+    /// With what a plan costs.
+    fn with_plan(self, cost: u64) -> Self
+        requires { IsKnownCost N.network N.terms cost }
+    {
+        let best = match self.best {
+            Some(best) => best.min(cost),
+            None => cost,
+        };
+        Costs {
+            least: self.least,
+            best: Some(best),
+            of: PhantomData,
+        }
+    }
+}
+
+/// What is heard of the plan of the order that `N` names: what the cheapest costs that is known, what each costs at least, and how
+/// many conflicts a search that learns has met.
+#[derive(Drop)]
+pub(crate) struct Heard<N: OfOrder> {
+    costs: Cell<Costs<N>>,
+    conflicts: Cell<u64>,
+}
+
+impl<N: OfOrder> Heard<N> {
+    /// Nothing is heard yet.
+    pub(crate) fn new() -> Self {
+        Heard {
+            costs: Cell::new(Costs::new()),
+            conflicts: Cell::new(0),
+        }
+    }
+
+    /// What was heard, and that so many nodes were looked at in so many thousandths of a second.
+    pub(crate) fn into_work(self, nodes: u64, milliseconds: Option<u64>) -> Work
+        ensures { IsWork N.network N.terms result }
+    {
+        let Costs { least, best, .. } = self.costs.into_inner();
         Work {
-            best: if best == NONE { None } else { Some(best) },
-            bound: self.bound.load(Ordering::SeqCst),
-            nodes: self.nodes.load(Ordering::SeqCst),
-            conflicts: self.conflicts.load(Ordering::SeqCst),
+            best,
+            bound: least,
+            nodes,
+            conflicts: self.conflicts.get(),
             milliseconds,
         }
     }
 }
 
-impl Observer for Heard {
-    fn hear_deadline(&self, _deadline: u32) {}
+impl<N: OfOrder> Observer for Heard<N> {
+    ghost may_hear = { IsTrueNews N.network N.terms };
 
-    fn hear_floors(&self, _floors: &[u32]) {}
-
-    fn hear_cost(&self, cost: u64) {
-        let _ = self.bound.fetch_max(cost, Ordering::SeqCst);
-    }
-
-    fn hear_plan(&self, _capacities: &[u32], _starts: &[u32], cost: u64) {
-        let _ = self.best.fetch_min(cost, Ordering::SeqCst);
-    }
-
-    fn hear_search(&self, conflicts: u64, _clauses: u64) {
-        self.conflicts.store(conflicts, Ordering::SeqCst);
+    fn hear(&self, news: News<'_>) {
+        match news {
+            News::Deadline(_) | News::Floors(_) => {}
+            News::Cost(least) => {
+                let costs = self.costs.replace(Costs::new());
+                self.costs.set(costs.with_least(least));
+            }
+            News::Plan { cost, .. } => {
+                let costs = self.costs.replace(Costs::new());
+                self.costs.set(costs.with_plan(cost));
+            }
+            News::Work { conflicts, .. } => self.conflicts.set(conflicts),
+        }
     }
 }

@@ -22,8 +22,8 @@
 //! give the deadline and the terms of a case. Which rows are right of a case `IsRowOf` says. If `table_over` answers an ending,
 //! it has written the first row and the rows of as many cases as it tells, from the first on in their order, byte for byte, and
 //! each is right of its case (`IsTableRun`); a whole table has the rows of all. A plan is left open only if the time for a row is
-//! limited, or if the user may ask for a stop; and only then a table is not whole. Not proved: the numbers of work, and what the
-//! host is told.
+//! limited, or if the user may ask for a stop; and only then a table is not whole. What a row tells as bound and best is true
+//! (`IsWork`). Not proved: how much work was done, and what the host is told.
 #![tactic(auto)]
 
 mod batch;

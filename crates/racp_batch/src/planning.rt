@@ -1,21 +1,24 @@
 //! The planner of a table's cases.
 
-ghost use Rattle.std.specs.Prelude.{◌≤◌, IfOk, ⊤};
+ghost use Rattle.std.specs.Prelude.{◌≡◌, ◌≤◌, IfOk, ⊤};
 ghost use Rattle.racp_model.specs.Terms.{AreTermsOf};
 ghost use Rattle.racp_whatif.specs.Outcomes.{IsOutcome};
-ghost use Rattle.racp_batch.specs.Rows.{IsRowFor, IsRowOf};
+ghost use Rattle.racp_batch.specs.Rows.{IsRowFor, IsRowOf, IsWork};
 ghost use Rattle.racp_batch.specs.declared.case.Input.TheVariants as inputs;
 
 use crate::case::{Case, Input};
+use crate::heard::Heard;
 use crate::order::{deadline_of, order_by};
 use crate::row::{Answered, Row, Work};
 use crate::until::Until;
 use racp_desk::Open;
+use racp_found::OfOrder;
 use racp_lexfix::{Crew, PlanStop};
 use racp_model::Network;
 use racp_prices::{Factor, Order};
 use racp_whatif::{Outcome, outcome_by_crew};
 use std::alloc::Global;
+use std::marker::Brand;
 use std::sync::Wait;
 use std::sync::atomic::AtomicBool;
 use std::thread::Threads;
@@ -118,8 +121,27 @@ impl Planning {
         is_halted: &AtomicBool,
     ) -> Result<(Outcome, Work), PlanStop>
         requires { AreTermsOf net.now order.now }
-        ensures { IfOk result (λ made. IsOutcome ⊤ net.now order.now made.0) }
+        ensures outcome { IfOk result (λ made. IsOutcome ⊤ net.now order.now made.0) }
+        ensures work { IfOk result (λ made. IsWork net.now order.now made.1) }
     {
+        self.outcome_of::<Brand, R>(rt, net, order, is_halted)
+    }
+
+    /// The same for the order that `N` names.
+    fn outcome_of<N: OfOrder, R: Clock + Threads + Wait + Sync>(
+        &self,
+        rt: &R,
+        net: &Network,
+        order: &Order,
+        is_halted: &AtomicBool,
+    ) -> Result<(Outcome, Work), PlanStop>
+        requires terms { AreTermsOf net.now order.now }
+        requires named { net.now ≡ N.network }
+        requires named_terms { order.now ≡ N.terms }
+        ensures outcome { IfOk result (λ made. IsOutcome ⊤ net.now order.now made.0) }
+        ensures work { IfOk result (λ made. IsWork N.network N.terms made.1) }
+    {
+        let heard: Heard<N> = Heard::new();
         let until = Until::of(rt, self.limit, is_halted);
         let crew = Crew {
             workers: 1,
@@ -127,10 +149,12 @@ impl Planning {
             memory: self.memory,
             gate: &Open,
             stop: &until,
-            observer: until.heard(),
+            observer: &heard,
         };
         let outcome = outcome_by_crew(rt, self.alloc, net, order, &crew)?;
-        let work = until.heard().work(until.milliseconds());
-        Ok((outcome, work))
+        Ok((
+            outcome,
+            heard.into_work(until.nodes(), until.milliseconds()),
+        ))
     }
 }

@@ -5,7 +5,7 @@ ghost use Rattle.racp_batch.specs.Rows.{is_open};
 
 use racp_whatif::Outcome;
 
-/// How much work was done for a plan, and what was heard of it meanwhile. No clause speaks of these numbers.
+/// How much work was done for a plan, and what was heard of it meanwhile. No clause speaks of nodes, conflicts and time.
 #[derive(Clone, Copy)]
 pub struct Work {
     /// What the cheapest plan costs that was known, if one was.

@@ -1,8 +1,7 @@
 //! When the planning of a row stops.
 
-use crate::heard::Heard;
 use racp_model::Stop;
-use std::sync::atomic::{AtomicBool, Ordering};
+use std::sync::atomic::{AtomicBool, AtomicU64, Ordering};
 use std::time::{Clock, Duration, Instant};
 
 /// Tells whether all rows are to stop.
@@ -25,7 +24,7 @@ pub(crate) struct Until<C: Clock + Drop, H: Halt + Drop> {
     begun: Option<Instant>,
     limit: Option<Duration>,
     halt: H,
-    heard: Heard,
+    nodes: AtomicU64,
 }
 
 impl<C: Clock + Drop, H: Halt + Drop> Until<C, H> {
@@ -37,13 +36,13 @@ impl<C: Clock + Drop, H: Halt + Drop> Until<C, H> {
             begun,
             limit,
             halt,
-            heard: Heard::new(),
+            nodes: AtomicU64::new(0),
         }
     }
 
-    /// What is heard of the plan.
-    pub(crate) fn heard(&self) -> &Heard {
-        &self.heard
+    /// How often it was asked: once for each node.
+    pub(crate) fn nodes(&self) -> u64 {
+        self.nodes.load(Ordering::SeqCst)
     }
 
     /// How many thousandths of a second have passed, if the clock can be read.
@@ -80,7 +79,7 @@ impl<C: Clock + Drop, H: Halt + Drop> Stop for Until<C, H> {
     const QUIET: bool = false;
 
     fn asked(&self) -> bool {
-        self.heard.note_node();
+        let _ = self.nodes.fetch_add(1, Ordering::SeqCst);
         self.halt.is_set() || self.is_over()
     }
 }

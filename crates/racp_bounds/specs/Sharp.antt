@@ -5,6 +5,8 @@ use Rattle.racp_model.specs.Project.{Project, number, AreNumbers, IsArcBefore}
 use Rattle.racp_model.specs.Schedule.{sum_below}
 use Rattle.racp_model.specs.Plan.{IsLeast}
 use Rattle.racp_model.specs.Window.{Bounds, IsYes, IsNo}
+use Rattle.racp_found.specs.declared.observer.News.{News}
+use Rattle.racp_found.specs.declared.observer.News.TheVariants.{Deadline, Floors, Cost, Plan, Work}
 use Rattle.racp_questions.specs.FirstYes.{MayGiveUp}
 use Rattle.racp_questions.specs.declared.asker.AskStop.{AskStop}
 use Rattle.racp_bounds.specs.declared.sharp.Sharp.{Sharp}
@@ -46,6 +48,14 @@ pub record AreSharpenedBefore (p : Project) (root : Bounds) (floors roofs : List
   pub places : length reached ≡ p.resources
   pub sharpened : (k : ℕ) → k < n → k < p.resources → IsSharpened p root floors roofs k (slice_index reached k)
   pub first : (k : ℕ) → n ≤ k → k < p.resources → slice_index reached k ≡ slice_index floors k
+
+-- news of such floors
+abbrev pub IsReachedNews : Project → Bounds → (floors roofs : List ℕ) → ℕ → News → Type 0
+IsReachedNews p root floors roofs n (Deadline deadline) = ⊥
+IsReachedNews p root floors roofs n (Floors reached) = AreSharpenedBefore p root floors roofs n reached.now
+IsReachedNews p root floors roofs n (Cost least) = ⊥
+IsReachedNews p root floors roofs n (Plan capacities starts cost) = ⊥
+IsReachedNews p root floors roofs n (Work conflicts clauses) = ⊥
 
 -- how many pairs of this many resources there are: for each resource, one with each that comes after it
 abbrev pub pair_count : ℕ → ℕ

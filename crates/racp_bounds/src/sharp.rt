@@ -6,9 +6,11 @@ ghost use Rattle.racp_model.specs.Formed.{HasBounds};
 ghost use Rattle.racp_model.specs.Window.{IsYes};
 ghost use Rattle.racp_candidates.specs.Box.{AreBounds};
 ghost use Rattle.racp_questions.specs.FirstYes.{MayGiveUp};
-ghost use Rattle.racp_bounds.specs.Sharp.{AreSharpenedBefore, IsSharpened, IsRefutedPair, AreRefutedPairs, IsSharp, pair_count, IsUnsharpened};
+ghost use Rattle.racp_found.specs.declared.observer.News.{News};
+ghost use Rattle.racp_bounds.specs.Sharp.{IsReachedNews, IsSharpened, IsRefutedPair, AreRefutedPairs, IsSharp, pair_count, IsUnsharpened};
 
 use racp_candidates::{AnySeries, One, Singles};
+use racp_found::News;
 use racp_model::{Capacities, Network, Window};
 use racp_questions::{AskStop, Asker, First};
 use std::alloc::{AllocError, Global};
@@ -47,8 +49,7 @@ pub fn sharpen<A: Asker<AnySeries>>(
     requires roofs { length roofs.now ≡ net.now.resources }
     requires bounds { AreBounds floors roofs.now }
     requires admits { IsYes net.now roofs.now root.now }
-    requires heard { (n : ℕ) (reached : List ℕ) → AreSharpenedBefore net.now root.now floors roofs.now n reached →
-        A.may_hear_floors reached }
+    requires heard { (n : ℕ) (news : News) → IsReachedNews net.now root.now floors roofs.now n news → A.may_hear news }
     ensures network { A.about asker.new net.now }
     ensures sharp { IfOk result (IsSharp net.now root.now floors roofs.now) }
     ensures answered { OnOk result
@@ -59,13 +60,13 @@ pub fn sharpen<A: Asker<AnySeries>>(
 {
     let mut reached = floors;
     for k in 0..net.resource_count() {
-        asker.hear_floors(&reached);
+        asker.hear(News::Floors(&reached));
         match raised(alloc, net, root, &reached, roofs, k, asker) {
             Ok(units) => reached = reached.with_units(k, units),
             Err(stop) => return Err((reached, stop)),
         }
     }
-    asker.hear_floors(&reached);
+    asker.hear(News::Floors(&reached));
     match refuted_pairs(alloc, net, root, &reached, roofs, asker) {
         Ok(pairs) => Ok(Sharp {
             floors: reached,

@@ -5,7 +5,6 @@ use Rattle.racp_model.specs.Terms.{Terms}
 use Rattle.racp_model.specs.Plan.{NoneIsEnough}
 use Rattle.racp_clauses.specs.Solutions.{Problem}
 use Rattle.racp_clauses.specs.Roots.{IsOpen, IsPartOf}
-use Rattle.racp_clauses.specs.Uses.{IsLeastCost}
 use Rattle.racp_drafts.specs.Drafts.{IsDraft}
 use Rattle.racp_drafts.specs.declared.draft.Draft.{Draft}
 use Rattle.racp_by_clauses.specs.declared.feasible.Feasible.{Feasible}
@@ -37,8 +36,3 @@ abbrev pub IsFeasible : Project → Terms → Feasible → Type 0
 IsFeasible p terms (Fits draft) = IsDraft p terms draft
 IsFeasible p terms NoneFits = NoneIsEnough p terms
 IsFeasible p terms Unknown = ⊤
-
--- a hearer may be told what all capacities that are enough cost at least, and drafts
-pub record MayBeTold (q : Problem) (may_hear_cost : ℕ → Type 0) (may_hear_draft : Draft → Type 0) : Type 0 where
-  pub least : (least : ℕ) → IsLeastCost q least → may_hear_cost least
-  pub drafts : (draft : Draft) → IsDraft q.network q.terms draft → may_hear_draft draft

@@ -2,34 +2,35 @@
 
 ghost use Rattle.std.specs.Prelude.{IfOk};
 ghost use Rattle.racp_clauses.specs.Roots.{IsOpen};
-ghost use Rattle.racp_by_clauses.specs.Optima.{AreTasksOf, IsFeasible, IsTaskOf, MayBeTold};
+ghost use Rattle.racp_found.specs.Told.{MayBeTold};
+ghost use Rattle.racp_by_clauses.specs.Optima.{AreTasksOf, IsFeasible, IsTaskOf};
 
 use crate::asking::Heard;
 use crate::descent::Descent;
 use crate::feasible::Feasible;
-use crate::hearer::Hearer;
 use crate::task::{Task, Tasks};
 use racp_clauses::{Clause, OfProblem, leaves_none};
 use racp_drafts::Draft;
+use racp_found::Observer;
 use racp_learning::Search;
 use std::alloc::AllocError;
 
 impl<P: OfProblem> Descent<P> {
     /// Looks for any solution.
-    pub(crate) fn find_any<N: OfProblem, H: Hearer>(
+    pub(crate) fn find_any<N: OfProblem, O: Observer>(
         &mut self,
         search: &mut Search<N>,
         tasks: Tasks<'_>,
-        hearer: &H,
+        observer: &O,
     ) -> Result<(), AllocError>
         requires are_of { AreTasksOf N.problem P.problem tasks }
-        requires may { MayBeTold P.problem H.may_hear_cost H.may_hear_draft }
+        requires may { MayBeTold P.problem.network P.problem.terms O.may_hear }
     {
         let task = tasks.part;
         let x = task.net.job_count() + task.net.resource_count();
         let most = task.root.upper_at(x);
-        if let Heard::None = self.ask(search, tasks, hearer, x, most)? {
-            self.close_last(task, hearer)?;
+        if let Heard::None = self.ask(search, tasks, observer, x, most)? {
+            self.close_last(task, observer)?;
         }
         Ok(())
     }

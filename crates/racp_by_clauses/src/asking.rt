@@ -2,21 +2,23 @@
 
 ghost use Rattle.racp_clauses.specs.Roots.{IsPartOf};
 ghost use Rattle.racp_clauses.specs.Solutions.{HasPlaces};
-ghost use Rattle.racp_by_clauses.specs.Optima.{AreTasksOf, IsTaskOf, MayBeTold};
+ghost use Rattle.racp_found.specs.Told.{MayBeTold};
+ghost use Rattle.racp_by_clauses.specs.Optima.{AreTasksOf, IsTaskOf};
 
 use crate::descent::Descent;
-use crate::hearer::{Asking, Hearer};
 use crate::places::{value_of, variable_count};
 use crate::questions::bounds_of;
 use crate::taken::taken_over;
 use crate::task::{Task, Tasks};
+use crate::telling::{tell_draft, tell_work};
 use racp_clauses::{Clause, Domain, OfProblem};
 use racp_drafts::Draft;
+use racp_found::{Observer, Wish};
 use racp_learning::{Reason, Search, Told};
 use racp_model::Starts;
 use std::alloc::AllocError;
 
-/// The hearer is told what was done once in so many conflicts.
+/// The observer is told what was done once in so many conflicts.
 const SLICE: u64 = 1_000;
 
 /// What comes of a question.
@@ -32,20 +34,20 @@ pub(crate) enum Heard {
 
 impl<P: OfProblem> Descent<P> {
     /// Asks whether the variable at a place can be at most so much.
-    pub(crate) fn ask<N: OfProblem, H: Hearer>(
+    pub(crate) fn ask<N: OfProblem, O: Observer>(
         &mut self,
         search: &mut Search<N>,
         tasks: Tasks<'_>,
-        hearer: &H,
+        observer: &O,
         x: usize,
         most: u64,
     ) -> Result<Heard, AllocError>
         requires are_of { AreTasksOf N.problem P.problem tasks }
-        requires may { MayBeTold P.problem H.may_hear_cost H.may_hear_draft }
+        requires may { MayBeTold P.problem.network P.problem.terms O.may_hear }
     {
         self.bound(x, most);
-        match self.told(search, tasks, hearer)? {
-            Told::Found(starts, _) => self.better(tasks.part, hearer, starts, x, most),
+        match self.told(search, tasks, observer)? {
+            Told::Found(starts, _) => self.better(tasks.part, observer, starts, x, most),
             Told::Refuted(clause) => self.take(tasks.part, clause),
             Told::Open(_) => Ok(Heard::Open),
         }
@@ -65,13 +67,14 @@ impl<P: OfProblem> Descent<P> {
     }
 
     /// What the search tells of whatever is still of interest.
-    pub(crate) fn told<N: OfProblem, H: Hearer>(
+    pub(crate) fn told<N: OfProblem, O: Observer>(
         &mut self,
         search: &mut Search<N>,
         tasks: Tasks<'_>,
-        hearer: &H,
+        observer: &O,
     ) -> Result<Told<Clause<N>>, AllocError>
         requires are_of { AreTasksOf N.problem P.problem tasks }
+        requires may { MayBeTold P.problem.network P.problem.terms O.may_hear }
     {
         let Task {
             alloc,
@@ -80,23 +83,26 @@ impl<P: OfProblem> Descent<P> {
             ..
         } = tasks.part;
         let bounds = bounds_of(alloc, root, variable_count(net), &self.most)?;
-        self.ask_through(search, tasks.whole, hearer, &bounds)
+        self.ask_through(search, tasks.whole, observer, &bounds)
     }
 
-    /// Asks whether something lies within bounds, and tells the hearer from time to time what was done.
-    fn ask_through<N: OfProblem, H: Hearer>(
+    /// Asks whether something lies within bounds, and tells the observer from time to time what was done.
+    fn ask_through<N: OfProblem, O: Observer>(
         &mut self,
         search: &mut Search<N>,
         whole: Task<'_>,
-        hearer: &H,
+        observer: &O,
         bounds: &Domain,
     ) -> Result<Told<Clause<N>>, AllocError>
         requires is_of { IsTaskOf N.problem whole }
         requires places { HasPlaces N.problem.network bounds.now }
+        requires may { MayBeTold P.problem.network P.problem.terms O.may_hear }
     {
         for _i in 0..u64::MAX {
-            match self.ask_on(search, whole, hearer, bounds)? {
-                Told::Open(Reason::Budget) if self.left > 0 => hearer.hear_tally(search.tally()),
+            match self.ask_on(search, whole, observer, bounds)? {
+                Told::Open(Reason::Budget) if self.left > 0 => {
+                    tell_work::<P, O>(search.tally(), observer);
+                }
                 told => return Ok(told),
             }
         }
@@ -104,11 +110,11 @@ impl<P: OfProblem> Descent<P> {
     }
 
     /// Asks whether something lies within bounds, for some of the conflicts that are left.
-    fn ask_on<N: OfProblem, H: Hearer>(
+    fn ask_on<N: OfProblem, O: Observer>(
         &mut self,
         search: &mut Search<N>,
         whole: Task<'_>,
-        hearer: &H,
+        observer: &O,
         bounds: &Domain,
     ) -> Result<Told<Clause<N>>, AllocError>
         requires is_of { IsTaskOf N.problem whole }
@@ -116,7 +122,7 @@ impl<P: OfProblem> Descent<P> {
     {
         let before = search.tally().conflicts;
         let conflicts = self.left.min(SLICE);
-        let stop = Asking { hearer };
+        let stop = Wish { observer };
         let told = search.ask(whole.net, whole.order, bounds, conflicts, &stop)?;
         let met = search.tally().conflicts.saturating_sub(before);
         // Clauses were lost if the search gave up before.
@@ -130,16 +136,16 @@ impl<P: OfProblem> Descent<P> {
     }
 
     /// Takes starts as the best draft, if the variable at a place is at most so much in it.
-    fn better<H: Hearer>(
+    fn better<O: Observer>(
         &mut self,
         task: Task<'_>,
-        hearer: &H,
+        observer: &O,
         starts: Starts,
         x: usize,
         most: u64,
     ) -> Result<Heard, AllocError>
         requires is_of { IsTaskOf P.problem task }
-        requires may { MayBeTold P.problem H.may_hear_cost H.may_hear_draft }
+        requires may { MayBeTold P.problem.network P.problem.terms O.may_hear }
     {
         let Some(draft) = Draft::of_starts(task.alloc, task.net, task.order, starts)? else {
             return Ok(Heard::Open);
@@ -148,7 +154,7 @@ impl<P: OfProblem> Descent<P> {
             return Ok(Heard::Open);
         }
         if task.net.job_count() <= x {
-            hearer.hear_draft(&draft);
+            tell_draft::<P, O>(&draft, observer);
         }
         self.best = Some(draft);
         Ok(Heard::Less)

@@ -2,19 +2,19 @@
 
 ghost use Rattle.std.specs.Prelude.{IfOk};
 ghost use Rattle.racp_found.specs.Finds.{IsFound};
-ghost use Rattle.racp_by_clauses.specs.Optima.{IsTaskOf, MayBeTold};
+ghost use Rattle.racp_found.specs.Told.{MayBeTold};
+ghost use Rattle.racp_by_clauses.specs.Optima.{IsTaskOf};
 
 use crate::common::Common;
 use crate::descent::Descent;
-use crate::hearer::Hearer;
-use crate::hearing::{Loud, Quiet};
 use crate::limits::Limits;
 use crate::optimizer::first_draft;
 use crate::optimum::optimum_of;
 use crate::task::{Task, Tasks};
+use crate::telling::Finished;
 use crate::worker::Worker;
 use racp_clauses::OfProblem;
-use racp_found::Found;
+use racp_found::{Found, Observer, Until};
 use std::alloc::AllocError;
 use std::sync::Wait;
 use std::thread;
@@ -46,9 +46,9 @@ fn follow<N: OfProblem, R: Wait>(
     common: &Common<'_, N>,
     worker: &mut Worker<N>,
 ) -> Result<(), AllocError> {
-    let hearer = Quiet { common };
-    worker.tell(rt, common, &hearer)?;
-    worker.work(rt, common, &hearer)
+    let observer = Finished { common };
+    worker.tell(rt, common, &observer)?;
+    worker.work(rt, common, &observer)
 }
 
 /// Starts the search in a seat on a thread of its own, if one can be had.
@@ -106,37 +106,41 @@ fn take_finished<N: OfProblem>(task: Task<'_>, found: &mut Descent<N>, other: De
 }
 
 /// Searches on the calling thread, and lets the others stop.
-fn lead<N: OfProblem, H: Hearer, R: Wait>(
+fn lead<N: OfProblem, O: Observer, R: Wait>(
     rt: &R,
     common: &Common<'_, N>,
     worker: &mut Worker<N>,
-    hearer: &H,
+    observer: &O,
 ) -> Result<(), AllocError>
-    requires may { MayBeTold N.problem H.may_hear_cost H.may_hear_draft }
+    requires may { MayBeTold N.problem.network N.problem.terms O.may_hear }
 {
-    let done = worker.work(rt, common, &Loud { common, hearer });
+    let until = Until {
+        observer,
+        end: &Finished { common },
+    };
+    let done = worker.work(rt, common, &until);
     common.finish();
     done
 }
 
 /// Searches on the calling thread with others beside it, and takes what one of them that has finished has found.
-fn in_scope<'a, 'b, N: OfProblem + Send + Sync, H: Hearer, R: Threads + Wait + Sync>(
+fn in_scope<'a, 'b, N: OfProblem + Send + Sync, O: Observer, R: Threads + Wait + Sync>(
     rt: &'a R,
     common: &'a Common<'a, N>,
     worker: &'b mut Worker<N>,
     workers: usize,
-    hearer: &'a H,
+    observer: &'a O,
 ) -> Result<(), AllocError>
-    requires may { MayBeTold N.problem H.may_hear_cost H.may_hear_draft }
+    requires may { MayBeTold N.problem.network N.problem.terms O.may_hear }
 {
     thread::scope(
         thread::scope_env(),
         rt,
         move |scope| -> Result<(), AllocError>
-            requires { MayBeTold N.problem H.may_hear_cost H.may_hear_draft }
+            requires { MayBeTold N.problem.network N.problem.terms O.may_hear }
         {
             let handles = start(scope, rt, common, workers)?;
-            lead(rt, common, worker, hearer)?;
+            lead(rt, common, worker, observer)?;
             join_all(rt, common.task, handles, &mut worker.descent);
             Ok(())
         },
@@ -144,14 +148,14 @@ fn in_scope<'a, 'b, N: OfProblem + Send + Sync, H: Hearer, R: Threads + Wait + S
 }
 
 /// Searches alone for so many conflicts, and then with others beside.
-fn search_all<'a, 'b, N: OfProblem + Send + Sync, H: Hearer, R: Threads + Wait + Sync>(
+fn search_all<'a, 'b, N: OfProblem + Send + Sync, O: Observer, R: Threads + Wait + Sync>(
     rt: &'a R,
     common: &'a Common<'a, N>,
     worker: &'b mut Worker<N>,
     workers: usize,
-    hearer: &'a H,
+    observer: &'a O,
 ) -> Result<(), AllocError>
-    requires may { MayBeTold N.problem H.may_hear_cost H.may_hear_draft }
+    requires may { MayBeTold N.problem.network N.problem.terms O.may_hear }
 {
     worker.descent.left = ALONE.min(common.limits.conflicts);
     let task = common.task;
@@ -159,14 +163,14 @@ fn search_all<'a, 'b, N: OfProblem + Send + Sync, H: Hearer, R: Threads + Wait +
         whole: task,
         part: task,
     };
-    worker.descent.go_down(&mut worker.search, tasks, hearer)?;
+    worker.descent.go_down(&mut worker.search, tasks, observer)?;
     if worker.descent.is_finished(task) || worker.descent.left > 0 {
         return Ok(());
     }
     worker
         .descent
-        .raise_by_halves(&mut worker.search, tasks, hearer)?;
-    in_scope(rt, common, worker, workers, hearer)
+        .raise_by_halves(&mut worker.search, tasks, observer)?;
+    in_scope(rt, common, worker, workers, observer)
 }
 
 /// The plan of an order, or that no capacities are enough; or neither: as `optimum_of` finds it, by so many searches, 1 to 64,
@@ -175,29 +179,29 @@ fn search_all<'a, 'b, N: OfProblem + Send + Sync, H: Hearer, R: Threads + Wait +
 /// # Errors
 ///
 /// Memory was refused.
-pub fn optimum_beside<N: OfProblem + Send + Sync, H: Hearer, R: Threads + Wait + Sync>(
+pub fn optimum_beside<N: OfProblem + Send + Sync, O: Observer, R: Threads + Wait + Sync>(
     rt: &R,
     task: Task<'_>,
     limits: Limits,
     workers: usize,
-    hearer: &H,
+    observer: &O,
 ) -> Result<Found, AllocError>
     requires is_of { IsTaskOf N.problem task }
-    requires may { MayBeTold N.problem H.may_hear_cost H.may_hear_draft }
+    requires may { MayBeTold N.problem.network N.problem.terms O.may_hear }
     ensures { IfOk result (IsFound N.problem.network N.problem.terms) }
 {
     if workers < 2 {
-        return optimum_of::<N, H>(task, limits, hearer);
+        return optimum_of::<N, O>(task, limits, observer);
     }
     let share = limits.bytes / (workers as u64).saturating_add(1);
     let own = Limits {
         bytes: share,
         ..limits
     };
-    let draft = first_draft::<N, H>(task, limits, hearer)?;
+    let draft = first_draft::<N, O>(task, limits, observer)?;
     let common: Common<'_, N> = Common::new(task, own, share)?;
     let mut worker = Worker::new(&common, 0, draft)?;
-    match search_all(rt, &common, &mut worker, workers, hearer) {
+    match search_all(rt, &common, &mut worker, workers, observer) {
         Ok(()) => worker.into_descent().into_found(task),
         Err(refused) => {
             // By a call: else each part is dropped here.

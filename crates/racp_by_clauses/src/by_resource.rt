@@ -4,14 +4,15 @@
 //! resource alone; where all of that is learned, the whole question has a short answer. In the same way it is asked for less
 //! of each resource at the least cost. Searches side by side begin with different resources.
 
-ghost use Rattle.racp_by_clauses.specs.Optima.{AreTasksOf, MayBeTold};
+ghost use Rattle.racp_found.specs.Told.{MayBeTold};
+ghost use Rattle.racp_by_clauses.specs.Optima.{AreTasksOf};
 
 use crate::asking::Heard;
 use crate::descent::Descent;
-use crate::hearer::Hearer;
 use crate::places::variable_count;
 use crate::task::{Task, Tasks};
 use racp_clauses::OfProblem;
+use racp_found::Observer;
 use racp_learning::Search;
 use std::alloc::{AllocError, Global};
 
@@ -75,15 +76,15 @@ fn set(row: &mut [u64], k: usize, number: u64) {
 impl<P: OfProblem> Descent<P> {
     /// Asks for less of each resource, from the first one on, until each is known to need what the best draft has. False where
     /// one stays open. Where questions are not parted, nothing is asked.
-    pub(crate) fn go_by_parts<N: OfProblem, H: Hearer>(
+    pub(crate) fn go_by_parts<N: OfProblem, O: Observer>(
         &mut self,
         search: &mut Search<N>,
         tasks: Tasks<'_>,
-        hearer: &H,
+        observer: &O,
         aim: Aim,
     ) -> Result<bool, AllocError>
         requires are_of { AreTasksOf N.problem P.problem tasks }
-        requires may { MayBeTold P.problem H.may_hear_cost H.may_hear_draft }
+        requires may { MayBeTold P.problem.network P.problem.terms O.may_hear }
     {
         let task = tasks.part;
         for _i in 0..u64::MAX {
@@ -92,7 +93,7 @@ impl<P: OfProblem> Descent<P> {
             };
             self.bound_for(task, aim, k);
             let x = task.net.job_count().saturating_add(k);
-            let heard = self.ask(search, tasks, hearer, x, most)?;
+            let heard = self.ask(search, tasks, observer, x, most)?;
             self.unbound(task);
             match heard {
                 Heard::Less => {}

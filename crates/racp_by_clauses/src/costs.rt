@@ -1,15 +1,16 @@
 //! What searches side by side tell each other of the least cost.
 //!
 //! One of them asks from below. It shows the others the clauses that tell what everything costs at least, and each tells its
-//! hearer.
+//! observer.
 
-ghost use Rattle.racp_by_clauses.specs.Optima.{AreTasksOf, MayBeTold};
+ghost use Rattle.racp_found.specs.Told.{MayBeTold};
+ghost use Rattle.racp_by_clauses.specs.Optima.{AreTasksOf};
 
 use crate::common::Common;
-use crate::hearer::Hearer;
 use crate::task::Tasks;
 use crate::worker::Worker;
 use racp_clauses::OfProblem;
+use racp_found::Observer;
 use std::alloc::AllocError;
 use std::sync::Wait;
 
@@ -18,22 +19,22 @@ pub(crate) const FROM_BELOW: usize = 2;
 
 impl<N: OfProblem> Worker<N> {
     /// Goes on from the best draft down, or from below, for so many conflicts.
-    pub(crate) fn go_on<H: Hearer>(
+    pub(crate) fn go_on<O: Observer>(
         &mut self,
         tasks: Tasks<'_>,
-        hearer: &H,
+        observer: &O,
         conflicts: u64,
     ) -> Result<(), AllocError>
         requires are_of { AreTasksOf N.problem N.problem tasks }
-        requires may { MayBeTold N.problem H.may_hear_cost H.may_hear_draft }
+        requires may { MayBeTold N.problem.network N.problem.terms O.may_hear }
     {
         if self.seat == FROM_BELOW && self.descent.is_cost_open(tasks.part) {
             return self
                 .descent
-                .raise_from_below(&mut self.search, tasks, hearer, conflicts);
+                .raise_from_below(&mut self.search, tasks, observer, conflicts);
         }
         self.descent.left = conflicts;
-        self.descent.go_down(&mut self.search, tasks, hearer)
+        self.descent.go_down(&mut self.search, tasks, observer)
     }
 
     /// Shows the others what everything costs at least, if it is the one that asks for that and knows more.
@@ -53,17 +54,17 @@ impl<N: OfProblem> Worker<N> {
     }
 
     /// Learns from the board, from a place on, what everything costs at least.
-    pub(crate) fn learn_costs<H: Hearer>(
+    pub(crate) fn learn_costs<O: Observer>(
         &mut self,
         common: &Common<'_, N>,
-        hearer: &H,
+        observer: &O,
         from: usize,
     ) -> Result<(), AllocError>
-        requires may { MayBeTold N.problem H.may_hear_cost H.may_hear_draft }
+        requires may { MayBeTold N.problem.network N.problem.terms O.may_hear }
     {
         for place in from..self.read {
             if let Some(clause) = common.clause_at(place) {
-                self.descent.learn_cost(common.task, hearer, clause)?;
+                self.descent.learn_cost(common.task, observer, clause)?;
             }
         }
         Ok(())

@@ -1,15 +1,16 @@
 //! From the best solution that is known down to the least one, variable by variable.
 
-ghost use Rattle.racp_by_clauses.specs.Optima.{AreTasksOf, IsTaskOf, MayBeTold};
+ghost use Rattle.racp_found.specs.Told.{MayBeTold};
+ghost use Rattle.racp_by_clauses.specs.Optima.{AreTasksOf, IsTaskOf};
 
 use crate::asking::Heard;
 use crate::by_resource::{Aim, Parts};
-use crate::hearer::Hearer;
 use crate::places::{place_in_turn, value_of, variable_count};
 use crate::serial::serial_starts;
 use crate::task::{Task, Tasks};
 use racp_clauses::{Clause, OfProblem};
 use racp_drafts::Draft;
+use racp_found::{News, Observer};
 use racp_learning::Search;
 use std::alloc::AllocError;
 
@@ -70,14 +71,14 @@ impl<P: OfProblem> Descent<P> {
     }
 
     /// Goes down by each variable in turn, as far as nothing stays open; from where it was left, if it was.
-    pub(crate) fn go_down<N: OfProblem, H: Hearer>(
+    pub(crate) fn go_down<N: OfProblem, O: Observer>(
         &mut self,
         search: &mut Search<N>,
         tasks: Tasks<'_>,
-        hearer: &H,
+        observer: &O,
     ) -> Result<(), AllocError>
         requires are_of { AreTasksOf N.problem P.problem tasks }
-        requires may { MayBeTold P.problem H.may_hear_cost H.may_hear_draft }
+        requires may { MayBeTold P.problem.network P.problem.terms O.may_hear }
     {
         let net = tasks.part.net;
         let resources = net.resource_count();
@@ -85,10 +86,10 @@ impl<P: OfProblem> Descent<P> {
             if turn == resources + 1 {
                 self.take_serial(tasks.part)?;
             }
-            if turn < 2 && !self.go_by_parts(search, tasks, hearer, aim_of(turn))? {
+            if turn < 2 && !self.go_by_parts(search, tasks, observer, aim_of(turn))? {
                 break;
             }
-            if !self.settle(search, tasks, hearer, place_in_turn(net, turn))? {
+            if !self.settle(search, tasks, observer, place_in_turn(net, turn))? {
                 break;
             }
             self.settled = turn + 1;
@@ -120,15 +121,15 @@ impl<P: OfProblem> Descent<P> {
     }
 
     /// Finds the least value of the variable at a place, with no more of those before it. False where it stays open.
-    fn settle<N: OfProblem, H: Hearer>(
+    fn settle<N: OfProblem, O: Observer>(
         &mut self,
         search: &mut Search<N>,
         tasks: Tasks<'_>,
-        hearer: &H,
+        observer: &O,
         x: usize,
     ) -> Result<bool, AllocError>
         requires are_of { AreTasksOf N.problem P.problem tasks }
-        requires may { MayBeTold P.problem H.may_hear_cost H.may_hear_draft }
+        requires may { MayBeTold P.problem.network P.problem.terms O.may_hear }
     {
         let task = tasks.part;
         let mut least = self.least_value(task, x);
@@ -139,7 +140,7 @@ impl<P: OfProblem> Descent<P> {
                 break;
             }
             let most = below(least, value, is_halved(task, x, turn));
-            match self.ask(search, tasks, hearer, x, most)? {
+            match self.ask(search, tasks, observer, x, most)? {
                 Heard::Less => {}
                 Heard::None => least = most.saturating_add(1),
                 Heard::Open => return Ok(false),
@@ -147,37 +148,37 @@ impl<P: OfProblem> Descent<P> {
         }
         let value = self.value(task, x);
         self.bound(x, value);
-        self.close_last(task, hearer)?;
+        self.close_last(task, observer)?;
         Ok(true)
     }
 
     /// Keeps the clause of the last question that was refuted, if there is one: it shows that nothing is less.
-    pub(crate) fn close_last<H: Hearer>(
+    pub(crate) fn close_last<O: Observer>(
         &mut self,
         task: Task<'_>,
-        hearer: &H,
+        observer: &O,
     ) -> Result<(), AllocError>
         requires is_of { IsTaskOf P.problem task }
-        requires may { MayBeTold P.problem H.may_hear_cost H.may_hear_draft }
+        requires may { MayBeTold P.problem.network P.problem.terms O.may_hear }
     {
         match self.last.take() {
-            Some(clause) => self.close(task, hearer, clause),
+            Some(clause) => self.close(task, observer, clause),
             None => Ok(()),
         }
     }
 
     /// Keeps a clause that shows that nothing is less.
-    pub(crate) fn close<H: Hearer>(
+    pub(crate) fn close<O: Observer>(
         &mut self,
         task: Task<'_>,
-        hearer: &H,
+        observer: &O,
         clause: Clause<P>,
     ) -> Result<(), AllocError>
         requires is_of { IsTaskOf P.problem task }
-        requires may { MayBeTold P.problem H.may_hear_cost H.may_hear_draft }
+        requires may { MayBeTold P.problem.network P.problem.terms O.may_hear }
     {
         if let Some(least) = clause.least_cost(task.net) {
-            hearer.hear_cost(least);
+            observer.hear(News::Cost(least));
         }
         self.clauses.push(clause)?;
         Ok(())

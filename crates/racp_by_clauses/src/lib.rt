@@ -34,12 +34,12 @@
 //! start as in the schedule that exceeds these units least, and those that run near the excess are free? These conflicts
 //! count as any others of the search, and what is learned of them serves each later question.
 //!
-//! A second search asks from the least cost on, in such stints too: what it refutes is what the hearer is told that every
+//! A second search asks from the least cost on, in such stints too: what it refutes is what the observer is told that every
 //! plan costs at least. After the first 300 conflicts questions of few conflicts each halve what is left between the least
 //! cost and the best draft.
 //!
-//! `optimum_of(task, limits, &hearer)` answers the plan, or that no capacities are enough, or neither (`Found` of racp_found),
-//! where the search was given a bound on its conflicts and reached it, was stopped, or left a question open. A `Hearer` is told
+//! `optimum_of(task, limits, &observer)` answers the plan, or that no capacities are enough, or neither (`Found` of racp_found),
+//! where the search was given a bound on its conflicts and reached it, was stopped, or left a question open. An `Observer` is told
 //! drafts and lower bounds on the cost as they are found, and may stop the search.
 //!
 //! `optimum_beside` answers the same by several searches on threads of their own, with other seeds. They show each other short
@@ -48,14 +48,16 @@
 //! one. In the end the whole question has a short answer, by clauses that name one resource. With three or more, one asks for
 //! the cost from the least one on; with four or more, one for the units of a resource from their least on.
 //!
-//! `optimum_recorded` answers the same, with the derivations of the clauses, for a certificate.
+//! `optimum_recorded` answers the same, with the derivations of the clauses, for a certificate. The search from below begins at once
+//! then, has its turn before each thousand conflicts of the other, and keeps its derivations apart: so there is a certificate of
+//! the bound when time is up, and that of the plan rests on one search.
 //!
 //! An `Optimizer` finds the optima of an order and of parts of it, as with shorter deadlines or lower ceilings. It keeps one
 //! search: a clause of the order holds of each part, where those of its literals that are false at the root of the part
 //! fall away.
 //!
 //! Proved: a plan that is answered is the plan (`IsPlan` of racp_model); where it is answered that no capacities are
-//! enough, none are; and what the hearer is told is true. How a plan is found needs no proof but that it ends. Not proved:
+//! enough, none are; and what the observer is told is true. How a plan is found needs no proof but that it ends. Not proved:
 //! that it is found.
 #![tactic(auto)]
 
@@ -69,8 +71,6 @@ mod descent;
 mod ending;
 mod feasible;
 mod from_below;
-mod hearer;
-mod hearing;
 mod in_stints;
 mod limits;
 mod near;
@@ -83,11 +83,11 @@ mod serial;
 mod stints;
 mod taken;
 mod task;
+mod telling;
 mod worker;
 
 pub use beside::optimum_beside;
 pub use feasible::Feasible;
-pub use hearer::Hearer;
 pub use limits::Limits;
 pub use optimizer::Optimizer;
 pub use optimum::optimum_of;

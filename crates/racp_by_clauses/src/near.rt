@@ -5,16 +5,18 @@
 //! this, and the fewer jobs are free the fewer. A yes is a better draft. After a no more jobs are free, after an open question
 //! fewer. What is learned holds of the whole order.
 
-ghost use Rattle.racp_by_clauses.specs.Optima.{AreTasksOf, IsTaskOf, MayBeTold};
+ghost use Rattle.racp_found.specs.Told.{MayBeTold};
+ghost use Rattle.racp_by_clauses.specs.Optima.{AreTasksOf, IsTaskOf};
 
 use crate::descent::Descent;
-use crate::hearer::{Asking, Hearer};
 use crate::places::variable_count;
 use crate::questions::bounds_between;
 use crate::stints::Stints;
 use crate::task::{Task, Tasks};
+use crate::telling::tell_draft;
 use racp_clauses::OfProblem;
 use racp_drafts::{Draft, Drafting, Neighbourhood};
+use racp_found::{Observer, Wish};
 use racp_learning::{Search, Told};
 use racp_model::Starts;
 use std::alloc::{AllocError, Global};
@@ -30,17 +32,17 @@ const ALL: u64 = 60_000;
 
 impl Stints {
     /// Asks about neighbourhoods, by at most so many conflicts; tells how many it met. A better draft is the best of the descent
-    /// from now on, and the hearer is told of it.
-    pub(crate) fn ask_near<N: OfProblem, P: OfProblem, H: Hearer>(
+    /// from now on, and the observer is told of it.
+    pub(crate) fn ask_near<N: OfProblem, P: OfProblem, O: Observer>(
         &mut self,
         search: &mut Search<N>,
         tasks: Tasks<'_>,
         descent: &mut Descent<P>,
-        hearer: &H,
+        observer: &O,
         conflicts: u64,
     ) -> Result<u64, AllocError>
         requires are_of { AreTasksOf N.problem P.problem tasks }
-        requires may { MayBeTold P.problem H.may_hear_cost H.may_hear_draft }
+        requires may { MayBeTold P.problem.network P.problem.terms O.may_hear }
     {
         let Some(drafting) = &mut self.drafting else {
             return Ok(0);
@@ -50,11 +52,11 @@ impl Stints {
         let before = search.tally().conflicts;
         let mut met = 0;
         for _question in 0..QUESTIONS {
-            if most <= met || hearer.stops() || !descent.is_cost_open(tasks.part) {
+            if most <= met || observer.is_to_stop() || !descent.is_cost_open(tasks.part) {
                 break;
             }
             let left = most.saturating_sub(met).min(EACH);
-            if ask_once::<N, P, H>(drafting, search, tasks, descent, hearer, left)? {
+            if ask_once::<N, P, O>(drafting, search, tasks, descent, observer, left)? {
                 self.idle = 0;
             }
             met = search.tally().conflicts.saturating_sub(before);
@@ -65,16 +67,16 @@ impl Stints {
 }
 
 /// Asks about one neighbourhood. Whether there is a better draft.
-fn ask_once<N: OfProblem, P: OfProblem, H: Hearer>(
+fn ask_once<N: OfProblem, P: OfProblem, O: Observer>(
     drafting: &mut Drafting,
     search: &mut Search<N>,
     tasks: Tasks<'_>,
     descent: &mut Descent<P>,
-    hearer: &H,
+    observer: &O,
     conflicts: u64,
 ) -> Result<bool, AllocError>
     requires are_of { AreTasksOf N.problem P.problem tasks }
-    requires may { MayBeTold P.problem H.may_hear_cost H.may_hear_draft }
+    requires may { MayBeTold P.problem.network P.problem.terms O.may_hear }
 {
     let Tasks { whole, part } = tasks;
     if let Some(best) = &descent.best {
@@ -88,9 +90,9 @@ fn ask_once<N: OfProblem, P: OfProblem, H: Hearer>(
     let places = variable_count(part.net);
     let bounds = bounds_between(part.alloc, part.root, places, &least, &most)?;
     search.guide(&near.starts)?;
-    let stop = Asking { hearer };
+    let stop = Wish { observer };
     match search.ask(whole.net, whole.order, &bounds, conflicts, &stop)? {
-        Told::Found(starts, _) => return take(drafting, part, descent, hearer, starts),
+        Told::Found(starts, _) => return take(drafting, part, descent, observer, starts),
         Told::Refuted(_) => drafting.grow(),
         Told::Open(_) => drafting.shrink(),
     }
@@ -98,15 +100,15 @@ fn ask_once<N: OfProblem, P: OfProblem, H: Hearer>(
 }
 
 /// Takes starts as the best draft, if they cost less. Whether they do.
-fn take<P: OfProblem, H: Hearer>(
+fn take<P: OfProblem, O: Observer>(
     drafting: &mut Drafting,
     task: Task<'_>,
     descent: &mut Descent<P>,
-    hearer: &H,
+    observer: &O,
     starts: Starts,
 ) -> Result<bool, AllocError>
     requires is_of { IsTaskOf P.problem task }
-    requires may { MayBeTold P.problem H.may_hear_cost H.may_hear_draft }
+    requires may { MayBeTold P.problem.network P.problem.terms O.may_hear }
 {
     let Some(draft) = Draft::of_starts(task.alloc, task.net, task.order, starts)? else {
         return Ok(false);
@@ -115,7 +117,7 @@ fn take<P: OfProblem, H: Hearer>(
         return Ok(false);
     }
     drafting.join(&draft)?;
-    hearer.hear_draft(&draft);
+    tell_draft::<P, O>(&draft, observer);
     descent.best = Some(draft);
     Ok(true)
 }

@@ -1,12 +1,14 @@
 //! Stints: who works next, the search or what makes drafts better.
 
-ghost use Rattle.racp_by_clauses.specs.Optima.{IsTaskOf, MayBeTold};
+ghost use Rattle.racp_found.specs.Told.{MayBeTold};
+ghost use Rattle.racp_by_clauses.specs.Optima.{IsTaskOf};
 
 use crate::descent::Descent;
-use crate::hearer::{Asking, Hearer};
 use crate::task::Task;
+use crate::telling::tell_draft;
 use racp_clauses::OfProblem;
 use racp_drafts::Drafting;
+use racp_found::{Observer, Wish};
 use std::alloc::AllocError;
 
 /// The first conflicts belong to the search alone, so that what is easy ends there: this many by the square of the number of jobs.
@@ -75,20 +77,20 @@ impl Stints {
         }
     }
 
-    /// A stint. A better draft is the best of the descent from now on, and the hearer is told of it.
-    pub(crate) fn work<P: OfProblem, H: Hearer>(
+    /// A stint. A better draft is the best of the descent from now on, and the observer is told of it.
+    pub(crate) fn work<P: OfProblem, O: Observer>(
         &mut self,
         task: Task<'_>,
         descent: &mut Descent<P>,
-        hearer: &H,
+        observer: &O,
     ) -> Result<(), AllocError>
         requires is_of { IsTaskOf P.problem task }
-        requires may { MayBeTold P.problem H.may_hear_cost H.may_hear_draft }
+        requires may { MayBeTold P.problem.network P.problem.terms O.may_hear }
     {
         self.begin(task)?;
         self.idle = self.idle.saturating_add(1);
         for _time in 0..self.times {
-            if self.improve(task, descent, hearer)? {
+            if self.improve(task, descent, observer)? {
                 self.idle = 0;
             }
         }
@@ -97,14 +99,14 @@ impl Stints {
     }
 
     /// Makes the best draft of a descent better, by some rounds. Whether there is a better one.
-    fn improve<P: OfProblem, H: Hearer>(
+    fn improve<P: OfProblem, O: Observer>(
         &mut self,
         task: Task<'_>,
         descent: &mut Descent<P>,
-        hearer: &H,
+        observer: &O,
     ) -> Result<bool, AllocError>
         requires is_of { IsTaskOf P.problem task }
-        requires may { MayBeTold P.problem H.may_hear_cost H.may_hear_draft }
+        requires may { MayBeTold P.problem.network P.problem.terms O.may_hear }
     {
         let Some(drafting) = &mut self.drafting else {
             return Ok(false);
@@ -112,11 +114,11 @@ impl Stints {
         if let Some(best) = &descent.best {
             drafting.join(best)?;
         }
-        let stop = Asking { hearer };
+        let stop = Wish { observer };
         let Some(draft) = drafting.improve(task.net, task.order, ROUNDS, &stop)? else {
             return Ok(false);
         };
-        hearer.hear_draft(&draft);
+        tell_draft::<P, O>(&draft, observer);
         descent.best = Some(draft);
         Ok(true)
     }

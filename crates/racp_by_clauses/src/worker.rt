@@ -1,16 +1,18 @@
 //! One of several searches for one optimum.
 
-ghost use Rattle.racp_by_clauses.specs.Optima.{AreTasksOf, MayBeTold};
+ghost use Rattle.racp_found.specs.Told.{MayBeTold};
+ghost use Rattle.racp_by_clauses.specs.Optima.{AreTasksOf};
 
 use crate::by_resource::Parts;
 use crate::common::Common;
 use crate::costs::FROM_BELOW;
 use crate::descent::Descent;
-use crate::hearer::Hearer;
 use crate::stints::Stints;
 use crate::task::{Task, Tasks};
+use crate::telling::{tell_draft, tell_work};
 use racp_clauses::OfProblem;
 use racp_drafts::Draft;
+use racp_found::Observer;
 use racp_learning::Search;
 use racp_model::Starts;
 use std::alloc::AllocError;
@@ -82,24 +84,24 @@ impl<N: OfProblem> Worker<N> {
     }
 
     /// Searches, and tells the others and learns from them, until it has finished, or is to stop.
-    pub(crate) fn work<H: Hearer, R: Wait>(
+    pub(crate) fn work<O: Observer, R: Wait>(
         &mut self,
         rt: &R,
         common: &Common<'_, N>,
-        hearer: &H,
+        observer: &O,
     ) -> Result<(), AllocError>
-        requires may { MayBeTold N.problem H.may_hear_cost H.may_hear_draft }
+        requires may { MayBeTold N.problem.network N.problem.terms O.may_hear }
     {
         let tasks = common.tasks();
         let mut left = common.limits.conflicts;
         for _i in 0..u64::MAX {
-            if left == 0 || hearer.stops() {
+            if left == 0 || observer.is_to_stop() {
                 break;
             }
             let lost = self.search.tally().lost;
             let slice = left.min(SLICE);
-            self.go_on(tasks, hearer, slice)?;
-            hearer.hear_tally(self.search.tally());
+            self.go_on(tasks, observer, slice)?;
+            tell_work::<N, O>(self.search.tally(), observer);
             if self.descent.is_finished(common.task) {
                 common.finish();
             }
@@ -109,8 +111,8 @@ impl<N: OfProblem> Worker<N> {
             } else {
                 left.saturating_sub(slice)
             };
-            self.tell(rt, common, hearer)?;
-            let met = self.draft(tasks, hearer, slice, left)?;
+            self.tell(rt, common, observer)?;
+            let met = self.draft(tasks, observer, slice, left)?;
             left = left.saturating_sub(met);
         }
         Ok(())
@@ -118,57 +120,57 @@ impl<N: OfProblem> Worker<N> {
 
     /// Counts conflicts, and makes drafts better where it is time for it, as long as the least cost is not known. For that it meets
     /// at most so many as are left, and tells how many.
-    fn draft<H: Hearer>(
+    fn draft<O: Observer>(
         &mut self,
         tasks: Tasks<'_>,
-        hearer: &H,
+        observer: &O,
         conflicts: u64,
         left: u64,
     ) -> Result<u64, AllocError>
         requires are_of { AreTasksOf N.problem N.problem tasks }
-        requires may { MayBeTold N.problem H.may_hear_cost H.may_hear_draft }
+        requires may { MayBeTold N.problem.network N.problem.terms O.may_hear }
     {
         self.until_stint = self.until_stint.saturating_sub(conflicts);
-        if self.until_stint > 0 || self.descent.is_cost_known() || hearer.stops() {
+        if self.until_stint > 0 || self.descent.is_cost_known() || observer.is_to_stop() {
             return Ok(0);
         }
         let (search, descent) = (&mut self.search, &mut self.descent);
-        self.stints.work(tasks.part, descent, hearer)?;
+        self.stints.work(tasks.part, descent, observer)?;
         let met = self
             .stints
-            .ask_near::<N, N, H>(search, tasks, descent, hearer, left)?;
+            .ask_near::<N, N, O>(search, tasks, descent, observer, left)?;
         self.until_stint = self.stints.conflicts(tasks.part);
         Ok(met)
     }
 
     /// Tells the others what was learned and found, and learns from them.
-    pub(crate) fn tell<H: Hearer, R: Wait>(
+    pub(crate) fn tell<O: Observer, R: Wait>(
         &mut self,
         rt: &R,
         common: &Common<'_, N>,
-        hearer: &H,
+        observer: &O,
     ) -> Result<(), AllocError>
-        requires may { MayBeTold N.problem H.may_hear_cost H.may_hear_draft }
+        requires may { MayBeTold N.problem.network N.problem.terms O.may_hear }
     {
         common.show(rt, self.seat, &mut self.search);
         self.show_cost(rt, common)?;
         let from = self.read;
         self.read = common.read(self.seat, from, &mut self.search)?;
-        self.learn_costs(common, hearer, from)?;
+        self.learn_costs(common, observer, from)?;
         match common.better(rt, &self.descent.best)? {
-            Some(draft) => self.take(common, hearer, draft.starts),
+            Some(draft) => self.take(common, observer, draft.starts),
             None => Ok(()),
         }
     }
 
     /// Takes starts that another search has found as the best draft.
-    fn take<H: Hearer>(
+    fn take<O: Observer>(
         &mut self,
         common: &Common<'_, N>,
-        hearer: &H,
+        observer: &O,
         starts: Starts,
     ) -> Result<(), AllocError>
-        requires may { MayBeTold N.problem H.may_hear_cost H.may_hear_draft }
+        requires may { MayBeTold N.problem.network N.problem.terms O.may_hear }
     {
         let Task {
             alloc,
@@ -177,7 +179,7 @@ impl<N: OfProblem> Worker<N> {
             ..
         } = common.task;
         if let Some(draft) = Draft::of_starts(alloc, net, order, starts)? {
-            hearer.hear_draft(&draft);
+            tell_draft::<N, O>(&draft, observer);
             self.descent.best = Some(draft);
         }
         Ok(())

@@ -1,5 +1,5 @@
 -- What is told while planning goes on.
-use Rattle.std.proofs.Common.{ℕ, List, inl, inr, arith}
+use Rattle.std.proofs.Common.{◌≡◌, ℕ, List, inl, inr, arith}
 use Rattle.std.proofs.lemmas.Bool.{cases_lt}
 use Rattle.racp_model.specs.Project.{Project}
 use Rattle.racp_model.specs.Terms.{Terms, AreTermsOf, release_of, due_of, cost, IsBefore}
@@ -9,10 +9,14 @@ use Rattle.racp_model.proofs.lemmas.Costs.{cheaper-before}
 use Rattle.racp_model.proofs.lemmas.Cuts.{cut, cut_places, cut-cost}
 use Rattle.racp_prices.specs.Units.{AreMostUnits}
 use Rattle.racp_bounds.specs.Floors.{AreFloors}
-use Rattle.racp_bounds.specs.Sharp.{AreSharpenedBefore}
-use Rattle.racp_bounds.proofs.lemmas.Sharpened.{admitting_above_sharpened, admitting_yes}
+use Rattle.racp_bounds.specs.Sharp.{AreSharpenedBefore, IsReachedNews, IsSharp}
+use Rattle.racp_bounds.specs.declared.sharp.Sharp.{Sharp}
+use Rattle.racp_bounds.proofs.lemmas.Sharpened.{admitting_above_sharpened, admitting_yes, all_sharpened}
 use Rattle.racp_by_questions.specs.Enough.{IsLeastCost}
-use Rattle.racp_by_questions.specs.Stages.{AreFloorsOfEnough, IsLeastOfEnough}
+use Rattle.racp_found.specs.declared.observer.News.{News}
+use Rattle.racp_found.specs.declared.observer.News.TheVariants.{Deadline, Floors, Cost, Plan, Work}
+use Rattle.racp_found.specs.Told.{AreFloorsOfEnough, IsLeastOfEnough, IsTrueNews}
+use Rattle.racp_by_questions.proofs.lemmas.AtMost.{at_most-cost}
 use Rattle.racp_by_questions.proofs.Choosing.{cut_admits, cut_less, cut_within, due_by, first_reached}
 
 module _ (p : Project) (terms : Terms) (root : Bounds) (floors roofs : List ℕ) (t : AreTermsOf p terms) (h : IsRootWindow p (release_of terms) (due_of terms) root)
@@ -27,9 +31,21 @@ module _ (p : Project) (terms : Terms) (root : Bounds) (floors roofs : List ℕ)
         omega (arith, low, cut_less p terms root floors roofs t h lowest most enough k l);
   }
 
+  -- so news of such floors is true
+  pub reached_news : (n : ℕ) (news : News) → IsReachedNews p root floors roofs n news → IsTrueNews p terms news
+  reached_news n (Deadline deadline) are = absurd are
+  reached_news n (Floors reached) are = reached_floors n reached.now are
+  reached_news n (Cost least) are = absurd are
+  reached_news n (Plan capacities starts cost) are = absurd are
+  reached_news n (Work conflicts clauses) are = absurd are
+
   -- so it is at or above the first floors
   pub first_floors : AreFloorsOfEnough p terms floors
   first_floors = reached_floors 0 floors (first_reached p terms root floors roofs t h lowest most)
+
+  -- so it is at or above the sharpened floors
+  pub sharp_are_floors : (sharp : Sharp) → IsSharp p root floors roofs sharp → AreFloorsOfEnough p terms sharp.floors
+  sharp_are_floors sharp are = reached_floors p.resources sharp.floors (all_sharpened p root floors roofs sharp.floors are.sharpened)
 
   -- what is enough costs at least what it does within the roofs
   pub within_cost : (least : ℕ) → IsLeastCost p terms root roofs least → IsLeastOfEnough p terms least
@@ -47,3 +63,7 @@ first_cost p terms first least enough e = elim (cases_lt (cost terms enough) (co
   | inl less ↦ absurd (least.least enough e (cheaper-before terms enough first less))
   | inr more ↦ more
 ]
+
+-- capacities that are enough cost at least what floors do
+pub floors_cost : (p : Project) (terms : Terms) → AreTermsOf p terms → (floors : List ℕ) → AreFloorsOfEnough p terms floors → (least : ℕ) → least ≡ cost terms floors → IsLeastOfEnough p terms least
+floors_cost p terms t floors are least is enough e = omega (arith, is, at_most-cost p terms t floors enough (λ k l. are.below enough e k l))

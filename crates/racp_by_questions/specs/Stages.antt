@@ -1,26 +1,17 @@
 -- What is known at each stage of the search for a plan by questions.
 use Rattle.std.specs.Prelude.{◌≡◌, ℕ, ◌<◌, ◌≤◌, List, length, slice_index, Option, Some, None, IfSome, Bool, true, false}
 use Rattle.racp_model.specs.Project.{Project}
-use Rattle.racp_model.specs.Terms.{Terms, cost}
-use Rattle.racp_model.specs.Plan.{IsEnough, NoneIsEnough}
+use Rattle.racp_model.specs.Terms.{Terms}
+use Rattle.racp_model.specs.Plan.{NoneIsEnough}
 use Rattle.racp_model.specs.Window.{Bounds, IsYes, IsNo}
 use Rattle.racp_prices.specs.Units.{AreMostUnits}
 use Rattle.racp_candidates.specs.Box.{AreBounds}
+use Rattle.racp_found.specs.Told.{AreFloorsOfEnough}
 use Rattle.racp_bounds.specs.Floors.{AreFloors}
 use Rattle.racp_bounds.specs.Sharp.{IsSharp}
 use Rattle.racp_bounds.specs.declared.sharp.Sharp.{Sharp}
 use Rattle.racp_by_questions.specs.Stops.{IsNotAfterEnough, ceiling_series}
 use Rattle.racp_by_questions.specs.declared.bounds.Ends.{Ends}
-
--- all capacities that are enough are at or above these, resource by resource
-pub record AreFloorsOfEnough (p : Project) (terms : Terms) (floors : List ℕ) : Type 0 where
-  pub places : length floors ≡ p.resources
-  pub below : (enough : List ℕ) → IsEnough p terms enough → (k : ℕ) → k < p.resources →
-      slice_index floors k ≤ slice_index enough k
-
--- all capacities that are enough cost at least so much
-abbrev pub IsLeastOfEnough : Project → Terms → ℕ → Type 0
-IsLeastOfEnough p terms least = (enough : List ℕ) → IsEnough p terms enough → least ≤ cost terms enough
 
 -- the first floors, none above its roof, and roofs within the ceilings; the floors are those of all that is enough
 pub record AreFirstEnds (p : Project) (terms : Terms) (root : Bounds) (ends : Ends) : Type 0 where

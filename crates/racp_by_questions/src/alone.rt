@@ -11,6 +11,7 @@ use crate::settling::{end_of, first_of, settle_next};
 use crate::until::AloneUntil;
 use racp_core::Core;
 use racp_cutset::{Board, DEFAULT_MEMORY, Local, most_records};
+use racp_found::Observer;
 use racp_model::{Network, Never, OfNetwork, Question, Stop};
 use racp_questions::{AskStop, Asker, First, Leeway, Probe, Series};
 use racp_search::{Finding, Piece, Rest, explore, make_room};
@@ -144,6 +145,8 @@ impl<N: OfNetwork> Alone<N> {
         Ok(probe)
     }
 }
+
+impl<N: OfNetwork> Observer for Alone<N> {}
 
 impl<N: OfNetwork, S: Series> Asker<S> for Alone<N> {
     ghost use Rattle.std.specs.Prelude.{◌≡◌, None};

@@ -1,11 +1,11 @@
 //! The asker with workers: how it answers.
 
 use crate::crowd::{Crowd, OfTurns};
-use crate::observer::Observer;
 use crate::one_question::{glimpse_of, is_open, quantum_for};
 use racp_candidates::AnySeries;
 use racp_desk::{Closed, DeskFault, RunLimits};
-use racp_model::{Capacities, Network, OfNetwork, Question, Starts, Stop};
+use racp_found::{News, Observer};
+use racp_model::{Network, OfNetwork, Question, Stop};
 use racp_questions::{AskStop, Asker, First, Leeway, Probe};
 use std::collections::VecDeque;
 
@@ -79,28 +79,26 @@ impl<
     fn leeway(&self) -> Leeway {
         self.leeway
     }
+}
 
-    fn wants_questions(&self) -> bool {
+impl<
+    'a,
+    N: OfNetwork,
+    M: OfTurns,
+    P: Stop,
+    O: Observer + Drop,
+    F: Fn(AnySeries, RunLimits) -> Result<Closed, DeskFault> + Drop,
+> Observer for Crowd<'a, N, M, P, O, F> {
+    ghost may_hear = { O.may_hear };
+
+    fn hear(&self, news: News<'_>) {
+        self.observer.hear(news);
+    }
+
+    fn is_to_stop(&self) -> bool {
         match self.stop {
             Some(stop) => stop.asked(),
             None => false,
         }
-    }
-
-    fn hear_search(&self, conflicts: u64, clauses: u64) {
-        self.observer.hear_search(conflicts, clauses);
-    }
-
-    fn hear_plan(&self, capacities: &Capacities, starts: &Starts, cost: u64) {
-        self.observer
-            .hear_plan(capacities.as_slice(), starts.as_slice(), cost);
-    }
-
-    fn hear_floors(&self, floors: &Capacities) {
-        self.observer.hear_floors(floors.as_slice());
-    }
-
-    fn hear_cost(&self, cost: u64) {
-        self.observer.hear_cost(cost);
     }
 }

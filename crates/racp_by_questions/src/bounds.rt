@@ -3,14 +3,14 @@
 ghost use Rattle.std.specs.Prelude.{◌≡◌, ◌↔◌, ℕ, ◌+◌, ◌-◌, ◌<◌, ◌≤◌, List, OnOk, OnErr, IfOk, IfErr, IsTrue, MatchOption, is_some, length};
 ghost use Rattle.racp_model.specs.Formed.{HasBounds};
 ghost use Rattle.racp_model.specs.Plan.{NoneIsEnough};
-ghost use Rattle.racp_model.specs.Terms.{AreTermsOf, release_of, due_of};
-ghost use Rattle.racp_model.specs.Window.{IsRootWindow};
 ghost use Rattle.racp_bounds.specs.Floors.{AreFloors};
 ghost use Rattle.racp_candidates.specs.Box.{AreBounds};
 ghost use Rattle.racp_questions.specs.FirstYes.{MayGiveUp};
-ghost use Rattle.racp_by_questions.specs.Stages.{AreFirstEnds, AreFloorsOfEnough, IsBounded, IsYesOrNo};
+ghost use Rattle.racp_found.specs.Told.{MayBeTold};
+ghost use Rattle.racp_by_questions.specs.Stages.{AreFirstEnds, IsBounded, IsYesOrNo};
 ghost use Rattle.racp_by_questions.specs.Stops.{IsStoppedAt, IsPlanStop, given_up};
 
+use crate::news::tell_floors;
 use crate::stop::PlanStop;
 use crate::task::Task;
 use racp_bounds::floors;
@@ -46,8 +46,6 @@ impl Ends {
 ///
 /// Memory was refused.
 pub fn first_ends(task: &Task) -> Result<Option<Ends>, AllocError>
-    requires terms { AreTermsOf task.now.net.now task.now.order.now }
-    requires root { IsRootWindow task.now.net.now (release_of task.now.order.now) (due_of task.now.order.now) task.now.root.now }
     ensures { IfOk result (λ found. MatchOption found (NoneIsEnough task.now.net.now task.now.order.now)
         (AreFirstEnds task.now.net.now task.now.order.now task.now.root.now)) }
 {
@@ -70,10 +68,7 @@ pub(crate) fn floors_and_roofs<A: Asker<AnySeries>>(
     asker: &mut A,
 ) -> Result<Option<Ends>, PlanStop>
     requires named { A.about asker.old task.now.net.now }
-    requires terms { AreTermsOf task.now.net.now task.now.order.now }
-    requires root { IsRootWindow task.now.net.now (release_of task.now.order.now) (due_of task.now.order.now) task.now.root.now }
-    requires floors { (floors : List ℕ) → AreFloorsOfEnough task.now.net.now task.now.order.now floors →
-        A.may_hear_floors floors }
+    requires heard { MayBeTold task.now.net.now task.now.order.now A.may_hear }
     ensures network { A.about asker.new task.now.net.now }
     ensures bounded { IfOk result (IsBounded task.now.net.now task.now.order.now task.now.root.now
         (A.answered asker.new - A.answered asker.old)) }
@@ -88,7 +83,7 @@ pub(crate) fn floors_and_roofs<A: Asker<AnySeries>>(
     if !has_ceilings(task.order) {
         return Ok(Some(ends));
     }
-    asker.hear_floors(&ends.floors);
+    tell_floors(task.net, task.order, &ends.floors, asker);
     match is_yes(task.alloc, task.net, &ends.roofs, task.root, asker) {
         Ok(true) => Ok(Some(ends)),
         Ok(false) => Ok(None),
@@ -98,7 +93,6 @@ pub(crate) fn floors_and_roofs<A: Asker<AnySeries>>(
 
 /// The floor of each resource.
 fn lowest_units(task: &Task) -> Result<Capacities, AllocError>
-    requires { IsRootWindow task.now.net.now (release_of task.now.order.now) (due_of task.now.order.now) task.now.root.now }
     ensures { IfOk result (AreFloors task.now.net.now task.now.root.now task.now.order.now.deadline) }
 {
     let order = task.order;

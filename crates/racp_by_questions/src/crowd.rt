@@ -7,10 +7,10 @@ ghost use Rattle.racp_candidates.specs.AnySeries.{any_questions};
 ghost use Rattle.racp_desk.specs.Closing.{IsRunClosed};
 ghost use Rattle.racp_by_questions.specs.Crowds.{IsAnsweredBy, HaveTaken, IsFault, RunsDesks};
 
-use crate::observer::Observer;
 use racp_candidates::AnySeries;
 use racp_core::Outcome;
 use racp_desk::{Closed, DeskFault, RunLimits};
+use racp_found::Observer;
 use racp_model::{Capacities, OfNetwork, Question, Stop};
 use racp_questions::{AskStop, First, Leeway};
 use std::alloc::AllocError;

@@ -1,20 +1,19 @@
 //! The plan by questions, stage by stage.
 
 ghost use Rattle.std.specs.Prelude.{ℕ, ◌-◌, List, IfOk, IfErr};
-ghost use Rattle.racp_model.specs.Terms.{AreTermsOf, release_of, due_of};
-ghost use Rattle.racp_model.specs.Window.{IsRootWindow};
 ghost use Rattle.racp_found.specs.Finds.{IsDecided};
-ghost use Rattle.racp_by_questions.specs.Stages.{AreFloorsOfEnough, IsLeastOfEnough};
+ghost use Rattle.racp_found.specs.Told.{MayBeTold};
 ghost use Rattle.racp_by_questions.specs.Stops.{IsStoppedAt, IsPlanStop};
 
 use crate::bounds::floors_and_roofs;
+use crate::news::tell_floors;
 use crate::starts::least_starts;
 use crate::stop::PlanStop;
 use crate::task::Task;
 use crate::vectors::VectorBox;
 use racp_bounds::{Sharp, sharpen};
 use racp_candidates::AnySeries;
-use racp_found::Found;
+use racp_found::{Found, News};
 use racp_prices::cost_of;
 use racp_questions::Asker;
 use std::alloc::{AllocError, Global};
@@ -33,11 +32,7 @@ pub fn found_by_questions<A: Asker<AnySeries>>(
     kept: &mut Option<Sharp>,
 ) -> Result<Found, PlanStop>
     requires named { A.about asker.old task.now.net.now }
-    requires terms { AreTermsOf task.now.net.now task.now.order.now }
-    requires root { IsRootWindow task.now.net.now (release_of task.now.order.now) (due_of task.now.order.now) task.now.root.now }
-    requires floors { (floors : List ℕ) → AreFloorsOfEnough task.now.net.now task.now.order.now floors →
-        A.may_hear_floors floors }
-    requires least { (least : ℕ) → IsLeastOfEnough task.now.net.now task.now.order.now least → A.may_hear_cost least }
+    requires heard { MayBeTold task.now.net.now task.now.order.now A.may_hear }
     ensures network { A.about asker.new task.now.net.now }
     ensures found { IfOk result (IsDecided task.now.net.now task.now.order.now) }
     ensures stop { IfErr result (IsPlanStop (IsStoppedAt task.now.net.now task.now.order.now
@@ -48,10 +43,15 @@ pub fn found_by_questions<A: Asker<AnySeries>>(
     let Some(ends) = floors_and_roofs(task, asker)? else {
         return Ok(Found::NoneEnough);
     };
+    tell_floors(net, task.order, &ends.floors, asker);
     let sharp = match sharpen(alloc, net, root, ends.floors, &ends.roofs, asker) {
         Ok(sharp) => sharp,
-        Err((reached, stop)) => return Err(PlanStop::given_up(stop, reached)),
+        Err((reached, stop)) => {
+            tell_floors(net, task.order, &reached, asker);
+            return Err(PlanStop::given_up(stop, reached));
+        }
     };
+    tell_floors(net, task.order, &sharp.floors, asker);
     keep(alloc, &sharp, kept)?;
     let vectors = VectorBox {
         task: *task,
@@ -59,7 +59,7 @@ pub fn found_by_questions<A: Asker<AnySeries>>(
         roofs: &ends.roofs,
     };
     let capacities = vectors.cheapest(asker)?;
-    asker.hear_cost(cost_of(net, task.order, capacities.as_slice()));
+    asker.hear(News::Cost(cost_of(net, task.order, capacities.as_slice())));
     match least_starts(alloc, net, &capacities, root, asker) {
         Ok(starts) => Ok(Found::Plan(capacities, starts)),
         Err(stop) => Err(PlanStop::given_up(stop, capacities)),

@@ -4,6 +4,7 @@ ghost use Rattle.std.specs.Prelude.{◌≡◌, ℕ, None, IfOk, IfErr, length};
 ghost use Rattle.racp_model.specs.Formed.{HasBounds};
 ghost use Rattle.racp_model.specs.Plan.{IsLeast};
 ghost use Rattle.racp_model.specs.Terms.{AreTermsOf, IsBefore};
+ghost use Rattle.racp_found.specs.declared.observer.News.TheVariants.{Cost};
 ghost use Rattle.racp_questions.specs.FirstYes.{IsProbeStop};
 ghost use Rattle.racp_by_questions.specs.Enough.{AreFloorsOf, IsAtMost, IsEnoughWithin, IsLeastCost};
 ghost use Rattle.racp_by_questions.specs.Searched.{AreSpans, CostAtLeast, HasAllBelow, IsBetterKnown, IsKnown, IsLeftOf, IsSearched, IsSpan, IsSubject, IsTold};
@@ -15,6 +16,7 @@ use crate::span::{Span, halved, push_copy, widest};
 use crate::subject::Subject;
 use crate::task::Task;
 use racp_candidates::AnySeries;
+use racp_found::News;
 use racp_model::Capacities;
 use racp_prices::cost_of;
 use racp_questions::{AskStop, Asker};
@@ -44,7 +46,7 @@ pub(crate) fn first_enough<A: Asker<AnySeries>>(
     requires floors { AreFloorsOf task.now.net.now task.now.root.now floors.now roofs.now }
     requires roofs { IsEnoughWithin task.now.net.now task.now.root.now roofs.now roofs.now }
     requires heard { (least : ℕ) → IsLeastCost task.now.net.now task.now.order.now task.now.root.now roofs.now least →
-        A.may_hear_cost least }
+        A.may_hear (Cost least) }
     ensures network { A.about asker.new task.now.net.now }
     ensures first { IfOk result (IsLeast (IsBefore task.now.order.now)
         (IsEnoughWithin task.now.net.now task.now.root.now roofs.now)) }
@@ -82,7 +84,7 @@ fn search<A: Asker<AnySeries>>(
     requires known { IsKnown subject.now known.old }
     requires pending { AreSpans subject.now pending.old.items }
     requires rest { HasAllBelow subject.now span rest }
-    requires heard { (least : ℕ) → CostAtLeast subject.now least → A.may_hear_cost least }
+    requires heard { (least : ℕ) → CostAtLeast subject.now least → A.may_hear (Cost least) }
     ensures network { A.about asker.new subject.now.net.now }
     ensures searched { IfOk result (λ _. IsSearched subject.now span known.old known.new) }
     ensures pending { IfOk result (λ _. AreSpans subject.now pending.new.items) }
@@ -119,14 +121,15 @@ fn cut_and_ask<A: Asker<AnySeries>>(
     requires known { IsKnown subject.now known.old }
     requires pending { AreSpans subject.now pending.now.items }
     requires rest { HasAllBelow subject.now span.now rest }
-    requires heard { (least : ℕ) → CostAtLeast subject.now least → A.may_hear_cost least }
+    requires heard { (least : ℕ) → CostAtLeast subject.now least → A.may_hear (Cost least) }
     ensures network { A.about asker.new subject.now.net.now }
     ensures left { IfOk result (IsLeftOf subject.now span.now known.old known.new) }
     ensures answered { A.answered asker.new ≡ A.answered asker.old }
     ensures stop { IfErr result (IsProbeStop (A.told asker.new) (A.may_stop asker.new) (A.may_want_thread asker.new)) }
 {
     let (net, order) = (subject.net, subject.order);
-    asker.hear_cost(cost_of(net, order, span.low.as_slice()).min(rest));
+    let least = cost_of(net, order, span.low.as_slice()).min(rest);
+    asker.hear(News::Cost(least));
     let Some(high) = cut(subject.alloc, net, order, known, &span.low, &span.high)? else {
         return Ok(None);
     };

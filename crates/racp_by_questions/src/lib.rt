@@ -35,7 +35,8 @@
 //! a bound on its nodes has as many turns as they make such pieces, and so has each of those that come next. A question
 //! by itself is looked at by one worker first, over 16 nodes, before threads are started for the others.
 //!
-//! An `Observer` is told how far planning has come, by the thread that plans.
+//! An asker is an observer too: it is told floors, what they cost, and what capacities that are enough cost at least. `Crowd` tells
+//! its own observer what it is told.
 //!
 //! ```text
 //! planner  --series-->  Alone  --pieces-->  a search
@@ -98,7 +99,7 @@ mod cut;
 mod found;
 mod halving;
 mod known;
-mod observer;
+mod news;
 mod one_question;
 mod settling;
 mod span;
@@ -113,7 +114,6 @@ pub use alone::Alone;
 pub use bounds::{Ends, first_ends};
 pub use crowd::{Crowd, Effort, OfTurns};
 pub use found::found_by_questions;
-pub use observer::{Observer, Pricing, Unheard};
 pub use racp_bounds::Sharp;
 pub use stop::PlanStop;
 pub use task::Task;

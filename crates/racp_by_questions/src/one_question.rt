@@ -11,10 +11,10 @@ ghost use Rattle.racp_desk.specs.declared.log.Entry.TheVariants.{Halted};
 ghost use Rattle.racp_by_questions.specs.Crowds.{IsOver, RunsDesks, behind, probe_by};
 
 use crate::crowd::{Crowd, OfTurns};
-use crate::observer::Observer;
 use racp_candidates::{AnySeries, Listed, One};
 use racp_core::Outcome;
 use racp_desk::{Cause, Closed, DeskFault, Entry, RunLimits};
+use racp_found::Observer;
 use racp_model::{OfNetwork, Question, Stop};
 use racp_questions::{AskStop, Probe};
 use std::alloc::AllocError;

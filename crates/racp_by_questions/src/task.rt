@@ -1,5 +1,9 @@
 //! What a plan is looked for.
 
+ghost use Rattle.std.proofs.Props.{props};
+ghost use Rattle.racp_model.specs.Terms.{AreTermsOf, release_of, due_of};
+ghost use Rattle.racp_model.specs.Window.{IsRootWindow};
+
 use racp_model::{Network, Window};
 use racp_prices::Order;
 use std::alloc::Global;
@@ -15,4 +19,6 @@ pub struct Task<'a> {
     pub order: &'a Order,
     /// The window in which the starts of the plan lie.
     pub root: &'a Window,
+    pub ghost terms: { AreTermsOf net.now order.now } by { Prim.hlevel props },
+    pub ghost root_is: { IsRootWindow net.now (release_of order.now) (due_of order.now) root.now } by { Prim.hlevel props },
 }

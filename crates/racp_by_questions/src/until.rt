@@ -4,6 +4,7 @@ ghost use Rattle.std.specs.Prelude.{◌≡◌};
 
 use crate::alone::Alone;
 use crate::crowd::OfTurns;
+use racp_found::Observer;
 use racp_model::{Network, OfNetwork, Question, Stop};
 use racp_questions::{AskStop, Asker, First, Leeway, Probe, Series};
 use std::marker::PhantomData;
@@ -16,6 +17,12 @@ pub struct AloneUntil<'a, N: OfNetwork, M: OfTurns, P: Stop> {
     pub(crate) stop: &'a P,
     pub(crate) of: PhantomData<M>,
     pub(crate) ghost quiet_is: { P.is_quiet stop.now ≡ M.quiet },
+}
+
+impl<'a, N: OfNetwork, M: OfTurns, P: Stop> Observer for AloneUntil<'a, N, M, P> {
+    fn is_to_stop(&self) -> bool {
+        self.stop.asked()
+    }
 }
 
 impl<'a, N: OfNetwork, M: OfTurns, S: Series, P: Stop> Asker<S> for AloneUntil<'a, N, M, P> {
@@ -37,10 +44,6 @@ impl<'a, N: OfNetwork, M: OfTurns, S: Series, P: Stop> Asker<S> for AloneUntil<'
 
     fn leeway(&self) -> Leeway {
         self.alone.leeway
-    }
-
-    fn wants_questions(&self) -> bool {
-        self.stop.asked()
     }
 
     fn probe(

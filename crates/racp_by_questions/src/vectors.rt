@@ -3,7 +3,7 @@
 ghost use Rattle.std.specs.Prelude.{ℕ, IfOk};
 ghost use Rattle.racp_candidates.specs.Box.{AreBoxQuestions};
 ghost use Rattle.racp_by_questions.specs.Boxed.{IsCheapest, IsVectorBox};
-ghost use Rattle.racp_by_questions.specs.Stages.{IsLeastOfEnough};
+ghost use Rattle.racp_found.specs.Told.{MayBeTold};
 
 use crate::bounds::is_small;
 use crate::halving::first_enough;
@@ -31,7 +31,7 @@ impl VectorBox<'_> {
     pub(crate) fn cheapest<A: Asker<AnySeries>>(self, asker: &mut A) -> Result<Capacities, PlanStop>
         requires named { A.about asker.old self.task.net.now }
         requires known { IsVectorBox self }
-        requires least { (least : ℕ) → IsLeastOfEnough self.task.net.now self.task.order.now least → A.may_hear_cost least }
+        requires heard { MayBeTold self.task.net.now self.task.order.now A.may_hear }
         ensures network { A.about asker.new self.entry.task.net.now }
         ensures cheapest { IsCheapest self.entry (A.answered asker.old) (A.answered asker.new) (A.told asker.new)
             (A.may_stop asker.new) (A.may_want_thread asker.new) result }

@@ -1,7 +1,7 @@
 -- The drawing of what deadlines cost. Places are from the left and from above.
-use Rattle.std.specs.Prelude.{ℕ, ◌+◌, ◌-◌, ◌*◌, ◌/◌, ◌||◌, max, min, nat_le, List, [], ◌∷◌, ◌++◌, codes, flat_map, fold, if◌then◌else◌}
+use Rattle.std.specs.Prelude.{true, ℕ, ◌+◌, ◌-◌, ◌*◌, ◌/◌, ◌||◌, max, min, nat_le, List, [], ◌∷◌, ◌++◌, codes, flat_map, fold, if◌then◌else◌}
 use Rattle.std.specs.Fmt.{decimal}
-use Rattle.racp_calendar.specs.Dates.{time_text}
+use Rattle.racp_calendar.specs.Dates.{last_text}
 use Rattle.racp_calendar.specs.declared.calendar.Calendar.{Calendar}
 use Rattle.racp_charts.specs.Texts.{◌⋅◌, mark_of, texts_before}
 use Rattle.racp_charts.specs.Drawings.{across, axis, place_text, step_text}
@@ -59,7 +59,7 @@ unfoldable pub corner_end : ℕ → List ℕ
 corner_end cost = codes ": " ⋅ decimal cost ⋅ codes "</title></circle>\n"
 
 unfoldable pub corner_element : Calendar → ℕ → ℕ → Corner → List ℕ
-corner_element calendar x y corner = corner_begin x y ⋅ time_text calendar corner.deadline ⋅ corner_end corner.cost
+corner_element calendar x y corner = corner_begin x y ⋅ last_text calendar corner.deadline ⋅ corner_end corner.cost
 
 -- its corners
 abbrev pub cost_corners : Span → ℕ → List Corner → List ℕ
@@ -99,4 +99,4 @@ costs_in span most corners =
 -- from the first deadline up to a last one
 abbrev pub costs_element : Calendar → List Corner → ℕ → List ℕ
 costs_element calendar corners last =
-    costs_in (record { first = first_deadline corners last; last = last; calendar = calendar }) (most_cost corners) corners
+    costs_in (record { first = first_deadline corners last; last = last; calendar = calendar; of_ends = true }) (most_cost corners) corners

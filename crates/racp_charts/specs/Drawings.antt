@@ -1,9 +1,9 @@
 -- The drawings of a plan. Places are from the left and from above; a drawing is 1,000 wide.
-use Rattle.std.specs.Prelude.{ℕ, ◌+◌, ◌-◌, ◌*◌, ◌/◌, ◌%◌, ◌==◌, max, min, nat_le, List, [], ◌∷◌, codes, flat_map, option_map, if◌then◌else◌}
+use Rattle.std.specs.Prelude.{ℕ, ◌+◌, ◌-◌, ◌*◌, ◌/◌, ◌%◌, ◌==◌, ◌&&◌, max, min, nat_le, List, [], ◌∷◌, codes, flat_map, option_map, if◌then◌else◌}
 use Rattle.std.specs.Fmt.{decimal}
 use Rattle.std.specs.Int.{div_ceil}
 use Rattle.racp_show.specs.declared.usage.Step.{Step}
-use Rattle.racp_calendar.specs.Dates.{time_text}
+use Rattle.racp_calendar.specs.Dates.{first_text, has_dates, last_text}
 use Rattle.racp_calendar.specs.declared.calendar.Calendar.{Calendar}
 use Rattle.racp_calendar.specs.declared.calendar.Calendar.TheVariants.{Numbers, Dates}
 use Rattle.racp_charts.specs.Texts.{◌⋅◌, escaped, mark_of, texts_before}
@@ -23,7 +23,7 @@ across span time = if (span.last - span.first) == 0 then 270
 -- how much later each number of an axis is than the one before; dates, which are wider, have twice the room
 abbrev pub mark_in : Calendar → ℕ → ℕ
 mark_in Numbers times = mark_of times
-mark_in (Dates first unit) times = mark_of (times * 2)
+mark_in (Dates calendar) times = mark_of (times * 2)
 
 abbrev pub axis_mark : Span → ℕ
 axis_mark span = mark_in span.calendar (span.last - span.first)
@@ -41,9 +41,13 @@ mark_line x top bottom = codes "<path class=\"line\" d=\"M" ⋅ decimal x ⋅ co
 unfoldable pub mark_begin : ℕ → ℕ → List ℕ
 mark_begin x y = codes "<text class=\"mark\" x=\"" ⋅ decimal x ⋅ codes "\" y=\"" ⋅ decimal y ⋅ codes "\">"
 
+-- a time as an axis tells it: by the first day of what starts then, or by the last day of what ends
+abbrev pub told_time : Span → ℕ → List ℕ
+told_time span time = if span.of_ends then last_text span.calendar time else first_text span.calendar time 1
+
 -- a time at its place
 unfoldable pub mark_number : Span → ℕ → ℕ → List ℕ
-mark_number span time y = mark_begin (across span time) y ⋅ time_text span.calendar time ⋅ codes "</text>\n"
+mark_number span time y = mark_begin (across span time) y ⋅ told_time span time ⋅ codes "</text>\n"
 
 -- the line of a time from `top` to `bottom`, and the time below
 unfoldable pub mark_element : Span → ℕ → ℕ → ℕ → List ℕ
@@ -76,7 +80,7 @@ deadline_line top bottom = codes "<path class=\"deadline\" d=\"M970 " ⋅ decima
 
 -- the deadline above it
 unfoldable pub deadline_label : Span → List ℕ
-deadline_label span = codes "<text class=\"end\" x=\"990\" y=\"18\">deadline " ⋅ time_text span.calendar span.last
+deadline_label span = codes "<text class=\"end\" x=\"990\" y=\"18\">deadline " ⋅ last_text span.calendar span.last
     ⋅ codes "</text>\n"
 
 -- the greatest number of a chart at the height `top`, and 0 at `bottom`
@@ -93,16 +97,29 @@ step_text x y = codes "H" ⋅ decimal x ⋅ codes "V" ⋅ decimal y
 
 -- the number of a task in a tooltip, and its slack
 unfoldable pub tip_begin : ℕ → List ℕ
-tip_begin job = codes "\ntask " ⋅ decimal job ⋅ codes ", from "
+tip_begin job = codes "\ntask " ⋅ decimal job ⋅ codes ", "
 
 unfoldable pub tip_slack : ℕ → List ℕ
 tip_slack slack = codes ", slack " ⋅ decimal slack
 
+-- from when to when something runs: its first and its last day are days of work on it
+unfoldable pub run_text : Calendar → ℕ → ℕ → List ℕ
+run_text calendar start duration =
+    codes "from " ⋅ first_text calendar start duration ⋅ codes " to " ⋅ last_text calendar (start + duration)
+
+-- the evening of a day on which something is done
+unfoldable pub evening_text : Calendar → ℕ → List ℕ
+evening_text calendar end = codes "by the evening of " ⋅ last_text calendar end
+
+-- when something runs; by dates, what takes no time is done in an evening
+abbrev pub times_text : Calendar → ℕ → ℕ → List ℕ
+times_text calendar start duration =
+    if duration == 0 && has_dates calendar then evening_text calendar start else run_text calendar start duration
+
 -- the times of a tooltip
 unfoldable pub tip_times : Calendar → Task → List ℕ
 tip_times calendar task =
-    tip_begin task.job ⋅ time_text calendar task.start ⋅ codes " to " ⋅ time_text calendar (task.start + task.duration)
-    ⋅ tip_slack (task.latest - task.start)
+    tip_begin task.job ⋅ times_text calendar task.start task.duration ⋅ tip_slack (task.latest - task.start)
 
 -- what a task waits for, if for anything
 abbrev pub tip_before : List Predecessor → List ℕ

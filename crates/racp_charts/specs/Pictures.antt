@@ -1,9 +1,9 @@
 -- Whole pictures: what stands in them, from their beginning to their end, but for their style.
-use Rattle.std.specs.Prelude.{◌≡◌, ℕ, ◌+◌, ◌*◌, Bool, List, [], ◌∷◌, ◌++◌, codes, length}
+use Rattle.std.specs.Prelude.{◌≡◌, false, ℕ, ◌+◌, ◌*◌, Bool, List, [], ◌∷◌, ◌++◌, codes, length}
 use Rattle.std.specs.Fmt.{decimal}
-use Rattle.racp_calendar.specs.Dates.{time_text}
+use Rattle.racp_calendar.specs.Dates.{last_text}
 use Rattle.racp_calendar.specs.declared.calendar.Calendar.{Calendar}
-use Rattle.racp_calendar.specs.declared.calendar.Calendar.TheVariants.{Numbers}
+use Rattle.racp_calendar.specs.declared.calendar.Calendar.TheVariants.{Numbers, Dates}
 use Rattle.racp_charts.specs.Texts.{◌⋅◌}
 use Rattle.racp_charts.specs.CostDrawings.{costs_element}
 use Rattle.racp_charts.specs.Drawings.{frame_element, panel_element, row_element}
@@ -17,10 +17,15 @@ use Rattle.racp_show.specs.declared.row.Row.{Row}
 
 -- what is said first of a plan
 unfoldable pub plan_title_begin : ℕ → List ℕ
-plan_title_begin cost = codes "Plan of cost " ⋅ decimal cost ⋅ codes " by deadline "
+plan_title_begin cost = codes "Plan of cost " ⋅ decimal cost ⋅ codes " by "
+
+-- what a deadline is called: a day is one in the evening
+abbrev pub deadline_words : Calendar → List ℕ
+deadline_words Numbers = codes "deadline "
+deadline_words (Dates calendar) = codes "the evening of "
 
 unfoldable pub plan_title : Calendar → ℕ → ℕ → List ℕ
-plan_title calendar cost deadline = plan_title_begin cost ⋅ time_text calendar deadline
+plan_title calendar cost deadline = plan_title_begin cost ⋅ deadline_words calendar ⋅ last_text calendar deadline
 
 -- the title of a picture of a plan
 unfoldable pub title_element : Calendar → ℕ → ℕ → List ℕ
@@ -71,7 +76,7 @@ key_at top = group_begin top ⋅ key_element ⋅ group_end
 
 -- all times of a plan
 abbrev pub whole : Drawing → Span
-whole drawing = record { first = 0; last = drawing.deadline; calendar = drawing.calendar }
+whole drawing = record { first = 0; last = drawing.deadline; calendar = drawing.calendar; of_ends = false }
 
 -- how far down the tasks go in their frame; where the resources begin; how high the picture is
 abbrev pub tasks_bottom : Drawing → ℕ

@@ -2,30 +2,31 @@
 //! above, and have 128 bits, so that no sum and no product is too great for them.
 
 ghost use Rattle.std.specs.Prelude.{◌≡◌, ◌<◌, ◌≤◌, ◌^◌, ◌++◌, OnOk, string_bytes};
-ghost use Rattle.racp_calendar.specs.Dates.{time_text};
-ghost use Rattle.racp_charts.specs.Drawings.{across, axis, axis_mark, axis_time, deadline_label, deadline_line, mark_begin, mark_element, mark_line, mark_number, numbers_above, place_text, scale_element, step_text, time_above, time_below};
+ghost use Rattle.racp_charts.specs.Drawings.{across, axis, axis_mark, axis_time, deadline_label, deadline_line, mark_begin, mark_element, mark_line, mark_number, numbers_above, place_text, scale_element, step_text, time_above, time_below, told_time};
 
 use crate::mark::{MOST_MARKS, mark_of};
-use racp_calendar::{Calendar, push_time};
+use racp_calendar::{Calendar, push_first, push_last};
 use std::alloc::AllocError;
 use std::cmp::min;
 
 /// The times that a chart has, in time units.
 #[derive(Clone, Copy)]
-pub struct Span {
+pub struct Span<'a> {
     /// The first time.
     pub first: u32,
     /// The last time.
     pub last: u32,
     /// How times are told.
-    pub calendar: Calendar,
+    pub calendar: Calendar<'a>,
+    /// Whether the times of an axis are deadlines, which are told by last days, and not starts.
+    pub of_ends: bool,
 }
 
-impl Span {
+impl Span<'_> {
     /// Where a time is drawn, from the left: the first is drawn at 270 and the last at 970, and times before and after
     /// them there too.
     pub(crate) fn across(self, time: u128) -> u128
-        ensures place { result ≡ across self time }
+        ensures place { result ≡ across self.entry time }
         ensures within { result ≤ 970 }
     {
         let all = self.last.saturating_sub(self.first) as u128;
@@ -37,21 +38,21 @@ impl Span {
 
     /// How much later each number of an axis is than the one before; dates, which are wider, have twice the room.
     fn apart(self) -> u128
-        ensures mark { result ≡ axis_mark self }
+        ensures mark { result ≡ axis_mark self.entry }
         ensures some { 1 ≤ result }
         ensures small { result < 2 ^ 62 }
     {
         let all = self.last.saturating_sub(self.first) as u64;
         match self.calendar {
             Calendar::Numbers => mark_of(all),
-            Calendar::Dates { .. } => mark_of(all * 2),
+            Calendar::Dates(_) => mark_of(all * 2),
         }
     }
 
     /// The time of the number at this place of an axis, from 0.
     fn mark(self, place: u64) -> u128
         requires { place < 2 ^ 32 }
-        ensures { result ≡ axis_time self place }
+        ensures { result ≡ axis_time self.entry place }
     {
         let mark = self.apart();
         ((self.first as u128).div_ceil(mark) + place as u128) * mark
@@ -61,12 +62,12 @@ impl Span {
 /// Adds the axis of times below a chart that goes from `top` to `bottom`: numbers, and a line up at each.
 pub(crate) fn push_axis(
     text: &mut String,
-    span: Span,
+    span: Span<'_>,
     top: u128,
     bottom: u128,
 ) -> Result<(), AllocError>
     requires { bottom < 2 ^ 72 }
-    ensures { OnOk result (string_bytes text.new ≡ string_bytes text.old ++ axis span top bottom) }
+    ensures { OnOk result (string_bytes text.new ≡ string_bytes text.old ++ axis span.entry top bottom) }
 {
     for place in 0..MOST_MARKS + 1 {
         push_below(text, span, top, bottom, place)?;
@@ -77,14 +78,14 @@ pub(crate) fn push_axis(
 /// Adds the number at this place of the axis below, from 0, if it is no later than the last time.
 fn push_below(
     text: &mut String,
-    span: Span,
+    span: Span<'_>,
     top: u128,
     bottom: u128,
     place: u64,
 ) -> Result<(), AllocError>
     requires place { place < 2 ^ 32 }
     requires bottom { bottom < 2 ^ 72 }
-    ensures { OnOk result (string_bytes text.new ≡ string_bytes text.old ++ time_below span top bottom place) }
+    ensures { OnOk result (string_bytes text.new ≡ string_bytes text.old ++ time_below span.entry top bottom place) }
 {
     let time = span.mark(place);
     if time <= span.last as u128 {
@@ -97,13 +98,13 @@ fn push_below(
 /// Adds a time below a chart, and the line at it.
 fn push_mark(
     text: &mut String,
-    span: Span,
+    span: Span<'_>,
     time: u128,
     top: u128,
     bottom: u128,
 ) -> Result<(), AllocError>
     requires { bottom < 2 ^ 72 }
-    ensures { OnOk result (string_bytes text.new ≡ string_bytes text.old ++ mark_element span time top bottom) }
+    ensures { OnOk result (string_bytes text.new ≡ string_bytes text.old ++ mark_element span.entry time top bottom) }
 {
     push_line(text, span.across(time), top, bottom)?;
     push_number(text, span, time, bottom + 15)?;
@@ -111,8 +112,8 @@ fn push_mark(
 }
 
 /// Adds the numbers of the axis of times at this height above a chart.
-pub(crate) fn push_above(text: &mut String, span: Span, y: u128) -> Result<(), AllocError>
-    ensures { OnOk result (string_bytes text.new ≡ string_bytes text.old ++ numbers_above span y) }
+pub(crate) fn push_above(text: &mut String, span: Span<'_>, y: u128) -> Result<(), AllocError>
+    ensures { OnOk result (string_bytes text.new ≡ string_bytes text.old ++ numbers_above span.entry y) }
 {
     for place in 0..MOST_MARKS + 1 {
         push_time_above(text, span, y, place)?;
@@ -121,9 +122,9 @@ pub(crate) fn push_above(text: &mut String, span: Span, y: u128) -> Result<(), A
 }
 
 /// Adds the number at this place of the axis above, from 0, if it is no later than the last time.
-fn push_time_above(text: &mut String, span: Span, y: u128, place: u64) -> Result<(), AllocError>
+fn push_time_above(text: &mut String, span: Span<'_>, y: u128, place: u64) -> Result<(), AllocError>
     requires { place < 2 ^ 32 }
-    ensures { OnOk result (string_bytes text.new ≡ string_bytes text.old ++ time_above span y place) }
+    ensures { OnOk result (string_bytes text.new ≡ string_bytes text.old ++ time_above span.entry y place) }
 {
     let time = span.mark(place);
     if time <= span.last as u128 {
@@ -142,13 +143,24 @@ fn push_line(text: &mut String, x: u128, top: u128, bottom: u128) -> Result<(), 
 }
 
 /// Adds a time at its place.
-fn push_number(text: &mut String, span: Span, time: u128, y: u128) -> Result<(), AllocError>
-    ensures { OnOk result (string_bytes text.new ≡ string_bytes text.old ++ mark_number span time y) }
+fn push_number(text: &mut String, span: Span<'_>, time: u128, y: u128) -> Result<(), AllocError>
+    ensures { OnOk result (string_bytes text.new ≡ string_bytes text.old ++ mark_number span.entry time y) }
 {
     push_begin(text, span.across(time), y)?;
-    push_time(text, span.calendar, time)?;
+    push_told(text, span, time)?;
     text.push_str("</text>\n")?;
     Ok(())
+}
+
+/// Adds a time as an axis tells it: by the first day of what starts then, or by the last day of what ends.
+fn push_told(text: &mut String, span: Span<'_>, time: u128) -> Result<(), AllocError>
+    ensures { OnOk result (string_bytes text.new ≡ string_bytes text.old ++ told_time span.entry time) }
+{
+    if span.of_ends {
+        push_last(text, span.calendar, time)
+    } else {
+        push_first(text, span.calendar, time, 1)
+    }
 }
 
 /// Adds the beginning of a number at a place.
@@ -171,11 +183,11 @@ pub(crate) fn push_deadline(text: &mut String, top: u128, bottom: u128) -> Resul
 }
 
 /// Adds the deadline above its line.
-pub(crate) fn push_deadline_label(text: &mut String, span: Span) -> Result<(), AllocError>
-    ensures { OnOk result (string_bytes text.new ≡ string_bytes text.old ++ deadline_label span) }
+pub(crate) fn push_deadline_label(text: &mut String, span: Span<'_>) -> Result<(), AllocError>
+    ensures { OnOk result (string_bytes text.new ≡ string_bytes text.old ++ deadline_label span.entry) }
 {
     text.push_str("<text class=\"end\" x=\"990\" y=\"18\">deadline ")?;
-    push_time(text, span.calendar, span.last as u128)?;
+    push_last(text, span.calendar, span.last as u128)?;
     text.push_str("</text>\n")?;
     Ok(())
 }

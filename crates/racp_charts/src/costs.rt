@@ -7,7 +7,7 @@ ghost use Rattle.racp_charts.specs.CostDrawings.{cost_axis, cost_corners, cost_d
 use crate::axis::{Span, push_axis, push_place, push_step};
 use crate::labels::push_labels;
 use crate::mark::{MOST_MARKS, mark_of};
-use racp_calendar::{Calendar, push_time};
+use racp_calendar::{Calendar, push_last};
 use std::alloc::AllocError;
 use std::cmp::{max, min};
 
@@ -31,22 +31,28 @@ pub fn push_costs(
     text: &mut String,
     corners: &[Corner],
     last: u32,
-    calendar: Calendar,
+    calendar: Calendar<'_>,
 ) -> Result<(), AllocError>
-    ensures { OnOk result (string_bytes text.new ≡ string_bytes text.old ++ costs_element calendar corners.now last) }
+    ensures { OnOk result (string_bytes text.new ≡ string_bytes text.old ++ costs_element calendar.entry corners.now last) }
 {
     let span = Span {
         first: first_deadline(corners, last),
         last,
         calendar,
+        of_ends: true,
     };
     push_in(text, corners, span, most_cost(corners))
 }
 
 /// Adds what deadlines cost in this span, up to this cost.
-fn push_in(text: &mut String, corners: &[Corner], span: Span, most: u64) -> Result<(), AllocError>
+fn push_in(
+    text: &mut String,
+    corners: &[Corner],
+    span: Span<'_>,
+    most: u64,
+) -> Result<(), AllocError>
     requires { 1 ≤ most }
-    ensures { OnOk result (string_bytes text.new ≡ string_bytes text.old ++ costs_in span most corners.now) }
+    ensures { OnOk result (string_bytes text.new ≡ string_bytes text.old ++ costs_in span.entry most corners.now) }
 {
     push_cost_axis(text, most)?;
     push_axis(text, span, 30, 250)?;
@@ -142,11 +148,11 @@ fn push_cost(text: &mut String, cost: u128, y: u128) -> Result<(), AllocError>
 fn push_stair(
     text: &mut String,
     corners: &[Corner],
-    span: Span,
+    span: Span<'_>,
     most: u64,
 ) -> Result<(), AllocError>
     requires { 1 ≤ most }
-    ensures { OnOk result (string_bytes text.new ≡ string_bytes text.old ++ cost_stair span most corners.now) }
+    ensures { OnOk result (string_bytes text.new ≡ string_bytes text.old ++ cost_stair span.entry most corners.now) }
 {
     text.push_str("<path class=\"used\" d=\"")?;
     push_place(text, 270, 250)?;
@@ -159,11 +165,11 @@ fn push_stair(
 fn push_steps(
     text: &mut String,
     corners: &[Corner],
-    span: Span,
+    span: Span<'_>,
     most: u64,
 ) -> Result<(), AllocError>
     requires { 1 ≤ most }
-    ensures { OnOk result (string_bytes text.new ≡ string_bytes text.old ++ cost_steps span most corners.now) }
+    ensures { OnOk result (string_bytes text.new ≡ string_bytes text.old ++ cost_steps span.entry most corners.now) }
 {
     for corner in corners {
         let x = span.across(corner.deadline as u128);
@@ -176,11 +182,11 @@ fn push_steps(
 fn push_corners(
     text: &mut String,
     corners: &[Corner],
-    span: Span,
+    span: Span<'_>,
     most: u64,
 ) -> Result<(), AllocError>
     requires { 1 ≤ most }
-    ensures { OnOk result (string_bytes text.new ≡ string_bytes text.old ++ cost_corners span most corners.now) }
+    ensures { OnOk result (string_bytes text.new ≡ string_bytes text.old ++ cost_corners span.entry most corners.now) }
 {
     for corner in corners {
         let x = span.across(corner.deadline as u128);
@@ -195,12 +201,12 @@ fn push_corner(
     x: u128,
     y: u128,
     corner: &Corner,
-    calendar: Calendar,
+    calendar: Calendar<'_>,
 ) -> Result<(), AllocError>
-    ensures { OnOk result (string_bytes text.new ≡ string_bytes text.old ++ corner_element calendar x y corner.now) }
+    ensures { OnOk result (string_bytes text.new ≡ string_bytes text.old ++ corner_element calendar.entry x y corner.now) }
 {
     push_corner_begin(text, x, y)?;
-    push_time(text, calendar, corner.deadline as u128)?;
+    push_last(text, calendar, corner.deadline as u128)?;
     push_corner_end(text, corner.cost)?;
     Ok(())
 }

@@ -25,7 +25,7 @@ pub struct Drawing<'a> {
     /// What the capacities cost, as the plan says.
     pub cost: u64,
     /// How times are told.
-    pub calendar: Calendar,
+    pub calendar: Calendar<'a>,
     /// How many tasks there are.
     pub task_count: usize,
     /// The phases and the tasks, in the order in which they stand.

@@ -12,9 +12,9 @@ use std::alloc::AllocError;
 /// # Errors
 ///
 /// Memory was refused.
-pub fn push_frame(text: &mut String, span: Span, bottom: u128) -> Result<(), AllocError>
+pub fn push_frame(text: &mut String, span: Span<'_>, bottom: u128) -> Result<(), AllocError>
     requires { bottom < 2 ^ 72 }
-    ensures { OnOk result (string_bytes text.new ≡ string_bytes text.old ++ frame_element span bottom) }
+    ensures { OnOk result (string_bytes text.new ≡ string_bytes text.old ++ frame_element span.entry bottom) }
 {
     push_above(text, span, 34)?;
     push_axis(text, span, 40, bottom)?;

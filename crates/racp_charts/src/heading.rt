@@ -1,11 +1,11 @@
 //! What a picture of a plan says above its drawings.
 
 ghost use Rattle.std.specs.Prelude.{◌≡◌, ◌++◌, OnOk, string_bytes};
-ghost use Rattle.racp_charts.specs.Pictures.{heading_element, key_at, key_element, length_element, plan_title, plan_title_begin, title_element};
+ghost use Rattle.racp_charts.specs.Pictures.{deadline_words, heading_element, key_at, key_element, length_element, plan_title, plan_title_begin, title_element};
 
 use crate::drawing::Drawing;
 use crate::parts::push_group;
-use racp_calendar::{Calendar, push_time};
+use racp_calendar::{Calendar, push_last};
 use std::alloc::AllocError;
 
 /// Adds what is said first of a plan.
@@ -17,13 +17,24 @@ pub fn push_plan(
     text: &mut String,
     cost: u64,
     deadline: u32,
-    calendar: Calendar,
+    calendar: Calendar<'_>,
 ) -> Result<(), AllocError>
-    ensures { OnOk result (string_bytes text.new ≡ string_bytes text.old ++ plan_title calendar cost deadline) }
+    ensures { OnOk result (string_bytes text.new ≡ string_bytes text.old ++ plan_title calendar.entry cost deadline) }
 {
     push_plan_begin(text, cost)?;
-    push_time(text, calendar, deadline as u128)?;
+    text.push_str(deadline_words(calendar))?;
+    push_last(text, calendar, deadline as u128)?;
     Ok(())
+}
+
+/// What a deadline is called: a day is one in the evening.
+fn deadline_words(calendar: Calendar<'_>) -> &'static str
+    ensures { result.now ≡ deadline_words calendar.entry }
+{
+    match calendar {
+        Calendar::Numbers => "deadline ",
+        Calendar::Dates(_) => "the evening of ",
+    }
 }
 
 /// Adds the beginning of what is said first of a plan.
@@ -31,7 +42,7 @@ pub fn push_plan(
 fn push_plan_begin(text: &mut String, cost: u64) -> Result<(), AllocError>
     ensures { OnOk result (string_bytes text.new ≡ string_bytes text.old ++ plan_title_begin cost) }
 {
-    write!(text, "Plan of cost {cost} by deadline ")
+    write!(text, "Plan of cost {cost} by ")
 }
 
 /// Adds the title of a picture of a plan.
@@ -39,9 +50,9 @@ pub(crate) fn push_title(
     text: &mut String,
     cost: u64,
     deadline: u32,
-    calendar: Calendar,
+    calendar: Calendar<'_>,
 ) -> Result<(), AllocError>
-    ensures { OnOk result (string_bytes text.new ≡ string_bytes text.old ++ title_element calendar cost deadline) }
+    ensures { OnOk result (string_bytes text.new ≡ string_bytes text.old ++ title_element calendar.entry cost deadline) }
 {
     text.push_str("<title>")?;
     push_plan(text, cost, deadline, calendar)?;

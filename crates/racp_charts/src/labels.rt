@@ -12,12 +12,12 @@ use std::cmp::min;
 pub(crate) fn push_labels(
     text: &mut String,
     corners: &[Corner],
-    span: Span,
+    span: Span<'_>,
     most: u64,
 ) -> Result<(), AllocError>
     requires { 1 ≤ most }
     ensures { OnOk result
-        (string_bytes text.new ≡ string_bytes text.old ++ cost_labels span most 0 0 corners.now) }
+        (string_bytes text.new ≡ string_bytes text.old ++ cost_labels span.entry most 0 0 corners.now) }
 {
     let mut x = 0u128;
     let mut y = 0u128;

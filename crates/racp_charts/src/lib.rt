@@ -45,6 +45,7 @@ mod parts;
 mod plan_picture;
 mod row;
 mod style;
+mod times;
 
 pub use axis::Span;
 pub use choice::Choice;

@@ -11,11 +11,11 @@ use std::alloc::AllocError;
 pub(crate) fn push_links(
     text: &mut String,
     rows: &[Row<'_>],
-    span: Span,
+    span: Span<'_>,
     has_links: bool,
 ) -> Result<(), AllocError>
     ensures { OnOk result
-        (string_bytes text.new ≡ string_bytes text.old ++ links_element has_links span rows.now) }
+        (string_bytes text.new ≡ string_bytes text.old ++ links_element has_links span.entry rows.now) }
 {
     if !has_links {
         return Ok(());
@@ -24,9 +24,9 @@ pub(crate) fn push_links(
 }
 
 /// Adds an arrow from each task to each that waits for it.
-fn push_all(text: &mut String, rows: &[Row<'_>], span: Span) -> Result<(), AllocError>
+fn push_all(text: &mut String, rows: &[Row<'_>], span: Span<'_>) -> Result<(), AllocError>
     ensures { OnOk result
-        (string_bytes text.new ≡ string_bytes text.old ++ links_from span rows.now 0 rows.now) }
+        (string_bytes text.new ≡ string_bytes text.old ++ links_from span.entry rows.now 0 rows.now) }
 {
     for (place, row) in rows.iter().enumerate() {
         push_links_to(text, rows, span, place, row)?;
@@ -38,12 +38,12 @@ fn push_all(text: &mut String, rows: &[Row<'_>], span: Span) -> Result<(), Alloc
 fn push_links_to(
     text: &mut String,
     rows: &[Row<'_>],
-    span: Span,
+    span: Span<'_>,
     place: usize,
     row: &Row<'_>,
 ) -> Result<(), AllocError>
     ensures { OnOk result
-        (string_bytes text.new ≡ string_bytes text.old ++ links_to span rows.now place row.now) }
+        (string_bytes text.new ≡ string_bytes text.old ++ links_to span.entry rows.now place row.now) }
 {
     match row {
         Row::Heading { .. } => Ok(()),
@@ -58,13 +58,13 @@ fn push_links_to(
 fn push_links_of(
     text: &mut String,
     rows: &[Row<'_>],
-    span: Span,
+    span: Span<'_>,
     place: usize,
     task: &Task<'_>,
     before: &[Predecessor],
 ) -> Result<(), AllocError>
     ensures { OnOk result (string_bytes text.new ≡ string_bytes text.old ++
-        flat_map (link_from span rows.now place task.now) before.now) }
+        flat_map (link_from span.entry rows.now place task.now) before.now) }
 {
     for predecessor in before {
         push_link_from(text, rows, span, place, task, predecessor.job)?;
@@ -76,13 +76,13 @@ fn push_links_of(
 fn push_link_from(
     text: &mut String,
     rows: &[Row<'_>],
-    span: Span,
+    span: Span<'_>,
     place: usize,
     task: &Task<'_>,
     number: u32,
 ) -> Result<(), AllocError>
     ensures { OnOk result (string_bytes text.new ≡ string_bytes text.old ++
-        link_to span place task.now (end_of number 0 rows.now)) }
+        link_to span.entry place task.now (end_of number 0 rows.now)) }
 {
     match end_of(rows, number) {
         Some((row, time)) => push_link(

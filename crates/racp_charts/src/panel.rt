@@ -19,9 +19,9 @@ pub fn push_panel(
     alloc: Global,
     text: &mut String,
     choice: &Choice<'_>,
-    span: Span,
+    span: Span<'_>,
 ) -> Result<(), AllocError>
-    ensures { OnOk result (string_bytes text.new ≡ string_bytes text.old ++ panel_element span choice.now) }
+    ensures { OnOk result (string_bytes text.new ≡ string_bytes text.old ++ panel_element span.entry choice.now) }
 {
     push_title(alloc, text, choice)?;
     push_axis(text, span, 10, 80)?;
@@ -54,8 +54,8 @@ fn push_title_end(text: &mut String, choice: &Choice<'_>) -> Result<(), AllocErr
 }
 
 /// Adds the stair of a resource's usage.
-fn push_stair(text: &mut String, span: Span, choice: &Choice<'_>) -> Result<(), AllocError>
-    ensures { OnOk result (string_bytes text.new ≡ string_bytes text.old ++ stair_element span choice.now) }
+fn push_stair(text: &mut String, span: Span<'_>, choice: &Choice<'_>) -> Result<(), AllocError>
+    ensures { OnOk result (string_bytes text.new ≡ string_bytes text.old ++ stair_element span.entry choice.now) }
 {
     text.push_str("<path class=\"used\" d=\"")?;
     push_place(text, 270, 80)?;
@@ -65,8 +65,13 @@ fn push_stair(text: &mut String, span: Span, choice: &Choice<'_>) -> Result<(), 
 }
 
 /// Adds the steps of a usage.
-fn push_steps(text: &mut String, span: Span, units: u32, usage: &[Step]) -> Result<(), AllocError>
-    ensures { OnOk result (string_bytes text.new ≡ string_bytes text.old ++ stair_steps span units usage.now) }
+fn push_steps(
+    text: &mut String,
+    span: Span<'_>,
+    units: u32,
+    usage: &[Step],
+) -> Result<(), AllocError>
+    ensures { OnOk result (string_bytes text.new ≡ string_bytes text.old ++ stair_steps span.entry units usage.now) }
 {
     for step in usage {
         let y = 80u128.saturating_sub(height(units, step.units));

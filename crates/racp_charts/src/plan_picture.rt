@@ -79,6 +79,7 @@ fn push_body(
         first: 0,
         last: drawing.deadline,
         calendar: drawing.calendar,
+        of_ends: false,
     };
     push_page(text, height(drawing))?;
     push_heading(text, drawing)?;
@@ -107,12 +108,12 @@ fn push_tasks(
     alloc: Global,
     text: &mut String,
     rows: &[Row<'_>],
-    span: Span,
+    span: Span<'_>,
     bottom: u128,
     has_links: bool,
 ) -> Result<(), AllocError>
     requires { bottom < 2 ^ 70 }
-    ensures { OnOk result (string_bytes text.new ≡ string_bytes text.old ++ tasks_element has_links span bottom rows.now) }
+    ensures { OnOk result (string_bytes text.new ≡ string_bytes text.old ++ tasks_element has_links span.entry bottom rows.now) }
 {
     push_group(text, 56)?;
     push_frame(text, span, bottom)?;
@@ -127,9 +128,9 @@ fn push_rows(
     alloc: Global,
     text: &mut String,
     rows: &[Row<'_>],
-    span: Span,
+    span: Span<'_>,
 ) -> Result<(), AllocError>
-    ensures { OnOk result (string_bytes text.new ≡ string_bytes text.old ++ rows_from span 0 rows.now) }
+    ensures { OnOk result (string_bytes text.new ≡ string_bytes text.old ++ rows_from span.entry 0 rows.now) }
 {
     for (place, row) in rows.iter().enumerate() {
         push_row(alloc, text, row, span, 40 + place as u128 * 20)?;
@@ -142,12 +143,12 @@ fn push_resources(
     alloc: Global,
     text: &mut String,
     choices: &[Choice<'_>],
-    span: Span,
+    span: Span<'_>,
     top: u128,
 ) -> Result<(), AllocError>
     requires { top < 2 ^ 71 }
     ensures { OnOk result
-        (string_bytes text.new ≡ string_bytes text.old ++ resource_panels span top 0 choices.now) }
+        (string_bytes text.new ≡ string_bytes text.old ++ resource_panels span.entry top 0 choices.now) }
 {
     for (place, choice) in choices.iter().enumerate() {
         push_resource(alloc, text, choice, span, top + place as u128 * 106)?;
@@ -160,11 +161,11 @@ fn push_resource(
     alloc: Global,
     text: &mut String,
     choice: &Choice<'_>,
-    span: Span,
+    span: Span<'_>,
     top: u128,
 ) -> Result<(), AllocError>
     ensures { OnOk result
-        (string_bytes text.new ≡ string_bytes text.old ++ resource_element span top choice.now) }
+        (string_bytes text.new ≡ string_bytes text.old ++ resource_element span.entry top choice.now) }
 {
     push_group(text, top)?;
     push_panel(alloc, text, choice, span)?;

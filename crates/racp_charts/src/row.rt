@@ -7,7 +7,8 @@ ghost use Rattle.racp_charts.specs.Elements.{shape_class};
 use crate::axis::Span;
 use crate::escape::push_escaped;
 use crate::names::{push_name, push_predecessors, push_short, push_within};
-use racp_calendar::{Calendar, push_time};
+use crate::times::push_times;
+use racp_calendar::Calendar;
 use racp_show::{Predecessor, Row, Task};
 use std::alloc::{AllocError, Global};
 use std::cmp::min;
@@ -21,11 +22,11 @@ pub fn push_row(
     alloc: Global,
     text: &mut String,
     row: &Row<'_>,
-    span: Span,
+    span: Span<'_>,
     top: u128,
 ) -> Result<(), AllocError>
     requires { top < 2 ^ 72 }
-    ensures { OnOk result (string_bytes text.new ≡ string_bytes text.old ++ row_element span row.now top) }
+    ensures { OnOk result (string_bytes text.new ≡ string_bytes text.old ++ row_element span.entry row.now top) }
 {
     match row {
         Row::Heading { depth, title } => push_phase(alloc, text, title, *depth, top),
@@ -88,11 +89,11 @@ fn push_task(
     text: &mut String,
     task: &Task<'_>,
     depth: usize,
-    span: Span,
+    span: Span<'_>,
     top: u128,
 ) -> Result<(), AllocError>
     requires { top < 2 ^ 72 }
-    ensures { OnOk result (string_bytes text.new ≡ string_bytes text.old ++ task_element span depth task.now top) }
+    ensures { OnOk result (string_bytes text.new ≡ string_bytes text.old ++ task_element span.entry depth task.now top) }
 {
     push_tip(text, task, span.calendar)?;
     push_middle(text, left_of(depth), top)?;
@@ -104,8 +105,8 @@ fn push_task(
 }
 
 /// Adds the tooltip of a task: its name, when it starts and ends, its slack, and what comes before it.
-fn push_tip(text: &mut String, task: &Task<'_>, calendar: Calendar) -> Result<(), AllocError>
-    ensures { OnOk result (string_bytes text.new ≡ string_bytes text.old ++ tip_element calendar task.now) }
+fn push_tip(text: &mut String, task: &Task<'_>, calendar: Calendar<'_>) -> Result<(), AllocError>
+    ensures { OnOk result (string_bytes text.new ≡ string_bytes text.old ++ tip_element calendar.entry task.now) }
 {
     text.push_str("<g><title>")?;
     push_name(text, task.name, "task", task.job)?;
@@ -116,13 +117,15 @@ fn push_tip(text: &mut String, task: &Task<'_>, calendar: Calendar) -> Result<()
 }
 
 /// Adds the times of a tooltip.
-fn push_tip_times(text: &mut String, task: &Task<'_>, calendar: Calendar) -> Result<(), AllocError>
-    ensures { OnOk result (string_bytes text.new ≡ string_bytes text.old ++ tip_times calendar task.now) }
+fn push_tip_times(
+    text: &mut String,
+    task: &Task<'_>,
+    calendar: Calendar<'_>,
+) -> Result<(), AllocError>
+    ensures { OnOk result (string_bytes text.new ≡ string_bytes text.old ++ tip_times calendar.entry task.now) }
 {
     push_tip_begin(text, task.job)?;
-    push_time(text, calendar, task.start as u128)?;
-    text.push_str(" to ")?;
-    push_time(text, calendar, task.start as u128 + task.duration as u128)?;
+    push_times(text, calendar, task.start as u128, task.duration as u128)?;
     push_tip_slack(text, task.latest.saturating_sub(task.start))?;
     Ok(())
 }
@@ -132,7 +135,7 @@ fn push_tip_times(text: &mut String, task: &Task<'_>, calendar: Calendar) -> Res
 fn push_tip_begin(text: &mut String, job: usize) -> Result<(), AllocError>
     ensures { OnOk result (string_bytes text.new ≡ string_bytes text.old ++ tip_begin job) }
 {
-    write!(text, "\ntask {job}, from ")
+    write!(text, "\ntask {job}, ")
 }
 
 /// Adds the slack in a tooltip.
@@ -171,8 +174,8 @@ fn push_middle(text: &mut String, left: usize, top: u128) -> Result<(), AllocErr
 
 /// Adds the thin line of a task's slack at this height.
 #[tactic(auto, unfolding(crate::specs::Drawings::slack_element))]
-fn push_slack(text: &mut String, task: &Task<'_>, span: Span, y: u128) -> Result<(), AllocError>
-    ensures { OnOk result (string_bytes text.new ≡ string_bytes text.old ++ slack_element span task.now y) }
+fn push_slack(text: &mut String, task: &Task<'_>, span: Span<'_>, y: u128) -> Result<(), AllocError>
+    ensures { OnOk result (string_bytes text.new ≡ string_bytes text.old ++ slack_element span.entry task.now y) }
 {
     let from = span.across(task.start as u128 + task.duration as u128);
     let to = span.across(task.latest as u128 + task.duration as u128);
@@ -180,8 +183,13 @@ fn push_slack(text: &mut String, task: &Task<'_>, span: Span, y: u128) -> Result
 }
 
 /// Adds the bar of a task at this height, or a diamond if it takes no time, and the end of the row.
-fn push_shape(text: &mut String, task: &Task<'_>, span: Span, top: u128) -> Result<(), AllocError>
-    ensures { OnOk result (string_bytes text.new ≡ string_bytes text.old ++ shape_element span task.now top) }
+fn push_shape(
+    text: &mut String,
+    task: &Task<'_>,
+    span: Span<'_>,
+    top: u128,
+) -> Result<(), AllocError>
+    ensures { OnOk result (string_bytes text.new ≡ string_bytes text.old ++ shape_element span.entry task.now top) }
 {
     let x = span.across(task.start as u128);
     let class = class_of(task);

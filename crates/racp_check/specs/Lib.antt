@@ -1,5 +1,4 @@
 pub mod PlanFaults
 pub mod PlanTests
 pub mod CheckLaws
-pub mod Openings
 pub mod Leastness

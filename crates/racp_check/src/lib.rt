@@ -18,12 +18,8 @@
 //! plan's are enough. racp_trees has what a certificate is and reads it; here its blocks get the root window of the
 //! order and the roofs, cut to the ceilings. `check_proof_until` can be stopped.
 //!
-//! `opening_of(alloc, &net, &order)` is where planning and each check of a plan's leastness begin: the critical length
-//! and the root window, or why no starts are in time.
-//!
 //! Proved: `check_plan` answers `Ok` exactly if the cost is right and the starts fit the capacities on the order's
-//! terms and within its ceilings. Otherwise it answers the first fault, with its least names. `opening_of` answers the
-//! critical length and the root window, or the first reason why there is none. `check_proof` says yes exactly if the
+//! terms and within its ceilings. Otherwise it answers the first fault, with its least names. `check_proof` says yes exactly if the
 //! text is a certificate. Then no capacities that are enough stand before the plan's, and the critical length is at
 //! most the deadline. In `laws`: nothing is wrong with the plan of an order, and the check has one answer for a plan.
 //! Not looked at by `check_plan`: the deadline and the critical length that a plan names, and whether cheaper
@@ -32,12 +28,10 @@
 
 mod check;
 pub mod laws;
-mod opening;
 mod plan_fault;
 mod proof;
 
 pub use check::check_plan;
-pub use opening::{Opening, opening_of};
 pub use plan_fault::PlanFault;
 pub use proof::{check_proof, check_proof_until};
 pub use racp_plan::{Plan, TextFault, TextFaultKind, lines, read_plan, write_plan};

@@ -8,11 +8,11 @@ ghost use Rattle.racp_trees.specs.Certificates.{IsCertificate};
 ghost use Rattle.racp_trees.specs.Enough.{IsClaim};
 ghost use Rattle.racp_check.specs.Leastness.{HasNoneEnoughBefore, IsLongEnough};
 
-use crate::opening::{Opening, opening_of};
 use racp_cpm::laws::critical_is_greatest_finish;
 use racp_model::{Network, Never, Stop, Unfound, Window};
 use racp_plan::Plan;
 use racp_prices::{Order, most_units};
+use racp_root::{Opening, opening_of};
 use racp_trees::laws::certificate_proves;
 use racp_trees::{Claim, are_enough_until, block_vectors_until};
 use std::alloc::{AllocError, Global};

@@ -7,7 +7,7 @@ use Rattle.racp_prices.specs.Faults.{fault_number as order_fault_number, fault_n
 use Rattle.racp_prices.specs.declared.fault.OrderFault.{OrderFault}
 use Rattle.racp_plan.specs.Texts.{line, critical_line, start_lines}
 use Rattle.racp_plan.specs.TextFaults.{fault_number as text_fault_number, fault_name as text_fault_name, TextFault}
-use Rattle.racp_cli.specs.Texts.{early_text, refusal_line, order_refusal_line, plan_refusal_line, stopped_line}
+use Rattle.racp_cli.specs.Texts.{early_text, at_least_line, refusal_line, order_refusal_line, plan_refusal_line, stopped_line}
 use Rattle.racp_curve.specs.Texts.{spaced}
 
 -- the pieces of a refusal, and those of the text of early starts
@@ -26,6 +26,11 @@ order_refusal_line_pieces fault = simp append_assoc
 pub plan_refusal_line_pieces : (fault : TextFault) → codes "refused plan " ++ (decimal (text_fault_number fault.kind) ++ (codes " " ++ (text_fault_name fault.kind ++ (codes " line " ++ (decimal fault.line ++ codes "\n"))))) ≡ plan_refusal_line fault
 unfolding line plan_refusal_line
 plan_refusal_line_pieces fault = simp append_assoc
+
+-- a bound
+pub at_least_line_pieces : (least : ℕ) → codes "at least " ++ (decimal least ++ codes "\n") ≡ at_least_line least
+unfolding line at_least_line
+at_least_line_pieces least = simp append_assoc
 
 -- some words and a number, and some words and two numbers
 pub numbered_line_pieces : (words : List ℕ) (number : ℕ) → words ++ (codes " " ++ (decimal number ++ codes "\n")) ≡ line (words ++ codes " " ++ decimal number)

@@ -2,6 +2,7 @@ pub mod Texts
 pub mod Answers
 pub mod Checks
 pub mod Verifies
+pub mod VerifyBounds
 pub mod Plans
 pub mod Proofs
 pub mod ClauseProofs

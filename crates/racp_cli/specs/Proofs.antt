@@ -1,6 +1,6 @@
 -- What `prove` answers to the texts of a network and an order: a status, and the text that is written.
 use Rattle.std.specs.Prelude.{◌⊎◌, ℕ, Bool, List, [], ◌∷◌, Option, Result}
-use Rattle.racp_lexfix.specs.Proving.{IsProofPrinted, IsProofPrintedUntil}
+use Rattle.racp_prove.specs.Proving.{IsProofPrinted, IsProofPrintedUntil}
 use Rattle.racp_cli.specs.Plans.{IsNetworkLine, IsOrderLine, IsMemoryLine}
 use Rattle.racp_cli.specs.Streams.{Reader, IsRun, ToTwo}
 use Rattle.racp_cli.specs.declared.fault.StreamFault.{StreamFault}

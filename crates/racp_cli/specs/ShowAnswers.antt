@@ -7,6 +7,7 @@ use Rattle.racp_plan.specs.Texts.{line}
 use Rattle.racp_check.specs.PlanFaults.{IsChecked}
 use Rattle.racp_show.specs.Called.{are_names_for, names_of}
 use Rattle.racp_show.specs.Outlines.{Outlined, outline_of}
+use Rattle.racp_calendar.specs.declared.calendar.Calendar.{Calendar}
 use Rattle.racp_charts.specs.Pictures.{IsPlanPicture}
 use Rattle.racp_charts.specs.Choices.{IsDrawing}
 use Rattle.racp_charts.specs.declared.drawing.Drawing.{Drawing}
@@ -29,11 +30,11 @@ pub record IsDrawn (look : Look) (network : Project) (terms : Terms) (plan : Pla
   pub told : drawing.calendar ≡ look.calendar
   pub drawn : IsPlanPicture look.has_links drawing text
 
--- the table of a plan's sheet
-pub record IsSheetTable (network : Project) (terms : Terms) (plan : Plan) (names : List (List ℕ))
+-- the table of a plan's sheet, with times as they are to be told
+pub record IsSheetTable (calendar : Calendar) (network : Project) (terms : Terms) (plan : Plan) (names : List (List ℕ))
     (text : List ℕ) : Type 0 where
   pub sheet : Sheet
-  pub right : IsSheet network terms plan names sheet
+  pub right : IsSheet calendar network terms plan names sheet
   pub written : text ≡ table_text sheet
 
 -- what is written of a plan: as SVG a picture, as CSV its table; nothing is said here of the other forms, whose
@@ -43,7 +44,7 @@ IsInForm Text look network terms plan names outline text = ⊤
 IsInForm Ascii look network terms plan names outline text = ⊤
 IsInForm Svg look network terms plan names outline text = IsDrawn look network terms plan names outline text
 IsInForm Json look network terms plan names outline text = ⊤
-IsInForm Csv look network terms plan names outline text = IsSheetTable network terms plan names text
+IsInForm Csv look network terms plan names outline text = IsSheetTable look.calendar network terms plan names text
 
 abbrev pub IsPicture : Look → Project → Terms → Plan → List (List ℕ) → Outlined → List ℕ → Type 0
 IsPicture look network terms plan names outline text = IsInForm look.form look network terms plan names outline text

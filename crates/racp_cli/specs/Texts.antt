@@ -52,6 +52,10 @@ verified_line = line (codes "verified")
 unfoldable pub unproved_line : List ℕ
 unproved_line = line (codes "unproved")
 
+-- `at least N`: what is written if a text is a certificate of a bound
+unfoldable pub at_least_line : ℕ → List ℕ
+at_least_line least = line (codes "at least " ++ decimal least)
+
 -- what is written if a plan names another deadline than the order, or another critical length than the project has
 unfoldable pub head_line : List ℕ
 head_line = line (codes "fault head")

@@ -1,8 +1,8 @@
 //! What is told beside a plan: what becomes of its order if one term is changed.
 
 ghost use Rattle.std.specs.Prelude.{◌≡◌, ℕ, Bool, IfOk, IfSome, length, option_map};
+ghost use Rattle.racp_found.specs.Told.{HearsAll};
 ghost use Rattle.racp_model.specs.Project.{Project};
-ghost use Rattle.racp_model.specs.Terms.{AreTermsOf};
 ghost use Rattle.racp_by_questions.specs.Crowds.{MayStop};
 ghost use Rattle.racp_whatif.specs.Outcomes.{AreFindings};
 ghost use Rattle.racp_lexfix.specs.Answers.{IsAnswer};
@@ -14,12 +14,13 @@ ghost use Rattle.racp_cli.specs.WhatIfAnswers.{IsBeside, IsBesideCounted, IsBesi
 use crate::lines::stopped_line;
 use crate::status::{DONE, IMPOSSIBLE, REFUSED, STOPPED, STREAM_FAILED};
 use crate::whatif::WhatIfTexts;
-use racp_by_questions::Observer;
 use racp_desk::Gate;
-use racp_lexfix::{Answer, Crew, PlanStop, Task, answer_lines, plan_by_crew};
+use racp_found::Observer;
+use racp_lexfix::{Answer, Crew, PlanStop, answer_lines, plan_by_crew};
 use racp_model::Stop;
 use racp_plan::Plan;
 use racp_prices::Order;
+use racp_root::Task;
 use racp_show::Names;
 use racp_whatif::{Called, Finding, are_known, findings, findings_json, findings_text};
 use std::alloc::{AllocError, Global};
@@ -34,8 +35,8 @@ pub(crate) fn named<G: Gate + Sync, P: Stop + Sync, B: Observer, R: Threads + Wa
     texts: WhatIfTexts<'_>,
     crew: &Crew<'_, G, P, B>,
 ) -> Result<(u8, Vec<u8>), AllocError>
-    requires terms { AreTermsOf task.now.net.now task.now.order.now }
     requires capacities { IfSome given (λ plan. length plan.now.capacities ≡ task.now.net.now.resources) }
+    requires heard { HearsAll B.may_hear }
     ensures { IfOk result (λ answer.
         IsBesideNamed crew.now.turns (P.is_quiet crew.now.stop.now) texts.entry.is_json task.now.net.now task.now.order.now
         (option_map (λ plan. plan.now) given.entry) texts.entry.names.now answer.0 answer.1.items) }
@@ -56,8 +57,8 @@ fn counted<G: Gate + Sync, P: Stop + Sync, B: Observer, R: Threads + Wait + Sync
     is_json: bool,
     crew: &Crew<'_, G, P, B>,
 ) -> Result<(u8, Vec<u8>), AllocError>
-    requires terms { AreTermsOf task.now.net.now task.now.order.now }
     requires capacities { IfSome given (λ plan. length plan.now.capacities ≡ task.now.net.now.resources) }
+    requires heard { HearsAll B.may_hear }
     ensures { IfOk result (λ answer.
         IsBesideCounted crew.now.turns (P.is_quiet crew.now.stop.now) is_json task.now.net.now task.now.order.now
         (option_map (λ plan. plan.now) given.entry) names.now answer.0 answer.1.items) }
@@ -80,7 +81,7 @@ fn planned_first<G: Gate + Sync, P: Stop + Sync, B: Observer, R: Threads + Wait 
     is_json: bool,
     crew: &Crew<'_, G, P, B>,
 ) -> Result<(u8, Vec<u8>), AllocError>
-    requires terms { AreTermsOf task.now.net.now task.now.order.now }
+    requires heard { HearsAll B.may_hear }
     ensures { IfOk result (λ answer.
         IsBesideOwn crew.now.turns (P.is_quiet crew.now.stop.now) is_json task.now.net.now task.now.order.now names.now answer.0 answer.1.items) }
 {
@@ -99,8 +100,8 @@ fn beside_answer<G: Gate + Sync, P: Stop + Sync, B: Observer, R: Threads + Wait 
     is_json: bool,
     crew: &Crew<'_, G, P, B>,
 ) -> Result<(u8, Vec<u8>), AllocError>
-    requires terms { AreTermsOf task.now.net.now task.now.order.now }
     requires answer { IsAnswer task.now.net.now task.now.order.now answer }
+    requires heard { HearsAll B.may_hear }
     ensures { IfOk result (λ answer.
         IsBesideOwn crew.now.turns (P.is_quiet crew.now.stop.now) is_json task.now.net.now task.now.order.now names.now answer.0 answer.1.items) }
 {
@@ -144,8 +145,8 @@ fn beside<G: Gate + Sync, P: Stop + Sync, B: Observer, R: Threads + Wait + Sync>
     is_json: bool,
     crew: &Crew<'_, G, P, B>,
 ) -> Result<(u8, Vec<u8>), AllocError>
-    requires terms { AreTermsOf task.now.net.now task.now.order.now }
     requires capacities { length base.now.capacities ≡ task.now.net.now.resources }
+    requires heard { HearsAll B.may_hear }
     ensures { IfOk result (λ answer.
         IsBeside crew.now.turns (P.is_quiet crew.now.stop.now) is_json task.now.net.now task.now.order.now base.now names.now answer.0 answer.1.items) }
 {

@@ -1,6 +1,7 @@
 //! `plan` by workers: the plan of a network on the terms of an order, made on threads of their own.
 
 ghost use Rattle.std.specs.Prelude.{ℕ, ◌≤◌, Bool, List, IfOk};
+ghost use Rattle.racp_found.specs.Told.{HearsAll};
 ghost use Rattle.racp_lexfix.specs.Printing.{IsCrowdPrinting};
 ghost use Rattle.racp_cli.specs.Crowds.{IsCrowdAnswer, IsCrowdRun, IsEffortOf};
 ghost use Rattle.racp_cli.specs.Responses.{IsMade};
@@ -9,9 +10,10 @@ use crate::fault::StreamFault;
 use crate::refusal::refused;
 use crate::respond::respond;
 use crate::streams::read_whole;
-use racp_by_questions::{Effort, Observer, Unheard};
+use racp_by_questions::Effort;
 use racp_cutset::DEFAULT_MEMORY;
 use racp_desk::Gate;
+use racp_found::{Observer, Unheard};
 use racp_lexfix::{Crew, Printed, Refusal, plan_crowd_by};
 use racp_model::Stop;
 use std::alloc::{AllocError, Global};
@@ -95,6 +97,7 @@ pub fn crowd_over_by<
     order: &mut O,
     out: &mut W,
 ) -> Result<(u8, Option<Effort>), StreamFault>
+    requires heard { HearsAll B.may_hear }
     ensures run { IsCrowdRun crew.entry.turns (P.is_quiet crew.entry.stop.now) (record { unread = N.remaining net.old; left = N.remaining net.new })
         (record { unread = O.remaining order.old; left = O.remaining order.new })
         (W.contents out.old) (W.contents out.new) result }

@@ -1,6 +1,7 @@
 //! `curve` by workers: what each deadline up to that of an order costs, by plans that are made on threads of their own.
 
 ghost use Rattle.std.specs.Prelude.{◌≡◌, ℕ, ◌≤◌, Bool, IfErr, IfOk, ⊤};
+ghost use Rattle.racp_found.specs.Told.{HearsAll};
 ghost use Rattle.racp_model.specs.Project.{Project};
 ghost use Rattle.racp_by_questions.specs.Crowds.{MayStop};
 ghost use Rattle.racp_curve.specs.Curves.{IsCurveAnswer as IsAnswerOfCurve, IsCurveStop};
@@ -14,9 +15,9 @@ use crate::respond::respond;
 use crate::status::{STOPPED, STREAM_FAILED};
 use crate::streams::read_whole;
 use crate::texts::read_texts;
-use racp_by_questions::Observer;
 use racp_curve::{CurveAnswer, CurveStop, Step, curve_crowd, step_lines};
 use racp_desk::Gate;
+use racp_found::Observer;
 use racp_lexfix::{Crew, PlanStop};
 use racp_model::Stop;
 use racp_prices::Order;
@@ -56,6 +57,7 @@ pub fn curve_crowd_over<
     requires workers { crew.workers ≤ 64 }
     requires turns { crew.turns ≤ 1000000000000 }
     requires memory { crew.memory ≤ 1048576 }
+    requires heard { HearsAll B.may_hear }
     ensures { IsCurveCrowdRun crew.entry.turns (P.is_quiet crew.entry.stop.now) is_drawn (record { unread = N.remaining net.old; left = N.remaining net.new })
         (record { unread = O.remaining order.old; left = O.remaining order.new })
         (W.contents out.old) (W.contents out.new) result }
@@ -77,6 +79,7 @@ fn answer<G: Gate + Sync, P: Stop + Sync, B: Observer, R: Threads + Wait + Sync>
     requires workers { crew.workers ≤ 64 }
     requires turns { crew.turns ≤ 1000000000000 }
     requires memory { crew.memory ≤ 1048576 }
+    requires heard { HearsAll B.may_hear }
     ensures { IfOk result (λ answer. IsCurveCrowdAnswer crew.entry.turns (P.is_quiet crew.entry.stop.now) is_drawn net.now
         order.now answer.0 answer.1.items) }
 {

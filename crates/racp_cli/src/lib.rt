@@ -9,10 +9,11 @@
 //! - `run_over` reads a network and an order, and writes the plan or why there is none; `crowd_over` lets workers make
 //!   it.
 //! - `prove_over` reads a network and an order, and writes a certificate for the plan; `prove_by_clauses_over` writes one
-//!   by clauses.
+//!   by clauses, or one of a bound if it was stopped.
 //! - `check_over` reads a network, an order and a plan, and writes `ok` or what is wrong.
 //! - `verify_over` reads these and a certificate, and writes whether it shows that no cheaper capacities would do; or, if
-//!   it is one by clauses, that the plan is the plan of the order.
+//!   it is one by clauses, that the plan is the plan of the order. `verify_bound_over` reads a network, an order and a
+//!   certificate of a bound, and writes what each plan costs at least.
 //! - `show_over` reads a network, an order and a plan, and writes a picture of the plan.
 //! - `report_over` reads the same, and writes a page about the plan.
 //! - `curve_over` reads a network and an order, and writes what each deadline costs; `curve_crowd_over` is for workers.
@@ -21,7 +22,7 @@
 //! - `order_over` reads a network, and writes an order.
 //!
 //! `known_text` makes the text of a plan that is known while planning goes on. Each command returns the status with which
-//! the program ends. `verify_over_until`, `prove_over_until` and `prove_by_clauses_over` can be stopped. `run_over_within`
+//! the program ends. `verify_over_until`, `verify_bound_over`, `prove_over_until` and `prove_by_clauses_over` can be stopped. `run_over_within`
 //! and `crowd_over_by` also take how much memory the records of refuted nodes may have. docs/FORMATS.md has every line and
 //! every status.
 //!
@@ -47,7 +48,7 @@
 //! once. A call that takes no byte, or fails, is `Write`; a call that is interrupted counts as failed.
 //!
 //! In `specs/`, an answer is a value, with the text and the status that stand for it. `IsCpmAnswer`, `IsPlanAnswer`,
-//! `IsCrowdAnswer`, `IsProofAnswer`, `IsClauseProofAnswer`, `IsCheckAnswer`, `IsVerifyAnswer`, `IsVerifyAnswerUntil`,
+//! `IsCrowdAnswer`, `IsProofAnswer`, `IsClauseProofAnswer`, `IsCheckAnswer`, `IsVerifyAnswer`, `IsVerifyAnswerUntil`, `IsBoundAnswer`,
 //! `IsShowAnswer`, `IsReportAnswer`, `IsCurveAnswer`, `IsCurveCrowdAnswer`, `IsWhatIfAnswer` and `IsOrderAnswer` say when text and status are right for the
 //! bytes of one to four inputs, and `IsRun` ties answers to what the readers had and what the writer holds, for all
 //! commands.
@@ -86,6 +87,7 @@ mod streams;
 mod texts;
 mod verdict;
 mod verify;
+mod verify_bound;
 mod whatif;
 
 pub use check::check_over;
@@ -103,4 +105,5 @@ pub use report::{Page, report_over};
 pub use show::{Look, show_over};
 pub use status::{CHECK_FAILED, DONE, IMPOSSIBLE, OUT_OF_MEMORY, REFUSED, STOPPED, STREAM_FAILED};
 pub use verify::{verify_over, verify_over_until};
+pub use verify_bound::verify_bound_over;
 pub use whatif::{WhatIfTexts, whatif_to};

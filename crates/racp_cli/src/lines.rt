@@ -3,7 +3,7 @@
 ghost use Rattle.std.specs.Prelude.{◌≡◌, ◌++◌, IfOk, codes};
 ghost use Rattle.std.specs.Fmt.{decimal};
 ghost use Rattle.racp_plan.specs.Texts.{line};
-ghost use Rattle.racp_cli.specs.Texts.{early_text, order_refusal_line, plan_fault_line, plan_refusal_line, refusal_line, stopped_line};
+ghost use Rattle.racp_cli.specs.Texts.{at_least_line, early_text, order_refusal_line, plan_fault_line, plan_refusal_line, refusal_line, stopped_line};
 
 use racp_check::PlanFault;
 use racp_plan::TextFault;
@@ -52,6 +52,13 @@ pub(crate) fn stopped_line(alloc: Global, capacities: &[u32]) -> Result<Vec<u8>,
     }
     text.push(b'\n')?;
     Ok(text)
+}
+
+/// The line that tells what each plan costs at least.
+pub(crate) fn at_least_line(alloc: Global, least: u64) -> Result<Vec<u8>, AllocError>
+    ensures { IfOk result (λ text. text.items ≡ at_least_line least) }
+{
+    Ok(format!(in alloc; "at least {least}\n")?.into_bytes())
 }
 
 /// The line that says why a plan text is refused.

@@ -7,8 +7,8 @@ use crate::fault::StreamFault;
 use crate::refusal::refused;
 use crate::respond::respond;
 use crate::streams::read_whole;
-use racp_lexfix::{prove_alone, prove_until};
 use racp_model::Stop;
+use racp_prove::{prove_alone, prove_until};
 use std::alloc::{AllocError, Global};
 use std::io::{Read, Write};
 

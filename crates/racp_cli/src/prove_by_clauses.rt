@@ -7,16 +7,17 @@ use crate::fault::StreamFault;
 use crate::refusal::refused;
 use crate::respond::respond;
 use crate::streams::read_whole;
-use racp_lexfix::prove_by_clauses;
 use racp_model::Stop;
+use racp_prove::prove_by_clauses;
 use std::alloc::{AllocError, Global};
 use std::io::{Read, Write};
 
 /// Reads a network text and an order text, all of each before the next, makes the plan on the calling thread, and
-/// writes to `out` a certificate by clauses that it is the plan of the order, or a line that says why there is none.
-/// Returns the status that belongs to what was written: 0 for a certificate, 3 if there is no plan, 5 if a text is
-/// refused, 6 if memory ran out, 8 if the certificate would have more than 16,777,216 bytes, what it is made of takes
-/// too much memory, or the search for the plan was stopped.
+/// writes to `out` a certificate by clauses that it is the plan of the order, or a line that says why there is none. Where the
+/// plan is not found, since the search for it was stopped or takes too much memory, it writes a certificate of what each plan
+/// costs at least, if it has one. Returns the status that belongs to what was written: 0 for a certificate of the plan, 3 if
+/// there is no plan, 4 for a certificate of a bound, 5 if a text is refused, 6 if memory ran out, 8 if no certificate was made,
+/// or that of the plan would have more than 16,777,216 bytes.
 ///
 /// # Errors
 ///

@@ -27,7 +27,7 @@ pub struct Page<'a> {
     /// The text of what changes cost, as `whatif` writes it, if there is one.
     pub changes: Option<&'a [u8]>,
     /// How times are told.
-    pub calendar: Calendar,
+    pub calendar: Calendar<'a>,
 }
 
 /// Reads a network text, an order text, a plan text and names, all of each before the next, and writes to `out` a page

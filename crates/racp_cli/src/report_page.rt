@@ -67,13 +67,13 @@ fn begun(
     found: &Checked,
     names: &Names,
     beside: Beside<'_>,
-    calendar: Calendar,
+    calendar: Calendar<'_>,
 ) -> Result<(u8, Vec<u8>), AllocError>
     requires terms { AreTermsOf found.now.net found.now.order }
     requires capacities { length found.now.plan.capacities ≡ found.now.net.resources }
     requires fitting { IsFitting found.now.net found.now.order found.now.plan }
     requires outline { IsOutlineOf found.now.net (outlined beside.outline.now) }
-    ensures { IfOk result (λ answer. IsBegun calendar beside.entry.curve.now beside.entry.changes.now found.now.net
+    ensures { IfOk result (λ answer. IsBegun calendar.entry beside.entry.curve.now beside.entry.changes.now found.now.net
         found.now.order found.now.plan names.now (outlined beside.entry.outline.now) answer.0 answer.1.items) }
 {
     let Some(changes) = behind_plan(alloc, found, beside.changes)? else {
@@ -108,13 +108,13 @@ fn page_text(
     found: &Checked,
     names: &Names,
     beside: Beside<'_>,
-    calendar: Calendar,
+    calendar: Calendar<'_>,
 ) -> Result<Vec<u8>, AllocError>
     requires terms { AreTermsOf found.now.net found.now.order }
     requires capacities { length found.now.plan.capacities ≡ found.now.net.resources }
     requires fitting { IsFitting found.now.net found.now.order found.now.plan }
     requires outline { IsOutlineOf found.now.net (outlined beside.outline.now) }
-    ensures { IfOk result (λ text. IsPageOf calendar beside.entry.curve.now beside.entry.changes.now found.now.net
+    ensures { IfOk result (λ text. IsPageOf calendar.entry beside.entry.curve.now beside.entry.changes.now found.now.net
         found.now.order found.now.plan names.now (outlined beside.entry.outline.now) text.items) }
 {
     let report = report_of(alloc, &found.net, &found.order, &found.plan, names, beside)?;
@@ -124,8 +124,8 @@ fn page_text(
 }
 
 /// A report whose times a calendar tells.
-fn dated(report: Report<'_>, calendar: Calendar) -> Report<'_>
-    ensures told { result.plan.calendar ≡ calendar }
+fn dated<'a>(report: Report<'a>, calendar: Calendar<'a>) -> Report<'a>
+    ensures told { result.plan.calendar ≡ calendar.entry }
     ensures right { (network : Project) (terms : Terms) (plan : Plan) (names : List (List ℕ)) (outline : Outlined)
         (curve changes : List ℕ) → IsReport network terms plan names outline curve changes report.entry →
         IsReport network terms plan names outline curve changes result }

@@ -14,24 +14,21 @@ use crate::status::{DONE, REFUSED};
 use crate::streams::read_whole;
 use racp_calendar::Calendar;
 use racp_charts::{drawing_of, plan_svg};
-use racp_model::Network;
-use racp_plan::Plan;
-use racp_prices::Order;
 use racp_show::{Form, Lettering, Names, Outline, chart_text, csv_text, json_text, sheet_of};
 use std::alloc::{AllocError, Global};
 use std::io::{Read, Write};
 
 /// How a plan is shown.
 #[derive(Clone, Copy)]
-pub struct Look {
+pub struct Look<'a> {
     /// How many columns a line of a chart has at most; 40 if it is less, 1,000 if it is more.
     pub width: usize,
     /// What is written.
     pub form: Form,
     /// Whether a picture has an arrow from each task to each that comes right after it.
     pub has_links: bool,
-    /// How times are told in a picture.
-    pub calendar: Calendar,
+    /// How times are told.
+    pub calendar: Calendar<'a>,
 }
 
 /// Reads a network text, an order text, a plan text and names, all of each before the next, and writes to `out` the
@@ -52,10 +49,10 @@ pub fn show_over<N: Read, O: Read, P: Read, M: Read, W: Write>(
     order: &mut O,
     plan: &mut P,
     names: &mut M,
-    look: Look,
+    look: Look<'_>,
     out: &mut W,
 ) -> Result<u8, StreamFault>
-    ensures { IsShowRun look (record { unread = N.remaining net.old; left = N.remaining net.new })
+    ensures { IsShowRun look.entry (record { unread = N.remaining net.old; left = N.remaining net.new })
         (record { unread = O.remaining order.old; left = O.remaining order.new })
         (record { unread = P.remaining plan.old; left = P.remaining plan.new })
         (record { unread = M.remaining names.old; left = M.remaining names.new }) (W.contents out.old)
@@ -75,9 +72,9 @@ fn answer(
     order: &[u8],
     plan: &[u8],
     names: &[u8],
-    look: Look,
+    look: Look<'_>,
 ) -> Result<(u8, Vec<u8>), AllocError>
-    ensures { IfOk result (λ answer. IsShowAnswer look net.now order.now plan.now names.now answer.0 answer.1.items) }
+    ensures { IfOk result (λ answer. IsShowAnswer look.entry net.now order.now plan.now names.now answer.0 answer.1.items) }
 {
     match read_checked(alloc, net, order, plan) {
         Ok(found) => named(alloc, &found, names, look),
@@ -94,12 +91,12 @@ fn named(
     alloc: Global,
     found: &Checked,
     names: &[u8],
-    look: Look,
+    look: Look<'_>,
 ) -> Result<(u8, Vec<u8>), AllocError>
     requires terms { AreTermsOf found.now.net found.now.order }
     requires capacities { length found.now.plan.capacities ≡ found.now.net.resources }
     requires fitting { IsFitting found.now.net found.now.order found.now.plan }
-    ensures { IfOk result (λ answer. IsNamed look found.now.net found.now.order found.now.plan names.now answer.0 answer.1.items) }
+    ensures { IfOk result (λ answer. IsNamed look.entry found.now.net found.now.order found.now.plan names.now answer.0 answer.1.items) }
 {
     match std::str::from_utf8(names) {
         Ok(text) => counted(alloc, found, text, look),
@@ -113,12 +110,12 @@ fn counted(
     alloc: Global,
     found: &Checked,
     text: &str,
-    look: Look,
+    look: Look<'_>,
 ) -> Result<(u8, Vec<u8>), AllocError>
     requires terms { AreTermsOf found.now.net found.now.order }
     requires capacities { length found.now.plan.capacities ≡ found.now.net.resources }
     requires fitting { IsFitting found.now.net found.now.order found.now.plan }
-    ensures { IfOk result (λ answer. IsCounted look found.now.net found.now.order found.now.plan text.now answer.0 answer.1.items) }
+    ensures { IfOk result (λ answer. IsCounted look.entry found.now.net found.now.order found.now.plan text.now answer.0 answer.1.items) }
 {
     let names = Names::of_text(alloc, text)?;
     if !names.are_for(found.net.job_count() + found.net.resource_count()) {
@@ -135,21 +132,21 @@ fn picture(
     found: &Checked,
     names: &Names,
     outline: &Outline,
-    look: Look,
+    look: Look<'_>,
 ) -> Result<Vec<u8>, AllocError>
     requires terms { AreTermsOf found.now.net found.now.order }
     requires capacities { length found.now.plan.capacities ≡ found.now.net.resources }
     requires fitting { IsFitting found.now.net found.now.order found.now.plan }
     requires outline { IsOutlineOf found.now.net (outlined outline.now) }
-    ensures { IfOk result (λ text. IsPicture look found.now.net found.now.order found.now.plan names.now
+    ensures { IfOk result (λ text. IsPicture look.entry found.now.net found.now.order found.now.plan names.now
         (outlined outline.now) text.items) }
 {
     match look.form {
-        Form::Text => chart(alloc, found, names, outline, look.width, false),
-        Form::Ascii => chart(alloc, found, names, outline, look.width, true),
+        Form::Text => chart(alloc, found, names, outline, look, false),
+        Form::Ascii => chart(alloc, found, names, outline, look, true),
         Form::Svg => drawn(alloc, found, names, outline, look),
-        Form::Json => sheet_json(alloc, &found.net, &found.order, &found.plan, names),
-        Form::Csv => sheet_table(alloc, &found.net, &found.order, &found.plan, names),
+        Form::Json => sheet_json(alloc, found, names, look.calendar),
+        Form::Csv => sheet_table(alloc, found, names, look.calendar),
     }
 }
 
@@ -159,7 +156,7 @@ fn chart(
     found: &Checked,
     names: &Names,
     outline: &Outline,
-    width: usize,
+    look: Look<'_>,
     is_ascii: bool,
 ) -> Result<Vec<u8>, AllocError>
     requires terms { AreTermsOf found.now.net found.now.order }
@@ -167,7 +164,11 @@ fn chart(
     requires fitting { IsFitting found.now.net found.now.order found.now.plan }
 {
     let (net, order, plan) = (&found.net, &found.order, &found.plan);
-    let lettering = Lettering { width, is_ascii };
+    let lettering = Lettering {
+        width: look.width,
+        is_ascii,
+        calendar: look.calendar,
+    };
     let text = chart_text(alloc, net, order, plan, names, outline, lettering)?;
     Ok(text.into_bytes())
 }
@@ -178,13 +179,13 @@ fn drawn(
     found: &Checked,
     names: &Names,
     outline: &Outline,
-    look: Look,
+    look: Look<'_>,
 ) -> Result<Vec<u8>, AllocError>
     requires terms { AreTermsOf found.now.net found.now.order }
     requires capacities { length found.now.plan.capacities ≡ found.now.net.resources }
     requires fitting { IsFitting found.now.net found.now.order found.now.plan }
     requires outline { IsOutlineOf found.now.net (outlined outline.now) }
-    ensures { IfOk result (λ text. IsDrawn look found.now.net found.now.order found.now.plan names.now
+    ensures { IfOk result (λ text. IsDrawn look.entry found.now.net found.now.order found.now.plan names.now
         (outlined outline.now) text.items) }
 {
     let (net, order, plan) = (&found.net, &found.order, &found.plan);
@@ -197,16 +198,16 @@ fn drawn(
 /// The numbers of a plan as JSON.
 fn sheet_json(
     alloc: Global,
-    net: &Network,
-    order: &Order,
-    plan: &Plan,
+    found: &Checked,
     names: &Names,
+    calendar: Calendar<'_>,
 ) -> Result<Vec<u8>, AllocError>
-    requires terms { AreTermsOf net.now order.now }
-    requires capacities { length plan.now.capacities ≡ net.now.resources }
-    requires fitting { IsFitting net.now order.now plan.now }
+    requires terms { AreTermsOf found.now.net found.now.order }
+    requires capacities { length found.now.plan.capacities ≡ found.now.net.resources }
+    requires fitting { IsFitting found.now.net found.now.order found.now.plan }
 {
-    let sheet = sheet_of(alloc, net, order, plan, names)?;
+    let (net, order, plan) = (&found.net, &found.order, &found.plan);
+    let sheet = sheet_of(alloc, net, order, plan, names, calendar)?;
     let text = json_text(alloc, &sheet)?;
     Ok(text.into_bytes())
 }
@@ -214,16 +215,17 @@ fn sheet_json(
 /// The table of a plan.
 fn sheet_table(
     alloc: Global,
-    net: &Network,
-    order: &Order,
-    plan: &Plan,
+    found: &Checked,
     names: &Names,
+    calendar: Calendar<'_>,
 ) -> Result<Vec<u8>, AllocError>
-    requires terms { AreTermsOf net.now order.now }
-    requires capacities { length plan.now.capacities ≡ net.now.resources }
-    requires fitting { IsFitting net.now order.now plan.now }
-    ensures { IfOk result (λ text. IsSheetTable net.now order.now plan.now names.now text.items) }
+    requires terms { AreTermsOf found.now.net found.now.order }
+    requires capacities { length found.now.plan.capacities ≡ found.now.net.resources }
+    requires fitting { IsFitting found.now.net found.now.order found.now.plan }
+    ensures { IfOk result (λ text. IsSheetTable calendar.entry found.now.net found.now.order found.now.plan names.now
+        text.items) }
 {
-    let sheet = sheet_of(alloc, net, order, plan, names)?;
+    let (net, order, plan) = (&found.net, &found.order, &found.plan);
+    let sheet = sheet_of(alloc, net, order, plan, names, calendar)?;
     csv_text(alloc, &sheet)
 }

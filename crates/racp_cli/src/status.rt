@@ -1,9 +1,6 @@
 //! The statuses with which the program ends.
 
-pub use racp_lexfix::status::{CHECK_FAILED, DONE, IMPOSSIBLE};
-
-/// Planning was stopped.
-pub const STOPPED: u8 = 4;
+pub use racp_lexfix::status::{CHECK_FAILED, DONE, IMPOSSIBLE, STOPPED};
 
 /// The input is refused, and the line that was written says why.
 pub const REFUSED: u8 = 5;

@@ -1,6 +1,7 @@
 //! `whatif`: what becomes of an order if one term is changed, beside a plan.
 
 ghost use Rattle.std.specs.Prelude.{IfOk, None, Some, option_map};
+ghost use Rattle.racp_found.specs.Told.{HearsAll};
 ghost use Rattle.racp_cli.specs.Streams.{IsAnswerWritten};
 ghost use Rattle.racp_cli.specs.WhatIfAnswers.{IsWhatIfAnswer};
 
@@ -9,10 +10,11 @@ use crate::check::read_checked;
 use crate::fault::StreamFault;
 use crate::respond::respond;
 use crate::texts::read_texts;
-use racp_by_questions::Observer;
 use racp_desk::Gate;
-use racp_lexfix::{Crew, Task};
+use racp_found::Observer;
+use racp_lexfix::Crew;
 use racp_model::Stop;
+use racp_root::Task;
 use std::alloc::{AllocError, Global};
 use std::io::Write;
 use std::sync::Wait;
@@ -52,6 +54,7 @@ pub fn whatif_to<R: Threads + Wait + Sync, G: Gate + Sync, P: Stop + Sync, B: Ob
     crew: Crew<'_, G, P, B>,
     out: &mut W,
 ) -> Result<u8, StreamFault>
+    requires heard { HearsAll B.may_hear }
     ensures { IsAnswerWritten
         (IsWhatIfAnswer crew.entry.turns (P.is_quiet crew.entry.stop.now) texts.entry.is_json texts.entry.net.now texts.entry.order.now
         (option_map (λ plan. plan.now) texts.entry.plan) texts.entry.names.now)
@@ -67,6 +70,7 @@ fn answer<G: Gate + Sync, P: Stop + Sync, B: Observer, R: Threads + Wait + Sync>
     texts: WhatIfTexts<'_>,
     crew: &Crew<'_, G, P, B>,
 ) -> Result<(u8, Vec<u8>), AllocError>
+    requires heard { HearsAll B.may_hear }
     ensures { IfOk result (λ answer.
         IsWhatIfAnswer crew.now.turns (P.is_quiet crew.now.stop.now) texts.entry.is_json texts.entry.net.now texts.entry.order.now
         (option_map (λ plan. plan.now) texts.entry.plan) texts.entry.names.now answer.0 answer.1.items) }
@@ -85,6 +89,7 @@ fn beside_given<G: Gate + Sync, P: Stop + Sync, B: Observer, R: Threads + Wait +
     plan: &[u8],
     crew: &Crew<'_, G, P, B>,
 ) -> Result<(u8, Vec<u8>), AllocError>
+    requires heard { HearsAll B.may_hear }
     ensures { IfOk result (λ answer.
         IsWhatIfAnswer crew.now.turns (P.is_quiet crew.now.stop.now) texts.entry.is_json texts.entry.net.now texts.entry.order.now (Some plan.now)
         texts.entry.names.now answer.0 answer.1.items) }
@@ -112,6 +117,7 @@ fn beside_own<G: Gate + Sync, P: Stop + Sync, B: Observer, R: Threads + Wait + S
     texts: WhatIfTexts<'_>,
     crew: &Crew<'_, G, P, B>,
 ) -> Result<(u8, Vec<u8>), AllocError>
+    requires heard { HearsAll B.may_hear }
     ensures { IfOk result (λ answer.
         IsWhatIfAnswer crew.now.turns (P.is_quiet crew.now.stop.now) texts.entry.is_json texts.entry.net.now texts.entry.order.now None
         texts.entry.names.now answer.0 answer.1.items) }

@@ -9,9 +9,9 @@ use Rattle.racp_model.specs.Terms.{Terms, release_of, due_of}
 use Rattle.racp_model.specs.Plan.{IsOverCeilings, IsTooLong, IsTooLateAt, NoneIsEnough}
 use Rattle.racp_model.specs.Window.{Bounds, IsRootWindow}
 use Rattle.racp_model.proofs.lemmas.Arcs.{precedes_in}
-use Rattle.racp_check.specs.Openings.{IsOpening}
-use Rattle.racp_check.specs.declared.opening.Opening.{Opening}
-use Rattle.racp_check.specs.declared.opening.Opening.TheVariants.{TooLong}
+use Rattle.racp_root.specs.Openings.{IsOpening}
+use Rattle.racp_root.specs.declared.opening.Opening.{Opening}
+use Rattle.racp_root.specs.declared.opening.Opening.TheVariants.{TooLong}
 use Rattle.racp_lexfix.specs.Answers.{IsAnswer}
 use Rattle.racp_lexfix.specs.declared.answer.Answer.{Answer}
 use Rattle.racp_lexfix.specs.declared.answer.Answer.TheVariants.{Plan as ThePlan, Impossible, Due, Ceiling}

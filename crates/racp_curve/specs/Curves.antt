@@ -3,11 +3,11 @@ use Rattle.std.specs.Prelude.{◌≡◌, ◌≢◌, ℕ, ◌+◌, ◌<◌, ◌�
 use Rattle.racp_model.specs.Project.{Project}
 use Rattle.racp_model.specs.Terms.{Terms, cost, IsBefore}
 use Rattle.racp_model.specs.Plan.{IsLeast, IsEnough, NoneIsEnough}
-use Rattle.racp_plan.specs.Fitting.{AreFitting}
 use Rattle.racp_by_questions.specs.Stops.{IsPlanStop}
 use Rattle.racp_lexfix.specs.Answers.{IsAnswer}
 use Rattle.racp_lexfix.specs.Laws.{IsNoPlan}
-use Rattle.racp_by_questions.specs.Stages.{AreFloorsOfEnough, IsLeastOfEnough}
+use Rattle.racp_found.specs.declared.observer.News.{News}
+use Rattle.racp_found.specs.Told.{MayBeTold}
 use Rattle.racp_by_questions.specs.declared.stop.PlanStop.{PlanStop}
 use Rattle.racp_curve.specs.declared.step.Step.{Step}
 use Rattle.racp_curve.specs.declared.step.CurveAnswer.{CurveAnswer}
@@ -77,16 +77,6 @@ pub record IsCurveStop (p : Project) (terms : Terms) (may_stop may_want_thread :
   pub are_steps : AreSteps p terms steps
   pub reason : IsPlanStop (AreNotAfterEnough p terms (first_deadline (terms.deadline + 1) steps)) may_stop may_want_thread stop
 
--- floors, and a least cost, of the capacities that are enough for some deadline up to the order's may be told to an asker
-abbrev pub MayHearFloors : Project → Terms → (List ℕ → Type 0) → Type 0
-MayHearFloors p terms may_hear = (deadline : ℕ) → deadline ≤ terms.deadline → (floors : List ℕ) →
-    AreFloorsOfEnough p (order_by deadline terms) floors → may_hear floors
-
-abbrev pub MayHearCost : Project → Terms → (ℕ → Type 0) → Type 0
-MayHearCost p terms may_hear = (deadline : ℕ) → deadline ≤ terms.deadline → (least : ℕ) →
-    IsLeastOfEnough p (order_by deadline terms) least → may_hear least
-
--- so may plans for it, which may not be the cheapest
-abbrev pub MayHearPlans : Project → Terms → (List ℕ → List ℕ → Type 0) → Type 0
-MayHearPlans p terms may_hear = (deadline : ℕ) → deadline ≤ terms.deadline → (capacities starts : List ℕ) →
-    AreFitting p (order_by deadline terms) capacities starts → may_hear capacities starts
+-- an observer may be told all that is true of the order with each deadline up to its own
+abbrev pub MayHear : Project → Terms → (News → Type 0) → Type 0
+MayHear p terms may_hear = (deadline : ℕ) → deadline ≤ terms.deadline → MayBeTold p (order_by deadline terms) may_hear

@@ -5,11 +5,13 @@ use Rattle.racp_model.specs.Terms.{Terms, release_of, due_of}
 use Rattle.racp_model.specs.Plan.{IsEnough, NoneIsEnough}
 use Rattle.racp_model.specs.Window.{Bounds, IsRootWindow}
 use Rattle.racp_model.specs.Schedule.{EndsBy}
+use Rattle.racp_found.specs.declared.observer.News.{News}
+use Rattle.racp_found.specs.declared.observer.News.TheVariants.{Work}
 use Rattle.racp_plan.specs.declared.plan.Plan.{Plan}
 use Rattle.racp_plan.specs.Plans.{IsPlanOf}
 use Rattle.racp_lexfix.specs.declared.answer.Answer.{Answer}
 use Rattle.racp_lexfix.specs.declared.answer.Answer.TheVariants.{Plan as ThePlan, Impossible, Due, Ceiling}
-use Rattle.racp_curve.specs.Curves.{order_by, ArePlanned, first_deadline, AreOthersThanFirst, AreSteps, IsCurve, IsCurveAnswer, IsCurveStop, MayHearCost, MayHearFloors, MayHearPlans}
+use Rattle.racp_curve.specs.Curves.{order_by, ArePlanned, first_deadline, AreOthersThanFirst, AreSteps, IsCurve, IsCurveAnswer, IsCurveStop}
 use Rattle.racp_clauses.specs.Solutions.{Problem}
 use Rattle.racp_clauses.specs.Roots.{IsOpen}
 use Rattle.racp_by_clauses.specs.declared.task.Task.{Task}
@@ -21,12 +23,9 @@ use Rattle.racp_curve.specs.declared.step.Step.{Step}
 use Rattle.racp_curve.specs.declared.step.CurveAnswer.{CurveAnswer}
 use Rattle.racp_curve.specs.declared.step.CurveStop.{CurveStop}
 
--- an asker may be told floors, and a least cost, of what is enough for each deadline up to the order's, and plans for it
-pub record MayHear (p : Project) (terms : Terms) (may_hear_floors : List ℕ → Type 0) (may_hear_cost : ℕ → Type 0)
-    (may_hear_plan : List ℕ → List ℕ → Type 0) : Type 0 where
-  pub floors : MayHearFloors p terms may_hear_floors
-  pub least : MayHearCost p terms may_hear_cost
-  pub plans : MayHearPlans p terms may_hear_plan
+-- an observer may be told how much was done
+abbrev pub MayBeToldOfWork : (News → Type 0) → Type 0
+MayBeToldOfWork may_hear = (conflicts clauses : ℕ) → may_hear (Work conflicts clauses)
 
 -- the plan that an answer has, or none
 abbrev pub plan_in : Answer → Option Plan

@@ -13,7 +13,6 @@ use racp_model::{Network, OfNetwork};
 use racp_prices::Order;
 use std::alloc::Global;
 use std::marker::Brand;
-use std::sync::atomic::AtomicU32;
 
 /// The curve of an order, made on the calling thread, with records of refuted nodes that take at most about this many
 /// mebibytes, up to 1,048,576.
@@ -33,13 +32,7 @@ pub fn curve_alone(
     ensures steps { IfErr result (λ end. AreSteps net.now order.now end.steps.items) }
     ensures stop { IfErr result (λ end. end.stop ≡ Memory) }
 {
-    let at = AtomicU32::new(order.deadline);
-    let ground = Ground {
-        alloc,
-        net,
-        order,
-        at: &at,
-    };
+    let ground = Ground { alloc, net, order };
     curve_named::<Brand>(&ground, mebibytes)
 }
 
@@ -55,11 +48,5 @@ fn curve_named<N: OfNetwork>(ground: &Ground, mebibytes: usize) -> Result<CurveA
         Ok(alone) => alone,
         Err(_) => return Err(out_of_memory(ground.alloc)),
     };
-    curve(
-        ground.alloc,
-        ground.net,
-        ground.order,
-        ground.at,
-        &mut alone,
-    )
+    curve(ground.alloc, ground.net, ground.order, &mut alone)
 }

@@ -5,18 +5,19 @@ ghost use Rattle.racp_model.specs.Formed.{AreFormed};
 ghost use Rattle.racp_candidates.specs.AnySeries.{any_questions};
 ghost use Rattle.racp_desk.specs.Closing.{IsRunClosed};
 ghost use Rattle.racp_by_questions.specs.Crowds.{MayStop};
+ghost use Rattle.racp_curve.specs.Curves.{MayHear};
 ghost use Rattle.racp_curve.specs.Following.{IsFollowedByCrew, IsGroundOf};
 
-use crate::dated::Dated;
 use crate::facts::Facts;
 use crate::following::curve_with;
 use crate::ground::Ground;
 use crate::step::{CurveAnswer, CurveStop, out_of_memory};
-use racp_by_questions::{Crowd, Observer, OfTurns, Pricing};
+use racp_by_questions::{Crowd, OfTurns};
 use racp_candidates::AnySeries;
 use racp_clauses::OfProblem;
 use racp_cutset::MemoryLimit;
 use racp_desk::{Closed, DeskFault, Gate, Records, RunLimits};
+use racp_found::Observer;
 use racp_lexfix::Crew;
 use racp_model::{OfNetwork, Stop};
 use std::marker::Brand;
@@ -37,6 +38,7 @@ pub(crate) fn curve_by<
     crew: &Crew<'_, G, P, O>,
 ) -> Result<CurveAnswer, CurveStop>
     requires of { IsGroundOf N.problem ground.now }
+    requires heard { MayHear ground.now.net.now ground.now.order.now O.may_hear }
     ensures { IsFollowedByCrew ground.now.net.now ground.now.order.now (MayStop ground.now.net.now (P.is_quiet crew.now.stop.now) crew.now.turns) result }
 {
     curve_named::<Brand, Brand, N, G, P, O, R>(rt, ground, facts, crew)
@@ -61,14 +63,10 @@ pub(crate) fn curve_named<
     requires named_turns { crew.now.turns ≡ M.turns }
     requires named_quiet { P.is_quiet crew.now.stop.now ≡ M.quiet }
     requires of { IsGroundOf N.problem ground.now }
+    requires heard { MayHear ground.now.net.now ground.now.order.now O.may_hear }
     ensures { IsFollowedByCrew ground.now.net.now ground.now.order.now (MayStop ground.now.net.now M.quiet M.turns) result }
 {
-    let Ground {
-        alloc,
-        net,
-        order,
-        at,
-    } = *ground;
+    let Ground { alloc, net, .. } = *ground;
     let workers = workers_at_desks(facts, crew.workers);
     let limit = MemoryLimit {
         mebibytes: crew.memory,
@@ -78,11 +76,10 @@ pub(crate) fn curve_named<
         Ok(records) => records,
         Err(_) => return Err(out_of_memory(alloc)),
     };
-    let dated = Dated::new(at, Pricing::new(net, order, crew.observer));
-    let crowd: Crowd<'_, K, M, P, Dated<'_, Pricing<'_, O>>, _> = Crowd::new(
+    let crowd: Crowd<'_, K, M, P, &O, _> = Crowd::new(
         workers,
         crew.turns,
-        dated,
+        crew.observer,
         |series: AnySeries, limits: RunLimits| -> Result<Closed, DeskFault>
             requires { (net.now ≡ K.network) × AreFormed net.now (any_questions series) }
             ensures { IfOk result (IsRunClosed net.entry.now (any_questions series) limits.turns

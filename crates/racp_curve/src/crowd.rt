@@ -4,7 +4,7 @@ ghost use Rattle.std.specs.Prelude.{◌≡◌, ◌≤◌, IfOk, IfErr, ⊤};
 ghost use Rattle.racp_model.specs.Terms.{AreTermsOf};
 ghost use Rattle.racp_by_clauses.specs.Optima.{IsTaskOf};
 ghost use Rattle.racp_by_questions.specs.Crowds.{MayStop};
-ghost use Rattle.racp_curve.specs.Curves.{IsCurveAnswer, IsCurveStop};
+ghost use Rattle.racp_curve.specs.Curves.{IsCurveAnswer, IsCurveStop, MayHear};
 ghost use Rattle.racp_curve.specs.Following.{IsFollowedByCrew, IsGroundOf};
 
 use crate::ahead::Ahead;
@@ -15,16 +15,16 @@ use crate::helping::{join_helpers, start_helpers};
 use crate::start::start_of;
 use crate::step::{CurveAnswer, CurveStop, out_of_memory};
 use racp_by_clauses::{Limits, Task};
-use racp_by_questions::{Observer, OfTurns};
+use racp_by_questions::OfTurns;
 use racp_clauses::OfProblem;
 use racp_desk::Gate;
+use racp_found::Observer;
 use racp_lexfix::{Crew, limits_of};
 use racp_model::{Network, Stop};
 use racp_prices::Order;
 use std::alloc::{AllocError, Global};
 use std::marker::Brand;
 use std::sync::Wait;
-use std::sync::atomic::AtomicU32;
 use std::thread;
 use std::thread::Threads;
 
@@ -44,18 +44,13 @@ pub fn curve_crowd<G: Gate + Sync, P: Stop + Sync, O: Observer, R: Threads + Wai
     crew: Crew<'_, G, P, O>,
 ) -> Result<CurveAnswer, CurveStop>
     requires terms { AreTermsOf net.now order.now }
+    requires heard { MayHear net.now order.now O.may_hear }
     ensures curve { IfOk result (IsCurveAnswer net.now order.now) }
     ensures stop { IfErr result (λ end. IsCurveStop net.now order.now
         (MayStop net.now (P.is_quiet crew.entry.stop.now) crew.entry.turns) ⊤
         end.steps.items end.stop) }
 {
-    let at = AtomicU32::new(order.deadline);
-    let ground = Ground {
-        alloc,
-        net,
-        order,
-        at: &at,
-    };
+    let ground = Ground { alloc, net, order };
     followed(rt, &ground, &crew)
 }
 
@@ -65,6 +60,7 @@ fn followed<G: Gate + Sync, P: Stop + Sync, O: Observer, R: Threads + Wait + Syn
     ground: &Ground,
     crew: &Crew<'_, G, P, O>,
 ) -> Result<CurveAnswer, CurveStop>
+    requires heard { MayHear ground.now.net.now ground.now.order.now O.may_hear }
     ensures { IsFollowedByCrew ground.now.net.now ground.now.order.now (MayStop ground.now.net.now (P.is_quiet crew.now.stop.now) crew.now.turns) result }
 {
     match start_of(ground, crew.leeway()) {
@@ -92,6 +88,7 @@ fn curve_anew_by<
     R: Threads + Wait + Sync,
 >(rt: &R, ground: &Ground, crew: &Crew<'_, G, P, O>) -> Result<CurveAnswer, CurveStop>
     requires of { IsGroundOf N.problem ground.now }
+    requires heard { MayHear ground.now.net.now ground.now.order.now O.may_hear }
     ensures { IsFollowedByCrew ground.now.net.now ground.now.order.now (MayStop ground.now.net.now (P.is_quiet crew.now.stop.now) crew.now.turns) result }
 {
     let mut facts: Option<Facts<'_, N>> = None;
@@ -113,6 +110,7 @@ fn curve_ahead<
     crew: &Crew<'_, G, P, O>,
 ) -> Result<CurveAnswer, CurveStop>
     requires of { IsGroundOf N.problem ground.now }
+    requires heard { MayHear ground.now.net.now ground.now.order.now O.may_hear }
     requires whole { IsTaskOf N.problem whole }
     requires named_turns { crew.now.turns ≡ M.turns }
     requires named_quiet { P.is_quiet crew.now.stop.now ≡ M.quiet }
@@ -149,6 +147,7 @@ fn in_scope<
     R: Threads + Wait + Sync,
 >(rt: &'a R, ahead: &'a Ahead<'a, N>, crew: &'a Crew<'a, G, P, O>) -> Result<CurveAnswer, CurveStop>
     requires of { IsGroundOf N.problem ahead.now.base }
+    requires heard { MayHear N.problem.network N.problem.terms O.may_hear }
     requires named_turns { crew.now.turns ≡ M.turns }
     requires named_quiet { P.is_quiet crew.now.stop.now ≡ M.quiet }
     ensures { IsFollowedByCrew N.problem.network N.problem.terms (MayStop N.problem.network M.quiet M.turns) result }
@@ -157,7 +156,7 @@ fn in_scope<
         thread::scope_env(),
         rt,
         move |scope| -> Result<CurveAnswer, CurveStop>
-            requires { IsGroundOf N.problem ahead.now.base × (crew.now.turns ≡ M.turns) × (P.is_quiet crew.now.stop.now ≡ M.quiet) }
+            requires { IsGroundOf N.problem ahead.now.base × MayHear N.problem.network N.problem.terms O.may_hear × (crew.now.turns ≡ M.turns) × (P.is_quiet crew.now.stop.now ≡ M.quiet) }
             ensures { IsFollowedByCrew N.problem.network N.problem.terms (MayStop N.problem.network M.quiet M.turns) result }
         {
             let handles = start_helpers(scope, rt, ahead, crew.workers);
@@ -179,6 +178,7 @@ fn led<
     O: Observer,
     R: Threads + Wait + Sync,
 >(rt: &R, ahead: &'a Ahead<'a, N>, crew: &Crew<'_, G, P, O>) -> Result<CurveAnswer, CurveStop>
+    requires heard { MayHear N.problem.network N.problem.terms O.may_hear }
     requires named_turns { crew.now.turns ≡ M.turns }
     requires named_quiet { P.is_quiet crew.now.stop.now ≡ M.quiet }
     ensures { IsFollowedByCrew N.problem.network N.problem.terms (MayStop N.problem.network M.quiet M.turns) result }

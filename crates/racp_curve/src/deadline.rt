@@ -2,21 +2,21 @@
 
 ghost use Rattle.std.specs.Prelude.{◌≡◌, ◌+◌, ◌≤◌, option_map, IfOk, IfErr};
 ghost use Rattle.racp_by_questions.specs.Stops.{IsPlanStop};
-ghost use Rattle.racp_curve.specs.Curves.{order_by, AreNotAfterEnough};
-ghost use Rattle.racp_curve.specs.Following.{order_within, plan_in, IsGroundOf, IsPlanOrNone, IsRootOrNone, MayHear};
+ghost use Rattle.racp_curve.specs.Curves.{order_by, AreNotAfterEnough, MayHear};
+ghost use Rattle.racp_curve.specs.Following.{order_within, plan_in, IsGroundOf, IsPlanOrNone, IsRootOrNone};
 
 use crate::facts::Facts;
 use crate::ground::Ground;
 use racp_candidates::AnySeries;
-use racp_check::{Opening, opening_of};
 use racp_clauses::OfProblem;
+use racp_found::News;
 use racp_lexfix::{Answer, PlanStop, plan};
 use racp_model::{Capacities, Window};
 use racp_plan::Plan;
 use racp_prices::Order;
 use racp_questions::Asker;
+use racp_root::{Opening, opening_of};
 use std::alloc::{AllocError, Global};
-use std::sync::atomic::Ordering;
 
 /// The order with another deadline, in time units; nothing else changes.
 pub(crate) fn with_deadline(
@@ -76,14 +76,14 @@ pub(crate) fn plan_by<N: OfProblem, A: Asker<AnySeries>>(
     requires named { A.about asker.old ground.now.net.now }
     requires of { IsGroundOf N.problem ground.now }
     requires deadline { deadline ≤ ground.now.order.now.deadline }
-    requires hears { MayHear ground.now.net.now ground.now.order.now A.may_hear_floors A.may_hear_cost A.may_hear_plan }
+    requires hears { MayHear ground.now.net.now ground.now.order.now A.may_hear }
     ensures network { A.about asker.new ground.now.net.now }
     ensures plan { IfOk result (IsPlanOrNone ground.now.net.now (order_by deadline ground.now.order.now)) }
     ensures stop { IfErr result (IsPlanStop (AreNotAfterEnough ground.now.net.now ground.now.order.now (deadline + 1))
         (A.may_stop asker.new) (A.may_want_thread asker.new)) }
 {
     prove!(1 <= ground.net.job_count());
-    ground.at.store(deadline, Ordering::SeqCst);
+    asker.hear(News::Deadline(deadline));
     let other = with_deadline(ground.alloc, ground.order, deadline)?;
     if let Some(facts) = facts {
         facts.move_to(deadline);

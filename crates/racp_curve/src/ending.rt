@@ -9,7 +9,7 @@ ghost use Rattle.racp_questions.specs.FirstYes.{IsProbed};
 ghost use Rattle.racp_candidates.specs.Questions.{question_of};
 ghost use Rattle.racp_by_questions.specs.Stops.{IsPlanStop};
 ghost use Rattle.racp_curve.specs.Curves.{order_by};
-ghost use Rattle.racp_curve.specs.Following.{ArePlannedFrom, IsEarlier, IsGroundOf, IsShortest, IsSooner};
+ghost use Rattle.racp_curve.specs.Following.{ArePlannedFrom, IsEarlier, IsGroundOf, IsShortest, IsSooner, MayBeToldOfWork};
 
 use crate::deadline::{root_by, with_ceilings};
 use crate::earlier::Earlier;
@@ -36,6 +36,7 @@ pub(crate) fn shorten<N: OfProblem, A: Asker<AnySeries>>(
 ) -> Result<(), PlanStop>
     requires named { A.about asker.old ground.now.net.now }
     requires of { IsGroundOf N.problem ground.now }
+    requires told { MayBeToldOfWork A.may_hear }
     requires end { end.old ≤ ground.now.order.now.deadline }
     requires planned { ArePlannedFrom ground.now.net.now ground.now.order.now end.old capacities.now }
     requires enough { IsEnough ground.now.net.now (order_by end.old ground.now.order.now) capacities.now }
@@ -65,6 +66,7 @@ fn sooner<N: OfProblem, A: Asker<AnySeries>>(
 ) -> Result<Option<u32>, PlanStop>
     requires named { A.about asker.old ground.now.net.now }
     requires of { IsGroundOf N.problem ground.now }
+    requires told { MayBeToldOfWork A.may_hear }
     requires deadline { deadline ≤ ground.now.order.now.deadline }
     requires places { length capacities.now ≡ ground.now.net.now.resources }
     requires ceilings { IsWithinCeilings ground.now.order.now capacities.now }
@@ -100,6 +102,7 @@ fn known_earlier<N: OfProblem, A: Asker<AnySeries>>(
     asker: &A,
 ) -> Result<Earlier, AllocError>
     requires of { IsGroundOf N.problem ground.now }
+    requires told { MayBeToldOfWork A.may_hear }
     requires deadline { deadline ≤ ground.now.order.now.deadline }
     requires places { length capacities.now ≡ ground.now.net.now.resources }
     requires ceilings { IsWithinCeilings ground.now.order.now capacities.now }
@@ -127,6 +130,7 @@ fn learned_earlier<N: OfProblem, A: Asker<AnySeries>>(
     asker: &A,
 ) -> Result<Earlier, AllocError>
     requires of { IsGroundOf N.problem ground.now }
+    requires told { MayBeToldOfWork A.may_hear }
     requires deadline { deadline ≤ ground.now.order.now.deadline }
     requires places { length capacities.now ≡ ground.now.net.now.resources }
     requires ceilings { IsWithinCeilings ground.now.order.now capacities.now }

@@ -3,18 +3,19 @@
 ghost use Rattle.std.specs.Prelude.{IfOk};
 ghost use Rattle.racp_model.specs.Terms.{AreTermsOf};
 ghost use Rattle.racp_by_clauses.specs.Optima.{IsFeasible};
-ghost use Rattle.racp_curve.specs.Following.{IsGroundOf, IsVariantOf};
+ghost use Rattle.racp_curve.specs.Following.{IsGroundOf, IsVariantOf, MayBeToldOfWork};
 
+use crate::awaiting::{Awaited, Muted};
 use crate::facts::Facts;
 use crate::ground::Ground;
-use crate::hearers::Stopping;
 use racp_by_clauses::{Feasible, Task};
 use racp_candidates::AnySeries;
-use racp_check::{Opening, opening_of};
 use racp_clauses::OfProblem;
-use racp_lexfix::{Relay, root_bounds};
+use racp_found::Until;
+use racp_lexfix::root_bounds;
 use racp_prices::Order;
 use racp_questions::Asker;
+use racp_root::{Opening, opening_of};
 use std::alloc::AllocError;
 use std::marker::Brand;
 
@@ -29,6 +30,7 @@ impl<N: OfProblem> Facts<'_, N> {
         requires of { IsGroundOf N.problem ground.now }
         requires terms { AreTermsOf ground.now.net.now other.now }
         requires variant { IsVariantOf ground.now.order.now other.now }
+        requires told { MayBeToldOfWork A.may_hear }
         ensures { IfOk result (IsFeasible ground.now.net.now other.now) }
     {
         let Ground { alloc, net, .. } = *ground;
@@ -45,11 +47,13 @@ impl<N: OfProblem> Facts<'_, N> {
             window: &window,
             root: &root.bounds,
         };
-        let stopping = Stopping {
-            relay: Relay { asker },
-            awaited: self.awaited(other.deadline),
+        let awaited = self.awaited(other.deadline);
+        let until = Until {
+            observer: asker,
+            end: &awaited,
         };
+        let muted = Muted { observer: &until };
         self.optimizer
-            .feasible::<Brand, Stopping<'_, '_, A, N>>(self.whole, part, &stopping)
+            .feasible::<Brand, Muted<'_, Until<'_, A, Awaited<'_, N>>>>(self.whole, part, &muted)
     }
 }

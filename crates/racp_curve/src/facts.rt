@@ -9,25 +9,25 @@ ghost use Rattle.racp_model.specs.Window.{IsRootWindow};
 ghost use Rattle.racp_plan.specs.Plans.{IsPlanOf};
 ghost use Rattle.racp_clauses.specs.Roots.{IsOpen};
 ghost use Rattle.racp_lexfix.specs.Answers.{IsAnswer};
-ghost use Rattle.racp_lexfix.specs.Stages.{MayBeTold};
-ghost use Rattle.racp_by_clauses.specs.Optima.{IsTaskOf, MayBeTold as MayTell};
+ghost use Rattle.racp_found.specs.Told.{MayBeTold};
+ghost use Rattle.racp_by_clauses.specs.Optima.{IsTaskOf};
 ghost use Rattle.racp_curve.specs.Curves.{order_by};
-ghost use Rattle.racp_curve.specs.Following.{ArePlannedFrom, IsEarlier, IsGroundOf, IsVariantOf, IsVariantTask, problem_of};
+ghost use Rattle.racp_curve.specs.Following.{ArePlannedFrom, IsEarlier, IsGroundOf, IsVariantOf, IsVariantTask};
 
 use crate::ahead::Ahead;
+use crate::awaiting::Awaited;
 use crate::earlier::Earlier;
 use crate::ground::Ground;
-use crate::hearers::{Awaited, Telling};
-use racp_by_clauses::{Hearer, Limits, Optimizer, Task};
+use racp_by_clauses::{Limits, Optimizer, Task};
 use racp_candidates::AnySeries;
-use racp_check::{Opening, opening_of};
 use racp_clauses::OfProblem;
-use racp_found::Found;
-use racp_lexfix::{Answer, Relay, root_bounds};
+use racp_found::{Found, News, Observer, Until};
+use racp_lexfix::{Answer, root_bounds};
 use racp_model::{Capacities, Window};
 use racp_plan::Plan;
 use racp_prices::{Order, cost_of};
 use racp_questions::Asker;
+use racp_root::{Opening, opening_of};
 use std::alloc::AllocError;
 use std::marker::Brand;
 
@@ -87,7 +87,7 @@ impl<'a, N: OfProblem> Facts<'a, N> {
         requires of { IsGroundOf N.problem ground.now }
         requires within { other.now.deadline ≤ ground.now.order.now.deadline }
         requires by { other.now ≡ order_by other.now.deadline ground.now.order.now }
-        requires heard { MayBeTold ground.now.net.now other.now A.may_hear_floors A.may_hear_cost A.may_hear_plan }
+        requires heard { MayBeTold ground.now.net.now other.now A.may_hear }
         ensures { IfOk result (λ told. IfSome told (IsAnswer ground.now.net.now other.now)) }
     {
         match self.answer_ahead(ground, other)? {
@@ -127,7 +127,7 @@ impl<'a, N: OfProblem> Facts<'a, N> {
         requires of { IsGroundOf N.problem ground.now }
         requires terms { AreTermsOf ground.now.net.now other.now }
         requires variant { IsVariantOf ground.now.order.now other.now }
-        requires heard { MayBeTold ground.now.net.now other.now A.may_hear_floors A.may_hear_cost A.may_hear_plan }
+        requires heard { MayBeTold ground.now.net.now other.now A.may_hear }
         ensures { IfOk result (λ told. IfSome told (IsAnswer ground.now.net.now other.now)) }
     {
         let Opening::Root { critical, window } = opening_of(ground.alloc, ground.net, other)? else {
@@ -150,14 +150,14 @@ impl<'a, N: OfProblem> Facts<'a, N> {
         requires variant { IsVariantOf ground.now.order.now other.now }
         requires critical { IsCriticalLength ground.now.net.now (release_of other.now) critical }
         requires root { IsRootWindow ground.now.net.now (release_of other.now) (due_of other.now) window.now }
-        requires heard { MayBeTold ground.now.net.now other.now A.may_hear_floors A.may_hear_cost A.may_hear_plan }
+        requires heard { MayBeTold ground.now.net.now other.now A.may_hear }
         ensures { IfOk result (λ told. IfSome told (IsAnswer ground.now.net.now other.now)) }
     {
         let Ground { alloc, net, .. } = *ground;
         let Some(root) = root_bounds(alloc, net, other, window)? else {
             return Ok(Some(Answer::Ceiling));
         };
-        asker.hear_floors(&root.floors);
+        asker.hear(News::Floors(&root.floors));
         let part = Task {
             alloc,
             net,
@@ -165,11 +165,12 @@ impl<'a, N: OfProblem> Facts<'a, N> {
             window,
             root: &root.bounds,
         };
-        let telling = Telling {
-            relay: Relay { asker },
-            awaited: self.awaited(other.deadline),
+        let awaited = self.awaited(other.deadline);
+        let until = Until {
+            observer: asker,
+            end: &awaited,
         };
-        self.answer_of(part, critical, &telling)
+        self.answer_of(part, critical, &until)
     }
 
     /// Whether other workers plan ahead.
@@ -186,21 +187,21 @@ impl<'a, N: OfProblem> Facts<'a, N> {
     }
 
     /// The plan of a part of the order, or that no capacities are enough. `None` where neither is found.
-    pub(crate) fn answer_of<H: Hearer>(
+    pub(crate) fn answer_of<O: Observer>(
         &mut self,
         part: Task<'_>,
         critical: u64,
-        hearer: &H,
+        observer: &O,
     ) -> Result<Option<Answer>, AllocError>
         requires part { IsVariantTask N.problem part }
         requires critical { IsCriticalLength part.net.now (release_of part.order.now) critical }
         requires over { NoneIsEnough part.net.now part.order.now → IsOverCeilings part.net.now part.order.now }
-        requires may { MayTell (problem_of part) H.may_hear_cost H.may_hear_draft }
+        requires may { MayBeTold part.net.now part.order.now O.may_hear }
         ensures { IfOk result (λ told. IfSome told (IsAnswer part.entry.net.now part.entry.order.now)) }
     {
         match self
             .optimizer
-            .optimum::<Brand, H>(self.whole, part, hearer)?
+            .optimum::<Brand, O>(self.whole, part, observer)?
         {
             Found::Plan(capacities, starts) => {
                 let order = part.order;

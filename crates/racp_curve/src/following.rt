@@ -8,8 +8,8 @@ ghost use Rattle.racp_by_questions.specs.Stops.{IsPlanStop};
 ghost use Rattle.racp_lexfix.specs.Answers.{IsAnswer};
 ghost use Rattle.racp_lexfix.specs.Laws.{IsNoPlan};
 ghost use Rattle.racp_lexfix.specs.declared.answer.Answer.TheVariants.{Plan as ThePlan};
-ghost use Rattle.racp_curve.specs.Curves.{AreNotAfterEnough, IsCurveAnswer, IsCurveStop, MayHearCost, MayHearFloors, MayHearPlans};
-ghost use Rattle.racp_curve.specs.Following.{IsGroundOf, MayHear};
+ghost use Rattle.racp_curve.specs.Curves.{AreNotAfterEnough, IsCurveAnswer, IsCurveStop, MayHear};
+ghost use Rattle.racp_curve.specs.Following.{IsGroundOf};
 
 use crate::facts::Facts;
 use crate::ground::Ground;
@@ -19,6 +19,7 @@ use crate::stepping::follow;
 use racp_by_clauses::Task;
 use racp_candidates::AnySeries;
 use racp_clauses::OfProblem;
+use racp_found::News;
 use racp_lexfix::{Answer, PlanStop, limits_of, plan};
 use racp_model::Network;
 use racp_plan::Plan;
@@ -26,12 +27,11 @@ use racp_prices::Order;
 use racp_questions::Asker;
 use std::alloc::Global;
 use std::marker::Brand;
-use std::sync::atomic::AtomicU32;
 
 /// The curve of an order: the plan's capacities, and what they cost, for each deadline up to the order's; or why there
 /// is no plan for that. Questions go to the asker, which is about this network. The order has an entry for each
 /// resource and each job of the network. The asker is told floors, what capacities that are enough cost at least, and
-/// plans that may not be the cheapest, for one deadline after another; `at` is told which deadline that is. Of plans for
+/// plans that may not be the cheapest, for one deadline after another, and before them which deadline that is. Of plans for
 /// the order's own deadline the last that it is told is the plan.
 ///
 /// # Errors
@@ -41,25 +41,17 @@ pub fn curve<A: Asker<AnySeries>>(
     alloc: Global,
     net: &Network,
     order: &Order,
-    at: &AtomicU32,
     asker: &mut A,
 ) -> Result<CurveAnswer, CurveStop>
     requires named { A.about asker.old net.now }
     requires terms { AreTermsOf net.now order.now }
-    requires floors { MayHearFloors net.now order.now A.may_hear_floors }
-    requires least { MayHearCost net.now order.now A.may_hear_cost }
-    requires plans { MayHearPlans net.now order.now A.may_hear_plan }
+    requires hears { MayHear net.now order.now A.may_hear }
     ensures network { A.about asker.new net.now }
     ensures curve { IfOk result (IsCurveAnswer net.now order.now) }
     ensures stop { IfErr result (λ end. IsCurveStop net.now order.now (A.may_stop asker.new)
         (A.may_want_thread asker.new) end.steps.items end.stop) }
 {
-    let ground = Ground {
-        alloc,
-        net,
-        order,
-        at,
-    };
+    let ground = Ground { alloc, net, order };
     match start_of(&ground, asker.leeway()) {
         Ok(Some(start)) => {
             let whole = Task {
@@ -85,7 +77,7 @@ fn curve_learned<N: OfProblem, A: Asker<AnySeries>>(
     requires named { A.about asker.old ground.now.net.now }
     requires of { IsGroundOf N.problem ground.now }
     requires whole { IsTaskOf N.problem whole }
-    requires hears { MayHear ground.now.net.now ground.now.order.now A.may_hear_floors A.may_hear_cost A.may_hear_plan }
+    requires hears { MayHear ground.now.net.now ground.now.order.now A.may_hear }
     ensures network { A.about asker.new ground.now.net.now }
     ensures curve { IfOk result (IsCurveAnswer ground.now.net.now ground.now.order.now) }
     ensures stop { IfErr result (λ end. IsCurveStop ground.now.net.now ground.now.order.now (A.may_stop asker.new)
@@ -104,7 +96,7 @@ fn curve_anew<N: OfProblem, A: Asker<AnySeries>>(
 ) -> Result<CurveAnswer, CurveStop>
     requires named { A.about asker.old ground.now.net.now }
     requires of { IsGroundOf N.problem ground.now }
-    requires hears { MayHear ground.now.net.now ground.now.order.now A.may_hear_floors A.may_hear_cost A.may_hear_plan }
+    requires hears { MayHear ground.now.net.now ground.now.order.now A.may_hear }
     ensures network { A.about asker.new ground.now.net.now }
     ensures curve { IfOk result (IsCurveAnswer ground.now.net.now ground.now.order.now) }
     ensures stop { IfErr result (λ end. IsCurveStop ground.now.net.now ground.now.order.now (A.may_stop asker.new)
@@ -122,7 +114,7 @@ pub(crate) fn curve_with<N: OfProblem, A: Asker<AnySeries>>(
 ) -> Result<CurveAnswer, CurveStop>
     requires named { A.about asker.old ground.now.net.now }
     requires of { IsGroundOf N.problem ground.now }
-    requires hears { MayHear ground.now.net.now ground.now.order.now A.may_hear_floors A.may_hear_cost A.may_hear_plan }
+    requires hears { MayHear ground.now.net.now ground.now.order.now A.may_hear }
     ensures network { A.about asker.new ground.now.net.now }
     ensures curve { IfOk result (IsCurveAnswer ground.now.net.now ground.now.order.now) }
     ensures stop { IfErr result (λ end. IsCurveStop ground.now.net.now ground.now.order.now (A.may_stop asker.new)
@@ -146,19 +138,15 @@ fn first_plan<N: OfProblem, A: Asker<AnySeries>>(
 ) -> Result<Result<Plan, Answer>, PlanStop>
     requires named { A.about asker.old ground.now.net.now }
     requires of { IsGroundOf N.problem ground.now }
-    requires hears { MayHear ground.now.net.now ground.now.order.now A.may_hear_floors A.may_hear_cost A.may_hear_plan }
+    requires hears { MayHear ground.now.net.now ground.now.order.now A.may_hear }
     ensures network { A.about asker.new ground.now.net.now }
     ensures plan { IfOk result (λ found. MatchResult found (IsPlanOf ground.now.net.now ground.now.order.now)
         (λ reason. IsAnswer ground.now.net.now ground.now.order.now reason × IsNoPlan reason)) }
     ensures stop { IfErr result (IsPlanStop (AreNotAfterEnough ground.now.net.now ground.now.order.now
         (ground.now.order.now.deadline + 1)) (A.may_stop asker.new) (A.may_want_thread asker.new)) }
 {
-    let Ground {
-        alloc,
-        net,
-        order,
-        ..
-    } = *ground;
+    let Ground { alloc, net, order } = *ground;
+    asker.hear(News::Deadline(order.deadline));
     if let Some(facts) = facts {
         if let Some(known) = facts.known_answer(ground, order, asker)? {
             return Ok(plan_or_reason(known));
@@ -189,14 +177,18 @@ fn curve_from<N: OfProblem, A: Asker<AnySeries>>(
 ) -> Result<CurveAnswer, CurveStop>
     requires named { A.about asker.old ground.now.net.now }
     requires of { IsGroundOf N.problem ground.now }
-    requires hears { MayHear ground.now.net.now ground.now.order.now A.may_hear_floors A.may_hear_cost A.may_hear_plan }
+    requires hears { MayHear ground.now.net.now ground.now.order.now A.may_hear }
     requires plan { IsPlanOf ground.now.net.now ground.now.order.now plan }
     ensures network { A.about asker.new ground.now.net.now }
     ensures curve { IfOk result (IsCurveAnswer ground.now.net.now ground.now.order.now) }
     ensures stop { IfErr result (λ end. IsCurveStop ground.now.net.now ground.now.order.now (A.may_stop asker.new)
         (A.may_want_thread asker.new) end.steps.items end.stop) }
 {
-    asker.hear_plan(&plan.capacities, &plan.starts, plan.cost);
+    asker.hear(News::Plan {
+        capacities: &plan.capacities,
+        starts: &plan.starts,
+        cost: plan.cost,
+    });
     let mut steps = Vec::new(ground.alloc);
     match follow(ground, plan, &mut steps, facts, asker) {
         Ok(()) => Ok(CurveAnswer::Steps(steps)),

@@ -6,15 +6,12 @@ ghost use Rattle.std.proofs.Props.{props};
 use racp_model::Network;
 use racp_prices::Order;
 use std::alloc::Global;
-use std::sync::atomic::AtomicU32;
 
-/// What a curve is of: a network, and an order for it; where its memory comes from; and where it stands for which
-/// deadline a plan is made now.
+/// What a curve is of: a network, and an order for it; and where its memory comes from.
 #[derive(Clone, Copy)]
 pub(crate) struct Ground<'a> {
     pub(crate) alloc: Global,
     pub(crate) net: &'a Network,
     pub(crate) order: &'a Order,
-    pub(crate) at: &'a AtomicU32,
     pub(crate) ghost terms: { AreTermsOf net.now order.now } by { Prim.hlevel props },
 }

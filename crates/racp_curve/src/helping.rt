@@ -5,15 +5,15 @@ ghost use Rattle.racp_plan.specs.Plans.{IsPlanOf};
 ghost use Rattle.racp_curve.specs.Curves.{order_by};
 
 use crate::ahead::Ahead;
+use crate::awaiting::Outrun;
 use crate::deadline::{plan_in, with_deadline};
 use crate::facts::Facts;
-use crate::hearers::Seeking;
 use racp_by_clauses::{Limits, Task};
-use racp_check::{Opening, opening_of};
 use racp_clauses::OfProblem;
 use racp_lexfix::root_bounds;
 use racp_plan::Plan;
 use racp_prices::Order;
+use racp_root::{Opening, opening_of};
 use std::alloc::AllocError;
 use std::sync::Wait;
 use std::thread::{JoinHandle, Scope, Threads};
@@ -120,11 +120,11 @@ fn plan_of<N: OfProblem>(
         window: &window,
         root: &root.bounds,
     };
-    let seeking = Seeking {
+    let outrun = Outrun {
         ahead,
         deadline: other.deadline,
     };
-    match facts.answer_of(part, critical, &seeking)? {
+    match facts.answer_of(part, critical, &outrun)? {
         Some(answer) => Ok(plan_in(answer)),
         None => Ok(None),
     }

@@ -53,9 +53,9 @@
 
 mod ahead;
 mod alone;
+mod awaiting;
 mod by_desks;
 mod crowd;
-mod dated;
 mod deadline;
 mod earlier;
 mod ending;
@@ -63,7 +63,6 @@ mod enough;
 mod facts;
 mod following;
 mod ground;
-mod hearers;
 mod helping;
 pub mod laws;
 mod lines;

@@ -6,11 +6,11 @@ ghost use Rattle.racp_model.specs.Window.{IsRootWindow};
 ghost use Rattle.racp_curve.specs.Following.{IsStart};
 
 use crate::ground::Ground;
-use racp_check::{Opening, opening_of};
 use racp_clauses::Domain;
 use racp_lexfix::root_bounds;
 use racp_model::Window;
 use racp_questions::Leeway;
+use racp_root::{Opening, opening_of};
 use std::alloc::AllocError;
 
 /// Where searches that learn begin: the root window of an order, and its root bounds.

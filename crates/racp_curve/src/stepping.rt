@@ -1,8 +1,8 @@
 //! The steps of a curve, one before the other.
 
 ghost use Rattle.std.specs.Prelude.{◌≡◌, ◌≤◌, ◌∷◌, OnOk, OnErr, IfOk, IfErr};
-ghost use Rattle.racp_curve.specs.Curves.{IsCurve, IsCurveStop};
-ghost use Rattle.racp_curve.specs.Following.{step_of, IsBegun, IsFollowed, IsGroundOf, IsNext, MayHear};
+ghost use Rattle.racp_curve.specs.Curves.{IsCurve, IsCurveStop, MayHear};
+ghost use Rattle.racp_curve.specs.Following.{step_of, IsBegun, IsFollowed, IsGroundOf, IsNext, MayBeToldOfWork};
 
 use crate::deadline::plan_by;
 use crate::ending::{end_of, shorten};
@@ -27,7 +27,7 @@ pub(crate) fn follow<N: OfProblem, A: Asker<AnySeries>>(
 ) -> Result<(), PlanStop>
     requires named { A.about asker.old ground.now.net.now }
     requires of { IsGroundOf N.problem ground.now }
-    requires hears { MayHear ground.now.net.now ground.now.order.now A.may_hear_floors A.may_hear_cost A.may_hear_plan }
+    requires hears { MayHear ground.now.net.now ground.now.order.now A.may_hear }
     requires next { IsNext ground.now.net.now ground.now.order.now plan steps.old.items }
     ensures network { A.about asker.new ground.now.net.now }
     ensures curve { OnOk result (IsCurve ground.now.net.now ground.now.order.now steps.new.items) }
@@ -54,7 +54,7 @@ fn step_back<N: OfProblem, A: Asker<AnySeries>>(
 ) -> Result<Option<Plan>, PlanStop>
     requires named { A.about asker.old ground.now.net.now }
     requires of { IsGroundOf N.problem ground.now }
-    requires hears { MayHear ground.now.net.now ground.now.order.now A.may_hear_floors A.may_hear_cost A.may_hear_plan }
+    requires hears { MayHear ground.now.net.now ground.now.order.now A.may_hear }
     requires next { IsNext ground.now.net.now ground.now.order.now plan steps.old.items }
     ensures network { A.about asker.new ground.now.net.now }
     ensures followed { IfOk result (IsFollowed ground.now.net.now ground.now.order.now plan.deadline steps.new.items) }
@@ -79,6 +79,7 @@ fn put_step<N: OfProblem, A: Asker<AnySeries>>(
 ) -> Result<u32, PlanStop>
     requires named { A.about asker.old ground.now.net.now }
     requires of { IsGroundOf N.problem ground.now }
+    requires told { MayBeToldOfWork A.may_hear }
     requires next { IsNext ground.now.net.now ground.now.order.now plan steps.old.items }
     ensures network { A.about asker.new ground.now.net.now }
     ensures within { IfOk result (λ begin. begin ≤ plan.deadline) }

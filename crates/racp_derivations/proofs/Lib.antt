@@ -1,4 +1,6 @@
 mod Numbering
 mod Splitting
 mod Rooted
+mod TellingBounds
+mod CostLeaving
 mod Halving

@@ -20,7 +20,7 @@ cut-some text line more h =
     ∙ ap (λ (xs : List ℕ). line ∷ slice_split is_line_feed xs) (sym h.2))
 
 -- one without
-cut-none : (text : List ℕ) → position_or_len is_line_feed text ≡ length text → slice_split is_line_feed text ≡ text ∷ []
+pub cut-none : (text : List ℕ) → position_or_len is_line_feed text ≡ length text → slice_split is_line_feed text ≡ text ∷ []
 cut-none [] e = refl
 cut-none (x ∷ xs) e = grind (arith, e, cut-none xs)
 
@@ -52,7 +52,7 @@ pub end-empty : (text : List ℕ) → is_end (slice_split is_line_feed text) ≡
 end-empty [] = refl
 end-empty (x ∷ xs) = no-end x xs ∙ sym (ne_eqb (length (x ∷ xs)) 0 (λ e. omega (arith, e)))
 
-bind-none : {A B : Type 0} (o : Option A) (next : A → Option B) → ((x : A) → next x ≡ None) → (o >>= next) ≡ None
+pub bind-none : {A B : Type 0} (o : Option A) (next : A → Option B) → ((x : A) → next x ≡ None) → (o >>= next) ≡ None
 bind-none None next none = refl
 bind-none (Some x) next none = none x
 

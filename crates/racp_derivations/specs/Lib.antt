@@ -3,3 +3,4 @@ pub mod Lines
 pub mod Pairs
 pub mod Checking
 pub mod Texts
+pub mod BoundTexts

@@ -1,5 +1,5 @@
 //! Certificates by clauses: texts of clauses with their derivations, whether one shows that a plan is the plan of its
-//! order, and how one is made of what a search has recorded.
+//! order, or what each plan costs at least, and how one is made of what a search has recorded.
 //!
 //! What clauses are, and what they have to show, is told by racp_clauses. A text is a list of lines, each of which a
 //! derivation takes: a literal that the clause is to have, a step by a rule, or that nothing is left. So a text is
@@ -12,6 +12,16 @@
 //! units 1 >= 2      suppose not: at most 1 unit
 //! energy 1 0 4      work 6 in 4 time units, rounded up 2: nothing is left
 //! holds             the clause holds
+//! ```
+//!
+//! Where the plan is not known, such a text shows what each plan costs at least. Then it begins with that number, and one of its
+//! clauses has to leave out all that costs less: a clause of which each literal says that the cost is at least so much, or more.
+//!
+//! ```text
+//! proof 2
+//! at least 30       no capacities that are enough cost less
+//! cost >= 30        suppose not: at most 29
+//! ..
 //! ```
 //!
 //! There are two derivations, `base` with which each one begins, and the present one, and the clauses so far. Lines and
@@ -35,18 +45,25 @@
 //! 4         clause 3                    the one that shows the plan
 //! ```
 //!
+//! For a bound (`bound_certificate`) one derivation is wanted in place of these: that of the clause that tells it. Where its text
+//! would be too long, a lower bound is told.
+//!
 //! Before a text is given, it is read, as who gets it does.
 //!
 //! Proved of reading: `establishes_by_text` says yes exactly where the text has the form, each of its clauses follows
 //! by its steps, each step names what there is and only earlier clauses, the starts fit the capacities, and for each
 //! variable in turn a clause leaves out what is less (`IsDerivationText`); and where it says yes, the capacities and
 //! the starts are the plan of the order (`IsPlan` of racp_model). `establishes_by_text_until` is the same with a stop.
-//! Not proved: that a plan has such a text.
+//! `least_by_text` tells a bound exactly where the text has the form of one that tells it, each clause follows, and one leaves
+//! out all that costs less (`IsBoundText`); and then no capacities that are enough cost less. Not proved: that a plan, or a
+//! bound, has such a text.
 //!
-//! Proved of making: a text that is given shows that the plan is the plan of its order (`IsDerivationText`). Not
-//! proved: that one is given.
+//! Proved of making: a text that is given shows that the plan is the plan of its order (`IsDerivationText`), or the bound that
+//! is told beside it (`IsBoundText`). Not proved: that one is given.
 #![tactic(auto)]
 
+mod bound;
+mod bounding;
 mod checking;
 mod line;
 mod lines;
@@ -58,6 +75,7 @@ mod trimming;
 mod verdict;
 mod words;
 
+pub use bound::{least_by_text, least_by_text_until};
 pub use root::root_bounds;
-pub use trimming::certificate_by_clauses;
+pub use trimming::{BoundCertificate, bound_certificate, certificate_by_clauses};
 pub use verdict::{establishes_by_text, establishes_by_text_until};

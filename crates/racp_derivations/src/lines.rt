@@ -1,6 +1,7 @@
 //! Reading what a line says.
 
 ghost use Rattle.std.specs.Prelude.{◌≡◌, ◌≤◌};
+ghost use Rattle.racp_derivations.specs.BoundTexts.{least_on};
 ghost use Rattle.racp_derivations.specs.Lines.{bound_by, bound_on, budget_on, earlier_on, energy_on, line_of, literal_of, pair_on, request_on, start_on, step_of, times_on, units_on};
 
 use crate::line::{Line, Step};
@@ -29,6 +30,19 @@ pub(crate) fn line_of(net: &Network, line: &[u8]) -> Option<Line>
     }
     let step = step_of(net, word, rest)?;
     Some(Line::Take(step))
+}
+
+/// The number of a line `at least N`.
+#[tactic(auto, unfolding(crate::specs::BoundTexts::least_on))]
+pub(crate) fn least_on(line: &[u8]) -> Option<u64>
+    ensures { result ≡ least_on line.now }
+{
+    let rest = behind_word(line);
+    if first_word(line) == b"at".as_slice() && first_word(rest) == b"least".as_slice() {
+        number_of(behind_word(rest))
+    } else {
+        None
+    }
 }
 
 /// The literal that a word and the rest of a line say.

@@ -177,7 +177,7 @@ fn push_network(
 }
 
 /// What is told of an order that is refused.
-fn of_order(
+pub(crate) fn of_order(
     alloc: Global,
     net: &str,
     network: &Network,

@@ -22,7 +22,8 @@
 //! `order_cause` reads the texts of a network and an order, `plan_cause` and `proof_cause` also those of a plan and of
 //! a certificate, as the commands of the program do, and tell what is wrong with the first that is refused. If all of
 //! them are read, `order_cause` says why there is no plan, as far as that is known without a search, and `plan_cause`
-//! says what is wrong with the plan.
+//! says what is wrong with the plan. `bound_cause` reads those of a network and an order too, and else says that a text is no
+//! certificate of a bound.
 //!
 //! `shown_cause` and `named_cause` also say what is wrong with names, `names_cause` with names alone, `curve_cause` with a curve, `changes_cause` with
 //! a text of changes, and `asked_cause` with what an order is to say. `one_line` makes one line of a cause: `racp:
@@ -41,6 +42,7 @@
 #![tactic(auto)]
 
 mod asked;
+mod bound;
 mod brief;
 mod called;
 mod cause;
@@ -61,6 +63,7 @@ mod subjects;
 mod topic;
 
 pub use asked::{Listed, Numbers, asked_cause};
+pub use bound::bound_cause;
 pub use brief::{Parts, one_line, parts_of};
 pub use called::{changes_cause, curve_cause, named_cause, names_cause, shown_cause};
 pub use cause::{network_cause, order_cause, plan_cause, proof_cause};

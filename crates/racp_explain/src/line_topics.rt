@@ -125,8 +125,8 @@ const NO_ROOM: Topic = Topic {
 
 const UNPROVED: Topic = Topic {
     short: "a text is no certificate, or none could be made",
-    meaning: "verify: nothing is wrong with the plan, and the text is no certificate for it. prove: the certificate would
-have more than 16,777,216 bytes.",
+    meaning: "verify: nothing is wrong with the plan, and the text is no certificate for it; or, of three files, the third
+is no certificate of a bound. prove: the certificate would have more than 16,777,216 bytes, or it was stopped.",
     command: "racp verify examples/a.sm examples/a4.toml examples/a4.plan FILE",
     file: "proof\nend\n",
     cure: "Make the certificate with racp prove, of the network and the order of the plan. That of a large project may

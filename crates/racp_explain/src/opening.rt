@@ -7,9 +7,9 @@ use crate::explain::push_title;
 use crate::faults::{push_no_room, push_too_late, push_too_long};
 use crate::finding::{push_more, push_short};
 use crate::subject::{Line, Subject};
-use racp_check::{Opening, opening_of};
 use racp_model::Network;
 use racp_prices::Order;
+use racp_root::{Opening, opening_of};
 use std::alloc::{AllocError, Global};
 
 /// Why there is no plan for an order, as far as it is known.

@@ -6,6 +6,7 @@ use Rattle.racp_sm.specs.Reading.{IsReading}
 use Rattle.racp_prices.specs.Orders.{IsOrder}
 use Rattle.racp_plan.specs.PlanReading.{IsPlanReading}
 use Rattle.racp_plan.specs.declared.plan.Plan.{Plan}
+use Rattle.racp_calendar.specs.declared.calendar.Calendar.TheVariants.{Numbers}
 use Rattle.racp_show.specs.Sheets.{IsSheet}
 use Rattle.racp_show.specs.declared.sheet.Sheet.{Sheet}
 use Rattle.racp_json.specs.declared.order.Terms as told
@@ -22,7 +23,7 @@ pub record IsSheetIn (net order text : List ℕ) (names : List (List ℕ)) (shee
   pub plan : Plan
   pub are_terms : AreTermsIn net order network terms
   pub is_plan : IsPlanReading network text (Ok plan)
-  pub is_sheet : IsSheet network terms plan names sheet
+  pub is_sheet : IsSheet Numbers network terms plan names sheet
 
 -- what these capacities cost
 abbrev pub IsBoundIn : List ℕ → List ℕ → List ℕ → ℕ → Type 0

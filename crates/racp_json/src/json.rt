@@ -3,7 +3,7 @@
 use crate::curve::{Step, steps_of};
 use crate::early::{Early, early_of};
 use crate::fault::{fault_of, refusal_of};
-use crate::line::rows_of;
+use crate::line::{line_of, rows_of};
 use crate::order::{Terms, terms_of};
 use crate::sheet::sheet_of_plan;
 use crate::stop::stop_of;
@@ -32,6 +32,13 @@ const CHECK_FAILED: u8 = 8;
 #[derive(Clone, Copy, Serialize)]
 struct WordAnswer<'a> {
     status: &'a str,
+}
+
+/// What each plan costs at least.
+#[derive(Clone, Copy, Serialize)]
+struct BoundAnswer {
+    status: &'static str,
+    bound: u64,
 }
 
 /// Early starts.
@@ -116,6 +123,7 @@ fn done(alloc: Global, told: &Told<'_>, text: &str) -> Result<String, AllocError
         Command::Cpm => early(alloc, text),
         Command::Plan => plan(alloc, told),
         Command::Check | Command::Verify => word(alloc, text),
+        Command::Bound => bound(alloc, text),
         Command::Curve => curve(alloc, told, text, "done", None),
         Command::Order => order(alloc, told),
     }
@@ -128,6 +136,16 @@ fn stopped(alloc: Global, told: &Told<'_>, text: &str) -> Result<String, AllocEr
         Command::Curve => curve(alloc, told, text, "stopped", Some(first_row(alloc, text)?)),
         _ => word(alloc, text),
     }
+}
+
+/// The object of a bound that a certificate shows.
+fn bound(alloc: Global, text: &str) -> Result<String, AllocError> {
+    let line = line_of(alloc, first_line(text))?;
+    let answer = BoundAnswer {
+        status: "at least",
+        bound: line.numbers.first().copied().unwrap_or(0),
+    };
+    written(alloc, &answer)
 }
 
 /// The object of a word.

@@ -5,6 +5,7 @@ ghost use Rattle.racp_model.specs.Terms.{AreTermsOf};
 ghost use Rattle.racp_show.specs.Sheets.{IsSheet};
 ghost use Rattle.racp_json.specs.Plans.{IsSheetIn};
 
+use racp_calendar::Calendar;
 use racp_check::check_plan;
 use racp_model::Network;
 use racp_plan::{Plan, read_plan};
@@ -51,10 +52,10 @@ fn fitting_sheet<'a>(
     requires terms { AreTermsOf net.now order.now }
     requires capacities { length plan.now.capacities ≡ net.now.resources }
     requires starts { length plan.now.starts ≡ length net.now.jobs }
-    ensures { IfOk result (λ sheet. IfSome sheet (IsSheet net.now order.now plan.now names.now)) }
+    ensures { IfOk result (λ sheet. IfSome sheet (IsSheet Calendar.Numbers net.now order.now plan.now names.now)) }
 {
     if check_plan(net, order, plan).is_err() {
         return Ok(None);
     }
-    Ok(Some(sheet_of(alloc, net, order, plan, names)?))
+    Ok(Some(sheet_of(alloc, net, order, plan, names, Calendar::Numbers)?))
 }

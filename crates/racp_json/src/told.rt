@@ -13,6 +13,8 @@ pub enum Command {
     Check,
     /// Whether a certificate proves a plan.
     Verify,
+    /// What each plan costs at least, as a certificate shows.
+    Bound,
     /// What each deadline costs.
     Curve,
     /// The text of an order.

@@ -1,9 +1,7 @@
 mod TextLines
-mod Certified
 mod OneAnswer
 mod Existing
 mod ByLength
 mod SomeAnswer
 mod Turns
 mod FirstFloors
-mod Shown

@@ -2,8 +2,10 @@
 use Rattle.std.specs.Prelude.{◌≡◌, ℕ, Bool, List, length, Result, Ok, Err, ⊤}
 use Rattle.racp_model.specs.Project.{Project}
 use Rattle.racp_model.specs.Terms.{Terms}
+use Rattle.racp_found.specs.declared.observer.News.{News}
 use Rattle.racp_sm.specs.Reading.{IsReading, IsReadingOrMemory}
 use Rattle.racp_prices.specs.Orders.{IsOrder, IsOrderOrMemory}
+use Rattle.racp_found.specs.Told.{MayBeTold}
 use Rattle.racp_by_questions.specs.Stops.{IsNotAfterEnough, AreAboveFloors}
 use Rattle.racp_lexfix.specs.Answers.{IsAnswer}
 use Rattle.racp_by_questions.specs.Crowds.{MayStop}
@@ -20,6 +22,16 @@ use Rattle.racp_lexfix.specs.declared.printed.Refusal.TheVariants.{Sm, Order, St
 pub record AreTextsOf (net order : List ℕ) (network : Project) (terms : Terms) : Type 0 where
   pub is_network : IsReading net (Ok network)
   pub is_order : IsOrder network.resources (length network.jobs) order (Ok terms)
+
+-- an observer may be told all that is true of the order that two texts are read as
+abbrev pub MayBeToldOf : (net order : List ℕ) → (News → Type 0) → Type 0
+MayBeToldOf net order may_hear = (network : Project) → (terms : Terms) → AreTextsOf net order network terms →
+    MayBeTold network terms may_hear
+
+-- the same of the order for a network that a text is read as
+abbrev pub MayBeToldOfOrder : Project → (order : List ℕ) → (News → Type 0) → Type 0
+MayBeToldOfOrder network order may_hear = (terms : Terms) →
+    IsOrder network.resources (length network.jobs) order (Ok terms) → MayBeTold network terms may_hear
 
 -- the text and the status of the answer for a network and an order
 abbrev pub IsAnswerPrinted : Project → Terms → List ℕ → ℕ → Type 0

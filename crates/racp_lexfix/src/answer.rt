@@ -2,14 +2,14 @@
 
 ghost use Rattle.racp_model.specs.Path.{IsCriticalLength};
 ghost use Rattle.racp_model.specs.Plan.{IsPlan};
-ghost use Rattle.racp_model.specs.Terms.{AreTermsOf, release_of};
+ghost use Rattle.racp_model.specs.Terms.{release_of};
 ghost use Rattle.racp_lexfix.specs.Answers.{IsAnswer};
 ghost use Rattle.racp_lexfix.specs.declared.answer.Answer.TheVariants.{Plan as ThePlan};
 
-use crate::planning::Task;
 use racp_model::{Capacities, Starts};
 use racp_plan::Plan;
 use racp_prices::cost_of;
+use racp_root::Task;
 
 /// The plan of an order, or why there is none: the first of the reasons that holds, in this order.
 #[derive(Drop)]
@@ -31,9 +31,8 @@ pub enum Answer {
     Ceiling,
 }
 
-/// The plan with these capacities and starts.
-pub(crate) fn plan_of(task: &Task, critical: u64, capacities: Capacities, starts: Starts) -> Plan
-    requires terms { AreTermsOf task.now.net.now task.now.order.now }
+/// The plan of an order with these capacities and starts, which are the plan's, and this critical length, in time units.
+pub fn plan_of(task: &Task, critical: u64, capacities: Capacities, starts: Starts) -> Plan
     requires critical { IsCriticalLength task.now.net.now (release_of task.now.order.now) critical }
     requires plan { IsPlan task.now.net.now task.now.order.now capacities starts }
     ensures { IsAnswer task.now.net.now task.now.order.now (ThePlan result) }

@@ -2,23 +2,26 @@
 
 ghost use Rattle.std.specs.Prelude.{◌≡◌, ◌≤◌, ℕ, List, Ok, IfOk, IfErr};
 ghost use Rattle.racp_model.specs.Formed.{AreFormed};
-ghost use Rattle.racp_model.specs.Terms.{AreTermsOf};
 ghost use Rattle.racp_candidates.specs.AnySeries.{any_questions};
 ghost use Rattle.racp_sm.specs.Reading.{IsReading};
 ghost use Rattle.racp_desk.specs.Closing.{IsRunClosed};
 ghost use Rattle.racp_lexfix.specs.Answers.{IsAnswer};
-ghost use Rattle.racp_lexfix.specs.Printing.{IsAnswerPrinted, IsCrowdPrinting, IsCrowdStop};
+ghost use Rattle.racp_found.specs.Told.{MayBeTold};
+ghost use Rattle.racp_lexfix.specs.Printing.{IsAnswerPrinted, IsCrowdPrinting, IsCrowdStop, MayBeToldOf, MayBeToldOfOrder};
 
 use crate::answer::Answer;
-use crate::planning::Task;
+use crate::planning::plan_after;
 use crate::printed::{Printed, Refusal, answer_printed};
-use racp_by_questions::{Crowd, Effort, Observer, OfTurns, PlanStop, Pricing};
+use crate::searches::by_searches;
+use racp_by_questions::{Crowd, Effort, OfTurns, PlanStop};
 use racp_candidates::AnySeries;
 use racp_cutset::MemoryLimit;
 use racp_desk::{Closed, DeskFault, Gate, Records, RunLimits};
+use racp_found::{News, Observer};
 use racp_model::{Network, OfNetwork, Stop};
 use racp_prices::read_order;
 use racp_questions::Leeway;
+use racp_root::Task;
 use racp_sm::read_sm;
 use std::alloc::Global;
 use std::marker::Brand;
@@ -77,6 +80,7 @@ pub fn plan_crowd_by<G: Gate + Sync, P: Stop + Sync, O: Observer, R: Threads + W
     order_text: &[u8],
     crew: Crew<'_, G, P, O>,
 ) -> Result<(Printed, Effort), Refusal>
+    requires heard { MayBeToldOf net_bytes.now order_text.now O.may_hear }
     ensures { IsCrowdPrinting crew.entry.turns (P.is_quiet crew.entry.stop.now) net_bytes.now order_text.now result }
 {
     let net = read_sm(alloc, net_bytes)?;
@@ -91,6 +95,7 @@ fn answer_order_by<G: Gate + Sync, P: Stop + Sync, O: Observer, R: Threads + Wai
     order_text: &[u8],
     crew: &Crew<'_, G, P, O>,
 ) -> Result<(Printed, Effort), Refusal>
+    requires heard { MayBeToldOfOrder net.now order_text.now O.may_hear }
     ensures { (text : List ℕ) → IsReading text (Ok net.now) →
         IsCrowdPrinting crew.now.turns (P.is_quiet crew.now.stop.now) text order_text.now result }
 {
@@ -112,7 +117,7 @@ fn answer_plan_by<G: Gate + Sync, P: Stop + Sync, O: Observer, R: Threads + Wait
     task: &Task,
     crew: &Crew<'_, G, P, O>,
 ) -> Result<(Printed, Effort), PlanStop>
-    requires terms { AreTermsOf task.now.net.now task.now.order.now }
+    requires heard { MayBeTold task.now.net.now task.now.order.now O.may_hear }
     ensures answer { IfOk result (λ done. IsAnswerPrinted task.now.net.now task.now.order.now done.0.text.items
         done.0.status) }
     ensures stop { IfErr result (IsCrowdStop crew.now.turns (P.is_quiet crew.now.stop.now) task.now.net.now
@@ -137,7 +142,7 @@ pub fn plan_by_crew<G: Gate + Sync, P: Stop + Sync, O: Observer, R: Threads + Wa
     task: &Task,
     crew: &Crew<'_, G, P, O>,
 ) -> Result<Answer, PlanStop>
-    requires terms { AreTermsOf task.now.net.now task.now.order.now }
+    requires heard { MayBeTold task.now.net.now task.now.order.now O.may_hear }
     ensures answer { IfOk result (IsAnswer task.now.net.now task.now.order.now) }
     ensures stop { IfErr result (IsCrowdStop crew.now.turns (P.is_quiet crew.now.stop.now) task.now.net.now
         task.now.order.now) }
@@ -159,22 +164,21 @@ fn plan_by<
     requires named { task.now.net.now ≡ N.network }
     requires turns { crew.now.turns ≡ M.turns }
     requires quiet { P.is_quiet crew.now.stop.now ≡ M.quiet }
-    requires terms { AreTermsOf task.now.net.now task.now.order.now }
+    requires heard { MayBeTold task.now.net.now task.now.order.now O.may_hear }
     ensures answer { IfOk result (λ done. IsAnswer task.now.net.now task.now.order.now done.0) }
     ensures stop { IfErr result (IsCrowdStop M.turns M.quiet task.now.net.now task.now.order.now) }
 {
     let (alloc, net, order) = (task.alloc, task.net, task.order);
-    crew.observer.hear_deadline(order.deadline);
+    crew.observer.hear(News::Deadline(order.deadline));
     let limit = MemoryLimit {
         mebibytes: crew.memory,
         workers: crew.workers,
     };
     let records: Records<N> = Records::within(alloc, net, limit)?;
-    let pricing = Pricing::new(net, order, crew.observer);
-    let crowd: Crowd<'_, N, M, P, Pricing<'_, O>, _> = Crowd::new(
+    let crowd: Crowd<'_, N, M, P, &O, _> = Crowd::new(
         crew.workers,
         crew.turns,
-        pricing,
+        crew.observer,
         |series: AnySeries, limits: RunLimits| -> Result<Closed, DeskFault>
             requires { (net.now ≡ N.network) × AreFormed net.now (any_questions series) }
             ensures { IfOk result (IsRunClosed net.entry.now (any_questions series) limits.turns
@@ -182,8 +186,8 @@ fn plan_by<
         { records.run(rt, alloc, net, series, limits, crew.gate, crew.stop) },
     );
     let mut crowd = crowd.with_search(crew.leeway(), crew.stop);
-    let found = task.by_searches(rt, crew.workers, &crowd)?;
-    match task.plan_after(found, &mut crowd, &mut None) {
+    let found = by_searches(rt, task, crew.workers, &crowd)?;
+    match plan_after(task, found, &mut crowd, &mut None) {
         Ok(answer) => Ok((answer, crowd.effort())),
         Err(stop) => Err(stop),
     }

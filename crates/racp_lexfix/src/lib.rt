@@ -29,9 +29,6 @@
 //!
 //! `plan_by_crew` answers the plan of a network and an order that are at hand, as a value, made by such workers.
 //!
-//! `prove_alone` makes a certificate by trees for the plan, and `prove_by_clauses` one by clauses. `prove_until` does the first
-//! with a stop; where that asks for an end, the line is `unproved`.
-//!
 //! Proved: the answer of `plan` is right (`IsAnswer`): the plan, without any bound on the numbers of units, or the
 //! first reason for which there is none. `plan_alone` prints that answer for what the texts are read as, or tells the
 //! fault of the first text that is refused, or that memory was refused (`IsPrinting`). `plan_crowd` prints the same,
@@ -45,29 +42,24 @@
 #![tactic(auto)]
 
 mod answer;
-mod by_clauses;
 mod by_workers;
-mod hints;
 pub mod laws;
 mod lines;
 mod one_thread;
 mod planning;
 mod printed;
-mod proving;
 mod roots;
 mod searches;
 mod signatures;
 pub mod status;
 
-pub use answer::Answer;
-pub use by_clauses::prove_by_clauses;
+pub use answer::{Answer, plan_of};
 pub use by_workers::{Crew, plan_by_crew, plan_crowd_by};
 pub use lines::answer_lines;
 pub use one_thread::plan_alone_within;
-pub use planning::{Task, plan};
-pub use printed::{Printed, Refusal};
-pub use proving::{prove_alone, prove_until};
+pub use planning::{plan, plan_after};
+pub use printed::{Printed, Refusal, answer_printed};
 pub use racp_by_questions::{Alone, Crowd, PlanStop};
 pub use roots::{RootBounds, root_bounds};
-pub use searches::{Relay, limits_of};
+pub use searches::limits_of;
 pub use signatures::{plan_alone, plan_crowd};

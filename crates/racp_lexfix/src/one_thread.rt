@@ -1,18 +1,18 @@
 //! From the texts of a network and an order to the text of the answer, on the calling thread.
 
 ghost use Rattle.std.specs.Prelude.{◌≡◌, ◌≤◌, ℕ, List, Ok, IfOk, IfErr};
-ghost use Rattle.racp_model.specs.Terms.{AreTermsOf};
 ghost use Rattle.racp_sm.specs.Reading.{IsReading};
 ghost use Rattle.racp_lexfix.specs.Answers.{IsAnswer};
 ghost use Rattle.racp_lexfix.specs.Printing.{IsAnswerPrinted, IsPrinting};
 ghost use Rattle.racp_by_questions.specs.declared.stop.PlanStop.TheVariants.{Memory};
 
 use crate::answer::Answer;
-use crate::planning::{Task, plan};
+use crate::planning::plan;
 use crate::printed::{Printed, Refusal, answer_printed};
 use racp_by_questions::{Alone, PlanStop};
 use racp_model::{Network, OfNetwork};
 use racp_prices::read_order;
+use racp_root::Task;
 use racp_sm::read_sm;
 use std::alloc::Global;
 use std::marker::Brand;
@@ -62,7 +62,6 @@ fn answer_order(
 /// The text of the plan of an order, or of why there is none, made on the calling thread.
 fn answer_plan(task: &Task, mebibytes: usize) -> Result<Printed, PlanStop>
     requires memory { mebibytes ≤ 1048576 }
-    requires terms { AreTermsOf task.now.net.now task.now.order.now }
     ensures answer { IfOk result (λ printed. IsAnswerPrinted task.now.net.now task.now.order.now printed.text.items
         printed.status) }
     ensures stop { IfErr result (λ stop. stop ≡ Memory) }
@@ -78,7 +77,6 @@ fn answer_plan(task: &Task, mebibytes: usize) -> Result<Printed, PlanStop>
 fn plan_named<N: OfNetwork>(task: &Task, mebibytes: usize) -> Result<Answer, PlanStop>
     requires named { task.now.net.now ≡ N.network }
     requires memory { mebibytes ≤ 1048576 }
-    requires terms { AreTermsOf task.now.net.now task.now.order.now }
     ensures answer { IfOk result (IsAnswer task.now.net.now task.now.order.now) }
     ensures stop { IfErr result (λ stop. stop ≡ Memory) }
 {

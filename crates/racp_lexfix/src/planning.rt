@@ -1,25 +1,24 @@
 //! The planner: by clauses, and where these leave it open by questions.
 
-ghost use Rattle.std.specs.Prelude.{ℕ, ◌-◌, List, IfOk, IfErr};
+ghost use Rattle.std.specs.Prelude.{◌-◌, IfOk, IfErr};
 ghost use Rattle.racp_model.specs.Path.{IsCriticalLength};
 ghost use Rattle.racp_model.specs.Plan.{IsOverCeilings, NoneIsEnough};
 ghost use Rattle.racp_model.specs.Terms.{AreTermsOf, release_of, due_of};
 ghost use Rattle.racp_model.specs.Window.{IsRootWindow};
-ghost use Rattle.racp_plan.specs.Fitting.{AreFitting};
 ghost use Rattle.racp_found.specs.Finds.{IsDecided, IsFound};
-ghost use Rattle.racp_by_questions.specs.Stages.{AreFloorsOfEnough, IsLeastOfEnough};
+ghost use Rattle.racp_found.specs.Told.{MayBeTold};
 ghost use Rattle.racp_by_questions.specs.Stops.{IsStoppedAt, IsPlanStop};
 ghost use Rattle.racp_lexfix.specs.Answers.{IsAnswer};
-ghost use Rattle.racp_lexfix.specs.Stages.{MayBeTold};
 
 use crate::answer::{Answer, plan_of};
+use crate::searches::by_clauses;
 use racp_by_questions::{PlanStop, Sharp, found_by_questions};
 use racp_candidates::AnySeries;
-use racp_check::{Opening, opening_of};
 use racp_found::Found;
 use racp_model::{Network, Window};
 use racp_prices::Order;
 use racp_questions::Asker;
+use racp_root::{Opening, Task, opening_of};
 use std::alloc::Global;
 
 /// The plan of an order, or why there is none. Where the asker leaves room for it and there are more than 64 vectors from the
@@ -41,10 +40,7 @@ pub fn plan<A: Asker<AnySeries>>(
 ) -> Result<Answer, PlanStop>
     requires named { A.about asker.old net.now }
     requires terms { AreTermsOf net.now order.now }
-    requires floors { (floors : List ℕ) → AreFloorsOfEnough net.now order.now floors → A.may_hear_floors floors }
-    requires least { (least : ℕ) → IsLeastOfEnough net.now order.now least → A.may_hear_cost least }
-    requires plans { (capacities starts : List ℕ) → AreFitting net.now order.now capacities starts →
-        A.may_hear_plan capacities starts }
+    requires heard { MayBeTold net.now order.now A.may_hear }
     ensures network { A.about asker.new net.now }
     ensures answer { IfOk result (IsAnswer net.now order.now) }
     ensures stop { IfErr result (IsPlanStop (IsStoppedAt net.now order.now
@@ -52,102 +48,86 @@ pub fn plan<A: Asker<AnySeries>>(
         (A.may_stop asker.new) (A.may_want_thread asker.new)) }
 {
     let task = Task { alloc, net, order };
-    let found = task.by_clauses(asker)?;
-    task.plan_after(found, asker, &mut None)
+    let found = by_clauses(&task, asker)?;
+    plan_after(&task, found, asker, &mut None)
 }
 
-/// What a plan is made for: an order, which has an entry for each resource and each job of the network.
-#[derive(Clone, Copy)]
-pub struct Task<'a> {
-    /// What answers are allocated by.
-    pub alloc: Global,
-    /// The network.
-    pub net: &'a Network,
-    /// The order.
-    pub order: &'a Order,
+/// The plan, or why there is none, as `plan` tells it, after what was found by clauses. The sharpened floors and the
+/// refuted pairs are kept, once they are known.
+///
+/// # Errors
+///
+/// As with `plan`.
+pub fn plan_after<A: Asker<AnySeries>>(
+    task: &Task,
+    found: Found,
+    asker: &mut A,
+    kept: &mut Option<Sharp>,
+) -> Result<Answer, PlanStop>
+    requires named { A.about asker.old task.now.net.now }
+    requires found { IsFound task.now.net.now task.now.order.now found }
+    requires heard { MayBeTold task.now.net.now task.now.order.now A.may_hear }
+    ensures network { A.about asker.new task.now.net.now }
+    ensures answer { IfOk result (IsAnswer task.now.net.now task.now.order.now) }
+    ensures stop { IfErr result (IsPlanStop (IsStoppedAt task.now.net.now task.now.order.now
+        (A.answered asker.new - A.answered asker.old) (A.told asker.new))
+        (A.may_stop asker.new) (A.may_want_thread asker.new)) }
+{
+    match opening_of(task.alloc, task.net, task.order)? {
+        Opening::Root { critical, window } => {
+            let decided = decided(task, &window, found, asker, kept)?;
+            Ok(answer_of(task, critical, decided))
+        }
+        Opening::TooLong { critical } => Ok(Answer::Impossible { longest: critical }),
+        Opening::TooLate { job } => Ok(Answer::Due { job }),
+    }
 }
 
-impl Task<'_> {
-    /// The plan, or why there is none, as `plan` tells it, after what was found by clauses. The sharpened floors and the
-    /// refuted pairs are kept, once they are known.
-    ///
-    /// # Errors
-    ///
-    /// As with `plan`.
-    pub(crate) fn plan_after<A: Asker<AnySeries>>(
-        &self,
-        found: Found,
-        asker: &mut A,
-        kept: &mut Option<Sharp>,
-    ) -> Result<Answer, PlanStop>
-        requires named { A.about asker.old self.now.net.now }
-        requires terms { AreTermsOf self.now.net.now self.now.order.now }
-        requires found { IsFound self.now.net.now self.now.order.now found }
-        requires heard { MayBeTold self.now.net.now self.now.order.now A.may_hear_floors A.may_hear_cost A.may_hear_plan }
-        ensures network { A.about asker.new self.now.net.now }
-        ensures answer { IfOk result (IsAnswer self.now.net.now self.now.order.now) }
-        ensures stop { IfErr result (IsPlanStop (IsStoppedAt self.now.net.now self.now.order.now
-            (A.answered asker.new - A.answered asker.old) (A.told asker.new))
-            (A.may_stop asker.new) (A.may_want_thread asker.new)) }
-    {
-        match opening_of(self.alloc, self.net, self.order)? {
-            Opening::Root { critical, window } => {
-                let decided = self.decided(&window, found, asker, kept)?;
-                Ok(self.answer_of(critical, decided))
-            }
-            Opening::TooLong { critical } => Ok(Answer::Impossible { longest: critical }),
-            Opening::TooLate { job } => Ok(Answer::Due { job }),
+/// What was found by clauses within the root window, and if that is open, what is found by questions.
+fn decided<A: Asker<AnySeries>>(
+    task: &Task,
+    root: &Window,
+    found: Found,
+    asker: &mut A,
+    kept: &mut Option<Sharp>,
+) -> Result<Found, PlanStop>
+    requires named { A.about asker.old task.now.net.now }
+    requires root { IsRootWindow task.now.net.now (release_of task.now.order.now) (due_of task.now.order.now) root.now }
+    requires found { IsFound task.now.net.now task.now.order.now found }
+    requires heard { MayBeTold task.now.net.now task.now.order.now A.may_hear }
+    ensures network { A.about asker.new task.now.net.now }
+    ensures decided { IfOk result (IsDecided task.now.net.now task.now.order.now) }
+    ensures stop { IfErr result (IsPlanStop (IsStoppedAt task.now.net.now task.now.order.now
+        (A.answered asker.new - A.answered asker.old) (A.told asker.new))
+        (A.may_stop asker.new) (A.may_want_thread asker.new)) }
+{
+    match found {
+        Found::Plan(capacities, starts) => Ok(Found::Plan(capacities, starts)),
+        Found::NoneEnough => Ok(Found::NoneEnough),
+        Found::Open => {
+            let task = racp_by_questions::Task {
+                alloc: task.alloc,
+                net: task.net,
+                order: task.order,
+                root,
+            };
+            found_by_questions(&task, asker, kept)
         }
     }
+}
 
-    /// What was found by clauses within the root window, and if that is open, what is found by questions.
-    fn decided<A: Asker<AnySeries>>(
-        &self,
-        root: &Window,
-        found: Found,
-        asker: &mut A,
-        kept: &mut Option<Sharp>,
-    ) -> Result<Found, PlanStop>
-        requires named { A.about asker.old self.now.net.now }
-        requires terms { AreTermsOf self.now.net.now self.now.order.now }
-        requires root { IsRootWindow self.now.net.now (release_of self.now.order.now) (due_of self.now.order.now) root.now }
-        requires found { IsFound self.now.net.now self.now.order.now found }
-        requires heard { MayBeTold self.now.net.now self.now.order.now A.may_hear_floors A.may_hear_cost A.may_hear_plan }
-        ensures network { A.about asker.new self.now.net.now }
-        ensures decided { IfOk result (IsDecided self.now.net.now self.now.order.now) }
-        ensures stop { IfErr result (IsPlanStop (IsStoppedAt self.now.net.now self.now.order.now
-            (A.answered asker.new - A.answered asker.old) (A.told asker.new))
-            (A.may_stop asker.new) (A.may_want_thread asker.new)) }
-    {
-        match found {
-            Found::Plan(capacities, starts) => Ok(Found::Plan(capacities, starts)),
-            Found::NoneEnough => Ok(Found::NoneEnough),
-            Found::Open => {
-                let task = racp_by_questions::Task {
-                    alloc: self.alloc,
-                    net: self.net,
-                    order: self.order,
-                    root,
-                };
-                found_by_questions(&task, asker, kept)
-            }
+/// The answer for what is decided, with the critical length.
+fn answer_of(task: &Task, critical: u64, decided: Found) -> Answer
+    requires critical { IsCriticalLength task.now.net.now (release_of task.now.order.now) critical }
+    requires over { NoneIsEnough task.now.net.now task.now.order.now → IsOverCeilings task.now.net.now task.now.order.now }
+    requires decided { IsDecided task.now.net.now task.now.order.now decided }
+    ensures { IsAnswer task.now.net.now task.now.order.now result }
+{
+    match decided {
+        Found::Plan(capacities, starts) => {
+            Answer::Plan(plan_of(task, critical, capacities, starts))
         }
-    }
-
-    /// The answer for what is decided, with the critical length.
-    fn answer_of(&self, critical: u64, decided: Found) -> Answer
-        requires terms { AreTermsOf self.now.net.now self.now.order.now }
-        requires critical { IsCriticalLength self.now.net.now (release_of self.now.order.now) critical }
-        requires over { NoneIsEnough self.now.net.now self.now.order.now → IsOverCeilings self.now.net.now self.now.order.now }
-        requires decided { IsDecided self.now.net.now self.now.order.now decided }
-        ensures { IsAnswer self.now.net.now self.now.order.now result }
-    {
-        match decided {
-            Found::Plan(capacities, starts) => {
-                Answer::Plan(plan_of(self, critical, capacities, starts))
-            }
-            Found::NoneEnough => Answer::Ceiling,
-            Found::Open => unreachable!(),
-        }
+        Found::NoneEnough => Answer::Ceiling,
+        Found::Open => unreachable!(),
     }
 }

@@ -81,11 +81,11 @@ impl From<AllocError> for Refusal {
 }
 
 /// The text of an answer on the terms of an order, with its status.
-pub(crate) fn answer_printed(
-    alloc: Global,
-    order: &Order,
-    answer: &Answer,
-) -> Result<Printed, AllocError>
+///
+/// # Errors
+///
+/// Memory was refused.
+pub fn answer_printed(alloc: Global, order: &Order, answer: &Answer) -> Result<Printed, AllocError>
     ensures text { IfOk result (λ printed. printed.text.items ≡ answer_text order.now.deadline answer.now) }
     ensures status { IfOk result (λ printed. printed.status ≡ answer_status answer.now) }
 {

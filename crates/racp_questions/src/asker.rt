@@ -1,6 +1,7 @@
 //! Askers: who answers series of questions, what they answer, and why they may give up.
 
 use crate::series::Series;
+use racp_found::Observer;
 use racp_model::{Capacities, Network, Question, Starts};
 use std::alloc::AllocError;
 use std::collections::VecDeque;
@@ -73,9 +74,10 @@ impl From<AllocError> for AskStop {
 
 /// Finds the first yes of series of questions about one network. The series are of one type, `S`, so that an asker can
 /// hand them to threads of its own. Contracts see which network the asker is about, while it may be asked of it, how
-/// many series it has answered, what it told when it last stopped, and for which reasons it may give up.
-pub trait Asker<S: Series> {
-    ghost use Rattle.std.specs.Prelude.{◌≡◌, ℕ, ◌+◌, List, Option, OnOk, OnErr, IfOk, IfErr, ⊤};
+/// many series it has answered, what it told when it last stopped, and for which reasons it may give up. As an observer it is
+/// told what planning finds on its way; where it wants an end, a search that planning makes by itself gives up, and it is asked.
+pub trait Asker<S: Series>: Observer {
+    ghost use Rattle.std.specs.Prelude.{◌≡◌, ℕ, ◌+◌, List, Option, OnOk, OnErr, IfOk, IfErr};
     ghost use Rattle.racp_model.specs.Project.{Project};
     ghost use Rattle.racp_model.specs.Formed.{AreFormed, IsFormed};
     ghost use Rattle.racp_questions.specs.FirstYes.{IsFirst, IsProbed, IsProbeStop, IsStop};
@@ -90,14 +92,6 @@ pub trait Asker<S: Series> {
     ghost may_stop: { Self → Type 0 };
 
     ghost may_want_thread: { Self → Type 0 };
-
-    // These floors, and this cost, may be told to it.
-    ghost may_hear_floors: { List ℕ → Type 0 } = { λ _. ⊤ };
-
-    ghost may_hear_cost: { ℕ → Type 0 } = { λ _. ⊤ };
-
-    // So may a plan with these capacities and starts.
-    ghost may_hear_plan: { List ℕ → List ℕ → Type 0 } = { λ _ _. ⊤ };
 
     /// The first yes of the series, with starts in that question's window that keep precedence and its capacities. The
     /// network is the one that the asker is about, and the questions have its form: a capacity for each resource, and
@@ -150,27 +144,4 @@ pub trait Asker<S: Series> {
     fn leeway(&self) -> Leeway {
         Leeway::none()
     }
-
-    /// Whether a search that planning makes by itself is to stop now, so that it asks. That changes no answer either.
-    fn wants_questions(&self) -> bool {
-        false
-    }
-
-    /// Is told of a search that planning makes by itself how many conflicts it has met, and how many clauses it keeps.
-    fn hear_search(&self, _conflicts: u64, _clauses: u64) {}
-
-    /// Is told a plan that is known, which may not be the cheapest.
-    fn hear_plan(&self, _capacities: &Capacities, _starts: &Starts, _cost: u64)
-        requires { may_hear_plan _capacities.now _starts.now }
-    {}
-
-    /// Is told floors that planning has come to.
-    fn hear_floors(&self, _floors: &Capacities)
-        requires { may_hear_floors _floors.now }
-    {}
-
-    /// Is told what planning has found that capacities cost at least.
-    fn hear_cost(&self, _cost: u64)
-        requires { may_hear_cost _cost }
-    {}
 }

@@ -5,10 +5,10 @@ ghost use Rattle.racp_model.specs.Terms.{AreTermsOf};
 ghost use Rattle.racp_reference.specs.Outcomes.{IsOutcome};
 
 use crate::choice::cheapest;
-use racp_check::{Opening, opening_of};
 use racp_model::Network;
 use racp_plan::Plan;
 use racp_prices::{Order, most_units};
+use racp_root::{Opening, opening_of};
 use std::alloc::{AllocError, Global};
 
 /// The plan of an order, or why there is none: the first of the reasons that holds, in this order.

@@ -3,8 +3,9 @@ use Rattle.std.specs.Prelude.{◌≡◌, ℕ, ◌+◌, ◌-◌, ◌*◌, ◌==�
 use Rattle.std.specs.Fmt.{decimal}
 use Rattle.std.specs.Global.{Global}
 use Rattle.racp_json.specs.declared.curve.Step.{Step}
-use Rattle.racp_calendar.specs.Dates.{time_text}
+use Rattle.racp_calendar.specs.Dates.{first_text, last_text}
 use Rattle.racp_calendar.specs.declared.calendar.Calendar.{Calendar}
+use Rattle.racp_calendar.specs.declared.calendar.Calendar.TheVariants.{Numbers, Dates}
 use Rattle.std.specs.Str.Lines.{lines}
 use Rattle.racp_charts.specs.Texts.{◌⋅◌, escaped}
 use Rattle.racp_charts.specs.declared.choice.Choice.{Choice}
@@ -35,7 +36,7 @@ cost_element cost =
     codes "<dl><div><dt>Cost</dt><dd>" ⋅ decimal cost ⋅ codes "</dd></div><div><dt>Deadline</dt><dd>"
 
 unfoldable pub times_element : Drawing → List ℕ
-times_element plan = cost_element plan.cost ⋅ time_text plan.calendar plan.deadline ⋅ codes "</dd></div>"
+times_element plan = cost_element plan.cost ⋅ last_text plan.calendar plan.deadline ⋅ codes "</dd></div>"
 
 unfoldable pub lengths_element : ℕ → ℕ → List ℕ
 lengths_element critical tasks =
@@ -126,8 +127,8 @@ task_slack slack = codes "</td><td>" ⋅ decimal slack ⋅ codes "</td><td class
 -- its times: how long it takes, when it starts and ends, and its slack
 unfoldable pub task_times : Calendar → Task → List ℕ
 task_times calendar task =
-    task_duration task.duration ⋅ time_text calendar task.start ⋅ codes "</td><td>"
-    ⋅ time_text calendar (task.start + task.duration) ⋅ task_slack (task.latest - task.start)
+    task_duration task.duration ⋅ first_text calendar task.start task.duration ⋅ codes "</td><td>"
+    ⋅ last_text calendar (task.start + task.duration) ⋅ task_slack (task.latest - task.start)
 
 -- these, and whether it is on the critical chain
 unfoldable pub task_cells : Calendar → Task → List ℕ
@@ -152,12 +153,17 @@ abbrev pub table_row : Calendar → Row → List ℕ
 table_row calendar (Heading depth title) = phase_row depth title.now
 table_row calendar (Bar depth task) = task_row calendar depth task
 
+-- what the columns of the times of a task are called
+abbrev pub time_titles : Calendar → List ℕ
+time_titles Numbers = codes "<th>Start</th><th>End</th>"
+time_titles (Dates calendar) = codes "<th>First day</th><th>Last day</th>"
+
 -- the table of the phases and the tasks
 unfoldable pub task_table : Report → List ℕ
 task_table report =
     (codes "<h2>The tasks</h2>\n<div class=\"wide\"><table>\n<thead><tr><th>No.</th><th class=\"left\">"
-    ⋅ codes "Task</th><th>Duration</th><th>Start</th><th>End</th><th>Slack</th><th class=\"left\">"
-    ⋅ codes "Critical</th><th class=\"left\">After</th></tr></thead>\n<tbody>\n")
+    ⋅ codes "Task</th><th>Duration</th>") ⋅ time_titles report.plan.calendar
+    ⋅ (codes "<th>Slack</th><th class=\"left\">Critical</th><th class=\"left\">After</th></tr></thead>\n<tbody>\n")
     ⋅ flat_map (table_row report.plan.calendar) report.plan.rows.items ⋅ codes "</tbody></table></div>\n"
 
 -- the deadline and the cost of a step
@@ -166,7 +172,7 @@ cost_text cost = codes "</td><td>" ⋅ decimal cost ⋅ codes "</td><td>"
 
 unfoldable pub cost_cells : Calendar → Step → List ℕ
 cost_cells calendar step =
-    codes "<tr><td class=\"left\">" ⋅ time_text calendar step.deadline ⋅ cost_text step.cost
+    codes "<tr><td class=\"left\">" ⋅ last_text calendar step.deadline ⋅ cost_text step.cost
 
 -- a number of units
 unfoldable pub unit_text : ℕ → List ℕ

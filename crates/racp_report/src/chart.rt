@@ -19,10 +19,10 @@ pub(crate) fn push_chart(
     alloc: Global,
     text: &mut String,
     rows: &[Row<'_>],
-    span: Span,
+    span: Span<'_>,
 ) -> Result<(), AllocError>
     ensures { OnOk result
-        (string_bytes text.new ≡ string_bytes text.old ++ row_blocks span (length rows.now) 0 rows.now) }
+        (string_bytes text.new ≡ string_bytes text.old ++ row_blocks span.entry (length rows.now) 0 rows.now) }
 {
     for (place, row) in rows.iter().enumerate() {
         push_block(alloc, text, row, span, place, rows.len())?;
@@ -36,12 +36,12 @@ fn push_block(
     alloc: Global,
     text: &mut String,
     row: &Row<'_>,
-    span: Span,
+    span: Span<'_>,
     place: usize,
     count: usize,
 ) -> Result<(), AllocError>
     ensures { OnOk result
-        (string_bytes text.new ≡ string_bytes text.old ++ row_block span count place row.now) }
+        (string_bytes text.new ≡ string_bytes text.old ++ row_block span.entry count place row.now) }
 {
     push_block_begin(text, span, place, count)?;
     push_row(
@@ -58,11 +58,11 @@ fn push_block(
 /// Adds the beginning of a drawing before its first row.
 fn push_block_begin(
     text: &mut String,
-    span: Span,
+    span: Span<'_>,
     place: usize,
     count: usize,
 ) -> Result<(), AllocError>
-    ensures { OnOk result (string_bytes text.new ≡ string_bytes text.old ++ block_begin span count place) }
+    ensures { OnOk result (string_bytes text.new ≡ string_bytes text.old ++ block_begin span.entry count place) }
 {
     if !place.is_multiple_of(MOST_ROWS) {
         return Ok(());
@@ -72,9 +72,9 @@ fn push_block_begin(
 }
 
 /// Adds the beginning of a drawing that goes down to here, with what stands around its rows.
-fn push_frame(text: &mut String, span: Span, bottom: u128) -> Result<(), AllocError>
+fn push_frame(text: &mut String, span: Span<'_>, bottom: u128) -> Result<(), AllocError>
     requires { bottom < 2 ^ 72 }
-    ensures { OnOk result (string_bytes text.new ≡ string_bytes text.old ++ frame span bottom) }
+    ensures { OnOk result (string_bytes text.new ≡ string_bytes text.old ++ frame span.entry bottom) }
 {
     push_drawing(text, "The tasks over time", bottom + 24)?;
     racp_charts::push_frame(text, span, bottom)?;

@@ -15,9 +15,9 @@ pub(crate) fn push_cost_figure(
     text: &mut String,
     costs: &[Step],
     deadline: u32,
-    calendar: Calendar,
+    calendar: Calendar<'_>,
 ) -> Result<(), AllocError>
-    ensures { OnOk result (string_bytes text.new ≡ string_bytes text.old ++ cost_figure calendar costs.now deadline) }
+    ensures { OnOk result (string_bytes text.new ≡ string_bytes text.old ++ cost_figure calendar.entry costs.now deadline) }
 {
     let corners = corners_of(alloc, costs)?;
     push_corners(text, &corners, deadline, calendar)
@@ -28,9 +28,9 @@ fn push_corners(
     text: &mut String,
     corners: &[Corner],
     deadline: u32,
-    calendar: Calendar,
+    calendar: Calendar<'_>,
 ) -> Result<(), AllocError>
-    ensures { OnOk result (string_bytes text.new ≡ string_bytes text.old ++ corner_figure calendar corners.now deadline) }
+    ensures { OnOk result (string_bytes text.new ≡ string_bytes text.old ++ corner_figure calendar.entry corners.now deadline) }
 {
     push_drawing(text, "What each deadline costs", 290)?;
     push_costs(text, corners, deadline, calendar)?;

@@ -5,7 +5,7 @@ ghost use Rattle.racp_report.specs.Pages.{cost_cells, cost_row, cost_section, co
 
 use crate::cost_chart::push_cost_figure;
 use crate::report::Report;
-use racp_calendar::{Calendar, push_time};
+use racp_calendar::{Calendar, push_last};
 use racp_json::Step;
 use std::alloc::{AllocError, Global};
 
@@ -37,9 +37,9 @@ fn push_cost_table(
     text: &mut String,
     costs: &[Step],
     deadline: u32,
-    calendar: Calendar,
+    calendar: Calendar<'_>,
 ) -> Result<(), AllocError>
-    ensures { OnOk result (string_bytes text.new ≡ string_bytes text.old ++ cost_table calendar deadline costs.now) }
+    ensures { OnOk result (string_bytes text.new ≡ string_bytes text.old ++ cost_table calendar.entry deadline costs.now) }
 {
     text.push_str("<h2>What each deadline costs</h2>\n")?;
     push_cost_figure(alloc, text, costs, deadline, calendar)?;
@@ -53,8 +53,8 @@ fn push_cost_table(
 }
 
 /// Adds a row for each step.
-fn push_rows(text: &mut String, costs: &[Step], calendar: Calendar) -> Result<(), AllocError>
-    ensures { OnOk result (string_bytes text.new ≡ string_bytes text.old ++ flat_map (cost_row calendar) costs.now) }
+fn push_rows(text: &mut String, costs: &[Step], calendar: Calendar<'_>) -> Result<(), AllocError>
+    ensures { OnOk result (string_bytes text.new ≡ string_bytes text.old ++ flat_map (cost_row calendar.entry) costs.now) }
 {
     for step in costs {
         push_row(text, step, calendar)?;
@@ -63,8 +63,8 @@ fn push_rows(text: &mut String, costs: &[Step], calendar: Calendar) -> Result<()
 }
 
 /// Adds the row of a step.
-fn push_row(text: &mut String, step: &Step, calendar: Calendar) -> Result<(), AllocError>
-    ensures { OnOk result (string_bytes text.new ≡ string_bytes text.old ++ cost_row calendar step.now) }
+fn push_row(text: &mut String, step: &Step, calendar: Calendar<'_>) -> Result<(), AllocError>
+    ensures { OnOk result (string_bytes text.new ≡ string_bytes text.old ++ cost_row calendar.entry step.now) }
 {
     push_cells(text, step, calendar)?;
     push_units(text, step.capacities.as_slice())?;
@@ -73,11 +73,11 @@ fn push_row(text: &mut String, step: &Step, calendar: Calendar) -> Result<(), Al
 }
 
 /// Adds the deadline and the cost of a step.
-fn push_cells(text: &mut String, step: &Step, calendar: Calendar) -> Result<(), AllocError>
-    ensures { OnOk result (string_bytes text.new ≡ string_bytes text.old ++ cost_cells calendar step.now) }
+fn push_cells(text: &mut String, step: &Step, calendar: Calendar<'_>) -> Result<(), AllocError>
+    ensures { OnOk result (string_bytes text.new ≡ string_bytes text.old ++ cost_cells calendar.entry step.now) }
 {
     text.push_str("<tr><td class=\"left\">")?;
-    push_time(text, calendar, step.deadline as u128)?;
+    push_last(text, calendar, step.deadline as u128)?;
     push_cost(text, step.cost)?;
     Ok(())
 }

@@ -3,7 +3,7 @@
 ghost use Rattle.std.specs.Prelude.{◌≡◌, ◌++◌, OnOk, string_bytes};
 ghost use Rattle.racp_report.specs.Pages.{checking_element, claim_element, cost_element, heading_element, lengths_element, opening_element, times_element, title_element};
 
-use racp_calendar::push_time;
+use racp_calendar::push_last;
 use racp_charts::{Drawing, push_plan};
 use std::alloc::AllocError;
 
@@ -46,7 +46,7 @@ fn push_times(text: &mut String, plan: &Drawing<'_>) -> Result<(), AllocError>
     ensures { OnOk result (string_bytes text.new ≡ string_bytes text.old ++ times_element plan.now) }
 {
     push_cost(text, plan.cost)?;
-    push_time(text, plan.calendar, plan.deadline as u128)?;
+    push_last(text, plan.calendar, plan.deadline as u128)?;
     text.push_str("</dd></div>")?;
     Ok(())
 }

@@ -1,7 +1,7 @@
 //! A report as a page.
 
 ghost use Rattle.std.specs.Prelude.{◌≡◌, ◌++◌, IfOk, OnOk, string_bytes};
-ghost use Rattle.racp_report.specs.Pages.{IsPage, body_of, charts, choice_table, task_table};
+ghost use Rattle.racp_report.specs.Pages.{IsPage, body_of, charts, choice_table, task_table, time_titles};
 
 use crate::change_table::push_changes;
 use crate::chart::push_chart;
@@ -13,6 +13,7 @@ use crate::panels::push_panels;
 use crate::report::Report;
 use crate::style::PAGE_STYLE;
 use crate::task_table::push_rows;
+use racp_calendar::Calendar;
 use racp_charts::{STYLE, Span};
 use std::alloc::{AllocError, Global};
 
@@ -69,6 +70,7 @@ fn push_charts(alloc: Global, text: &mut String, report: &Report<'_>) -> Result<
         first: 0,
         last: report.plan.deadline,
         calendar: report.plan.calendar,
+        of_ends: false,
     };
     text.push_str("<h2>When each task runs</h2>\n")?;
     push_key_figure(text)?;
@@ -84,10 +86,23 @@ fn push_task_table(text: &mut String, report: &Report<'_>) -> Result<(), AllocEr
 {
     text.push_str(
         "<h2>The tasks</h2>\n<div class=\"wide\"><table>\n<thead><tr><th>No.</th><th class=\"left\">Task</th>\
-         <th>Duration</th><th>Start</th><th>End</th><th>Slack</th><th class=\"left\">Critical</th>\
-         <th class=\"left\">After</th></tr></thead>\n<tbody>\n",
+         <th>Duration</th>",
+    )?;
+    text.push_str(time_titles(report.plan.calendar))?;
+    text.push_str(
+        "<th>Slack</th><th class=\"left\">Critical</th><th class=\"left\">After</th></tr></thead>\n<tbody>\n",
     )?;
     push_rows(text, report.plan.rows.as_slice(), report.plan.calendar)?;
     text.push_str("</tbody></table></div>\n")?;
     Ok(())
+}
+
+/// What the columns of the times of a task are called.
+fn time_titles(calendar: Calendar<'_>) -> &'static str
+    ensures { result.now ≡ time_titles calendar.entry }
+{
+    match calendar {
+        Calendar::Numbers => "<th>Start</th><th>End</th>",
+        Calendar::Dates(_) => "<th>First day</th><th>Last day</th>",
+    }
 }

@@ -12,9 +12,9 @@ pub(crate) fn push_panels(
     alloc: Global,
     text: &mut String,
     choices: &[Choice<'_>],
-    span: Span,
+    span: Span<'_>,
 ) -> Result<(), AllocError>
-    ensures { OnOk result (string_bytes text.new ≡ string_bytes text.old ++ flat_map (panel_figure span) choices.now) }
+    ensures { OnOk result (string_bytes text.new ≡ string_bytes text.old ++ flat_map (panel_figure span.entry) choices.now) }
 {
     for choice in choices {
         push_figure(alloc, text, choice, span)?;
@@ -27,9 +27,9 @@ fn push_figure(
     alloc: Global,
     text: &mut String,
     choice: &Choice<'_>,
-    span: Span,
+    span: Span<'_>,
 ) -> Result<(), AllocError>
-    ensures { OnOk result (string_bytes text.new ≡ string_bytes text.old ++ panel_figure span choice.now) }
+    ensures { OnOk result (string_bytes text.new ≡ string_bytes text.old ++ panel_figure span.entry choice.now) }
 {
     push_drawing(text, "The use of a resource over time", 106)?;
     push_panel(alloc, text, choice, span)?;

@@ -3,7 +3,7 @@
 ghost use Rattle.std.specs.Prelude.{◌≡◌, ◌<◌, ◌^◌, ◌++◌, OnOk, flat_map, option_map, string_bytes};
 ghost use Rattle.racp_report.specs.Pages.{padding, padding_style, phase_row, table_row, task_cells, task_duration, task_row, task_row_begin, task_slack, task_times, yes_text};
 
-use racp_calendar::{Calendar, push_time};
+use racp_calendar::{Calendar, push_first, push_last};
 use racp_charts::{class_of, push_escaped, push_name, push_predecessors};
 use racp_show::{Row, Task};
 use std::alloc::AllocError;
@@ -12,9 +12,9 @@ use std::alloc::AllocError;
 pub(crate) fn push_rows(
     text: &mut String,
     rows: &[Row<'_>],
-    calendar: Calendar,
+    calendar: Calendar<'_>,
 ) -> Result<(), AllocError>
-    ensures { OnOk result (string_bytes text.new ≡ string_bytes text.old ++ flat_map (table_row calendar) rows.now) }
+    ensures { OnOk result (string_bytes text.new ≡ string_bytes text.old ++ flat_map (table_row calendar.entry) rows.now) }
 {
     for row in rows {
         push_row(text, row, calendar)?;
@@ -23,8 +23,8 @@ pub(crate) fn push_rows(
 }
 
 /// Adds a row.
-fn push_row(text: &mut String, row: &Row<'_>, calendar: Calendar) -> Result<(), AllocError>
-    ensures { OnOk result (string_bytes text.new ≡ string_bytes text.old ++ table_row calendar row.now) }
+fn push_row(text: &mut String, row: &Row<'_>, calendar: Calendar<'_>) -> Result<(), AllocError>
+    ensures { OnOk result (string_bytes text.new ≡ string_bytes text.old ++ table_row calendar.entry row.now) }
 {
     match row {
         Row::Heading { depth, title } => push_phase(text, *depth, title),
@@ -70,9 +70,9 @@ fn push_task(
     text: &mut String,
     depth: usize,
     task: &Task<'_>,
-    calendar: Calendar,
+    calendar: Calendar<'_>,
 ) -> Result<(), AllocError>
-    ensures { OnOk result (string_bytes text.new ≡ string_bytes text.old ++ task_row calendar depth task.now) }
+    ensures { OnOk result (string_bytes text.new ≡ string_bytes text.old ++ task_row calendar.entry depth task.now) }
 {
     push_begin(text, task)?;
     push_padding(text, depth)?;
@@ -98,8 +98,8 @@ fn push_begin(text: &mut String, task: &Task<'_>) -> Result<(), AllocError>
 }
 
 /// Adds the cells of a task, from its duration up to what comes before it.
-fn push_cells(text: &mut String, task: &Task<'_>, calendar: Calendar) -> Result<(), AllocError>
-    ensures { OnOk result (string_bytes text.new ≡ string_bytes text.old ++ task_cells calendar task.now) }
+fn push_cells(text: &mut String, task: &Task<'_>, calendar: Calendar<'_>) -> Result<(), AllocError>
+    ensures { OnOk result (string_bytes text.new ≡ string_bytes text.old ++ task_cells calendar.entry task.now) }
 {
     push_times(text, task, calendar)?;
     text.push_str(yes_of(task))?;
@@ -108,13 +108,13 @@ fn push_cells(text: &mut String, task: &Task<'_>, calendar: Calendar) -> Result<
 }
 
 /// Adds the cells of a task's times.
-fn push_times(text: &mut String, task: &Task<'_>, calendar: Calendar) -> Result<(), AllocError>
-    ensures { OnOk result (string_bytes text.new ≡ string_bytes text.old ++ task_times calendar task.now) }
+fn push_times(text: &mut String, task: &Task<'_>, calendar: Calendar<'_>) -> Result<(), AllocError>
+    ensures { OnOk result (string_bytes text.new ≡ string_bytes text.old ++ task_times calendar.entry task.now) }
 {
     push_duration(text, task.duration)?;
-    push_time(text, calendar, task.start as u128)?;
+    push_first(text, calendar, task.start as u128, task.duration as u128)?;
     text.push_str("</td><td>")?;
-    push_time(text, calendar, task.start as u128 + task.duration as u128)?;
+    push_last(text, calendar, task.start as u128 + task.duration as u128)?;
     push_slack(text, task.latest.saturating_sub(task.start))?;
     Ok(())
 }

@@ -12,3 +12,4 @@ mod Within
 mod Outlining
 mod Behind
 mod Shown
+pub mod Fields

@@ -1,5 +1,7 @@
 -- A plan as a sheet of numbers, as it is written as JSON.
-use Rattle.std.specs.Prelude.{◌≡◌, ℕ, ◌+◌, ◌-◌, ◌<◌, List, length, slice_index, slice_index_or, option_map}
+use Rattle.std.specs.Prelude.{◌≡◌, ℕ, ◌+◌, ◌-◌, ◌<◌, List, length, slice_index, slice_index_or, option_map, string_bytes}
+use Rattle.racp_calendar.specs.Dates.{first_word, has_dates, last_word}
+use Rattle.racp_calendar.specs.declared.calendar.Calendar.{Calendar}
 use Rattle.racp_model.specs.Project.{Project, number, duration, request}
 use Rattle.racp_model.specs.Path.{IsLate}
 use Rattle.racp_model.specs.Terms.{Terms, due_of}
@@ -11,14 +13,16 @@ use Rattle.racp_show.specs.Called.{name_at}
 use Rattle.racp_show.specs.Tasks.{precedents}
 use Rattle.racp_show.specs.Uses.{AreSteps}
 
--- the entry of the job at place i, for these late starts: its number, its name if it has one, when it starts and ends, how
--- long it runs, how much later it could start, what comes right before it, and what it needs of each resource
-pub record IsJobEntry (p : Project) (starts late : List ℕ) (names : List (List ℕ)) (i : ℕ) (entry : JobEntry) :
+-- the entry of the job at place i, for these late starts: its number, its name if it has one, when it starts and ends, by
+-- numbers and by the days of a calendar that has dates, how long it runs, how much later it could start, what comes right before it, and what it needs of each resource
+pub record IsJobEntry (calendar : Calendar) (p : Project) (starts late : List ℕ) (names : List (List ℕ)) (i : ℕ) (entry : JobEntry) :
     Type 0 where
   pub numbered : entry.job ≡ number i
   pub called : option_map (λ name. name.now) entry.name ≡ name_at names i
   pub begins : entry.start ≡ slice_index starts i
   pub stops : entry.end ≡ slice_index starts i + duration p i
+  pub first_is : option_map string_bytes entry.first_day ≡ first_word calendar (slice_index starts i) (duration p i)
+  pub last_is : option_map string_bytes entry.last_day ≡ last_word calendar (slice_index starts i + duration p i)
   pub runs : entry.duration ≡ duration p i
   pub slack_is : entry.slack ≡ slice_index late i - slice_index starts i
   pub after : entry.predecessors.items ≡ precedents i p.arcs
@@ -26,11 +30,11 @@ pub record IsJobEntry (p : Project) (starts late : List ℕ) (names : List (List
   pub requests_are : (k : ℕ) → slice_index entry.requests.items k ≡ request p i k
 
 -- an entry for each job
-pub record AreJobEntries (p : Project) (starts late : List ℕ) (names : List (List ℕ))
+pub record AreJobEntries (calendar : Calendar) (p : Project) (starts late : List ℕ) (names : List (List ℕ))
     (entries : List JobEntry) : Type 0 where
   pub places : length entries ≡ length p.jobs
   pub each : (i : ℕ) (d : JobEntry) → i < length p.jobs →
-      IsJobEntry p starts late names i (slice_index_or entries i d)
+      IsJobEntry calendar p starts late names i (slice_index_or entries i d)
 
 -- the entry of the resource at place k: its number, its name if it has one, what the order says of it, how many units
 -- there are, and their usage
@@ -52,11 +56,14 @@ pub record AreResourceEntries (p : Project) (terms : Terms) (plan : Plan) (names
 
 -- the sheet of a plan: the deadline of the order, the critical length and the cost that the plan says, and an entry for
 -- each job and each resource. Slack is told by the late starts by the due times and the deadline
-pub record IsSheet (p : Project) (terms : Terms) (plan : Plan) (names : List (List ℕ)) (sheet : Sheet) : Type 0 where
+pub record IsSheet (calendar : Calendar) (p : Project) (terms : Terms) (plan : Plan) (names : List (List ℕ)) (sheet : Sheet) :
+    Type 0 where
   pub deadline_is : sheet.deadline ≡ terms.deadline
+  pub deadline_day_is : option_map string_bytes sheet.deadline_day ≡ last_word calendar terms.deadline
+  pub dated : sheet.has_dates ≡ has_dates calendar
   pub critical_is : sheet.critical ≡ plan.critical
   pub cost_is : sheet.cost ≡ plan.cost
   pub late : List ℕ
   pub is_late : IsLate p (due_of terms) late
-  pub job_entries : AreJobEntries p plan.starts late names sheet.jobs.items
+  pub job_entries : AreJobEntries calendar p plan.starts late names sheet.jobs.items
   pub resource_entries : AreResourceEntries p terms plan names sheet.resources.items

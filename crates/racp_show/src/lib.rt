@@ -66,6 +66,7 @@ mod task;
 mod text;
 mod text_rows;
 mod times;
+mod titles;
 mod usage;
 
 pub use chart::{Chart, JobRow, ResourceRow, chart_of};

@@ -11,6 +11,7 @@ use crate::order::{deadline_of, owned_of, price_of};
 use crate::task::numbers_before;
 use crate::times::Times;
 use crate::usage::{Step, usage_steps};
+use racp_calendar::{Calendar, first_word, last_word};
 use racp_model::Network;
 use racp_plan::Plan;
 use racp_prices::Order;
@@ -28,6 +29,13 @@ pub struct JobEntry<'a> {
     pub start: u32,
     /// When it has ended, in time units.
     pub end: u32,
+    /// The first day of its run, if times are told by dates; of a job of duration 0 the day in the evening of which it is
+    /// done.
+    #[serde(skip_serializing_if = "Option::is_none")]
+    pub first_day: Option<String>,
+    /// The last day of its run, in the evening of which it is done, if times are told by dates.
+    #[serde(skip_serializing_if = "Option::is_none")]
+    pub last_day: Option<String>,
     /// How many time units it runs.
     pub duration: u32,
     /// How much later it could start, in time units, if only precedence, the due times and the deadline counted.
@@ -60,6 +68,9 @@ pub struct ResourceEntry<'a> {
 pub struct Sheet<'a> {
     /// The deadline of the order, in time units.
     pub deadline: u32,
+    /// The day in the evening of which that is, if times are told by dates.
+    #[serde(skip_serializing_if = "Option::is_none")]
+    pub deadline_day: Option<String>,
     /// The critical length that the plan says, in time units.
     pub critical: u64,
     /// What the capacities cost, as the plan says.
@@ -68,9 +79,13 @@ pub struct Sheet<'a> {
     pub jobs: Vec<JobEntry<'a>>,
     /// The resources.
     pub resources: Vec<ResourceEntry<'a>>,
+    /// Whether times are told by dates too.
+    #[serde(skip_serializing)]
+    pub has_dates: bool,
 }
 
-/// The sheet of a plan that fits the order, as `check_plan` of racp_check tells.
+/// The sheet of a plan that fits the order, as `check_plan` of racp_check tells. Its times are numbers, and days too if the
+/// calendar has dates.
 ///
 /// # Errors
 ///
@@ -81,11 +96,12 @@ pub fn sheet_of<'a>(
     order: &Order,
     plan: &Plan,
     names: &'a Names,
+    calendar: Calendar<'_>,
 ) -> Result<Sheet<'a>, AllocError>
     requires terms { AreTermsOf net.now order.now }
     requires capacities { length plan.now.capacities ≡ net.now.resources }
     requires fits { FitsTerms net.now order.now plan.now.capacities plan.now.starts }
-    ensures { IfOk result (IsSheet net.now order.now plan.now names.now) }
+    ensures { IfOk result (IsSheet calendar.entry net.now order.now plan.now names.now) }
 {
     let deadline = deadline_of(order);
     let times = Times {
@@ -94,14 +110,17 @@ pub fn sheet_of<'a>(
         deadline,
     };
     let room = room_of(alloc, net, order, plan)?;
-    let jobs = job_entries(alloc, &times, &room, names)?;
+    let jobs = job_entries(alloc, &times, &room, names, calendar)?;
     let resources = resource_entries(alloc, net, order, plan, names)?;
+    let deadline_day = last_word(alloc, calendar, deadline as u128)?;
     Ok(Sheet {
         deadline,
+        deadline_day,
         critical: plan.critical,
         cost: plan.cost,
         jobs,
         resources,
+        has_dates: calendar.has_dates(),
     })
 }
 
@@ -111,14 +130,15 @@ fn job_entries<'a>(
     times: &Times,
     room: &Room,
     names: &'a Names,
+    calendar: Calendar<'_>,
 ) -> Result<Vec<JobEntry<'a>>, AllocError>
     requires latest { length room.now.latest ≡ length times.now.net.now.jobs }
     ensures { IfOk result (λ entries.
-        AreJobEntries times.now.net.now times.now.starts.now room.now.latest names.now entries.items) }
+        AreJobEntries calendar.entry times.now.net.now times.now.starts.now room.now.latest names.now entries.items) }
 {
     let mut entries = Vec::new(alloc);
     for i in 0..times.net.job_count() {
-        entries.push(job_entry(alloc, times, room, names, i)?)?;
+        entries.push(job_entry(alloc, times, room, names, calendar, i)?)?;
     }
     Ok(entries)
 }
@@ -129,23 +149,29 @@ fn job_entry<'a>(
     times: &Times,
     room: &Room,
     names: &'a Names,
+    calendar: Calendar<'_>,
     i: usize,
 ) -> Result<JobEntry<'a>, AllocError>
     requires job { i < length times.now.net.now.jobs }
     requires latest { length room.now.latest ≡ length times.now.net.now.jobs }
-    ensures { IfOk result (IsJobEntry times.now.net.now times.now.starts.now room.now.latest names.now i) }
+    ensures { IfOk result (IsJobEntry calendar.entry times.now.net.now times.now.starts.now room.now.latest names.now i) }
 {
     prove!(i < times.net.job_count());
     let requests = times.net.requests(i).to_vec(alloc)?;
     let end = times.end(i);
     let predecessors = numbers_before(alloc, times.net, i)?;
     let start = times.start(i);
+    let duration = times.net.duration(i);
+    let first_day = first_word(alloc, calendar, start as u128, duration as u128)?;
+    let last_day = last_word(alloc, calendar, end as u128)?;
     Ok(JobEntry {
         job: i + 1,
         name: names.job(i),
         start,
         end,
-        duration: times.net.duration(i),
+        first_day,
+        last_day,
+        duration,
         slack: room.latest_of(i).saturating_sub(start),
         predecessors,
         requests,

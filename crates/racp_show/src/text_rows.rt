@@ -6,7 +6,8 @@ use crate::entry::Entry;
 use crate::label::{columns_of, indent, label_within};
 use crate::outline::Outline;
 use crate::scale::Scale;
-use crate::text::units_note;
+use crate::text::{Lettering, units_note};
+use racp_calendar::{Calendar, first_word, push_first, push_last};
 use std::alloc::{AllocError, Global};
 
 /// How many columns there are from one mark of the ruler to the next.
@@ -32,7 +33,7 @@ pub(crate) fn push_rows(
     outline: &Outline,
     sides: &Sides<'_>,
     chart: &Chart,
-    is_ascii: bool,
+    lettering: Lettering<'_>,
 ) -> Result<(), AllocError> {
     for (place, entry) in outline.rows().iter().enumerate() {
         match entry {
@@ -41,7 +42,7 @@ pub(crate) fn push_rows(
             }
             Entry::Bar { depth, job } => {
                 push_label(text, sides, place, indent(*depth, sides.most))?;
-                push_bar(text, chart, job.saturating_sub(1), is_ascii)?;
+                push_bar(text, chart, job.saturating_sub(1), lettering)?;
             }
         }
     }
@@ -68,10 +69,10 @@ fn push_bar(
     text: &mut String,
     chart: &Chart,
     place: usize,
-    is_ascii: bool,
+    lettering: Lettering<'_>,
 ) -> Result<(), AllocError> {
     match chart.jobs.get(place) {
-        Some(row) => push_job(text, row, chart.scale.columns, is_ascii),
+        Some(row) => push_job(text, row, chart.scale.columns, lettering),
         None => Ok(()),
     }
 }
@@ -94,27 +95,56 @@ pub(crate) fn push_resources(
 }
 
 /// Adds the two lines of the ruler, if there are columns: at each tenth column its first time, and a mark.
-pub(crate) fn push_ruler(text: &mut String, label: usize, scale: &Scale) -> Result<(), AllocError> {
+pub(crate) fn push_ruler(
+    alloc: Global,
+    text: &mut String,
+    label: usize,
+    scale: &Scale,
+    calendar: Calendar<'_>,
+) -> Result<(), AllocError> {
     let marks = scale.columns.div_ceil(MARK);
     if marks == 0 {
         return Ok(());
     }
     push_blanks(text, label)?;
-    push_times(text, marks - 1, scale.span)?;
+    push_times(alloc, text, marks - 1, scale.span, calendar)?;
     push_blanks(text, label)?;
     push_marks(text, marks - 1)
 }
 
 /// Adds the first time of each tenth column, if this many tenth columns stand before the last.
-fn push_times(text: &mut String, before: u32, span: u32) -> Result<(), AllocError> {
-    let width = MARK as usize;
+fn push_times(
+    alloc: Global,
+    text: &mut String,
+    before: u32,
+    span: u32,
+    calendar: Calendar<'_>,
+) -> Result<(), AllocError> {
     let step = MARK.saturating_mul(span);
     for mark in 0..before {
-        let time = mark.saturating_mul(step);
-        write!(text, "{time:<width$}")?;
+        let length = text.len();
+        push_mark_time(alloc, text, mark.saturating_mul(step), calendar)?;
+        let used = text.len().saturating_sub(length);
+        push_blanks(text, (MARK as usize).saturating_sub(used))?;
     }
-    let time = before.saturating_mul(step);
-    writeln!(text, "{time}")
+    push_mark_time(alloc, text, before.saturating_mul(step), calendar)?;
+    text.push('\n')
+}
+
+/// Adds a time of the ruler: its number, or the month and the day on which it is.
+fn push_mark_time(
+    alloc: Global,
+    text: &mut String,
+    time: u32,
+    calendar: Calendar<'_>,
+) -> Result<(), AllocError> {
+    let Some(word) = first_word(alloc, calendar, time as u128, 1)? else {
+        return write!(text, "{time}");
+    };
+    match word.as_str().split_once("-") {
+        Some((_, day)) => text.push_str(day),
+        None => text.push_str(word.as_str()),
+    }
 }
 
 /// Adds a mark at each tenth column, if this many tenth columns stand before the last.
@@ -150,13 +180,35 @@ fn push_blanks(text: &mut String, count: usize) -> Result<(), AllocError> {
 }
 
 /// Adds the bar of a job, and its times.
-fn push_job(text: &mut String, row: &JobRow, columns: u32, ascii: bool) -> Result<(), AllocError> {
+fn push_job(
+    text: &mut String,
+    row: &JobRow,
+    columns: u32,
+    lettering: Lettering<'_>,
+) -> Result<(), AllocError> {
     for column in 0..columns {
-        text.push(bar_cell(&row.bar, column, ascii))?;
+        text.push(bar_cell(&row.bar, column, lettering.is_ascii))?;
     }
-    let start = row.start;
-    let end = row.end;
-    writeln!(text, "  {start}..{end}")
+    text.push_str("  ")?;
+    push_row_times(text, row, lettering.calendar)?;
+    text.push('\n')
+}
+
+/// Adds the times of a job: its start and its end, or its first and its last day. What takes no time is done in the evening
+/// of a day.
+fn push_row_times(
+    text: &mut String,
+    row: &JobRow,
+    calendar: Calendar<'_>,
+) -> Result<(), AllocError> {
+    let duration = row.end.saturating_sub(row.start) as u128;
+    if duration == 0 && calendar.has_dates() {
+        text.push_str("evening of ")?;
+    } else {
+        push_first(text, calendar, row.start as u128, duration)?;
+        text.push_str("..")?;
+    }
+    push_last(text, calendar, row.end as u128)
 }
 
 /// Adds the usage of a resource, and how many units there are.

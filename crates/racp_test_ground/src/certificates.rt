@@ -8,7 +8,9 @@ use crate::sums::Sums;
 use crate::tasks::{Trial, try_order};
 use racp_by_clauses::{Limits, Task, optimum_recorded};
 use racp_clauses::{Clause, OfProblem, establishes, none_stand_before};
-use racp_derivations::{certificate_by_clauses, establishes_by_text};
+use racp_derivations::{
+    bound_certificate, certificate_by_clauses, establishes_by_text, least_by_text,
+};
 use racp_learning::Derivations;
 use racp_model::{Capacities, NetFault, Network, Starts};
 use racp_plan::{Plan, read_plan};
@@ -63,8 +65,22 @@ fn are_told_apart(task: Task<'_>, derivations: &Derivations) -> Result<bool, All
     Ok(certified? == Some(true) && other?.is_none())
 }
 
-/// Whether the plan of the five jobs has a certificate that shows it, and a dearer one has none, as a search for the plan has
-/// recorded it.
+/// Whether what each plan of the five jobs costs at least, 30, has a certificate that shows it.
+fn is_bounded(task: Task<'_>, derivations: &Derivations) -> Result<bool, AllocError>
+    requires { AreTermsOf task.net.now task.order.now }
+{
+    let (alloc, net, order) = (task.alloc, task.net, task.order);
+    let Some(made) = bound_certificate(alloc, net, order, derivations)? else {
+        return Ok(false);
+    };
+    let shown = least_by_text(alloc, net, order, &made.text);
+    let least = made.least;
+    drop(made);
+    Ok(least == 30 && shown? == Some(30))
+}
+
+/// Whether the plan of the five jobs has a certificate that shows it, and so has its cost, and a dearer plan has none, as a search
+/// for the plan has recorded it.
 pub fn are_certified<N: OfProblem>(task: Task<'_>) -> Result<bool, AllocError>
     requires is_of { IsTaskOf N.problem task }
 {
@@ -77,7 +93,9 @@ pub fn are_certified<N: OfProblem>(task: Task<'_>) -> Result<bool, AllocError>
     };
     let found = optimum_recorded::<N, Listener>(task, limits, 1_000_000, &listener)?;
     match &found.derivations {
-        Some(derivations) => are_told_apart(task, derivations),
+        Some(derivations) => {
+            Ok(are_told_apart(task, derivations)? && is_bounded(task, derivations)?)
+        }
         None => Ok(false),
     }
 }

@@ -1,8 +1,6 @@
 //! Who listens to a search for an optimum.
 
-use racp_by_clauses::Hearer;
-use racp_drafts::Draft;
-use racp_learning::Tally;
+use racp_found::{News, Observer};
 use std::cell::Cell;
 
 /// Keeps what it is told, and stops a search that asks too often.
@@ -42,6 +40,18 @@ impl Listener {
         };
         is_least && self.are_falling.get()
     }
+
+    /// Keeps what a draft costs, and its capacities.
+    fn note_draft(&self, units: &[u32], cost: u64) {
+        let digits = digits_of(units);
+        let last = self.cost.get();
+        if last < cost || last == cost && self.digits.get() <= digits {
+            self.are_falling.set(false);
+        }
+        self.cost.set(cost);
+        self.digits.set(digits);
+        self.is_any.set(true);
+    }
 }
 
 /// Up to five capacities below 1,000 as the digits of a number: of two vectors the first has the less.
@@ -53,33 +63,22 @@ fn digits_of(units: &[u32]) -> u64 {
     digits
 }
 
-impl Hearer for Listener {
-    ghost use Rattle.std.specs.Prelude.{⊤};
+impl Observer for Listener {
+    fn hear(&self, news: News<'_>) {
+        match news {
+            News::Cost(least) => self.least.set(self.least.get().max(least)),
+            News::Plan {
+                capacities,
+                cost,
+                ..
+            } => self.note_draft(capacities.as_slice(), cost),
+            News::Deadline(_) | News::Floors(_) | News::Work { .. } => {}
+        }
+    }
 
-    ghost may_hear_cost = { λ _. ⊤ };
-
-    ghost may_hear_draft = { λ _. ⊤ };
-
-    fn stops(&self) -> bool {
+    fn is_to_stop(&self) -> bool {
         let left = self.left.get();
         self.left.set(left.saturating_sub(1));
         left == 0
     }
-
-    fn hear_cost(&self, least: u64) {
-        self.least.set(self.least.get().max(least));
-    }
-
-    fn hear_draft(&self, draft: &Draft) {
-        let digits = digits_of(draft.capacities.as_slice());
-        let last = self.cost.get();
-        if last < draft.cost || last == draft.cost && self.digits.get() <= digits {
-            self.are_falling.set(false);
-        }
-        self.cost.set(draft.cost);
-        self.digits.set(digits);
-        self.is_any.set(true);
-    }
-
-    fn hear_tally(&self, _tally: Tally) {}
 }

@@ -2,10 +2,10 @@
 
 ghost use Rattle.racp_model.specs.Terms.{AreTermsOf};
 
-use racp_check::{Opening, opening_of};
 use racp_drafts::Drafting;
 use racp_model::{Network, Never};
 use racp_prices::Order;
+use racp_root::{Opening, opening_of};
 use racp_samples::{Random, random_network, random_order};
 use std::alloc::{AllocError, Global};
 

@@ -1,7 +1,7 @@
-//! A stop within the check of a certificate by clauses.
+//! A stop within the check of a certificate by clauses, for a plan and for a bound.
 
 use racp_delay::Steps;
-use racp_derivations::establishes_by_text_until;
+use racp_derivations::{establishes_by_text_until, least_by_text_until};
 use racp_model::{Network, Unfound};
 use racp_plan::{Plan, read_plan};
 use racp_prices::{Order, read_order};
@@ -13,7 +13,30 @@ use std::alloc::Global;
 const TEXT: &[u8] =
     b"proof 2\ncost >= 30\nbudget 1\ntimes 3 1 1 3\nholds\nunits 1 >= 3\ntimes 3 1 1 3\nholds\nunits 1 >= 4\nstart 2 >= 1\nstart 3 >= 1\nstart 4 >= 2\ntimes 4 1 0 2\nholds\nunits 1 >= 4\nstart 2 >= 1\nstart 3 >= 1\nstart 5 >= 4\nclause 3\npair 4 5\nholds\nend\n";
 
-/// Whether the text is read to its end by so many questions whether to stop; none if memory is refused or the order is of
+/// That each plan costs at least 30: the lines of examples/a4.bound.
+const BOUND: &[u8] = b"proof 2\nat least 30\ncost >= 30\nbudget 1\ntimes 3 1 1 3\nholds\nend\n";
+
+/// What the second text shows that each plan costs at least, by so many questions whether to stop, and 0 if it was stopped; none
+/// if memory is refused or the order is of another network.
+fn least_told(alloc: Global, net: &Network, order: &Order, most: u32) -> Option<u64> {
+    if !order.is_for(net) {
+        return None;
+    }
+    match least_by_text_until(alloc, net, order, BOUND, &Steps::new(most)) {
+        Ok(least) => least,
+        Err(Unfound::Stopped) => Some(0),
+        Err(Unfound::Memory) => None,
+    }
+}
+
+/// The same of the order of the five jobs.
+fn least_told_by(alloc: Global, most: u32) -> Option<u64> {
+    let net = parallel(alloc).ok()?;
+    let order = read_order(alloc, ORDER.as_bytes(), 1, 5).ok()?;
+    least_told(alloc, &net, &order, most)
+}
+
+/// Whether the first text is read to its end by so many questions whether to stop; none if memory is refused or the order is of
 /// another network.
 fn is_told(alloc: Global, net: &Network, order: &Order, plan: &Plan, most: u32) -> Option<bool> {
     if !order.is_for(net) {
@@ -39,4 +62,11 @@ fn the_stop_is_asked_at_each_line(rt: HostRuntime) {
     let alloc = rt.alloc();
     assert!(rt; is_told_by(alloc, 21) == Some(true));
     assert!(rt; is_told_by(alloc, 20) == Some(false));
+}
+
+#[test]
+fn the_stop_is_asked_at_each_line_behind_a_bound(rt: HostRuntime) {
+    let alloc = rt.alloc();
+    assert!(rt; least_told_by(alloc, 5) == Some(30));
+    assert!(rt; least_told_by(alloc, 4) == Some(0));
 }

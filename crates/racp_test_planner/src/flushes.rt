@@ -1,6 +1,7 @@
 //! The commands over a writer that takes the whole answer, and of which the flush fails.
 
-use racp_cli::{StreamFault, check_over, cpm_over, run_over, verify_over};
+use racp_cli::{StreamFault, check_over, cpm_over, run_over, verify_bound_over, verify_over};
+use racp_model::Never;
 use std::alloc::Global;
 use std::io;
 use std::io::Write;
@@ -18,6 +19,9 @@ const PLAN: &[u8] = b"deadline 4\ncritical 3\ncost 15\ncapacity 1 3\nstart 1 0\n
 /// A certificate that nothing before the plan is enough.
 const PROOF: &[u8] = b"proof\nvector 2\nD 2\nend\n";
 
+/// A certificate that each plan costs at least 15.
+const BOUND: &[u8] = b"proof 2\nat least 15\ncost >= 15\nbudget 1\nrequest 2 1\nholds\nend\n";
+
 /// A command and what it writes.
 #[derive(Clone, Copy)]
 enum Command {
@@ -25,6 +29,7 @@ enum Command {
     Plan,
     Check,
     Verify,
+    Bound,
 }
 
 const ANSWERS: &[(Command, &[u8])] = &[
@@ -32,6 +37,7 @@ const ANSWERS: &[(Command, &[u8])] = &[
     (Command::Plan, PLAN),
     (Command::Check, b"ok\n"),
     (Command::Verify, b"verified\n"),
+    (Command::Bound, b"at least 15\n"),
 ];
 
 /// Takes all, and cannot be flushed.
@@ -54,11 +60,13 @@ impl Write for Stuck {
 /// What a command answers over the texts.
 fn run(alloc: Global, command: Command, out: &mut Stuck) -> Result<u8, StreamFault> {
     let (mut net, mut order, mut plan, mut proof) = (NETWORK, ORDER, PLAN, PROOF);
+    let mut bound = BOUND;
     match command {
         Command::Cpm => cpm_over(alloc, &mut net, out),
         Command::Plan => run_over(alloc, &mut net, &mut order, out),
         Command::Check => check_over(alloc, &mut net, &mut order, &mut plan, out),
         Command::Verify => verify_over(alloc, &mut net, &mut order, &mut plan, &mut proof, out),
+        Command::Bound => verify_bound_over(alloc, &mut net, &mut order, &mut bound, out, &Never),
     }
 }
 

@@ -1,7 +1,9 @@
 //! What becomes of an order if one term is changed.
 
 ghost use Rattle.std.specs.Prelude.{[], ◌∷◌, ◌≡◌, ◌++◌, ℕ, All, Bool, IfErr, IfOk, OnOk, length, map};
+ghost use Rattle.racp_found.specs.Told.{HearsAll};
 ghost use Rattle.racp_model.specs.Terms.{AreTermsOf};
+ghost use Rattle.racp_found.specs.Told.{MayBeTold};
 ghost use Rattle.racp_whatif.specs.Changes.{IsChangeFor};
 ghost use Rattle.racp_whatif.specs.Outcomes.{AreFindings, IsFinding, IsOutcome, change_of};
 ghost use Rattle.racp_by_questions.specs.Crowds.{MayStop};
@@ -13,12 +15,13 @@ use crate::changes::changes_of;
 use crate::changing::changed;
 use crate::need::need_above;
 use crate::outcome::{Finding, Outcome};
-use racp_by_questions::Observer;
 use racp_desk::Gate;
-use racp_lexfix::{Answer, Crew, PlanStop, Task, plan_by_crew};
+use racp_found::Observer;
+use racp_lexfix::{Answer, Crew, PlanStop, plan_by_crew};
 use racp_model::limits::MOST_RESOURCES;
 use racp_model::{Network, Stop};
 use racp_prices::{Order, cost_of};
+use racp_root::Task;
 use std::alloc::{AllocError, Global};
 use std::sync::Wait;
 use std::thread::Threads;
@@ -35,8 +38,8 @@ pub fn findings<G: Gate + Sync, P: Stop + Sync, O: Observer, R: Threads + Wait +
     capacities: &[u32],
     crew: &Crew<'_, G, P, O>,
 ) -> Result<Vec<Finding>, PlanStop>
-    requires terms { AreTermsOf task.now.net.now task.now.order.now }
     requires places { length capacities.now ≡ task.now.net.now.resources }
+    requires heard { HearsAll O.may_hear }
     ensures findings { IfOk result (λ findings. AreFindings (MayStop task.now.net.now (P.is_quiet crew.now.stop.now) crew.now.turns)
         task.now.net.now task.now.order.now capacities.now findings.items) }
     ensures fault { IfErr result IsFault }
@@ -53,8 +56,8 @@ fn each_finding<G: Gate + Sync, P: Stop + Sync, O: Observer, R: Threads + Wait +
     changes: &[Change],
     crew: &Crew<'_, G, P, O>,
 ) -> Result<Vec<Finding>, PlanStop>
-    requires terms { AreTermsOf task.now.net.now task.now.order.now }
     requires asked { All (IsChangeFor task.now.order.now) changes.now }
+    requires heard { HearsAll O.may_hear }
     ensures changes { IfOk result (λ findings. map change_of findings.items ≡ changes.now) }
     ensures right { IfOk result (λ findings. All (IsFinding (MayStop task.now.net.now (P.is_quiet crew.now.stop.now) crew.now.turns)
         task.now.net.now task.now.order.now) findings.items) }
@@ -83,8 +86,8 @@ fn finding<G: Gate + Sync, P: Stop + Sync, O: Observer, R: Threads + Wait + Sync
     change: Change,
     crew: &Crew<'_, G, P, O>,
 ) -> Result<Finding, PlanStop>
-    requires terms { AreTermsOf task.now.net.now task.now.order.now }
     requires change { IsChangeFor task.now.order.now change }
+    requires heard { HearsAll O.may_hear }
     ensures change { IfOk result (λ finding. finding.change ≡ change) }
     ensures right { IfOk result (IsFinding (MayStop task.now.net.now (P.is_quiet crew.now.stop.now) crew.now.turns)
         task.now.net.now task.now.order.now) }
@@ -111,6 +114,7 @@ pub fn outcome_by_crew<G: Gate + Sync, P: Stop + Sync, O: Observer, R: Threads +
     crew: &Crew<'_, G, P, O>,
 ) -> Result<Outcome, PlanStop>
     requires terms { AreTermsOf net.now order.now }
+    requires heard { MayBeTold net.now order.now O.may_hear }
     ensures outcome { IfOk result (IsOutcome (MayStop net.now (P.is_quiet crew.now.stop.now) crew.now.turns)
         net.now order.now) }
     ensures fault { IfErr result IsFault }
@@ -128,7 +132,6 @@ pub fn outcome_by_crew<G: Gate + Sync, P: Stop + Sync, O: Observer, R: Threads +
 
 /// What an answer says of an order, with a need above a ceiling if the ceilings leave no plan.
 fn outcome_of(task: &Task<'_>, answer: Answer) -> Result<Outcome, PlanStop>
-    requires terms { AreTermsOf task.now.net.now task.now.order.now }
     requires answer { IsAnswer task.now.net.now task.now.order.now answer }
     ensures outcome { (quiet : Bool) (turns : ℕ) → IfOk result (IsOutcome (MayStop task.now.net.now quiet turns)
         task.now.net.now task.now.order.now) }

@@ -8,9 +8,9 @@ ghost use Rattle.racp_whatif.specs.Within.{IsFound};
 
 use crate::joint::joint_above;
 use crate::single::single_above;
-use racp_check::{Opening, opening_of};
 use racp_model::{Network, Window};
 use racp_prices::Order;
+use racp_root::{Opening, opening_of};
 use std::alloc::{AllocError, Global};
 
 /// Units of a resource that some jobs use together at some time, however all jobs start in time.

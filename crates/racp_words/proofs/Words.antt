@@ -8,7 +8,7 @@ use Rattle.clap.proofs.ValueTestLemmas.{Accepts-accepts}
 use Rattle.clap.specs.declared.builder.value_parser.ValueParser.TheVariants.{Unsigned}
 use Rattle.clap.specs.Words.{IsUnsignedIn, Row, Text, fault_of, first_of, subcommand_of}
 use Rattle.clap.proofs.OnLiterals.{clap_on_literals}
-use Rattle.racp_words.specs.CommandLine.{IsCpmLine, AsksForCpm, IsPlanLine, AsksForPlan, IsWorkersLine, AsksForWorkers, IsOfWorkers, IsProveLine, AsksForProve, IsCheckLine, AsksForCheck, IsVerifyLine, AsksForVerify, IsPlain, IsRequested, racp}
+use Rattle.racp_words.specs.CommandLine.{IsCpmLine, AsksForCpm, IsPlanLine, AsksForPlan, IsWorkersLine, AsksForWorkers, IsOfWorkers, IsProveLine, AsksForProve, IsCheckLine, AsksForCheck, IsVerifyLine, AsksForVerify, IsVerifyBoundLine, AsksForVerifyBound, IsPlain, IsRequested, racp}
 use Rattle.racp_words.specs.Rules.{IsCrew, IsNumberOf, IsWorkerCount, has_crew_option, number_in, is_set, path_at}
 use Rattle.racp_words.specs.Tools.{IsToolOf}
 use Rattle.clap.specs.Kinds.{Kinds, or_else}
@@ -16,7 +16,7 @@ use Rattle.clap.specs.ValueTests.{is_unsigned_in}
 use Rattle.clap.specs.declared.error.kind.ErrorKind.TheVariants.{ValueValidation}
 use Rattle.racp_words.specs.declared.request.CrewOptions.{CrewOptions}
 use Rattle.racp_words.specs.declared.request.Request.{Request}
-use Rattle.racp_words.specs.declared.request.Request.TheVariants.{Cpm, Plan, Prove, Check, Verify, Tool}
+use Rattle.racp_words.specs.declared.request.Request.TheVariants.{Cpm, Plan, Prove, Check, Verify, VerifyBound, Tool}
 use Rattle.racp_words.specs.declared.request.Tool as declared
 use Rattle.racp_words.specs.declared.request.Tool.TheVariants.{Show, Report, Curve, WhatIf, Order, Batch, Import, Explain}
 
@@ -140,6 +140,7 @@ none_asked None (Plan files memory crew) e asked = asked
 none_asked None (Prove files facts limit) e asked = asked
 none_asked None (Check files) e asked = asked
 none_asked None (Verify files limit) e asked = asked
+none_asked None (VerifyBound files limit) e asked = asked
 none_asked None (Tool tool) e asked = asked
 none_asked (Some command) request e asked = absurd (search rules)
 
@@ -158,6 +159,9 @@ cpm_asked (Some command) word (Check files) e asked =
     let same : codes "cpm" ≡ codes "check" = sym (ap (λ c. c.0) (same_Some _ _ e)) ∙ asked.0 in
     let letter : 112 ≡ 104 = ap (λ t. slice_index t 1) same in absurd (omega (arith, letter))
 cpm_asked (Some command) word (Verify files limit) e asked =
+    let same : codes "cpm" ≡ codes "verify" = sym (ap (λ c. c.0) (same_Some _ _ e)) ∙ asked.0 in
+    let letter : 99 ≡ 118 = ap (λ t. slice_index t 0) same in absurd (omega (arith, letter))
+cpm_asked (Some command) word (VerifyBound files limit) e asked =
     let same : codes "cpm" ≡ codes "verify" = sym (ap (λ c. c.0) (same_Some _ _ e)) ∙ asked.0 in
     let letter : 99 ≡ 118 = ap (λ t. slice_index t 0) same in absurd (omega (arith, letter))
 cpm_asked (Some command) word (Tool tool) e asked = absurd (no_tool_cpm command tool (ap (λ c. c.0) (same_Some _ _ e)) asked)
@@ -230,6 +234,9 @@ plan_asked (Some command) net order (Check files) e asked =
 plan_asked (Some command) net order (Verify files limit) e asked =
     let same : codes "plan" ≡ codes "verify" = sym (ap (λ c. c.0) (same_Some _ _ e)) ∙ asked.0 in
     let letter : 112 ≡ 118 = ap (λ t. slice_index t 0) same in absurd (omega (arith, letter))
+plan_asked (Some command) net order (VerifyBound files limit) e asked =
+    let same : codes "plan" ≡ codes "verify" = sym (ap (λ c. c.0) (same_Some _ _ e)) ∙ asked.0 in
+    let letter : 112 ≡ 118 = ap (λ t. slice_index t 0) same in absurd (omega (arith, letter))
 plan_asked (Some command) net order (Tool tool) e asked = absurd (no_tool_plan command tool (ap (λ c. c.0) (same_Some _ _ e)) asked)
 
 -- a number begins with no hyphen
@@ -284,6 +291,9 @@ workers_asked (Some command) net order number (Check files) in_range e asked =
 workers_asked (Some command) net order number (Verify files limit) in_range e asked =
     let same : codes "plan" ≡ codes "verify" = sym (ap (λ c. c.0) (same_Some _ _ e)) ∙ asked.0 in
     let letter : 112 ≡ 118 = ap (λ t. slice_index t 0) same in absurd (omega (arith, letter))
+workers_asked (Some command) net order number (VerifyBound files limit) in_range e asked =
+    let same : codes "plan" ≡ codes "verify" = sym (ap (λ c. c.0) (same_Some _ _ e)) ∙ asked.0 in
+    let letter : 112 ≡ 118 = ap (λ t. slice_index t 0) same in absurd (omega (arith, letter))
 workers_asked (Some command) net order number (Tool tool) in_range e asked = absurd (no_tool_plan command tool (ap (λ c. c.0) (same_Some _ _ e)) asked)
 
 -- the command that is named, the paths of its words for a network and an order, and whether it is asked for clauses
@@ -316,6 +326,9 @@ prove_asked (Some command) net order (Check files) e asked =
 prove_asked (Some command) net order (Verify files limit) e asked =
     let same : codes "prove" ≡ codes "verify" = sym (ap (λ c. c.0) (same_Some _ _ e)) ∙ asked.0 in
     let letter : 112 ≡ 118 = ap (λ t. slice_index t 0) same in absurd (omega (arith, letter))
+prove_asked (Some command) net order (VerifyBound files limit) e asked =
+    let same : codes "prove" ≡ codes "verify" = sym (ap (λ c. c.0) (same_Some _ _ e)) ∙ asked.0 in
+    let letter : 112 ≡ 118 = ap (λ t. slice_index t 0) same in absurd (omega (arith, letter))
 prove_asked (Some command) net order (Tool tool) e asked = absurd (no_tool_prove command tool (ap (λ c. c.0) (same_Some _ _ e)) asked)
 
 -- the command that is named, and the paths of its words for a network, an order and a plan
@@ -346,23 +359,26 @@ check_asked (Some command) net order plan (Check files) e asked =
 check_asked (Some command) net order plan (Verify files limit) e asked =
     let same : codes "check" ≡ codes "verify" = sym (ap (λ c. c.0) (same_Some _ _ e)) ∙ asked.0 in
     let letter : 99 ≡ 118 = ap (λ t. slice_index t 0) same in absurd (omega (arith, letter))
+check_asked (Some command) net order plan (VerifyBound files limit) e asked =
+    let same : codes "check" ≡ codes "verify" = sym (ap (λ c. c.0) (same_Some _ _ e)) ∙ asked.0 in
+    let letter : 99 ≡ 118 = ap (λ t. slice_index t 0) same in absurd (omega (arith, letter))
 check_asked (Some command) net order plan (Tool tool) e asked = absurd (no_tool_check command tool (ap (λ c. c.0) (same_Some _ _ e)) asked)
 
--- the command that is named, and the paths of its words for a network, an order, a plan and a certificate
-with_four_paths : Option (Text × List Row) → Option (Text × (Text × (Text × (Text × (Text × Option Text)))))
+-- the command that is named, the paths of its words for a network, an order and a plan, and the word for a certificate
+with_four_paths : Option (Text × List Row) → Option (Text × (Text × (Text × (Text × (Option Text × Option Text)))))
 with_four_paths = option_map (λ command. (
   command.0,
-  (path_at (codes "NET") command.1, (path_at (codes "ORDER") command.1, (path_at (codes "PLAN") command.1, (path_at (codes "PROOF") command.1, first_of (codes "time-limit") command.1)))),
+  (path_at (codes "NET") command.1, (path_at (codes "ORDER") command.1, (path_at (codes "PLAN") command.1, (first_of (codes "PROOF") command.1, first_of (codes "time-limit") command.1)))),
 ))
 
 verify_paths : (name : Text) (a b d f : ℕ) (net order plan proof : Text) → (a == 45) ≡ false → (b == 45) ≡ false → (d == 45) ≡ false → (f == 45) ≡ false →
     (fault_of racp (name ∷ codes "verify" ∷ (a ∷ net) ∷ (b ∷ order) ∷ (d ∷ plan) ∷ (f ∷ proof) ∷ []) ≡ []) ×
-    (with_four_paths (subcommand_of racp (name ∷ codes "verify" ∷ (a ∷ net) ∷ (b ∷ order) ∷ (d ∷ plan) ∷ (f ∷ proof) ∷ [])) ≡ Some (codes "verify", (a ∷ net, (b ∷ order, (d ∷ plan, (f ∷ proof, None))))))
+    (with_four_paths (subcommand_of racp (name ∷ codes "verify" ∷ (a ∷ net) ∷ (b ∷ order) ∷ (d ∷ plan) ∷ (f ∷ proof) ∷ [])) ≡ Some (codes "verify", (a ∷ net, (b ∷ order, (d ∷ plan, (Some (f ∷ proof), None))))))
 unfolding racp clap_on_literals with_four_paths
 verify_paths name a b d f net order plan proof p q r s = (rw (p, p, q, q, r, r, s, s) refl, rw (p, p, q, q, r, r, s, s) refl)
 
 -- `verify` asks for the files with these paths
-verify_asked : (command : Option (Text × List Row)) (net order plan proof : Text) (request : Request) → with_four_paths command ≡ Some (codes "verify", (net, (order, (plan, (proof, None))))) → IsRequested command request →
+verify_asked : (command : Option (Text × List Row)) (net order plan proof : Text) (request : Request) → with_four_paths command ≡ Some (codes "verify", (net, (order, (plan, (Some proof, None))))) → IsRequested command request →
     AsksForVerify net order plan proof request
 unfolding with_four_paths
 verify_asked None net order plan proof request e asked = absurd (search rules)
@@ -381,10 +397,40 @@ verify_asked (Some command) net order plan proof (Verify files limit) e asked =
       asked.1.net ∙ ap (λ c. c.1.0) same,
       asked.1.order ∙ ap (λ c. c.1.1.0) same,
       asked.1.plan ∙ ap (λ c. c.1.1.1.0) same,
-      asked.1.proof ∙ ap (λ c. c.1.1.1.1.0) same,
+      same_Some _ _ (sym asked.1.proof ∙ ap (λ c. c.1.1.1.1.0) same),
       asked.2 ∙ ap (λ c. c.1.1.1.1.1) same,
     )
+verify_asked (Some command) net order plan proof (VerifyBound files limit) e asked =
+    let clash : None ≡ Some proof = sym asked.1.alone ∙ ap (λ c. c.1.1.1.1.0) (same_Some _ _ e) in absurd (cc clash)
 verify_asked (Some command) net order plan proof (Tool tool) e asked = absurd (no_tool_verify command tool (ap (λ c. c.0) (same_Some _ _ e)) asked)
+
+verify_bound_paths : (name : Text) (a b d : ℕ) (net order proof : Text) → (a == 45) ≡ false → (b == 45) ≡ false → (d == 45) ≡ false →
+    (fault_of racp (name ∷ codes "verify" ∷ (a ∷ net) ∷ (b ∷ order) ∷ (d ∷ proof) ∷ []) ≡ []) ×
+    (with_four_paths (subcommand_of racp (name ∷ codes "verify" ∷ (a ∷ net) ∷ (b ∷ order) ∷ (d ∷ proof) ∷ [])) ≡ Some (codes "verify", (a ∷ net, (b ∷ order, (d ∷ proof, (None, None))))))
+unfolding racp clap_on_literals with_four_paths
+verify_bound_paths name a b d net order proof p q r = (rw (p, p, q, q, r, r) refl, rw (p, p, q, q, r, r) refl)
+
+-- `verify` of a bound asks for the files with these paths
+verify_bound_asked : (command : Option (Text × List Row)) (net order proof : Text) (request : Request) → with_four_paths command ≡ Some (codes "verify", (net, (order, (proof, (None, None))))) → IsRequested command request →
+    AsksForVerifyBound net order proof request
+unfolding with_four_paths
+verify_bound_asked None net order proof request e asked = absurd (search rules)
+verify_bound_asked (Some command) net order proof (Cpm network) e asked = absurd (asked.3 (ap (λ c. c.0) (same_Some _ _ e)))
+verify_bound_asked (Some command) net order proof (Plan files memory crew) e asked =
+    let same : codes "verify" ≡ codes "plan" = sym (ap (λ c. c.0) (same_Some _ _ e)) ∙ asked.0 in
+    let letter : 118 ≡ 112 = ap (λ t. slice_index t 0) same in absurd (omega (arith, letter))
+verify_bound_asked (Some command) net order proof (Prove files facts limit) e asked =
+    let same : codes "verify" ≡ codes "prove" = sym (ap (λ c. c.0) (same_Some _ _ e)) ∙ asked.0 in
+    let letter : 118 ≡ 112 = ap (λ t. slice_index t 0) same in absurd (omega (arith, letter))
+verify_bound_asked (Some command) net order proof (Check files) e asked =
+    let same : codes "verify" ≡ codes "check" = sym (ap (λ c. c.0) (same_Some _ _ e)) ∙ asked.0 in
+    let letter : 118 ≡ 99 = ap (λ t. slice_index t 0) same in absurd (omega (arith, letter))
+verify_bound_asked (Some command) net order proof (Verify files limit) e asked =
+    let clash : None ≡ Some files.proof.now = sym (ap (λ c. c.1.1.1.1.0) (same_Some _ _ e)) ∙ asked.1.proof in absurd (cc clash)
+verify_bound_asked (Some command) net order proof (VerifyBound files limit) e asked =
+    let same = same_Some _ _ e in
+    (asked.1.net ∙ ap (λ c. c.1.0) same, asked.1.order ∙ ap (λ c. c.1.1.0) same, asked.1.proof ∙ ap (λ c. c.1.1.1.0) same, asked.2 ∙ ap (λ c. c.1.1.1.1.1) same)
+verify_bound_asked (Some command) net order proof (Tool tool) e asked = absurd (no_tool_verify command tool (ap (λ c. c.0) (same_Some _ _ e)) asked)
 
 -- the parser takes each line that asks for `cpm`, and what is asked for is that
 pub cpm_line : (words : List Text) (network : Option Text) → IsCpmLine words network → (fault_of racp words ≡ []) × ((request : Request) → IsRequested (subcommand_of racp words) request → AsksForCpm network request)
@@ -459,4 +505,16 @@ verify_line words (a ∷ net) (b ∷ order) (d ∷ plan) (f ∷ proof) (name, fi
     let taken = verify_paths name a b d f net order plan proof (ne_eqb a 45 first) (ne_eqb b 45 second) (ne_eqb d 45 third) (ne_eqb f 45 fourth) in (
       ap (λ (ws : List Text). fault_of racp ws) is ∙ taken.0,
       λ request. verify_asked (subcommand_of racp words) (a ∷ net) (b ∷ order) (d ∷ plan) (f ∷ proof) request (ap (λ (ws : List Text). with_four_paths (subcommand_of racp ws)) is ∙ taken.1),
+    )
+
+-- the parser takes each line that asks for `verify` of a bound, and what is asked for is that
+pub verify_bound_line : (words : List Text) (net order proof : Text) → IsVerifyBoundLine words net order proof →
+    (fault_of racp words ≡ []) × ((request : Request) → IsRequested (subcommand_of racp words) request → AsksForVerifyBound net order proof request)
+verify_bound_line words [] order proof (name, none, second, third, is) = absurd none
+verify_bound_line words (a ∷ net) [] proof (name, first, none, third, is) = absurd none
+verify_bound_line words (a ∷ net) (b ∷ order) [] (name, first, second, none, is) = absurd none
+verify_bound_line words (a ∷ net) (b ∷ order) (d ∷ proof) (name, first, second, third, is) =
+    let taken = verify_bound_paths name a b d net order proof (ne_eqb a 45 first) (ne_eqb b 45 second) (ne_eqb d 45 third) in (
+      ap (λ (ws : List Text). fault_of racp ws) is ∙ taken.0,
+      λ request. verify_bound_asked (subcommand_of racp words) (a ∷ net) (b ∷ order) (d ∷ proof) request (ap (λ (ws : List Text). with_four_paths (subcommand_of racp ws)) is ∙ taken.1),
     )

@@ -3,12 +3,12 @@ use Rattle.std.specs.Prelude.{◌≡◌, ◌≢◌, ◌⊎◌, Bool, ℕ, List, 
 use Rattle.std.specs.Prelude.{if◌then◌else◌, option_map}
 use Rattle.clap.specs.Words.{App, IsUnsignedIn, Row, Text, first_of, new_app, new_rule, subcommand_of, with_rule}
 use Rattle.clap.specs.Words.{with_subcommand}
-use Rattle.racp_words.specs.Rules.{AreOrderFiles, ArePlanFiles, AreProofFiles, IsCrew, IsNumberOf, answering, file_rule, flag_rule, is_set, number_rule, of_order, of_plan, of_workers, telling, text_rule}
+use Rattle.racp_words.specs.Rules.{AreBoundFiles, AreOrderFiles, ArePlanFiles, AreProofFiles, IsCrew, IsNumberOf, answering, flag_rule, is_set, number_rule, of_order, of_plan, of_workers, telling, text_rule}
 use Rattle.racp_words.specs.Batches.{batch}
 use Rattle.racp_words.specs.Tools.{IsNoTool, IsToolOf, curve, explain, import_table, report, show, order as order_app, whatif}
 use Rattle.racp_words.specs.declared.request.CrewOptions.{CrewOptions}
 use Rattle.racp_words.specs.declared.request.Request.{Request}
-use Rattle.racp_words.specs.declared.request.Request.TheVariants.{Cpm, Plan, Prove, Check, Verify, Tool}
+use Rattle.racp_words.specs.declared.request.Request.TheVariants.{Cpm, Plan, Prove, Check, Verify, VerifyBound, Tool}
 use Rattle.racp_words.specs.declared.request.Source.{Source}
 use Rattle.racp_words.specs.declared.request.Source.TheVariants.{StandardInput, File}
 use Rattle.racp_words.specs.declared.request.Task.{Task}
@@ -45,9 +45,9 @@ prove = telling (with_rule (with_rule (of_order (codes "prove")) (flag_rule (cod
 abbrev pub check : App
 check = answering (of_plan (codes "check"))
 
--- `verify NET ORDER PLAN PROOF [--time-limit S] [--json] [--explain] [--quiet]`
+-- `verify NET ORDER PLAN [PROOF] [--time-limit S] [--json] [--explain] [--quiet]`
 abbrev pub verify : App
-verify = answering (with_rule (with_rule (of_plan (codes "verify")) (file_rule (codes "PROOF")))
+verify = answering (with_rule (with_rule (of_plan (codes "verify")) (new_rule (codes "PROOF")))
     (text_rule (codes "time-limit")))
 
 -- a program that tells its version, in short and in long
@@ -58,7 +58,7 @@ with_version a = record a { top = record a.top { has_version = true; has_long_ve
 abbrev pub racp_planning : App
 racp_planning = with_subcommand (with_subcommand (with_version (new_app (codes "racp"))) cpm.top) plan.top
 
--- `racp [.. | prove NET ORDER [OPTIONS] | check NET ORDER PLAN [OPTIONS] | verify NET ORDER PLAN PROOF [OPTIONS]]`
+-- `racp [.. | prove NET ORDER [OPTIONS] | check NET ORDER PLAN [OPTIONS] | verify NET ORDER PLAN [PROOF] [OPTIONS]]`
 abbrev pub racp_checking : App
 racp_checking = with_subcommand (with_subcommand (with_subcommand racp_planning prove.top) check.top) verify.top
 
@@ -86,6 +86,7 @@ IsRequested None (Plan files memory crew) = ⊥
 IsRequested None (Prove files facts limit) = ⊥
 IsRequested None (Check files) = ⊥
 IsRequested None (Verify files limit) = ⊥
+IsRequested None (VerifyBound files limit) = ⊥
 IsRequested None (Tool tool) = ⊥
 IsRequested (Some command) (Cpm network) =
     (command.0 ≢ codes "plan") × (command.0 ≢ codes "prove") × (command.0 ≢ codes "check") ×
@@ -99,6 +100,9 @@ IsRequested (Some command) (Prove files facts limit) = (command.0 ≡ codes "pro
 IsRequested (Some command) (Check files) = (command.0 ≡ codes "check") × ArePlanFiles command.1 files
 IsRequested (Some command) (Verify files limit) =
     (command.0 ≡ codes "verify") × AreProofFiles command.1 files ×
+    (option_map (λ word. word.now) limit ≡ first_of (codes "time-limit") command.1)
+IsRequested (Some command) (VerifyBound files limit) =
+    (command.0 ≡ codes "verify") × AreBoundFiles command.1 files ×
     (option_map (λ word. word.now) limit ≡ first_of (codes "time-limit") command.1)
 IsRequested (Some command) (Tool tool) = IsToolOf command tool
 
@@ -144,6 +148,7 @@ AsksForCpm word (Plan files memory crew) = ⊥
 AsksForCpm word (Prove files facts limit) = ⊥
 AsksForCpm word (Check files) = ⊥
 AsksForCpm word (Verify files limit) = ⊥
+AsksForCpm word (VerifyBound files limit) = ⊥
 AsksForCpm word (Tool tool) = ⊥
 
 -- a word that is not empty, and no option
@@ -164,6 +169,7 @@ AsksForPlan net order (Plan files memory crew) =
 AsksForPlan net order (Prove files facts limit) = ⊥
 AsksForPlan net order (Check files) = ⊥
 AsksForPlan net order (Verify files limit) = ⊥
+AsksForPlan net order (VerifyBound files limit) = ⊥
 AsksForPlan net order (Tool tool) = ⊥
 
 -- After the program's name come `plan`, these two paths, `--workers` and this number from 0 to 64.
@@ -186,6 +192,7 @@ AsksForWorkers net order workers (Plan files memory crew) =
 AsksForWorkers net order workers (Prove files facts limit) = ⊥
 AsksForWorkers net order workers (Check files) = ⊥
 AsksForWorkers net order workers (Verify files limit) = ⊥
+AsksForWorkers net order workers (VerifyBound files limit) = ⊥
 AsksForWorkers net order workers (Tool tool) = ⊥
 
 -- After the program's name come `prove` and these two paths.
@@ -201,6 +208,7 @@ AsksForProve net order (Prove files facts limit) = (files.net.now ≡ net) × (f
     (facts ≡ false) × (option_map (λ word. word.now) limit ≡ None)
 AsksForProve net order (Check files) = ⊥
 AsksForProve net order (Verify files limit) = ⊥
+AsksForProve net order (VerifyBound files limit) = ⊥
 AsksForProve net order (Tool tool) = ⊥
 
 -- After the program's name come `check` and these three paths.
@@ -217,6 +225,7 @@ AsksForCheck net order plan_path (Prove files facts limit) = ⊥
 AsksForCheck net order plan_path (Check files) = (files.net.now ≡ net) × (files.order.now ≡ order) ×
     (files.plan.now ≡ plan_path)
 AsksForCheck net order plan_path (Verify files limit) = ⊥
+AsksForCheck net order plan_path (VerifyBound files limit) = ⊥
 AsksForCheck net order plan_path (Tool tool) = ⊥
 
 -- After the program's name come `verify` and these four paths.
@@ -233,4 +242,22 @@ AsksForVerify net order plan_path proof (Prove files facts limit) = ⊥
 AsksForVerify net order plan_path proof (Check files) = ⊥
 AsksForVerify net order plan_path proof (Verify files limit) = (files.net.now ≡ net) × (files.order.now ≡ order) ×
     (files.plan.now ≡ plan_path) × (files.proof.now ≡ proof) × (option_map (λ word. word.now) limit ≡ None)
+AsksForVerify net order plan_path proof (VerifyBound files limit) = ⊥
 AsksForVerify net order plan_path proof (Tool tool) = ⊥
+
+-- After the program's name come `verify` and these three paths.
+abbrev pub IsVerifyBoundLine : List Text → Text → Text → Text → Type 0
+IsVerifyBoundLine words net order proof =
+    (name : Text) × IsPath net × IsPath order × IsPath proof ×
+    (words ≡ name ∷ codes "verify" ∷ net ∷ order ∷ proof ∷ [])
+
+-- `verify` of a bound by the files with these paths, without a limit of time
+abbrev pub AsksForVerifyBound : Text → Text → Text → Request → Type 0
+AsksForVerifyBound net order proof (Cpm network) = ⊥
+AsksForVerifyBound net order proof (Plan files memory crew) = ⊥
+AsksForVerifyBound net order proof (Prove files facts limit) = ⊥
+AsksForVerifyBound net order proof (Check files) = ⊥
+AsksForVerifyBound net order proof (Verify files limit) = ⊥
+AsksForVerifyBound net order proof (VerifyBound files limit) = (files.net.now ≡ net) × (files.order.now ≡ order) ×
+    (files.proof.now ≡ proof) × (option_map (λ word. word.now) limit ≡ None)
+AsksForVerifyBound net order proof (Tool tool) = ⊥

@@ -7,6 +7,7 @@ use Rattle.std.specs.Str.Parse.{digits_value, without_leading_plus}
 use Rattle.clap.specs.Words.{App, IsUnsignedIn, Row, Rule, Text, first_of, new_app, new_rule, with_rule}
 use Rattle.clap.specs.declared.builder.action.ArgAction.TheVariants.{SetTrue}
 use Rattle.clap.specs.declared.builder.value_parser.ValueParser.TheVariants.{Unsigned}
+use Rattle.racp_words.specs.declared.request.BoundFiles.{BoundFiles}
 use Rattle.racp_words.specs.declared.request.CrewOptions.{CrewOptions}
 use Rattle.racp_words.specs.declared.request.OrderFiles.{OrderFiles}
 use Rattle.racp_words.specs.declared.request.PlanFiles.{PlanFiles}
@@ -114,9 +115,17 @@ pub record ArePlanFiles (words : List Row) (files : PlanFiles) : Type 0 where
   pub order : files.order.now ≡ path_at (codes "ORDER") words
   pub plan : files.plan.now ≡ path_at (codes "PLAN") words
 
--- the files with the paths of the words for a network, an order, a plan and a certificate
+-- the files with the paths of the words for a network, an order, a plan and a certificate, which is given
 pub record AreProofFiles (words : List Row) (files : ProofFiles) : Type 0 where
   pub net : files.net.now ≡ path_at (codes "NET") words
   pub order : files.order.now ≡ path_at (codes "ORDER") words
   pub plan : files.plan.now ≡ path_at (codes "PLAN") words
-  pub proof : files.proof.now ≡ path_at (codes "PROOF") words
+  pub proof : first_of (codes "PROOF") words ≡ Some files.proof.now
+
+-- the files with the paths of the words for a network, an order and a certificate of a bound, which has the place of a plan
+-- where no certificate stands behind it
+pub record AreBoundFiles (words : List Row) (files : BoundFiles) : Type 0 where
+  pub net : files.net.now ≡ path_at (codes "NET") words
+  pub order : files.order.now ≡ path_at (codes "ORDER") words
+  pub proof : files.proof.now ≡ path_at (codes "PLAN") words
+  pub alone : first_of (codes "PROOF") words ≡ None

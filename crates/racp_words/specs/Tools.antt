@@ -21,12 +21,15 @@ show_named = with_rule (with_rule (of_plan (codes "show")) (text_rule (codes "na
 abbrev pub show_in_letters : App
 show_in_letters = with_rule (with_rule show_named (flag_rule (codes "ascii"))) (flag_rule (codes "svg"))
 
--- the options `[--start-date DATE] [--unit UNIT]` after others
-abbrev pub dated : App → App
-dated app = with_rule (with_rule app (text_rule (codes "start-date"))) (text_rule (codes "unit"))
+-- the options `[--calendar FILE] [--start-date DATE] [--workdays DAYS] [--unit UNIT]` after others
+abbrev pub begun : App → App
+begun app = with_rule (with_rule app (text_rule (codes "calendar"))) (text_rule (codes "start-date"))
 
--- `show NET ORDER PLAN [--names FILE] [--width N] [--ascii] [--svg] [--links] [--start-date DATE] [--unit UNIT] [--json]
--- [--csv] [--explain] [--quiet]`
+abbrev pub dated : App → App
+dated app = with_rule (with_rule (begun app) (text_rule (codes "workdays"))) (text_rule (codes "unit"))
+
+-- `show NET ORDER PLAN [--names FILE] [--width N] [--ascii] [--svg] [--links] [--calendar FILE] [--start-date DATE]
+-- [--workdays DAYS] [--unit UNIT] [--json] [--csv] [--explain] [--quiet]`
 abbrev pub show : App
 show = telling (with_rule (with_rule (dated (with_rule show_in_letters (flag_rule (codes "links")))) (flag_rule (codes "json")))
     (flag_rule (codes "csv")))
@@ -35,7 +38,8 @@ show = telling (with_rule (with_rule (dated (with_rule show_in_letters (flag_rul
 abbrev pub report_of_curve : App
 report_of_curve = with_rule (with_rule (of_plan (codes "report")) (text_rule (codes "names"))) (text_rule (codes "curve"))
 
--- `report NET ORDER PLAN [--names FILE] [--curve FILE] [--whatif FILE] [--start-date DATE] [--unit UNIT] [--explain] [--quiet]`
+-- `report NET ORDER PLAN [--names FILE] [--curve FILE] [--whatif FILE] [--calendar FILE] [--start-date DATE]
+-- [--workdays DAYS] [--unit UNIT] [--explain] [--quiet]`
 abbrev pub report : App
 report = telling (dated (with_rule report_of_curve (text_rule (codes "whatif"))))
 
@@ -130,7 +134,9 @@ IsWidth (Some word) width = IsUnsignedIn 1 1000 word → width ≡ Some (number_
 
 -- the words say that times are told in this way
 pub record AreDates (words : List Row) (dates : Dates) : Type 0 where
+  pub calendar : option_map (λ word. word.now) dates.calendar ≡ first_of (codes "calendar") words
   pub start : option_map (λ word. word.now) dates.start ≡ first_of (codes "start-date") words
+  pub workdays : option_map (λ word. word.now) dates.workdays ≡ first_of (codes "workdays") words
   pub unit : option_map (λ word. word.now) dates.unit ≡ first_of (codes "unit") words
 
 -- the words say that a plan is shown in this way

@@ -3,19 +3,19 @@
 ghost use Rattle.std.specs.Prelude.{◌≡◌, ◌≢◌, ℕ, List, Option, Some, IfNone, IfOk, IfSome, MatchResult, map, option_map, string_bytes, codes};
 ghost use Rattle.clap.specs.Words.{FailsBy, fault_of, first_value, found_of, kind_of, rows_of, subcommand_rows_of};
 ghost use Rattle.clap.specs.declared.error.kind.ErrorKind.TheVariants.{OutOfMemory};
-ghost use Rattle.racp_words.specs.CommandLine.{AskFor, IsTask, IsCheckLine, AsksForCheck, IsProveLine, AsksForProve, IsVerifyLine, AsksForVerify, IsCpmLine, AsksForCpm, IsPlanLine, AsksForPlan, IsWorkersLine, AsksForWorkers, IsRequested, IsSource, is_json_of, racp, telling_by, telling_of};
-ghost use Rattle.racp_words.specs.Rules.{AreOrderFiles, ArePlanFiles, AreProofFiles, number_in};
+ghost use Rattle.racp_words.specs.CommandLine.{AskFor, IsTask, IsCheckLine, AsksForCheck, IsProveLine, AsksForProve, IsVerifyLine, AsksForVerify, IsVerifyBoundLine, AsksForVerifyBound, IsCpmLine, AsksForCpm, IsPlanLine, AsksForPlan, IsWorkersLine, AsksForWorkers, IsRequested, IsSource, is_json_of, racp, telling_by, telling_of};
+ghost use Rattle.racp_words.specs.Rules.{AreOrderFiles, ArePlanFiles, number_in};
 ghost use Rattle.racp_words.specs.Tools.{IsNoTool, IsToolOf};
 
 use crate::batch_words::batch_of;
 use crate::commands::command;
 use crate::options::{crew_of, dates_of, is_set, memory_of, path_of, text_of};
 use crate::request::{
-    OrderFiles, PlanFiles, ProofFiles, ReportWords, Request, Source, Task, Telling, Tool,
-    WhatIfWords,
+    OrderFiles, PlanFiles, ReportWords, Request, Source, Task, Telling, Tool, WhatIfWords,
 };
 use crate::table_words::table_of;
 use crate::tool_words::{look_of, named_net, terms_of};
+use crate::verify_words::verify_of;
 use clap::{ArgMatches, Error};
 use std::alloc::{AllocError, Global};
 
@@ -43,6 +43,9 @@ pub fn asked<'a>(alloc: Global, words: &'a [String]) -> Result<Task<'a>, Error>
     // With `verify` and four paths, too.
     ensures verify { (net order plan_path proof : List ℕ) → IsVerifyLine (map string_bytes words.entry.now) net order plan_path proof
         → MatchResult result (λ task. AsksForVerify net order plan_path proof task.request) (λ error. kind_of error ≡ OutOfMemory) }
+    // With `verify` and three paths, too.
+    ensures verify_bound { (net order proof : List ℕ) → IsVerifyBoundLine (map string_bytes words.entry.now) net order proof
+        → MatchResult result (λ task. AsksForVerifyBound net order proof task.request) (λ error. kind_of error ≡ OutOfMemory) }
     // Whatever the words are, the parser's account of them says what they ask for, or why they are refused.
     ensures asked { IfOk result (AskFor (map string_bytes words.entry.now)) }
     ensures faults { FailsBy (fault_of racp (map string_bytes words.entry.now)) result }
@@ -140,7 +143,7 @@ fn request_named<'a>(name: &str, words: &ArgMatches<'a>) -> Request<'a>
     } else if name == "check" {
         Request::Check(plan_files(words))
     } else if name == "verify" {
-        Request::Verify(proof_files(words), text_of(words, "time-limit"))
+        verify_of(words)
     } else {
         match tool_named(name, words) {
             Some(tool) => Request::Tool(tool),
@@ -204,18 +207,6 @@ fn plan_files<'a>(words: &ArgMatches<'a>) -> PlanFiles<'a>
         net: path_of(words, "NET"),
         order: path_of(words, "ORDER"),
         plan: path_of(words, "PLAN"),
-    }
-}
-
-/// The files of a network, an order, a plan and a certificate.
-fn proof_files<'a>(words: &ArgMatches<'a>) -> ProofFiles<'a>
-    ensures { AreProofFiles (rows_of (found_of words.now)) result }
-{
-    ProofFiles {
-        net: path_of(words, "NET"),
-        order: path_of(words, "ORDER"),
-        plan: path_of(words, "PLAN"),
-        proof: path_of(words, "PROOF"),
     }
 }
 

@@ -16,6 +16,7 @@
 //! racp check a.sm a4.toml p                Check with the paths a.sm, a4.toml and p
 //! racp verify a.sm a4.toml p q             Verify with the paths a.sm, a4.toml, p and q, and None: no limit of time
 //! racp verify a.sm a4.toml p q --time-limit 5  the same, and the word 5 for the limit
+//! racp verify a.sm a4.toml q               VerifyBound with the paths a.sm, a4.toml and q, and None: no limit of time
 //! racp show a.sm a4.toml p --svg           Tool, Show with these paths, no names, no width and the form Svg
 //! racp report a.sm a4.toml p --names n     Tool, Report with these paths, the names n, no curve, no changes
 //! racp curve b.sm b3.toml                  Tool, Curve with these paths, 1,024 MiB, one thread, and no picture
@@ -46,7 +47,8 @@
 //!
 //! Proved: without words, with `cpm`, and with `cpm` and a word that does not begin with a hyphen or is a hyphen alone,
 //! `cpm` is asked for, of standard input or of the file with that path; with `plan` or `prove` and two paths, `check`
-//! and three, and `verify` and four, that command of these files, `plan` on one thread and `verify` without a limit;
+//! and three, and `verify` and four, that command of these files, `plan` on one thread and `verify` without a limit; with
+//! `verify` and three, that command of a bound;
 //! with `--workers` and a number from 0 to 64 after the two paths, `plan` by a crew of that many workers. In these
 //! cases only memory can fail. A path here is a word that is not empty and does not begin with a hyphen. For any other
 //! words `asked` answers what `clap` is proved to find, or refuses with the kind of error that it is proved to give:
@@ -69,10 +71,11 @@ mod table_requests;
 mod table_words;
 mod tool_words;
 mod tools;
+mod verify_words;
 
 pub use command_line::asked;
 pub use request::{
-    CrewOptions, Dates, Look, Memory, NamedNet, OrderFiles, PlanFiles, ProofFiles, ReportWords,
-    Request, Source, Task, Telling, Terms, Tool, WhatIfWords,
+    BoundFiles, CrewOptions, Dates, Look, Memory, NamedNet, OrderFiles, PlanFiles, ProofFiles,
+    ReportWords, Request, Source, Task, Telling, Terms, Tool, WhatIfWords,
 };
 pub use table_requests::{BatchWords, TableWords};

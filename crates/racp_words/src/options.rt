@@ -124,7 +124,9 @@ pub(crate) fn dates_of<'a>(words: &ArgMatches<'a>) -> Dates<'a>
     ensures { AreDates (rows_of (found_of words.now)) result }
 {
     Dates {
+        calendar: text_of(words, "calendar"),
         start: text_of(words, "start-date"),
+        workdays: text_of(words, "workdays"),
         unit: text_of(words, "unit"),
     }
 }

@@ -42,6 +42,8 @@ pub enum Request<'a> {
     /// Whether a certificate shows that no capacities before a plan's are enough; it stops after the time of this
     /// word, if an option says so.
     Verify(ProofFiles<'a>, Option<&'a str>),
+    /// What each plan costs at least, as a certificate shows; it stops after the time of this word, if an option says so.
+    VerifyBound(BoundFiles<'a>, Option<&'a str>),
     /// What goes with plans.
     Tool(Tool<'a>),
 }
@@ -109,8 +111,12 @@ pub struct WhatIfWords<'a> {
 /// The words for times that are told by dates.
 #[derive(Clone, Copy)]
 pub struct Dates<'a> {
-    /// The date of the time 0, if times are told by dates.
+    /// The path of a calendar of working days, if times are told by one.
+    pub calendar: Option<&'a str>,
+    /// The date of the time 0, if times are told by dates from it on.
     pub start: Option<&'a str>,
+    /// The days of the week that are worked on; all of them if no option says so.
+    pub workdays: Option<&'a str>,
     /// How long a time unit is: `day` or `week`; a day if no option says so.
     pub unit: Option<&'a str>,
 }
@@ -195,6 +201,17 @@ pub struct ProofFiles<'a> {
     pub order: &'a str,
     /// The path of the plan.
     pub plan: &'a str,
+    /// The path of the certificate.
+    pub proof: &'a str,
+}
+
+/// The paths of the files of a network, an order and a certificate of a bound.
+#[derive(Drop)]
+pub struct BoundFiles<'a> {
+    /// The path of the network.
+    pub net: &'a str,
+    /// The path of the order.
+    pub order: &'a str,
     /// The path of the certificate.
     pub proof: &'a str,
 }

@@ -80,7 +80,7 @@ pub(crate) const PROGRESS: Word = Word::Flag(
 /// Whether a certificate is one by clauses.
 const FACTS: Word = Word::Flag(
     "facts",
-    "Prints one by clauses instead: that the plan is the plan of the order, starts and all",
+    "Prints one by clauses instead: that the plan is the plan of the order, starts and all; if it is stopped, of a bound",
 );
 
 /// Whether an answer is written as JSON.
@@ -150,12 +150,12 @@ pub(crate) const COMMANDS: &[Line] = &[
     },
     Line {
         name: "verify",
-        about: "Checks a plan, and a certificate that no cheaper capacities would do",
+        about: "Checks a plan and a certificate that no cheaper capacities would do, or one of a bound",
         words: &[
             NET,
             ORDER,
-            PLAN,
-            Word::File("PROOF", "The certificate"),
+            Word::File("PLAN", "The plan, or alone a certificate of a bound"),
+            Word::Optional("PROOF", "The certificate for the plan"),
             TIME_LIMIT,
             JSON,
             EXPLAIN,

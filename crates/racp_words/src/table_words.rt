@@ -10,11 +10,25 @@ use crate::table_requests::TableWords;
 use clap::ArgMatches;
 use std::alloc::{AllocError, Global};
 
+/// The option for a calendar of working days.
+pub(crate) const CALENDAR: Word<'static> = Word::Text(
+    "calendar",
+    "FILE",
+    "Tells times by the dates of working days; FILE has the first day, the working days and the holidays",
+);
+
 /// The option for the date of the time 0.
 pub(crate) const START_DATE: Word<'static> = Word::Text(
     "start-date",
     "DATE",
     "Tells times by dates; the time 0 is the beginning of this day: 2026-01-05",
+);
+
+/// The option for the days of the week that are worked on.
+pub(crate) const WORKDAYS: Word<'static> = Word::Text(
+    "workdays",
+    "DAYS",
+    "With --start-date, the days of the week that are worked on: mon-fri or mon-thu,sat; all if not said",
 );
 
 /// The option for how long a time unit is.

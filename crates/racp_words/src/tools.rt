@@ -5,7 +5,7 @@ use crate::most::{MOST_WIDTH, MOST_WORKERS};
 use crate::table::{
     EXPLAIN, JSON, Line, MEMORY, NET, ORDER, PLAN, PROGRESS, QUIET, TIME_LIMIT, TURNS, Word,
 };
-use crate::table_words::{CEILING, IMPORT, OWNED, START_DATE, UNIT};
+use crate::table_words::{CALENDAR, CEILING, IMPORT, OWNED, START_DATE, UNIT, WORKDAYS};
 
 /// How many workers make several plans.
 const CREW: Word = Word::Lettered(
@@ -48,7 +48,9 @@ pub(crate) const TOOLS: &[Line] = &[
                 "links",
                 "With --svg, draws an arrow from each job to each that waits for it",
             ),
+            CALENDAR,
             START_DATE,
+            WORKDAYS,
             UNIT,
             Word::Flag("json", "Writes the plan as JSON"),
             Word::Flag("csv", "Writes a row for each job as CSV"),
@@ -70,7 +72,9 @@ pub(crate) const TOOLS: &[Line] = &[
                 "What each deadline costs, as curve prints it",
             ),
             Word::Text("whatif", "FILE", "What changes cost, as whatif prints it"),
+            CALENDAR,
             START_DATE,
+            WORKDAYS,
             UNIT,
             EXPLAIN,
             QUIET,

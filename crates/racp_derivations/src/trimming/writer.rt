@@ -16,7 +16,42 @@ pub(crate) struct Writer<'a> {
     count: u32,
 }
 
-impl Writer<'_> {
+impl<'a> Writer<'a> {
+    /// A text with its first line.
+    fn begun(alloc: Global, net: &'a Network, needed: &[bool]) -> Result<Self, AllocError> {
+        let text = b"proof 2\n".to_vec(alloc)?;
+        let numbers = Vec::from_elem(alloc, 0, needed.len())?;
+        Ok(Writer {
+            net,
+            text,
+            numbers,
+            count: 0,
+        })
+    }
+
+    /// The text with the lines of the derivations that are needed, and the last one.
+    fn into_text(
+        mut self,
+        derivations: &Derivations,
+        needed: &[bool],
+    ) -> Result<Option<Vec<u8>>, AllocError> {
+        for at in 0..needed.len() {
+            if needed.get(at).copied().unwrap_or(false) {
+                self.push_derivation(derivations, at)?;
+            }
+            if MOST_TEXT_BYTES < self.text.len() {
+                return Ok(None);
+            }
+        }
+        self.push(b"end\n")?;
+        let Writer { text, .. } = self;
+        if text.len() <= MOST_TEXT_BYTES {
+            Ok(Some(text))
+        } else {
+            Ok(None)
+        }
+    }
+
     /// The text of the derivations that are needed, or `None` if it would have more than 16,777,216 bytes.
     pub(crate) fn text_of(
         alloc: Global,
@@ -24,22 +59,22 @@ impl Writer<'_> {
         derivations: &Derivations,
         needed: &[bool],
     ) -> Result<Option<Vec<u8>>, AllocError> {
-        let mut writer = Writer {
-            net,
-            text: b"proof 2\n".to_vec(alloc)?,
-            numbers: Vec::from_elem(alloc, 0, needed.len())?,
-            count: 0,
-        };
-        for at in 0..needed.len() {
-            if needed.get(at).copied().unwrap_or(false) {
-                writer.push_derivation(derivations, at)?;
-            }
-            if MOST_TEXT_BYTES < writer.text.len() {
-                return Ok(None);
-            }
-        }
-        writer.text.extend_from_slice(b"end\n")?;
-        Ok(Some(writer.text))
+        Writer::begun(alloc, net, needed)?.into_text(derivations, needed)
+    }
+
+    /// The same with the line of a bound.
+    pub(crate) fn bound_text_of(
+        alloc: Global,
+        net: &Network,
+        derivations: &Derivations,
+        needed: &[bool],
+        least: u64,
+    ) -> Result<Option<Vec<u8>>, AllocError> {
+        let mut writer = Writer::begun(alloc, net, needed)?;
+        writer.push(b"at least ")?;
+        writer.push_number(least)?;
+        writer.push(b"\n")?;
+        writer.into_text(derivations, needed)
     }
 
     /// Adds the lines of a derivation.

@@ -6,10 +6,11 @@ ghost use Rattle.racp_candidates.specs.AnySeries.{any_questions};
 ghost use Rattle.racp_desk.specs.Closing.{IsRunClosed};
 
 use crate::desk::stops::AtCall;
-use racp_by_questions::{Crowd, OfTurns, Unheard};
+use racp_by_questions::{Crowd, OfTurns};
 use racp_candidates::AnySeries;
 use racp_cutset::Board;
 use racp_desk::{Closed, DeskFault, Open, RunLimits, run};
+use racp_found::Unheard;
 use racp_model::{Network, OfNetwork, Question};
 use racp_questions::{AskStop, Asker, Probe};
 use racp_samples::{SampleFault, crossed, question, root_window};

@@ -14,11 +14,11 @@ loop-k-preserved g c = record {
       (omega (arith, c.loop-k-test.true, c.resource_count-k-end.ensures.count)) c.loop-k.invariant.sharpened c.in-Ok.ensures.sharp);
 }
 
-pub hear_floors-requires : goal.hear_floors-requires
-hear_floors-requires g c = c.requires.heard c.loop-k.k c.loop-k.reached c.loop-k.invariant.sharpened
+pub hear-requires : goal.hear-requires
+hear-requires g c = c.requires.heard c.loop-k.k _ c.loop-k.invariant.sharpened
 
-pub hear_floors-requires-2 : goal.hear_floors-requires-2
-hear_floors-requires-2 g c = c.requires.heard c.loop-k.k c.loop-k.reached c.loop-k.invariant.sharpened
+pub hear-requires-2 : goal.hear-requires-2
+hear-requires-2 g c = c.requires.heard c.loop-k.k _ c.loop-k.invariant.sharpened
 
 pub returns-in-Err-clause-refusal : goal.returns-in-Err-clause-refusal
 returns-in-Err-clause-refusal g c =

@@ -22,7 +22,7 @@ returns-then-not-has_ceilings-clause-bounded g c =
         lowest = first.lowest;
         most = first.most;
         bounds = first.bounds;
-        yes = plain_yes c.args.task.now.net.now c.args.task.now.order.now c.args.task.now.root.now c.in-Some.ends.floors c.in-Some.ends.roofs c.requires.terms c.requires.root first.lowest first.most
+        yes = plain_yes c.args.task.now.net.now c.args.task.now.order.now c.args.task.now.root.now c.in-Some.ends.floors c.in-Some.ends.roofs c.args.task.now.terms c.args.task.now.root_is first.lowest first.most
             (none_there c.args.task.now.order.now.ceilings none);
       },
       omega (arith, no_ceilings c.args.task.now.order.now none),
@@ -45,7 +45,7 @@ pub returns-in-Ok-false-clause-bounded : goal.returns-in-Ok-false-clause-bounded
 returns-in-Ok-false-clause-bounded g c = λ vector e.
     let first : AreFirstEnds c.args.task.now.net.now c.args.task.now.order.now c.args.task.now.root.now c.in-Some.ends =
     subst (λ (o : Option Ends). MatchOption o (NoneIsEnough c.args.task.now.net.now c.args.task.now.order.now) (AreFirstEnds c.args.task.now.net.now c.args.task.now.order.now c.args.task.now.root.now)) c.in-Some.is c.in_ok-ends.ensures in
-    let some = enough_roofs c.args.task.now.net.now c.args.task.now.order.now c.args.task.now.root.now c.in-Some.ends.floors c.in-Some.ends.roofs c.requires.terms c.requires.root first.lowest first.most vector e in
+    let some = enough_roofs c.args.task.now.net.now c.args.task.now.order.now c.args.task.now.root.now c.in-Some.ends.floors c.in-Some.ends.roofs c.args.task.now.terms c.args.task.now.root_is first.lowest first.most vector e in
     let none = subst (λ (b : Bool). IsYesOrNo c.args.task.now.net.now c.in-Some.ends.roofs c.args.task.now.root.now b) c.in-Ok-false.field-0-test c.in-Ok-false.ensures.decided in
     none some.0 some.1
 
@@ -59,13 +59,13 @@ returns-in-Err-clause-stop g c =
     let none : answered ≡ 0 = omega (arith, c.in-Err.ensures.unanswered) in
     let first : AreFirstEnds c.args.task.now.net.now c.args.task.now.order.now c.args.task.now.root.now c.in-Some.ends =
     subst (λ (o : Option Ends). MatchOption o (NoneIsEnough c.args.task.now.net.now c.args.task.now.order.now) (AreFirstEnds c.args.task.now.net.now c.args.task.now.order.now c.args.task.now.root.now)) c.in-Some.is c.in_ok-ends.ensures in
-    let at = stopped_first c.args.task.now.net.now c.args.task.now.order.now c.args.task.now.root.now c.requires.terms c.requires.root c.in-Some.ends.floors c.in-Some.ends.roofs answered told
+    let at = stopped_first c.args.task.now.net.now c.args.task.now.order.now c.args.task.now.root.now c.args.task.now.terms c.args.task.now.root_is c.in-Some.ends.floors c.in-Some.ends.roofs answered told
     first.lowest first.most none (some_ceilings c.args.task.now.order.now (sym c.has_ceilings.ensures ∙ c.if-not-has_ceilings.false)) in
     subst (λ (stop : PlanStop). IsPlanStop IsTold may_stop may_want_thread stop) (sym c.given_up.ensures)
     (ends_with IsTold may_stop may_want_thread c.in-Err.stop c.in-Some.ends.floors c.in-Err.ensures.stop at)
 
-pub hear_floors-requires : goal.hear_floors-requires
-hear_floors-requires g c =
+pub tell_floors-requires-clause-floors : goal.tell_floors-requires-clause-floors
+tell_floors-requires-clause-floors g c =
     let first : AreFirstEnds c.args.task.now.net.now c.args.task.now.order.now c.args.task.now.root.now c.in-Some.ends =
     subst (λ (o : Option Ends). MatchOption o (NoneIsEnough c.args.task.now.net.now c.args.task.now.order.now) (AreFirstEnds c.args.task.now.net.now c.args.task.now.order.now c.args.task.now.root.now)) c.in-Some.is c.in_ok-ends.ensures in
-    c.requires.floors c.in-Some.ends.floors first.least
+    first.least

@@ -5,10 +5,12 @@ use Rattle.racp_by_questions.specs.declared.bounds.Ends.{Ends}
 use Rattle.racp_by_questions.specs.Stops.{ceiling_series, IsStoppedAt, IsPlanStop}
 use Rattle.racp_bounds.proofs.lemmas.Sharpened.{admitting_yes}
 use Rattle.racp_model.specs.Terms.{cost, due_of, release_of}
-use Rattle.racp_by_questions.specs.Stages.{IsBounded, IsLeastOfEnough, IsStoppedInBox}
+use Rattle.racp_found.specs.declared.observer.News.TheVariants.{Cost}
+use Rattle.racp_found.specs.Told.{IsLeastOfEnough}
+use Rattle.racp_by_questions.specs.Stages.{IsBounded, IsStoppedInBox}
 use Rattle.racp_by_questions.specs.declared.stop.PlanStop.{PlanStop}
 use Rattle.racp_by_questions.proofs.Staging.{ends_with, told_too, stopped_in_box, stopped_behind, unsharpened, planned}
-use Rattle.racp_by_questions.proofs.Telling.{first_cost, reached_floors}
+use Rattle.racp_by_questions.proofs.Telling.{first_cost, first_floors, reached_floors, reached_news, sharp_are_floors}
 use Rattle.racp_by_questions.proofs.found.found_by_questions.Goals as goal
 
 pub returns-in-Err-clause-stop : goal.returns-in-Err-clause-stop
@@ -23,12 +25,12 @@ returns-in-Err-clause-stop g c =
     let counted : answered ≡ ceiling_series c.args.task.now.order.now + (g.A.Asker.answered c.sharpen.new.asker - middle) =
     omega (arith, bounded.1, c.floors_and_roofs.ensures.no_fewer, c.sharpen.ensures.no_fewer) in
     subst (λ (stop : PlanStop). IsPlanStop (IsStoppedAt c.args.task.now.net.now c.args.task.now.order.now answered told) may_stop may_want_thread stop) (sym c.given_up.ensures)
-    (unsharpened c.args.task.now.net.now c.args.task.now.order.now c.args.task.now.root.now c.requires.terms c.requires.root c.in-Some.ends.floors c.in-Some.ends.roofs bounded.0 (g.A.Asker.answered c.sharpen.new.asker - middle) answered told
+    (unsharpened c.args.task.now.net.now c.args.task.now.order.now c.args.task.now.root.now c.args.task.now.terms c.args.task.now.root_is c.in-Some.ends.floors c.in-Some.ends.roofs bounded.0 (g.A.Asker.answered c.sharpen.new.asker - middle) answered told
     may_stop may_want_thread (c.in-Err.reached, c.in-Err.stop) counted c.in-Err.ensures.refusal)
 
 pub returns-in-Ok-least_starts-clause-found : goal.returns-in-Ok-least_starts-clause-found
 returns-in-Ok-least_starts-clause-found g c =
-    planned c.args.task.now.net.now c.args.task.now.order.now c.args.task.now.root.now c.requires.terms c.requires.root c.in_ok-capacities.capacities c.in-Ok-least_starts.starts c.in_ok-capacities.ensures.cheapest.0 c.in-Ok-least_starts.ensures.least
+    planned c.args.task.now.net.now c.args.task.now.order.now c.args.task.now.root.now c.args.task.now.terms c.args.task.now.root_is c.in_ok-capacities.capacities c.in-Ok-least_starts.starts c.in_ok-capacities.ensures.cheapest.0 c.in-Ok-least_starts.ensures.least
 
 pub returns-in_err-capacities-clause-stop : goal.returns-in_err-capacities-clause-stop
 returns-in_err-capacities-clause-stop g c =
@@ -45,7 +47,7 @@ returns-in_err-capacities-clause-stop g c =
     (λ same capacities is.
     let counted : ended - begun ≡ ceiling_series c.args.task.now.order.now + c.args.task.now.net.now.resources + pair_count c.args.task.now.net.now.resources =
     omega (arith, same, bounded.1, c.floors_and_roofs.ensures.no_fewer, c.in-Ok.ensures.answered) in
-    stopped_in_box c.args.task.now.net.now c.args.task.now.order.now c.args.task.now.root.now c.requires.terms c.requires.root c.in-Some.ends.floors c.in-Some.ends.roofs bounded.0 (ended - begun) told capacities c.in-Ok.sharp.floors counted
+    stopped_in_box c.args.task.now.net.now c.args.task.now.order.now c.args.task.now.root.now c.args.task.now.terms c.args.task.now.root_is c.in-Some.ends.floors c.in-Some.ends.roofs bounded.0 (ended - begun) told capacities c.in-Ok.sharp.floors counted
     c.in-Ok.ensures.sharp.sharpened is)
     c.in_err-capacities.ensures.cheapest)
 
@@ -63,24 +65,39 @@ returns-clause-stop g c =
     let IsTold = IsStoppedAt c.args.task.now.net.now c.args.task.now.order.now (ended - begun) told in
     subst (λ (stop : PlanStop). IsPlanStop IsTold may_stop may_want_thread stop) (sym c.given_up-in-Err-least_starts.ensures)
     (ends_with IsTold may_stop may_want_thread c.in-Err-least_starts.stop c.in_ok-capacities.capacities c.in-Err-least_starts.ensures.stop
-    (stopped_behind c.args.task.now.net.now c.args.task.now.order.now c.args.task.now.root.now c.requires.terms c.requires.root c.in-Some.ends.floors c.in-Some.ends.roofs bounded.0 (ended - begun) told c.in_ok-capacities.capacities counted
+    (stopped_behind c.args.task.now.net.now c.args.task.now.order.now c.args.task.now.root.now c.args.task.now.terms c.args.task.now.root_is c.in-Some.ends.floors c.in-Some.ends.roofs bounded.0 (ended - begun) told c.in_ok-capacities.capacities counted
     c.in_ok-capacities.ensures.cheapest.0))
 
 pub sharpen-requires-clause-heard : goal.sharpen-requires-clause-heard
-sharpen-requires-clause-heard g c = λ n reached are.
+sharpen-requires-clause-heard g c = λ n news are.
     let bounded = subst (λ (o : Option (Ends)). IsBounded c.args.task.now.net.now c.args.task.now.order.now c.args.task.now.root.now (g.A.Asker.answered c.floors_and_roofs.new.asker - g.A.Asker.answered c.args.asker.now) o) c.in-Some.is c.in_ok-ends.ensures.bounded in
-    c.requires.floors reached
-    (reached_floors c.args.task.now.net.now c.args.task.now.order.now c.args.task.now.root.now c.in-Some.ends.floors c.in-Some.ends.roofs c.requires.terms c.requires.root bounded.0.lowest bounded.0.most n reached are)
+    c.requires.heard news
+    (reached_news c.args.task.now.net.now c.args.task.now.order.now c.args.task.now.root.now c.in-Some.ends.floors c.in-Some.ends.roofs c.args.task.now.terms c.args.task.now.root_is bounded.0.lowest bounded.0.most n news are)
 
-pub hear_cost-requires : goal.hear_cost-requires
-hear_cost-requires g c =
+pub tell_floors-requires-clause-floors : goal.tell_floors-requires-clause-floors
+tell_floors-requires-clause-floors g c =
+    let bounded = subst (λ (o : Option (Ends)). IsBounded c.args.task.now.net.now c.args.task.now.order.now c.args.task.now.root.now (g.A.Asker.answered c.floors_and_roofs.new.asker - g.A.Asker.answered c.args.asker.now) o) c.in-Some.is c.in_ok-ends.ensures.bounded in
+    first_floors c.args.task.now.net.now c.args.task.now.order.now c.args.task.now.root.now c.in-Some.ends.floors c.in-Some.ends.roofs c.args.task.now.terms c.args.task.now.root_is bounded.0.lowest bounded.0.most
+
+pub tell_floors-requires-in-Err-clause-floors : goal.tell_floors-requires-in-Err-clause-floors
+tell_floors-requires-in-Err-clause-floors g c =
+    let bounded = subst (λ (o : Option (Ends)). IsBounded c.args.task.now.net.now c.args.task.now.order.now c.args.task.now.root.now (g.A.Asker.answered c.floors_and_roofs.new.asker - g.A.Asker.answered c.args.asker.now) o) c.in-Some.is c.in_ok-ends.ensures.bounded in
+    reached_floors c.args.task.now.net.now c.args.task.now.order.now c.args.task.now.root.now c.in-Some.ends.floors c.in-Some.ends.roofs c.args.task.now.terms c.args.task.now.root_is bounded.0.lowest bounded.0.most (g.A.Asker.answered c.sharpen.new.asker - g.A.Asker.answered c.floors_and_roofs.new.asker) c.in-Err.reached c.in-Err.ensures.refusal.reached
+
+pub tell_floors-requires-2-clause-floors : goal.tell_floors-requires-2-clause-floors
+tell_floors-requires-2-clause-floors g c =
+    let bounded = subst (λ (o : Option (Ends)). IsBounded c.args.task.now.net.now c.args.task.now.order.now c.args.task.now.root.now (g.A.Asker.answered c.floors_and_roofs.new.asker - g.A.Asker.answered c.args.asker.now) o) c.in-Some.is c.in_ok-ends.ensures.bounded in
+    sharp_are_floors c.args.task.now.net.now c.args.task.now.order.now c.args.task.now.root.now c.in-Some.ends.floors c.in-Some.ends.roofs c.args.task.now.terms c.args.task.now.root_is bounded.0.lowest bounded.0.most c.in-Ok.sharp c.in-Ok.ensures.sharp
+
+pub hear-requires : goal.hear-requires
+hear-requires g c =
     let priced : c.cost_of.result ≡ cost c.args.task.now.order.now c.in_ok-capacities.capacities = cc (c.cost_of.ensures, c.as_slice.ensures) in
-    c.requires.least c.cost_of.result
+    c.requires.heard (Cost c.cost_of.result)
     (subst (λ (x : ℕ). IsLeastOfEnough c.args.task.now.net.now c.args.task.now.order.now x) (sym priced) (first_cost c.args.task.now.net.now c.args.task.now.order.now c.in_ok-capacities.capacities c.in_ok-capacities.ensures.cheapest.0))
 
 pub least_starts-requires-clause-yes : goal.least_starts-requires-clause-yes
 least_starts-requires-clause-yes g c =
-    admitting_yes c.args.task.now.net.now (release_of c.args.task.now.order.now) (due_of c.args.task.now.order.now) c.args.task.now.root.now c.in_ok-capacities.capacities c.requires.root c.in_ok-capacities.ensures.cheapest.0.is.admits
+    admitting_yes c.args.task.now.net.now (release_of c.args.task.now.order.now) (due_of c.args.task.now.order.now) c.args.task.now.root.now c.in_ok-capacities.capacities c.args.task.now.root_is c.in_ok-capacities.ensures.cheapest.0.is.admits
 
 pub cheapest-requires-clause-known : goal.cheapest-requires-clause-known
 cheapest-requires-clause-known g c =
@@ -88,22 +105,13 @@ cheapest-requires-clause-known g c =
     let middle = g.A.Asker.answered c.floors_and_roofs.new.asker in
     let bounded = subst (λ (o : Option (Ends)). IsBounded c.args.task.now.net.now c.args.task.now.order.now c.args.task.now.root.now (middle - begun) o) c.in-Some.is c.in_ok-ends.ensures.bounded in
     record {
-      terms = c.requires.terms;
-      root = c.requires.root;
+      terms = c.args.task.now.terms;
+      root = c.args.task.now.root_is;
       sharp = record { first = c.in-Some.ends.floors; ends = bounded.0; sharp_are = c.in-Ok.ensures.sharp };
     }
 
 pub floors_and_roofs-requires-clause-named : goal.floors_and_roofs-requires-clause-named
 floors_and_roofs-requires-clause-named g c = c.requires.named
-
-pub floors_and_roofs-requires-clause-terms : goal.floors_and_roofs-requires-clause-terms
-floors_and_roofs-requires-clause-terms g c = c.requires.terms
-
-pub floors_and_roofs-requires-clause-root : goal.floors_and_roofs-requires-clause-root
-floors_and_roofs-requires-clause-root g c = c.requires.root
-
-pub floors_and_roofs-requires-clause-floors : goal.floors_and_roofs-requires-clause-floors
-floors_and_roofs-requires-clause-floors g c = c.requires.floors
 
 pub returns-in_err-ends-clause-network : goal.returns-in_err-ends-clause-network
 returns-in_err-ends-clause-network g c = c.floors_and_roofs.ensures.network
@@ -129,7 +137,7 @@ pub sharpen-requires-clause-named : goal.sharpen-requires-clause-named
 sharpen-requires-clause-named g c = c.floors_and_roofs.ensures.network
 
 pub sharpen-requires-clause-root : goal.sharpen-requires-clause-root
-sharpen-requires-clause-root g c = record { lower = c.requires.root.early.places; upper = c.requires.root.late.places }
+sharpen-requires-clause-root g c = record { lower = c.args.task.now.root_is.early.places; upper = c.args.task.now.root_is.late.places }
 
 pub sharpen-requires-clause-floors : goal.sharpen-requires-clause-floors
 sharpen-requires-clause-floors g c =
@@ -177,9 +185,6 @@ returns-in_err-keep-clause-stop g c =
 pub cheapest-requires-clause-named : goal.cheapest-requires-clause-named
 cheapest-requires-clause-named g c = c.sharpen.ensures.network
 
-pub cheapest-requires-clause-least : goal.cheapest-requires-clause-least
-cheapest-requires-clause-least g c = c.requires.least
-
 pub returns-in_err-capacities-clause-network : goal.returns-in_err-capacities-clause-network
 returns-in_err-capacities-clause-network g c = c.cheapest.ensures.network
 
@@ -190,7 +195,7 @@ pub as_slice-requires : goal.as_slice-requires
 as_slice-requires g c = tt
 
 pub cost_of-requires-clause-terms : goal.cost_of-requires-clause-terms
-cost_of-requires-clause-terms g c = c.requires.terms
+cost_of-requires-clause-terms g c = c.args.task.now.terms
 
 pub cost_of-requires-clause-capacities : goal.cost_of-requires-clause-capacities
 cost_of-requires-clause-capacities g c = ap length c.as_slice.ensures ∙ c.in_ok-capacities.ensures.cheapest.0.is.places
@@ -202,7 +207,7 @@ pub least_starts-requires-clause-capacities : goal.least_starts-requires-clause-
 least_starts-requires-clause-capacities g c = c.in_ok-capacities.ensures.cheapest.0.is.places
 
 pub least_starts-requires-clause-root : goal.least_starts-requires-clause-root
-least_starts-requires-clause-root g c = record { lower = c.requires.root.early.places; upper = c.requires.root.late.places }
+least_starts-requires-clause-root g c = record { lower = c.args.task.now.root_is.early.places; upper = c.args.task.now.root_is.late.places }
 
 pub returns-in-Ok-least_starts-clause-network : goal.returns-in-Ok-least_starts-clause-network
 returns-in-Ok-least_starts-clause-network g c = c.least_starts.ensures.network

@@ -4,12 +4,12 @@ use Rattle.racp_by_questions.proofs.Cheapest.{told-least}
 use Rattle.racp_by_questions.proofs.Halves.{cut_some, enough_not_before, refuted_no, searched-one, searched-refuted, widest_none, widest_some}
 use Rattle.racp_by_questions.proofs.halving.cut_and_ask.Goals as goal
 
-pub hear_cost-requires : goal.hear_cost-requires
-hear_cost-requires g c =
+pub hear-requires : goal.hear-requires
+hear-requires g c =
     let low : c.cost_of.result ≡ cost c.args.subject.now.order.now c.args.span.now.low = cc (c.cost_of.ensures, c.as_slice.ensures) in
-    let least : c.min.result ≡ min c.cost_of.result c.args.rest = c.min.ensures in
-    c.requires.heard c.min.result
-    (told-least c.args.subject.now c.requires.subject c.args.span.now c.requires.span c.args.rest c.requires.rest c.min.result
+    let least : c.min-least.result ≡ min c.cost_of.result c.args.rest = c.min-least.ensures in
+    c.requires.heard c.min-least.result
+    (told-least c.args.subject.now c.requires.subject c.args.span.now c.requires.span c.args.rest c.requires.rest c.min-least.result
     (omega (arith, least, low)) (omega (arith, least)))
 
 pub returns-then-is_refuted-clause-left : goal.returns-then-is_refuted-clause-left

@@ -1,5 +1,5 @@
 use Rattle.std.proofs.Common.{string_bytes}
-use Rattle.racp_calendar.specs.Dates.{time_text}
+use Rattle.racp_calendar.specs.Dates.{last_text}
 use Rattle.racp_charts.specs.CostDrawings.{corner_begin, corner_element, corner_end}
 use Rattle.racp_charts.proofs.Pieces.{in_three}
 use Rattle.racp_charts.proofs.costs.push_corner.Goals as goal
@@ -7,4 +7,4 @@ use Rattle.racp_charts.proofs.costs.push_corner.Goals as goal
 pub returns : goal.returns
 unfolding corner_element
 returns c =
-    in_three (string_bytes c.args.text.now) (corner_begin c.args.x c.args.y) (time_text c.args.calendar c.args.corner.now.deadline) (corner_end c.args.corner.now.cost) c.in_ok-push_corner_begin.ensures c.in_ok-push_time.ensures c.in_ok-push_corner_end.ensures
+    in_three (string_bytes c.args.text.now) (corner_begin c.args.x c.args.y) (last_text c.args.calendar c.args.corner.now.deadline) (corner_end c.args.corner.now.cost) c.in_ok-push_corner_begin.ensures c.in_ok-push_last.ensures c.in_ok-push_corner_end.ensures

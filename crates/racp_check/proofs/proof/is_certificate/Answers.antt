@@ -1,7 +1,7 @@
 use Rattle.std.proofs.Common.{subst}
-use Rattle.racp_check.specs.Openings.{IsOpening}
-use Rattle.racp_check.specs.declared.opening.Opening.{Opening}
-use Rattle.racp_check.specs.declared.opening.Opening.TheVariants.{TooLong, TooLate}
+use Rattle.racp_root.specs.Openings.{IsOpening}
+use Rattle.racp_root.specs.declared.opening.Opening.{Opening}
+use Rattle.racp_root.specs.declared.opening.Opening.TheVariants.{TooLong, TooLate}
 use Rattle.racp_check.proofs.Certified.{no_certificate, not_too_long, not_too_late}
 use Rattle.racp_check.proofs.proof.is_certificate.Goals as goal
 

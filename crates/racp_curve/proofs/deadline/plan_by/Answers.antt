@@ -1,12 +1,12 @@
-use Rattle.std.proofs.Common.{◌+◌, ◌-◌, Option, IfSome, sym, subst}
+use Rattle.std.proofs.Common.{◌+◌, ◌-◌, Option, IfSome, refl, sym, subst}
 use Rattle.std.proofs.lemmas.Result.{err_from_is_err_and}
 use Rattle.racp_model.specs.Terms.{Terms, AreTermsOf}
-use Rattle.racp_plan.specs.Fitting.{AreFitting}
 use Rattle.racp_by_questions.specs.Stops.{IsStoppedAt}
 use Rattle.racp_lexfix.specs.Answers.{IsAnswer}
 use Rattle.racp_lexfix.specs.declared.answer.Answer.{Answer}
 use Rattle.racp_plan.specs.declared.plan.Plan.{Plan}
-use Rattle.racp_by_questions.specs.Stages.{AreFloorsOfEnough, IsLeastOfEnough}
+use Rattle.racp_found.specs.declared.observer.News.TheVariants.{Deadline}
+use Rattle.racp_found.specs.Told.{IsTrueNews}
 use Rattle.racp_curve.specs.Curves.{order_by, AreNotAfterEnough}
 use Rattle.racp_curve.specs.Following.{IsPlanOrNone}
 use Rattle.racp_curve.proofs.Deadlines.{terms_by}
@@ -14,27 +14,19 @@ use Rattle.racp_curve.proofs.Reasons.{plan_or_none}
 use Rattle.racp_curve.proofs.Telling.{told_too, stopped_by}
 use Rattle.racp_curve.proofs.deadline.plan_by.Goals as goal
 
+pub hear-requires : goal.hear-requires
+hear-requires g c = c.requires.hears c.args.deadline c.requires.deadline (Deadline c.args.deadline) refl
+
 pub known_answer-requires-clause-heard : goal.known_answer-requires-clause-heard
-known_answer-requires-clause-heard g c = record {
-  floors = λ floors are. c.requires.hears.floors c.args.deadline c.requires.deadline floors (subst (λ (t : Terms). AreFloorsOfEnough c.args.ground.now.net.now t floors) c.in_ok-other.ensures are);
-  least = λ least is. c.requires.hears.least c.args.deadline c.requires.deadline least (subst (λ (t : Terms). IsLeastOfEnough c.args.ground.now.net.now t least) c.in_ok-other.ensures is);
-  plans = λ capacities starts are. c.requires.hears.plans c.args.deadline c.requires.deadline capacities starts (subst (λ (t : Terms). AreFitting c.args.ground.now.net.now t capacities starts) c.in_ok-other.ensures are);
-}
+known_answer-requires-clause-heard g c = λ news are.
+    c.requires.hears c.args.deadline c.requires.deadline news (subst (λ (t : Terms). IsTrueNews c.args.ground.now.net.now t news) c.in_ok-other.ensures are)
 
 pub plan-requires-clause-terms : goal.plan-requires-clause-terms
 plan-requires-clause-terms g c = subst (AreTermsOf c.args.ground.now.net.now) (sym c.in_ok-other.ensures) (terms_by c.args.ground.now.net.now c.args.ground.now.order.now c.args.deadline c.requires.deadline c.args.ground.now.terms)
 
-pub plan-requires-clause-floors : goal.plan-requires-clause-floors
-plan-requires-clause-floors g c = λ floors are.
-    c.requires.hears.floors c.args.deadline c.requires.deadline floors (subst (λ (t : Terms). AreFloorsOfEnough c.args.ground.now.net.now t floors) c.in_ok-other.ensures are)
-
-pub plan-requires-clause-least : goal.plan-requires-clause-least
-plan-requires-clause-least g c = λ least is.
-    c.requires.hears.least c.args.deadline c.requires.deadline least (subst (λ (t : Terms). IsLeastOfEnough c.args.ground.now.net.now t least) c.in_ok-other.ensures is)
-
-pub plan-requires-clause-plans : goal.plan-requires-clause-plans
-plan-requires-clause-plans g c = λ capacities starts are.
-    c.requires.hears.plans c.args.deadline c.requires.deadline capacities starts (subst (λ (t : Terms). AreFitting c.args.ground.now.net.now t capacities starts) c.in_ok-other.ensures are)
+pub plan-requires-clause-heard : goal.plan-requires-clause-heard
+plan-requires-clause-heard g c = λ news are.
+    c.requires.hears c.args.deadline c.requires.deadline news (subst (λ (t : Terms). IsTrueNews c.args.ground.now.net.now t news) c.in_ok-other.ensures are)
 
 pub returns-in_err-answer-clause-stop : goal.returns-in_err-answer-clause-stop
 returns-in_err-answer-clause-stop g c =

@@ -1,6 +1,6 @@
 use Rattle.std.proofs.Common.{sym, subst}
 use Rattle.racp_model.specs.Terms.{Terms, AreTermsOf}
-use Rattle.racp_check.specs.Openings.{IsOpening}
+use Rattle.racp_root.specs.Openings.{IsOpening}
 use Rattle.racp_curve.specs.Curves.{order_by}
 use Rattle.racp_curve.proofs.Deadlines.{terms_by}
 use Rattle.racp_curve.proofs.Reasons.{opening_long}

@@ -4,10 +4,10 @@ use Rattle.racp_curve.specs.Following.{IsNext}
 use Rattle.racp_curve.proofs.Growing.{next_first, curve_some}
 use Rattle.racp_curve.proofs.following.curve_from.Goals as goal
 
-pub hear_plan-requires : goal.hear_plan-requires
-hear_plan-requires g c =
+pub hear-requires : goal.hear-requires
+hear-requires g c =
     let plan = c.requires.plan.is_plan in
-    c.requires.hears.plans c.args.ground.now.order.now.deadline (omega arith) c.args.plan.capacities c.args.plan.starts (record { places = plan.vector.is.places; ceilings = plan.vector.is.ceilings; fits = plan.schedule.is })
+    c.requires.hears c.args.ground.now.order.now.deadline (omega arith) _ (record { places = plan.vector.is.places; ceilings = plan.vector.is.ceilings; fits = plan.schedule.is }, c.requires.plan.cost)
 
 pub follow-requires-clause-next : goal.follow-requires-clause-next
 follow-requires-clause-next g c = subst (λ (steps : List Step). IsNext c.args.ground.now.net.now c.args.ground.now.order.now c.args.plan steps) (sym c.new-steps.ensures.items) (next_first c.args.ground.now.net.now c.args.ground.now.order.now c.args.plan c.requires.plan)

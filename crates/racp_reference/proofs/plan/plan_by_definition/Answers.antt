@@ -1,6 +1,6 @@
 use Rattle.std.proofs.Common.{ap, subst}
 use Rattle.racp_model.specs.Terms.{Terms}
-use Rattle.racp_check.specs.Openings.{IsOpening}
+use Rattle.racp_root.specs.Openings.{IsOpening}
 use Rattle.racp_reference.specs.Choices.{IsCheapest}
 use Rattle.racp_reference.proofs.Planning.{plan_is, over_ceilings}
 use Rattle.racp_reference.proofs.plan.plan_by_definition.Goals as goal

@@ -1,4 +1,5 @@
 use Rattle.std.proofs.Common.{◌≡◌, ◌∙◌, ◌-◌, ℕ, List, ap, ap₂, length, refl, slice_index}
+use Rattle.racp_calendar.specs.Dates.{first_word, last_word}
 use Rattle.racp_show.proofs.sheet.job_entry.Goals as goal
 
 pub returns : goal.returns
@@ -9,7 +10,9 @@ returns c =
       called = c.job.ensures;
       begins = c.start-start.ensures;
       stops = c.end-end.ensures;
-      runs = c.duration.ensures;
+      first_is = c.in_ok-first_day.ensures ∙ ap₂ (λ (s d : ℕ). first_word c.args.calendar s d) c.start-start.ensures c.duration-duration.ensures;
+      last_is = c.in_ok-last_day.ensures ∙ ap (λ (e : ℕ). last_word c.args.calendar e) c.end-end.ensures;
+      runs = c.duration-duration.ensures;
       slack_is = c.saturating_sub.ensures ∙ ap₂ (λ (x y : ℕ). x - y) c.latest_of.ensures c.start-start.ensures;
       after = c.in_ok-predecessors.ensures;
       request_places = ap length requests ∙ c.requests.ensures.count;

@@ -1,6 +1,6 @@
 use Rattle.std.proofs.Common.{◌≡◌, ◌∙◌, Some, option_map, ap, subst, sym}
-use Rattle.racp_check.specs.Openings.{IsOpening}
-use Rattle.racp_check.specs.declared.opening.Opening.TheVariants.{Root}
+use Rattle.racp_root.specs.Openings.{IsOpening}
+use Rattle.racp_root.specs.declared.opening.Opening.TheVariants.{Root}
 use Rattle.racp_model.specs.Terms.{Terms}
 use Rattle.racp_whatif.proofs.Found.{answered}
 use Rattle.racp_whatif.proofs.need.need_above.Goals as goal

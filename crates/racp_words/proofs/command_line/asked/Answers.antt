@@ -4,7 +4,7 @@ use Rattle.clap.specs.Words.{App, HasKind, Kinds, Row, Text, app_of, fault_of, i
 use Rattle.clap.specs.declared.error.Error.{Error}
 use Rattle.clap.specs.declared.error.kind.ErrorKind.TheVariants.{OutOfMemory}
 use Rattle.racp_words.specs.CommandLine.{IsTask, racp}
-use Rattle.racp_words.proofs.Words.{cpm_line, plan_line, workers_line, prove_line, check_line, verify_line}
+use Rattle.racp_words.proofs.Words.{cpm_line, plan_line, workers_line, prove_line, check_line, verify_line, verify_bound_line}
 use Rattle.racp_words.proofs.command_line.asked.Goals as goal
 
 simple : is_simple racp ≡ true
@@ -59,6 +59,9 @@ returns-clause-check c net order plan line = (check_line (map string_bytes c.arg
 pub returns-clause-verify : goal.returns-clause-verify
 returns-clause-verify c net order plan proof line = (verify_line (map string_bytes c.args.words.now) net order plan proof line).1 c.in_ok-task.task.request (returns-clause-asked c).request
 
+pub returns-clause-verify_bound : goal.returns-clause-verify_bound
+returns-clause-verify_bound c net order proof line = (verify_bound_line (map string_bytes c.args.words.now) net order proof line).1 c.in_ok-task.task.request (returns-clause-asked c).request
+
 -- an error of none of the kinds is want of memory
 only_memory : (e : Error) → HasKind [] e → kind_of e ≡ OutOfMemory
 only_memory e (inl memory) = memory
@@ -97,3 +100,8 @@ pub returns-in_err-matches-clause-verify : goal.returns-in_err-matches-clause-ve
 returns-in_err-matches-clause-verify c net order plan proof line =
     let p = err_from_is_err_and c.from_residual-in_err-matches.result c.from_residual-in_err-matches.ensures.1 in
     rw (p.1, p.2) (free_of_fault c (verify_line (map string_bytes c.args.words.now) net order plan proof line).0)
+
+pub returns-in_err-matches-clause-verify_bound : goal.returns-in_err-matches-clause-verify_bound
+returns-in_err-matches-clause-verify_bound c net order proof line =
+    let p = err_from_is_err_and c.from_residual-in_err-matches.result c.from_residual-in_err-matches.ensures.1 in
+    rw (p.1, p.2) (free_of_fault c (verify_bound_line (map string_bytes c.args.words.now) net order proof line).0)

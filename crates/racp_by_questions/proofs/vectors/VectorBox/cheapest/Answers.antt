@@ -1,5 +1,6 @@
 use Rattle.std.proofs.Common.{◌≡◌, ◌∙◌, arith, subst, sym}
 use Rattle.racp_by_questions.specs.Stops.{IsPlanStop}
+use Rattle.racp_found.specs.declared.observer.News.TheVariants.{Cost}
 use Rattle.racp_by_questions.specs.Stages.{IsStoppedInBox}
 use Rattle.racp_by_questions.specs.declared.stop.PlanStop.{PlanStop}
 use Rattle.racp_by_questions.proofs.ByHalves.{first_stopped, halves_stopped, sharp_floors, within_least}
@@ -36,5 +37,5 @@ returns-clause-cheapest g c =
 
 pub first_enough-requires-clause-heard : goal.first_enough-requires-clause-heard
 first_enough-requires-clause-heard g c = λ least is.
-    c.requires.least least
+    c.requires.heard (Cost least)
     (within_cost c.args.self.task.net.now c.args.self.task.order.now c.args.self.task.root.now c.requires.known.sharp.first c.args.self.roofs.now c.requires.known.terms c.requires.known.root c.requires.known.sharp.ends.lowest c.requires.known.sharp.ends.most least is)

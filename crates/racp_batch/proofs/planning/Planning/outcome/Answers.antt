@@ -1,5 +1,0 @@
-use Rattle.racp_batch.proofs.Opened.{any_open}
-use Rattle.racp_batch.proofs.planning.Planning.outcome.Goals as goal
-
-pub returns : goal.returns
-returns g c = any_open _ c.args.net.now c.args.order.now c.in_ok-outcome.outcome c.in_ok-outcome.ensures.outcome

@@ -1,0 +1,2 @@
+mod Certified
+mod Shown

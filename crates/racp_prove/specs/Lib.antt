@@ -1,0 +1,2 @@
+pub mod Proving
+pub mod Showing
