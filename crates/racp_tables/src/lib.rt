@@ -37,6 +37,7 @@
 
 mod amount;
 mod assigned;
+mod beginning;
 mod beside;
 mod cell;
 mod choice;

@@ -5,6 +5,7 @@ ghost use Rattle.racp_tables.specs.CellTies.{AreTiesOf, all_ties, cell_ties, par
 ghost use Rattle.racp_tables.specs.LinkWords.{without_lag};
 ghost use Rattle.racp_tables.specs.Pieces.{between};
 
+use crate::beginning::beginning;
 use crate::fault::TableFault;
 use crate::link_cells::{Cell, called, keep_tie, push_part};
 use crate::link_words::without_lag;
@@ -16,9 +17,6 @@ use crate::ties::{Tie, Ties};
 use crate::warning::{Warning, warn};
 use racp_links::LinkKind;
 use std::alloc::{AllocError, Global};
-
-/// So many letters of a cell are told.
-const MOST_LETTERS: usize = 60;
 
 /// The ties that the rows of tasks name.
 pub(crate) fn ties_of(
@@ -116,18 +114,6 @@ fn warn_of_twins(
         warn(warnings, cell.line, words)?;
     }
     Ok(())
-}
-
-/// A text as it is told: of a long one the beginning.
-fn beginning(alloc: Global, text: &str) -> Result<String, AllocError> {
-    let mut told = String::new(alloc);
-    for letter in text.chars().take(MOST_LETTERS) {
-        told.push(letter)?;
-    }
-    if told.len() < text.len() {
-        told.push_str(" ..")?;
-    }
-    Ok(told)
 }
 
 /// Whether two of these are ties to the same task.

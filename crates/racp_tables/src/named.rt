@@ -5,6 +5,7 @@ ghost use Rattle.std.specs.List.{list_any};
 ghost use Rattle.racp_tables.specs.Called.{has_id, has_name, ids_from, is_in_range, only_named, place_of_id, range_named, rising, task_named};
 
 use crate::amount::whole_number;
+use crate::beginning::beginning;
 use crate::pieces::parts_at;
 use crate::row::Row;
 use crate::similar::similar_name;
@@ -152,8 +153,9 @@ pub(crate) fn no_task(
     column: &str,
     word: &str,
 ) -> Result<String, AllocError> {
+    let told = beginning(alloc, word)?;
     match similar_name(alloc, rows, word)? {
-        Some(name) => format!(in alloc; "{column} '{word}' is no task; similar: '{name}'"),
-        None => format!(in alloc; "{column} '{word}' is no task"),
+        Some(name) => format!(in alloc; "{column} '{told}' is no task; similar: '{name}'"),
+        None => format!(in alloc; "{column} '{told}' is no task"),
     }
 }
