@@ -1,7 +1,8 @@
 -- A clause that leaves out all that costs less than so much shows that no capacities that are enough do.
-use Rattle.std.proofs.Common.{◌≡◌, ◌∙◌, ℕ, ◌+◌, ◌<◌, ◌≤◌, List, length, slice_index, slice_index_or, inl, inr, arith, subst, sym}
+use Rattle.std.proofs.Common.{◌≡◌, ◌∙◌, ℕ, ◌+◌, ◌<◌, ◌≤◌, List, [], length, slice_index, slice_index_or, inl, inr, arith, ap, subst, sym}
 use Rattle.std.specs.Prelude.{Any}
 use Rattle.std.proofs.lemmas.Bool.{cases_lt}
+use Rattle.std.proofs.lemmas.List.{get_or_default, get_or_read}
 use Rattle.racp_model.specs.Project.{Project}
 use Rattle.racp_model.proofs.lemmas.Cuts.{cut, cut-at, cut_places, cut-cost}
 use Rattle.racp_clauses.specs.Solutions.{Problem, values, cost_place}
@@ -39,3 +40,19 @@ least-by_clause q p least given clause same is open' holds out =
 -- the first n clauses of a list do not leave it out
 abbrev pub AreNotSo : Project → ℕ → List (List Literal) → ℕ → Type 0
 AreNotSo p least clauses n = (j : ℕ) → j < n → LeavesOutLess p least (clause_at clauses j) → ⊥
+
+module _ (p : Project) (least : ℕ) (clauses : List (List Literal)) where
+  -- nor does one more
+  pub not-step : (n : ℕ) (clause : List Literal) → AreNotSo p least clauses n → n < length clauses → clause ≡ slice_index_or clauses n clause → (LeavesOutLess p least clause → ⊥) → AreNotSo p least clauses (n + 1)
+  not-step n clause none place is not j below out = elim (cases_lt j n) [
+    | inl before ↦ none j before out
+    | inr here ↦
+        let e : j ≡ n = omega (arith, below, here) in
+        not (subst (LeavesOutLess p least) (ap (clause_at clauses) e ∙ sym (get_or_read clauses n clause place is [])) out)
+  ]
+
+  -- none does
+  pub not-end : (n : ℕ) → AreNotSo p least clauses n → length clauses ≤ n → Any (LeavesOutLess p least) clauses → ⊥
+  not-end n none all any =
+      let at : clause_at clauses any.0 ≡ any.1 = get_or_default clauses any.0 [] any.1 any.2 ∙ any.3 in
+      none any.0 (omega (arith, all, any.2)) (subst (LeavesOutLess p least) (sym at) any.4)

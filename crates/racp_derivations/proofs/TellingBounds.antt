@@ -1,9 +1,8 @@
 -- Texts that tell a bound, cut at line feeds.
 use Rattle.std.proofs.Common.{◌≡◌, refl, sym, ◌∙◌, ap, ℕ, inl, inr, true, false, List, [], ◌∷◌, length, subst}
-use Rattle.std.specs.Prelude.{Option, Some, None, bytes_eq, codes, Any}
+use Rattle.std.specs.Prelude.{Option, Some, None, bytes_eq, codes}
 use Rattle.std.specs.List.{slice_split, position_or_len}
 use Rattle.std.proofs.lemmas.Bool.{cases_Bool, cond-true, cond-false}
-use Rattle.std.proofs.lemmas.Option.{same_Some}
 use Rattle.racp_model.specs.Project.{Project}
 use Rattle.racp_model.specs.Terms.{Terms}
 use Rattle.racp_model.specs.Window.{Bounds}
@@ -12,7 +11,7 @@ use Rattle.racp_clauses.specs.declared.literal.Literal.{Literal}
 use Rattle.racp_derivations.specs.Words.{◌>>=◌}
 use Rattle.racp_derivations.specs.Texts.{IsOrderRoot}
 use Rattle.racp_derivations.specs.Checking.{Checked, clauses_of}
-use Rattle.racp_derivations.specs.BoundTexts.{Bounded, told_bound, least_on, bounded_of, bounded_behind, bounded_in, LeavesOutLess, ShowsLeastIn, IsLeastIn, IsLeastByText}
+use Rattle.racp_derivations.specs.BoundTexts.{Bounded, told_bound, least_on, bounded_of, bounded_behind, bounded_in, ShowsLeastIn, IsLeastIn, IsLeastByText}
 use Rattle.racp_derivations.proofs.Rooted.{root-one}
 use Rattle.racp_derivations.proofs.Splitting.{cut-some, cut-none, bind-none}
 
