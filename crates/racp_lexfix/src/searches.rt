@@ -39,7 +39,7 @@ pub(crate) fn by_clauses<A: Asker<AnySeries>>(task: &Task, asker: &A) -> Result<
     requires heard { MayBeTold task.now.net.now task.now.order.now A.may_hear }
     ensures { IfOk result (IsFound task.now.net.now task.now.order.now) }
 {
-    let Some(start) = start(task, asker)? else {
+    let Some(start) = start_of(task, asker)? else {
         return Ok(Found::Open);
     };
     let part = racp_by_clauses::Task {
@@ -63,7 +63,7 @@ pub(crate) fn by_searches<A: Asker<AnySeries>, R: Threads + Wait + Sync>(
     requires heard { MayBeTold task.now.net.now task.now.order.now A.may_hear }
     ensures { IfOk result (IsFound task.now.net.now task.now.order.now) }
 {
-    let Some(start) = start(task, asker)? else {
+    let Some(start) = start_of(task, asker)? else {
         return Ok(Found::Open);
     };
     let part = racp_by_clauses::Task {
@@ -78,7 +78,7 @@ pub(crate) fn by_searches<A: Asker<AnySeries>, R: Threads + Wait + Sync>(
 }
 
 /// Where a search begins, or none where none is to be made. The asker is told the floors.
-fn start<A: Asker<AnySeries>>(task: &Task, asker: &A) -> Result<Option<Start>, AllocError>
+fn start_of<A: Asker<AnySeries>>(task: &Task, asker: &A) -> Result<Option<Start>, AllocError>
     requires heard { MayBeTold task.now.net.now task.now.order.now A.may_hear }
     ensures { IfOk result (λ start. IfSome start (IsStart task.now.net.now task.now.order.now)) }
 {
