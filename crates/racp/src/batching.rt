@@ -14,15 +14,13 @@ use crate::seconds::time_limit;
 use crate::telling::Manner;
 use racp_batch::{Batch, BatchFault, Case, Ending, File, Multiple, Planning, cases, table_over};
 use racp_cli::{DONE, OUT_OF_MEMORY, STOPPED, STREAM_FAILED, StreamFault};
+use racp_model::limits::MOST_PRICE;
 use racp_prices::Factor;
 use racp_words::{BatchWords, Memory};
 use std::alloc::{AllocError, Global};
 use std::rt::Files;
 use std::time::Duration;
 use std::{fs, io};
-
-/// The most that a unit of a resource costs.
-const MOST_PRICE: u32 = 1_000_000;
 
 /// How the rows of a table are made, and where their plans are kept.
 #[derive(Clone, Copy)]

@@ -1,8 +1,6 @@
 //! How far the cheapest plan that is known can be from the cheapest that there is.
 
-ghost use Rattle.std.specs.Prelude.{◌≡◌};
-ghost use Rattle.racp_batch.specs.Lines.{gap};
-
+use racp_batch::gap;
 use std::fmt;
 use std::fmt::{Display, Formatter};
 use std::sync::atomic::{AtomicBool, AtomicU64, Ordering};
@@ -120,12 +118,4 @@ impl Display for Known {
             None => write!(f, "best none bound {bound} gap none"),
         }
     }
-}
-
-/// By how many percent of the bound a cost exceeds it, rounded down; of 1 if the bound is 0.
-fn gap(best: u64, bound: u64) -> u128
-    ensures { result ≡ gap best bound }
-{
-    let excess = best.saturating_sub(bound) as u128;
-    excess * 100 / bound.max(1) as u128
 }

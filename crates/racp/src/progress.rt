@@ -1,6 +1,7 @@
 //! What is told of planning while it goes on.
 
 use crate::known::Known;
+use racp_model::limits::MOST_RESOURCES;
 use std::alloc::{AllocError, Global};
 use std::fmt;
 use std::fmt::{Display, Formatter};
@@ -9,9 +10,6 @@ use std::time::Duration;
 
 /// How many seconds lie between two lines, at least.
 const PERIOD: u64 = 2;
-
-/// How many resources a project has at most.
-const MOST_RESOURCES: usize = 16;
 
 /// What a terminal is sent before a line that takes the place of the one above: up one line, and clear it.
 const IN_PLACE: &str = "\x1b[A\x1b[K";

@@ -167,7 +167,7 @@ fn gap_of(best: Option<u64>, bound: u64) -> Option<u128>
 }
 
 /// By how many percent of the bound a cost exceeds it, rounded down; of 1 if the bound is 0.
-fn gap(best: u64, bound: u64) -> u128
+pub fn gap(best: u64, bound: u64) -> u128
     ensures { result ≡ gap best bound }
 {
     let excess = best.saturating_sub(bound) as u128;

@@ -3,15 +3,13 @@
 use crate::faults::head::lines_of_head;
 use crate::faults::line_of::{first_word, is_line_feed, is_space, without_return};
 use racp_text::number;
+use racp_model::limits::MOST_JOBS;
 use std::alloc::{AllocError, Global};
-
-/// How many jobs a network has at most.
-const MOST_JOBS: u64 = 512;
 
 /// The numbers of jobs of which each has the next one as a successor, and the last the first, which stands at the end
 /// once more. Empty if the precedence part of the text has none.
 pub(crate) fn ring_of(alloc: Global, body: &[u8], jobs: u64) -> Result<Vec<u64>, AllocError> {
-    let jobs = jobs.min(MOST_JOBS) as usize;
+    let jobs = jobs.min(MOST_JOBS as u64) as usize;
     let pairs = pairs_of(alloc, body)?;
     let waits = waiting(alloc, &pairs, jobs)?;
     walk(alloc, &waits, &pairs, jobs)

@@ -3,14 +3,15 @@
 use crate::faults::THERE;
 use crate::faults::order_text::table::{ARRAYS, items_of};
 use crate::faults::wanted::push_wanted;
+use racp_model::limits;
 use std::alloc::AllocError;
 use toml::{Table, Value};
 
 /// The greatest price.
-const MOST_PRICE: i64 = 1_000_000;
+const MOST_PRICE: i64 = limits::MOST_PRICE as i64;
 
 /// The greatest of the other numbers.
-const MOST: i64 = 10_000_000;
+const MOST: i64 = limits::LATEST_TIME as i64;
 
 /// Adds the first number that is out of its range.
 pub(crate) fn push_out_of_range(text: &mut String, table: &Table) -> Result<(), AllocError> {
