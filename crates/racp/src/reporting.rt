@@ -113,7 +113,7 @@ fn cause(alloc: Global, texts: Texts<'_>) -> Result<String, AllocError> {
 /// What is wrong with the texts that a page has beside a plan; nothing of a curve that is right.
 fn of_beside(alloc: Global, texts: Texts<'_>) -> Result<String, AllocError> {
     if let Some(curve) = texts.curve {
-        let cause = curve_cause(alloc, &curve)?;
+        let cause = curve_cause(alloc, &texts.net, &curve)?;
         if !cause.is_empty() {
             return Ok(cause);
         }

@@ -43,8 +43,8 @@ mod telling;
 mod until;
 
 pub use batch::{Batch, BatchFault, Ending};
-pub use cells::gap;
 pub use case::{Case, File, Input, Multiple, cases};
+pub use cells::gap;
 pub use host::Host;
 pub use order::{deadline_of, order_by};
 pub use planning::Planning;

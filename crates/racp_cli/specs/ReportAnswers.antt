@@ -1,6 +1,7 @@
 -- What `report` answers to the texts of a network, an order, a plan and names, and to what a page has beside them.
-use Rattle.std.specs.Prelude.{◌≡◌, ◌≢◌, ◌⊎◌, ◌+◌, ◌++◌, ℕ, List, [], ◌∷◌, IsUtf8, Option, Some, None, Result, Ok, String, codes, false, length, option_map, string_bytes, true}
+use Rattle.std.specs.Prelude.{◌≡◌, ◌≢◌, ◌⊎◌, ◌+◌, ◌++◌, ◌==◌, ◌&&◌, ℕ, Bool, List, [], ◌∷◌, IsUtf8, Option, Some, None, Result, Ok, String, codes, false, length, not, option_map, string_bytes, true}
 use Rattle.std.specs.Global.{Global}
+use Rattle.std.specs.List.{list_all}
 use Rattle.racp_model.specs.Project.{Project}
 use Rattle.racp_model.specs.Terms.{Terms}
 use Rattle.racp_plan.specs.declared.plan.Plan.{Plan}
@@ -63,22 +64,23 @@ IsChangedBy calendar (Some changes) curve network terms plan names outline statu
 abbrev pub IsChanged : Page → List ℕ → Project → Terms → Plan → List (List ℕ) → Outlined → ℕ → List ℕ → Type 0
 IsChanged page = IsChangedBy page.calendar (option_map (λ changes. changes.now) page.changes)
 
--- how many lines of a text begin with `deadline`
-abbrev pub step_count : List ℕ → ℕ
-step_count text = length (rows_in (codes "deadline") text)
+-- some lines of a text begin with `deadline`, and each of these has so many numbers
+abbrev pub are_steps : ℕ → List ℕ → Bool
+are_steps wanted text =
+    not (length (rows_in (codes "deadline") text) == 0) && list_all (λ row. length row == wanted) (rows_in (codes "deadline") text)
 
--- the lines for a curve that is not UTF-8, or has no step
+-- the lines for a curve that is not UTF-8, or has no steps of so many resources
 abbrev pub curve_line : List ℕ
 curve_line = line (codes "refused curve 1 NotUtf8")
 
 abbrev pub steps_line : List ℕ
 steps_line = line (codes "refused curve 2 NoSteps")
 
--- the page, or that the curve has no step
+-- the page, or that the curve has no steps; a step has a deadline, a cost and the units of each resource
 abbrev pub IsStepped : Page → List ℕ → Project → Terms → Plan → List (List ℕ) → Outlined → ℕ → List ℕ → Type 0
 IsStepped page curve network terms plan names outline status text =
-    ((step_count curve ≢ 0) × IsChanged page curve network terms plan names outline status text) ⊎
-    ((step_count curve ≡ 0) × (status ≡ 5) × (text ≡ steps_line))
+    ((are_steps (network.resources + 2) curve ≡ true) × IsChanged page curve network terms plan names outline status text) ⊎
+    ((are_steps (network.resources + 2) curve ≡ false) × (status ≡ 5) × (text ≡ steps_line))
 
 -- the page, or that the curve is none; without a curve nothing is said of other deadlines
 abbrev pub IsCurvedBy : Page → Option (List ℕ) → Project → Terms → Plan → List (List ℕ) → Outlined → ℕ → List ℕ → Type 0

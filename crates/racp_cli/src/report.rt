@@ -5,7 +5,7 @@ ghost use Rattle.racp_model.specs.Terms.{AreTermsOf};
 ghost use Rattle.racp_check.specs.PlanFaults.{IsFitting};
 ghost use Rattle.racp_show.specs.Entries.{outlined};
 ghost use Rattle.racp_show.specs.Outlines.{IsOutlineOf};
-ghost use Rattle.racp_cli.specs.ReportAnswers.{IsCountedReport, IsCurved, IsNamedReport, IsReportAnswer, IsReportRun, IsStepped, step_count};
+ghost use Rattle.racp_cli.specs.ReportAnswers.{IsCountedReport, IsCurved, IsNamedReport, IsReportAnswer, IsReportRun, IsStepped, are_steps};
 
 use crate::check::{Checked, read_checked};
 use crate::fault::StreamFault;
@@ -170,16 +170,16 @@ fn stepped(
     ensures { IfOk result (λ answer. IsStepped page.entry curve.now found.now.net found.now.order found.now.plan
         names.now (outlined outline.now) answer.0 answer.1.items) }
 {
-    if step_count(alloc, curve)? == 0 {
+    if !are_steps(alloc, curve, found.net.resource_count() + 2)? {
         return Ok((REFUSED, b"refused curve 2 NoSteps\n".to_vec(alloc)?));
     }
     changed(alloc, found, names, outline, curve, page)
 }
 
-/// How many lines of a text begin with `deadline`.
-fn step_count(alloc: Global, text: &str) -> Result<usize, AllocError>
-    ensures { IfOk result (λ count. count ≡ step_count text.now) }
+/// Whether some lines of a text begin with `deadline`, and each of these has so many numbers.
+fn are_steps(alloc: Global, text: &str, wanted: usize) -> Result<bool, AllocError>
+    ensures { IfOk result (λ are. are ≡ are_steps wanted text.now) }
 {
     let rows = rows_of(alloc, text, "deadline")?;
-    Ok(rows.len())
+    Ok(!rows.is_empty() && rows.iter().all(|row| row.len() == wanted))
 }

@@ -1,4 +1,4 @@
-//! What is wrong with the texts of a plan that is shown, and with the texts of a curve and of changes.
+//! What is wrong with the texts of a plan that is shown, and with the text of changes.
 
 use crate::cause::{order_cause, plan_cause};
 use crate::explain::push_title;
@@ -134,47 +134,6 @@ fn line_count(names: &Names, wanted: usize) -> usize {
     named.max(count.min(wanted))
 }
 
-/// What is wrong with the text of a curve for a page, in lines that begin with `racp: `; nothing if a line of it begins
-/// with `deadline`.
-///
-/// # Errors
-///
-/// Memory was refused.
-pub fn curve_cause(alloc: Global, curve: &Input<'_>) -> Result<String, AllocError> {
-    let mut text = String::new(alloc);
-    match std::str::from_utf8(curve.bytes) {
-        Ok(lines) if lines.lines().any(is_step) => {}
-        Ok(_) => push_curve(&mut text, curve.name, Subject::CurveSteps, "no such line")?,
-        Err(_) => push_curve(
-            &mut text,
-            curve.name,
-            Subject::Curve,
-            "bytes that are not UTF-8",
-        )?,
-    }
-    Ok(text)
-}
-
-/// Whether a line begins with `deadline`.
-fn is_step(line: &str) -> bool {
-    line.starts_with("deadline")
-}
-
-/// Adds what is wrong with a curve.
-fn push_curve(
-    text: &mut String,
-    name: &str,
-    subject: Subject,
-    there: &str,
-) -> Result<(), AllocError> {
-    push_begin(text, name, subject)?;
-    write!(
-        text,
-        "lines that begin with deadline, as racp curve prints them{THERE}{there}"
-    )?;
-    push_more(text, subject)
-}
-
 /// What is wrong with a text of changes that is refused for a page, in lines that begin with `racp: `.
 ///
 /// # Errors
@@ -207,7 +166,11 @@ fn push_no_changes(text: &mut String, name: &str) -> Result<(), AllocError> {
 }
 
 /// Adds the name of a file and of its fault, and what stands before what was wanted.
-fn push_begin(text: &mut String, name: &str, subject: Subject) -> Result<(), AllocError> {
+pub(crate) fn push_begin(
+    text: &mut String,
+    name: &str,
+    subject: Subject,
+) -> Result<(), AllocError> {
     write!(text, "racp: {name}: ")?;
     push_title(text, subject)?;
     push_short(text, subject)

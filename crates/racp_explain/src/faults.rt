@@ -37,6 +37,7 @@ mod wanted;
 pub(crate) const THERE: &str = "\nracp: there:  ";
 
 pub(crate) use changes_text::push_changes_finding;
+pub(crate) use line_of::push_quoted;
 pub(crate) use network_text::push_network_finding;
 pub(crate) use no_plan::{push_no_room, push_too_late, push_too_long};
 pub(crate) use order_text::{Sizes, push_order_finding};

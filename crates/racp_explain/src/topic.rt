@@ -51,10 +51,10 @@ const CURVE: Topic = Topic {
 /// What is said of a curve without a line for a deadline.
 const CURVE_STEPS: Topic = Topic {
     short: "no line tells what a deadline costs",
-    meaning: "No line of the file of --curve begins with deadline.",
+    meaning: "No line of the file of --curve begins with deadline, or one that does has not a deadline, a cost and the units of each resource.",
     command: "printf 'end\\n' | racp report examples/a.sm examples/a4.toml examples/a4.plan --curve -",
     file: "",
-    cure: "Give the file that racp curve has written, as text and not as a picture.",
+    cure: "Give the file that racp curve has written for the network, as text and not as a picture.",
 };
 
 /// What is said of a text of changes that is not UTF-8.

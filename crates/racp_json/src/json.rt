@@ -9,24 +9,10 @@ use crate::sheet::sheet_of_plan;
 use crate::stop::stop_of;
 use crate::told::{Command, Told, Words};
 use crate::work::Work;
+use racp_lexfix::status::{CHECK_FAILED, DONE, IMPOSSIBLE, REFUSED, STOPPED};
 use racp_show::{Names, Sheet};
 use serde::Serialize;
 use std::alloc::{AllocError, Global};
-
-/// The status of an answer.
-const DONE: u8 = 0;
-
-/// The status if there is no plan.
-const IMPOSSIBLE: u8 = 3;
-
-/// The status of a run that was stopped.
-const STOPPED: u8 = 4;
-
-/// The status if a text is refused.
-const REFUSED: u8 = 5;
-
-/// The status if a plan has a fault or is not proved.
-const CHECK_FAILED: u8 = 8;
 
 /// A word alone: `ok`, `verified`, `stopped`, `memory` or `no thread`.
 #[derive(Clone, Copy, Serialize)]

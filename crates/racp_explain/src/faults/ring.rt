@@ -2,8 +2,8 @@
 
 use crate::faults::head::lines_of_head;
 use crate::faults::line_of::{first_word, is_line_feed, is_space, without_return};
-use racp_text::number;
 use racp_model::limits::MOST_JOBS;
+use racp_text::number;
 use std::alloc::{AllocError, Global};
 
 /// The numbers of jobs of which each has the next one as a successor, and the last the first, which stands at the end
