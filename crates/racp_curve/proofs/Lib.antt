@@ -8,3 +8,4 @@ mod Telling
 mod OneCurve
 mod SomeCurve
 mod TextLines
+mod Muting

@@ -6,7 +6,7 @@ use Rattle.racp_model.specs.Plan.{IsEnough, NoneIsEnough}
 use Rattle.racp_model.specs.Window.{Bounds, IsRootWindow}
 use Rattle.racp_model.specs.Schedule.{EndsBy}
 use Rattle.racp_found.specs.declared.observer.News.{News}
-use Rattle.racp_found.specs.declared.observer.News.TheVariants.{Work}
+use Rattle.racp_found.specs.declared.observer.News.TheVariants.{Deadline, Floors, Cost, Plan as KnownPlan, Work}
 use Rattle.racp_plan.specs.declared.plan.Plan.{Plan}
 use Rattle.racp_plan.specs.Plans.{IsPlanOf}
 use Rattle.racp_lexfix.specs.declared.answer.Answer.{Answer}
@@ -26,6 +26,14 @@ use Rattle.racp_curve.specs.declared.step.CurveStop.{CurveStop}
 -- an observer may be told how much was done
 abbrev pub MayBeToldOfWork : (News → Type 0) → Type 0
 MayBeToldOfWork may_hear = (conflicts clauses : ℕ) → may_hear (Work conflicts clauses)
+
+-- news that is told to another observer only if it is of how much was done may be told if that may be
+abbrev pub MayHearWork : (News → Type 0) → News → Type 0
+MayHearWork may_hear (Deadline deadline) = ⊤
+MayHearWork may_hear (Floors floors) = ⊤
+MayHearWork may_hear (Cost least) = ⊤
+MayHearWork may_hear (KnownPlan capacities starts known) = ⊤
+MayHearWork may_hear (Work conflicts clauses) = may_hear (Work conflicts clauses)
 
 -- the plan that an answer has, or none
 abbrev pub plan_in : Answer → Option Plan

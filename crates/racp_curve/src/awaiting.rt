@@ -1,7 +1,5 @@
 //! When the searches of a curve stop, and who hears of them.
 
-ghost use Rattle.racp_curve.specs.Following.{MayBeToldOfWork};
-
 use crate::ahead::Ahead;
 use racp_clauses::OfProblem;
 use racp_found::{News, Observer};
@@ -39,10 +37,13 @@ impl<'a, N: OfProblem> Observer for Outrun<'a, N> {
 #[derive(Drop)]
 pub(crate) struct Muted<'a, O: Observer> {
     pub(crate) observer: &'a O,
-    pub(crate) ghost heard: { MayBeToldOfWork O.may_hear },
 }
 
 impl<'a, O: Observer> Observer for Muted<'a, O> {
+    ghost use Rattle.racp_curve.specs.Following.{MayHearWork};
+
+    ghost may_hear = { MayHearWork O.may_hear };
+
     fn hear(&self, news: News<'_>) {
         if let News::Work { conflicts, clauses } = news {
             self.observer.hear(News::Work { conflicts, clauses });

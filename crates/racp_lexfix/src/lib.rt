@@ -60,6 +60,7 @@ pub use one_thread::plan_alone_within;
 pub use planning::{plan, plan_after};
 pub use printed::{Printed, Refusal, answer_printed};
 pub use racp_by_questions::{Alone, Crowd, PlanStop};
+pub use racp_cutset::MemoryLimit;
 pub use roots::{RootBounds, root_bounds};
 pub use searches::limits_of;
 pub use signatures::{plan_alone, plan_crowd};

@@ -34,7 +34,8 @@ struct Start {
 }
 
 /// The plan, that no capacities are enough, or neither, by one search on the calling thread. Neither is known where the
-/// asker leaves no room for a search, there are few vectors from the floors to the roofs, or the search came to no end.
+/// asker leaves no room for a search or wants an end, there are few vectors from the floors to the roofs, or the search came to no
+/// end.
 pub(crate) fn by_clauses<A: Asker<AnySeries>>(task: &Task, asker: &A) -> Result<Found, AllocError>
     requires heard { MayBeTold task.now.net.now task.now.order.now A.may_hear }
     ensures { IfOk result (IsFound task.now.net.now task.now.order.now) }
@@ -77,12 +78,12 @@ pub(crate) fn by_searches<A: Asker<AnySeries>, R: Threads + Wait + Sync>(
     optimum_beside::<Brand, A, R>(rt, part, limits, workers, asker)
 }
 
-/// Where a search begins, or none where none is to be made. The asker is told the floors.
+/// Where a search begins, or none where none is to be made, as where the asker wants an end by now. It is told the floors.
 fn start_of<A: Asker<AnySeries>>(task: &Task, asker: &A) -> Result<Option<Start>, AllocError>
     requires heard { MayBeTold task.now.net.now task.now.order.now A.may_hear }
     ensures { IfOk result (λ start. IfSome start (IsStart task.now.net.now task.now.order.now)) }
 {
-    if asker.leeway().conflicts == 0 {
+    if asker.leeway().conflicts == 0 || asker.is_to_stop() {
         return Ok(None);
     }
     match opening_of(task.alloc, task.net, task.order)? {

@@ -1,10 +1,15 @@
 use Rattle.std.proofs.Common.{◌≡◌, ◌+◌, arith}
 use Rattle.std.proofs.lemmas.Result.{IfErr-weaker, IfOk-weaker}
 use Rattle.racp_by_questions.specs.Stops.{IsPlanStop}
+use Rattle.racp_found.specs.declared.observer.News.TheVariants.{Work}
 use Rattle.racp_curve.specs.Curves.{order_by, AreNotAfterEnough, IsCurveStop}
 use Rattle.racp_curve.specs.Following.{IsFollowed, IsPlanOrNone}
 use Rattle.racp_curve.proofs.Growing.{begun_within, followed, followed_whole, stopped_before}
 use Rattle.racp_curve.proofs.stepping.step_back.Goals as goal
+
+pub put_step-requires-clause-told : goal.put_step-requires-clause-told
+put_step-requires-clause-told g c = λ conflicts clauses.
+    c.requires.hears c.args.ground.now.order.now.deadline (omega arith) (Work conflicts clauses) tt
 
 pub plan_by-requires-clause-deadline : goal.plan_by-requires-clause-deadline
 plan_by-requires-clause-deadline g c =
