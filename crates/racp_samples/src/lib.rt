@@ -29,6 +29,7 @@
 //! `Random` is a linear congruential generator of 64 bits: the same seed gives the same numbers, so a test that uses it
 //! does the same in each run. `random_network` has durations up to 3 and requests up to 2, and each pair of jobs one
 //! time in three. `random_order` has a deadline up to 6, half of the time ceilings, and half of the time due times.
+//! `empty_order` has a deadline alone: the test fills its lists.
 //!
 //! Proved: each window that `window` and `root_window` make has bounds for each job, and each question of `question`
 //! also a capacity for each resource. Nothing else is promised: no contract says which numbers come out. For tests
@@ -37,11 +38,13 @@
 
 mod fault;
 mod networks;
+mod orders;
 mod questions;
 mod random;
 pub mod texts;
 
 pub use fault::SampleFault;
 pub use networks::{chained, crossed, network, parallel};
+pub use orders::empty_order;
 pub use questions::{question, root_window, window};
 pub use random::{Random, random_network, random_order};

@@ -12,18 +12,6 @@ use std::alloc::{AllocError, Global};
 
 mod wishes;
 
-/// An order of a deadline without entries.
-pub fn empty_order(alloc: Global, deadline: u32) -> Order {
-    Order {
-        deadline,
-        prices: Vec::new(alloc),
-        owned: Vec::new(alloc),
-        ceilings: None,
-        release: Vec::new(alloc),
-        due: Vec::new(alloc),
-    }
-}
-
 /// What came of an order.
 #[derive(Clone, Copy, PartialEq)]
 enum Outcome {

@@ -1,145 +1,142 @@
-//! A search that learns, asked about small random orders, beside all their schedules.
+//! Searches of small questions, whole and in parts.
 
-ghost use Rattle.racp_by_clauses.specs.Optima.{IsTaskOf};
+ghost use Rattle.std.specs.Prelude.{◌≡◌};
+ghost use Rattle.racp_model.specs.Formed.{IsFormed};
 
-use crate::all_schedules::is_any_within;
-use crate::asking::{Limits, QUESTIONS, Record, asked, question};
-use crate::sums::Sums;
-use crate::tasks::{Trial, try_next};
-use racp_by_clauses::Task;
-use racp_clauses::{Derivation, OfProblem};
-use racp_samples::Random;
-use std::alloc::AllocError;
+use racp_cutset::{Board, Local};
+use racp_model::{NetFault, Network, Never, OfNetwork, Question, Window};
+use racp_samples::{network, parallel, question};
+use racp_search::{Piece, Rest, decide, explore};
+use std::alloc::Global;
+use std::marker::Brand;
 
-/// More conflicts than any of the questions takes.
-const ENOUGH: u64 = 100_000;
+mod stopping;
 
-/// The bits of all questions.
-const ALL: u32 = 0xFF;
+/// The answers with 2 units of the windows that one node leaves of the five jobs beside each other, which are to end by
+/// 5.
+const ANSWERS: &[&[u32]] = &[&[0, 0, 3, 3, 5], &[0, 2, 0, 0, 5]];
 
-/// A search with little memory; some with few conflicts, which may leave questions open; and some that are helped.
-const LIMITS: &[Limits] = &[
-    Limits {
-        conflicts: ENOUGH,
-        bytes: 1_000_000,
-        seed: 1,
-        is_helped: false,
-    },
-    Limits {
-        conflicts: ENOUGH,
-        bytes: 0,
-        seed: 2,
-        is_helped: false,
-    },
-    Limits {
-        conflicts: 0,
-        bytes: 1_000_000,
-        seed: 3,
-        is_helped: false,
-    },
-    Limits {
-        conflicts: 1,
-        bytes: 1_000_000,
-        seed: 4,
-        is_helped: false,
-    },
-    Limits {
-        conflicts: 2,
-        bytes: 1_000_000,
-        seed: 5,
-        is_helped: false,
-    },
-    Limits {
-        conflicts: ENOUGH,
-        bytes: 1_000_000,
-        seed: 6,
-        is_helped: true,
-    },
-    Limits {
-        conflicts: 2,
-        bytes: 1_000_000,
-        seed: 7,
-        is_helped: true,
-    },
-];
-
-/// Whether some schedule answers the next question.
-fn is_next_yes<N: OfProblem>(task: Task<'_>, random: &mut Random) -> Result<bool, AllocError>
-    requires { IsTaskOf N.problem task }
-{
-    let next: Derivation<N> = question(task, random)?;
-    let is_yes = is_any_within(task.alloc, task.net, task.order, next.bounds());
-    drop(next);
-    is_yes
-}
-
-/// Which of the questions some schedule answers, as bits.
-fn wanted<N: OfProblem>(task: Task<'_>, random: &mut Random) -> Result<u32, AllocError>
-    requires { IsTaskOf N.problem task }
-{
-    let (mut wanted, mut bit) = (0u32, 1u32);
-    for _question in 0..QUESTIONS {
-        if is_next_yes::<N>(task, random)? {
-            wanted |= bit;
+fn is_one_of(starts: &[u32], answers: &[&[u32]]) -> bool {
+    for answer in answers {
+        if starts == *answer {
+            return true;
         }
-        bit = bit.wrapping_mul(2);
     }
-    Ok(wanted)
+    false
 }
 
-/// Whether the answers are those that are wanted, and no clause was lost. Where the conflicts are few, a question may stay
-/// open.
-fn is_right(record: &Record, wanted: u32, conflicts: u64) -> bool {
-    let (yes, no) = (record.found, record.refuted);
-    let open = if conflicts < ENOUGH { record.spent } else { 0 };
-    yes | no | open == ALL && yes & wanted == yes && no & wanted == 0 && record.lost == 0
+/// Whether a search of the window with 2 units finds starts; or `None` if these are other ones, or memory is refused.
+fn is_answered(alloc: Global, net: &Network, window: &Window) -> Option<bool> {
+    let Ok(asked) = question(alloc, net, &[2], window.lower(), window.upper()) else {
+        return None;
+    };
+    match decide(alloc, net, &asked) {
+        Ok(Some(starts)) if is_one_of(starts.as_slice(), ANSWERS) => Some(true),
+        Ok(None) => Some(false),
+        _ => None,
+    }
 }
 
-/// How many of the bits are set.
-fn count(bits: u32) -> u64 {
-    let (mut rest, mut count) = (bits, 0u64);
-    for _question in 0..QUESTIONS {
-        count = count.saturating_add((rest % 2) as u64);
-        rest /= 2;
+/// In how many of the windows starts are found; or `None` as there.
+fn count_answers(alloc: Global, net: &Network, windows: &[Window]) -> Option<u32> {
+    let mut count: u32 = 0;
+    for window in windows {
+        count = count.saturating_add(is_answered(alloc, net, window)? as u32);
     }
+    Some(count)
+}
+
+/// In how many of the windows that one node leaves starts are found; or `None` as there, or if the node itself answers.
+fn count_answers_behind_one<N: OfNetwork>(
+    alloc: Global,
+    net: &Network,
+    asked: Question,
+    board: &Board<N>,
+) -> Option<u32>
+    requires named { net.now ≡ N.network }
+    requires formed { IsFormed net.now asked }
+{
+    let mut local: Local<N> = Local::new(alloc, net);
+    let piece: Piece<N> = Piece::new(0, 0, 0, asked);
+    let finding = explore(alloc, net, piece, Some(1), board, &mut local, &Never);
+    let one = finding.nodes() == 1 && finding.found().is_none();
+    let count = match finding.rest() {
+        Rest::Windows(windows) if one => count_answers(alloc, net, windows),
+        _ => None,
+    };
+    let _ = finding.into_found();
+    drop(local);
     count
 }
 
-/// Whether random questions about an order are answered as they are to be by each search, and by the same search in the
-/// same way.
-pub fn are_answered<N: OfProblem>(
-    task: Task<'_>,
-    random: &mut Random,
-    sums: &mut Sums,
-) -> Result<bool, AllocError>
-    requires { IsTaskOf N.problem task }
+/// In how many of the windows that one node leaves starts are found, over a board of its own.
+fn count_left_of<N: OfNetwork>(alloc: Global, net: &Network, asked: Question) -> Option<u32>
+    requires named { net.now ≡ N.network }
+    requires formed { IsFormed net.now asked }
 {
-    let begin = *random;
-    let wanted = wanted::<N>(task, random)?;
-    for limits in LIMITS {
-        let one = asked::<N>(task, begin, *limits)?;
-        let again = asked::<N>(task, begin, *limits)?;
-        if one.mixed != again.mixed || !is_right(&one, wanted, limits.conflicts) {
-            return Ok(false);
+    match Board::<N>::new(alloc, net) {
+        Ok(board) => {
+            let count = count_answers_behind_one(alloc, net, asked, &board);
+            drop(board);
+            count
         }
-        sums.yes = sums.yes.saturating_add(count(one.found));
-        sums.no = sums.no.saturating_add(count(one.refuted));
-        sums.open = sums.open.saturating_add(count(one.spent));
-        sums.conflicts = sums.conflicts.saturating_add(one.conflicts);
+        Err(_) => None,
     }
-    Ok(true)
+}
+
+/// In how many of the windows that one node leaves starts are found, for the five jobs, which are to end by 5.
+fn count_left_answers(alloc: Global) -> Option<u32> {
+    let Ok(net) = parallel(alloc) else {
+        return None;
+    };
+    match question(alloc, &net, &[2], &[0, 0, 0, 0, 3], &[2, 2, 3, 3, 5]) {
+        Ok(asked) => count_left_of::<Brand>(alloc, &net, asked),
+        Err(_) => None,
+    }
 }
 
 #[test]
-fn searches_find_what_there_is(rt: HostRuntime) {
-    let (mut random, mut sums) = (Random::new(11), Sums::new());
-    for round in 0..1_000 {
-        let is_right = try_next(rt.alloc(), Trial::Questions, &mut random, &mut sums);
-        assert!(rt; is_right, "round {round}");
+fn searches_on_from_the_rest(rt: HostRuntime) {
+    assert_eq!(rt; count_left_answers(rt.alloc()), Some(2));
+}
+
+/// Six equal jobs, none of which waits for another.
+pub(crate) fn equal(alloc: Global) -> Result<Network, NetFault> {
+    let job: (u32, &[u32]) = (2, &[1]);
+    network(alloc, 1, &[job; 6], &[])
+}
+
+/// Whether a second search of the piece over the same records finds them, and so takes fewer nodes. Nothing answers.
+fn is_shorter_again<N: OfNetwork>(alloc: Global, net: &Network, asked: Question) -> bool
+    requires named { net.now ≡ N.network }
+    requires formed { IsFormed net.now asked }
+{
+    let Ok(board) = Board::new(alloc, net) else {
+        return false;
+    };
+    let mut local: Local<N> = Local::new(alloc, net);
+    let piece: Piece<N> = Piece::new(7, 5, 3, asked);
+    let first = explore(alloc, net, piece, None, &board, &mut local, &Never);
+    let (nodes, found) = (first.nodes(), first.found().is_some());
+    let piece = first.into_piece();
+    let second = explore(alloc, net, piece, None, &board, &mut local, &Never);
+    let again = second.nodes();
+    let _ = second.into_found();
+    drop((local, board));
+    !found && again < nodes
+}
+
+fn finds_its_records(alloc: Global) -> bool {
+    let Ok(net) = equal(alloc) else {
+        return false;
+    };
+    match question(alloc, &net, &[1], &[0, 1, 0, 1, 0, 1], &[3; 6]) {
+        Ok(asked) => is_shorter_again::<Brand>(alloc, &net, asked),
+        Err(_) => false,
     }
-    let (yes, no, open, conflicts) = (sums.yes, sums.no, sums.open, sums.conflicts);
-    assert!(rt;
-        1_000 <= yes && 1_000 <= no && 100 <= open && 500 <= conflicts,
-        "{yes} found, {no} refuted, {open} open, {conflicts} conflicts"
-    );
+}
+
+#[test]
+fn finds_the_records_of_a_search(rt: HostRuntime) {
+    assert!(rt; finds_its_records(rt.alloc()));
 }

@@ -1,9 +1,9 @@
 //! Small orders of which the cheapest plan is known by hand.
 
 use crate::samples::Sample;
-use crate::schedules::empty_order;
 use racp_model::Network;
 use racp_prices::Order;
+use racp_samples::empty_order;
 use std::alloc::{AllocError, Global};
 
 /// What an order says, each list up to its last number that is not as in an order of the first version.

@@ -1,4 +1,4 @@
-use Rattle.racp_test_planner.proofs.records.are_covered.Given as goal
+use Rattle.racp_test_ground.proofs.records.are_covered.Given as goal
 
 abbrev pub ghosts-covers_rows : goal.ghosts-covers_rows
 ghosts-covers_rows a = record { network = a.net.now }

@@ -1,4 +1,4 @@
-use Rattle.racp_test_planner.proofs.searches.stopping.searched.Given as goal
+use Rattle.racp_test_ground.proofs.searches.stopping.searched.Given as goal
 
 abbrev pub ghosts-searched_named : goal.ghosts-searched_named
 ghosts-searched_named a = record { network = a.net.now }

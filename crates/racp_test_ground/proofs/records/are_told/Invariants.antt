@@ -1,4 +1,4 @@
-use Rattle.racp_test_planner.proofs.records.are_told.Given as goal
+use Rattle.racp_test_ground.proofs.records.are_told.Given as goal
 
 abbrev pub ghosts-moves : goal.ghosts-moves
 ghosts-moves a = record { network = a.net.now }

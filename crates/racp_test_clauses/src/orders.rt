@@ -1,9 +1,8 @@
 //! Networks and orders by chance.
 
-use crate::schedules::empty_order;
 use racp_model::{Job, NetFault, Network};
 use racp_prices::Order;
-use racp_samples::Random;
+use racp_samples::{Random, empty_order};
 use std::alloc::{AllocError, Global};
 
 /// A random network of 14 jobs and three resources with few pairs, so that searches meet many conflicts.
