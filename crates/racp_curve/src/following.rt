@@ -145,8 +145,8 @@ fn first_plan<N: OfProblem, A: Asker<AnySeries>>(
     ensures stop { IfErr result (IsPlanStop (AreNotAfterEnough ground.now.net.now ground.now.order.now
         (ground.now.order.now.deadline + 1)) (A.may_stop asker.new) (A.may_want_thread asker.new)) }
 {
-    asker.hear(News::Deadline(ground.order.deadline));
     let Ground { alloc, net, order } = *ground;
+    asker.hear(News::Deadline(order.deadline));
     if let Some(facts) = facts {
         if let Some(known) = facts.known_answer(ground, order, asker)? {
             return Ok(plan_or_reason(known));
