@@ -31,7 +31,7 @@ open_so may_be_open p terms (NoneEnough need) right so = right
 open_so may_be_open p terms (Open least) right so = (so refl, right.1)
 
 row_so : (may_be_open : Type 0) (input : Input) (factor price : ℕ) (row : Row) → IsRowFor ⊤ input factor price row → (IsTrue (is_open row) → may_be_open) → IsRowFor may_be_open input factor price row
-row_so may_be_open (Network p) factor price (Answered row) right so = (right.0, right.1, open_so may_be_open p (terms_by p price row.deadline) row.outcome right.2.0 so, right.2.1)
+row_so may_be_open (Network p) factor price (Answered row) right so = (right.0, right.1, open_so may_be_open p (terms_by p price row.deadline) row.outcome right.2 so, right.3)
 row_so may_be_open (Network p) factor price (Late jobs resources) right so = right
 row_so may_be_open (Network p) factor price Refused right so = right
 row_so may_be_open (Network p) factor price Memory right so = right

@@ -21,10 +21,14 @@ AreSizes p jobs resources = (jobs ≡ length p.jobs) × (resources ≡ p.resourc
 abbrev pub MayBeOpen : (unlimited quiet : Bool) → Type 0
 MayBeOpen unlimited quiet = (unlimited ≡ false) ⊎ (quiet ≡ false)
 
+-- some plan of an order costs so much
+abbrev pub IsCostOfSome : Project → Terms → ℕ → Type 0
+IsCostOfSome p terms known = ∥ IsKnownCost p terms known ∥₁
+
 -- of an order, what each plan costs at least, and what one costs that is known
 pub record IsWork (p : Project) (terms : Terms) (work : Work) : Type 0 where
   pub bound : IsLeastOfEnough p terms work.bound
-  pub best : IfSome work.best (IsKnownCost p terms)
+  pub best : IfSome work.best (IsCostOfSome p terms)
 
 -- what becomes of the order with this factor and price: its plan, why there is none, or, if that may be left open, what each
 -- plan costs at least; and what was heard of it is true

@@ -1,9 +1,9 @@
 //! What is heard of a plan while it is made.
 
-ghost use Rattle.std.specs.Prelude.{IfSome, max, None};
+ghost use Rattle.std.specs.Prelude.{IfSome};
 ghost use Rattle.std.proofs.Props.{props};
-ghost use Rattle.racp_found.specs.Told.{IsKnownCost, IsLeastOfEnough, IsTrueNews};
-ghost use Rattle.racp_batch.specs.Rows.{IsWork};
+ghost use Rattle.racp_found.specs.Told.{IsLeastOfEnough, IsTrueNews};
+ghost use Rattle.racp_batch.specs.Rows.{IsCostOfSome, IsWork};
 
 use crate::row::Work;
 use racp_found::{News, Observer, OfOrder};
@@ -18,7 +18,7 @@ struct Costs<N: OfOrder> {
     best: Option<u64>,
     of: PhantomData<N>,
     ghost least_is: { IsLeastOfEnough N.network N.terms least } by { Prim.hlevel props },
-    ghost best_is: { IfSome best (IsKnownCost N.network N.terms) },
+    ghost best_is: { IfSome best (IsCostOfSome N.network N.terms) } by { Prim.hlevel props },
 }
 
 impl<N: OfOrder> Costs<N> {
@@ -35,8 +35,11 @@ impl<N: OfOrder> Costs<N> {
     fn with_least(self, least: u64) -> Self
         requires { IsLeastOfEnough N.network N.terms least }
     {
+        if least <= self.least {
+            return self;
+        }
         Costs {
-            least: self.least.max(least),
+            least,
             best: self.best,
             of: PhantomData,
         }
@@ -44,16 +47,15 @@ impl<N: OfOrder> Costs<N> {
 
     /// With what a plan costs.
     fn with_plan(self, cost: u64) -> Self
-        requires { IsKnownCost N.network N.terms cost }
+        requires { IsCostOfSome N.network N.terms cost }
     {
-        let best = match self.best {
-            Some(best) => best.min(cost),
-            None => cost,
-        };
-        Costs {
-            least: self.least,
-            best: Some(best),
-            of: PhantomData,
+        match self.best {
+            Some(best) if best <= cost => self,
+            _ => Costs {
+                least: self.least,
+                best: Some(cost),
+                of: PhantomData,
+            },
         }
     }
 }
