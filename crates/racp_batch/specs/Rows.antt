@@ -1,5 +1,5 @@
 -- What is right to tell of a case.
-use Rattle.std.specs.Prelude.{◌≡◌, ◌⊎◌, ℕ, Bool, true, false, None, Some, IfSome, length, not, ⊤}
+use Rattle.std.specs.Prelude.{◌≡◌, ◌⊎◌, ℕ, Bool, false, None, Some, IfSome, length, not, ⊤}
 use Rattle.racp_model.specs.Project.{Project}
 use Rattle.racp_model.specs.Terms.{Terms}
 use Rattle.racp_found.specs.Told.{IsKnownCost, IsLeastOfEnough}
