@@ -1,6 +1,7 @@
 //! `report`: a page about a plan.
 
-ghost use Rattle.std.specs.Prelude.{◌≡◌, IfOk, length};
+ghost use Rattle.std.specs.Prelude.{◌≡◌, ◌==◌, IfOk, length};
+ghost use Rattle.std.specs.List.{list_all};
 ghost use Rattle.racp_model.specs.Terms.{AreTermsOf};
 ghost use Rattle.racp_check.specs.PlanFaults.{IsFitting};
 ghost use Rattle.racp_show.specs.Entries.{outlined};
@@ -181,5 +182,12 @@ fn are_steps(alloc: Global, text: &str, wanted: usize) -> Result<bool, AllocErro
     ensures { IfOk result (λ are. are ≡ are_steps wanted text.now) }
 {
     let rows = rows_of(alloc, text, "deadline")?;
-    Ok(!rows.is_empty() && rows.iter().all(|row| row.len() == wanted))
+    Ok(!rows.is_empty() & are_so_long(rows.as_slice(), wanted))
+}
+
+/// Whether each row has so many numbers.
+fn are_so_long(rows: &[Vec<u64>], wanted: usize) -> bool
+    ensures { result ≡ list_all (λ row. length row.items == wanted) rows.now }
+{
+    rows.iter().all(|row| row.len() == wanted)
 }
