@@ -2,7 +2,7 @@
 use Rattle.std.specs.Prelude.{◌≡◌, ◌⊎◌, ℕ, Bool, IsTrue, IfSome, List, [], ◌∷◌, Option, Some, None, Result}
 use Rattle.racp_model.specs.Project.{Project}
 use Rattle.racp_model.specs.Terms.{Terms}
-use Rattle.racp_by_questions.specs.Stages.{IsLeastOfEnough}
+use Rattle.racp_found.specs.Told.{IsLeastOfEnough}
 use Rattle.racp_derivations.specs.BoundTexts.{IsLeastByText}
 use Rattle.racp_lexfix.specs.Printing.{AreTextsOf}
 use Rattle.racp_cli.specs.Plans.{IsNetworkLine, IsOrderLine, IsMemoryLine}
