@@ -3,6 +3,7 @@
 ghost use Rattle.std.specs.Prelude.{◌≡◌};
 
 use racp_by_questions::Alone;
+use racp_found::Observer;
 use racp_model::{Network, OfNetwork, Question};
 use racp_questions::{AskStop, Asker, First, Probe, Series};
 use std::alloc::{AllocError, Global};
@@ -27,6 +28,8 @@ impl<N: OfNetwork> Tired<N> {
         })
     }
 }
+
+impl<N: OfNetwork> Observer for Tired<N> {}
 
 impl<N: OfNetwork, S: Series> Asker<S> for Tired<N> {
     ghost use Rattle.std.specs.Prelude.{◌≡◌, ⊤, None};
