@@ -11,6 +11,9 @@ from slow.orders import cost_of
 
 MOST_NUMBER = 1_000_000_000_000_000
 
+# A clause of more literals is thinned.
+MANY_LITERALS = 256
+
 Case = collections.namedtuple("Case", "network order plan proof")
 
 # That a variable is at least, or at most, so much.
@@ -88,7 +91,7 @@ class Checker:
             self.suppose(self.literal(words))
         elif line == "holds":
             need(self.present.closed)
-            self.clauses.append(self.present.literals)
+            self.clauses.append(self.thinned(self.present.literals))
             self.present = self.first.copy()
         elif line == "keep":
             need(not self.present.literals)
@@ -110,13 +113,30 @@ class Checker:
         return Literal(variable, sign == ">=", self.number(value))
 
     def suppose(self, literal):
-        self.present.literals.append(literal)
+        self.add(self.present, literal)
+
+    @staticmethod
+    def add(bounds, literal):
+        bounds.literals.append(literal)
         if not literal.is_least:
-            self.present.raise_to(literal.variable, literal.value + 1)
+            bounds.raise_to(literal.variable, literal.value + 1)
         elif literal.value == 0:
-            self.present.closed = True
+            bounds.closed = True
         else:
-            self.present.lower_to(literal.variable, literal.value - 1)
+            bounds.lower_to(literal.variable, literal.value - 1)
+
+    def thinned(self, literals):
+        """A clause as it is kept."""
+        return self.thinner(self.thinner(literals)) if len(literals) > MANY_LITERALS else literals
+
+    def thinner(self, literals):
+        """A clause without the literals that those behind them make needless."""
+        work = self.first.copy()
+        for literal in reversed(literals):
+            if not work.closed and not work.is_false(literal):
+                self.add(work, literal)
+        self.by_clause(work, literals)
+        return work.literals if work.closed else literals
 
     def pair(self, bounds, first, second):
         i, j = self.named(first, self.jobs), self.named(second, self.jobs)
@@ -182,7 +202,11 @@ class Checker:
             bounds.lower_to(units(k), self.order.owned[k] + left // self.order.prices[k])
 
     def clause(self, bounds, number):
-        left = [literal for literal in self.clauses[self.named(number, self.clauses)] if not bounds.is_false(literal)]
+        self.by_clause(bounds, self.clauses[self.named(number, self.clauses)])
+
+    @staticmethod
+    def by_clause(bounds, literals):
+        left = [literal for literal in literals if not bounds.is_false(literal)]
         if not left:
             bounds.closed = True
         elif len(left) == 1:

@@ -4,12 +4,13 @@ use Rattle.racp_model.specs.Project.{Project}
 use Rattle.racp_model.specs.Terms.{Terms}
 use Rattle.racp_model.specs.Window.{Bounds}
 use Rattle.racp_clauses.specs.Clauses.{Derived}
-use Rattle.racp_clauses.specs.Inferences.{with_inference, with_literal, negation, by_clause}
+use Rattle.racp_clauses.specs.Inferences.{with_inference, by_clause}
 use Rattle.racp_clauses.specs.Rules.{along_pair, of_job, of_resource, by_time_table, by_energy, by_request, by_units, by_cost}
 use Rattle.racp_clauses.specs.declared.literal.Literal.{Literal}
 use Rattle.racp_clauses.specs.Tests.{clause_at}
 use Rattle.racp_derivations.specs.Words.{◌>>=◌}
 use Rattle.racp_derivations.specs.Lines.{line_of}
+use Rattle.racp_derivations.specs.Thinning.{supposed, thinned}
 use Rattle.racp_derivations.specs.declared.line.Line.{Line}
 use Rattle.racp_derivations.specs.declared.line.Line.TheVariants.{Suppose, Take, Holds, Keep}
 use Rattle.racp_derivations.specs.declared.line.Step.{Step}
@@ -27,23 +28,19 @@ stepped p terms clauses d (Budget k) = Some (with_inference d (of_resource p k (
 stepped p terms clauses d (Earlier at) =
     if nat_lt at (length clauses) then Some (with_inference d (by_clause d.bounds (clause_at clauses at))) else None
 
--- a derivation after a literal that its clause is to have
-abbrev pub supposed : Derived → Literal → Derived
-supposed d l = with_inference (with_literal d l) (negation l)
-
 -- what was derived so far: the derivation with which each one begins, the present one, and the clauses
 pub record Checked : Type 0 where
   pub base : Derived
   pub now : Derived
   pub clauses : List (List Literal)
 
--- after a line: with a literal or by a step the present derivation goes on; if nothing is left its clause holds, and the
--- next one begins; without literals it is that with which each one begins from then on
+-- after a line: with a literal or by a step the present derivation goes on; if nothing is left its clause holds, thinned if it is
+-- long, and the next one begins; without literals it is that with which each one begins from then on
 abbrev pub after : Project → Terms → Checked → Line → Option Checked
 after p terms c (Suppose l) = Some (record c { now = supposed c.now l })
 after p terms c (Take s) = stepped p terms c.clauses c.now s >>= (λ d. Some (record c { now = d }))
 after p terms c Holds =
-    if c.now.empty then Some (record { base = c.base; now = c.base; clauses = c.clauses ++ c.now.clause ∷ [] }) else None
+    if c.now.empty then Some (record { base = c.base; now = c.base; clauses = c.clauses ++ thinned c.base c.now.clause ∷ [] }) else None
 after p terms c Keep = if length c.now.clause == 0 then Some (record c { base = c.now }) else None
 
 abbrev pub after_line : Project → Terms → Checked → List ℕ → Option Checked

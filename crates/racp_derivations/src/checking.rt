@@ -4,10 +4,12 @@ ghost use Rattle.std.specs.Prelude.{◌≡◌, ◌++◌, ◌∷◌, [], true, fa
 ghost use Rattle.racp_model.specs.Terms.{AreTermsOf};
 ghost use Rattle.racp_clauses.specs.Solutions.{HasPlaces};
 ghost use Rattle.racp_derivations.specs.Checking.{after, after_line, at_first};
+ghost use Rattle.racp_derivations.specs.Thinning.{thinned};
 
 use crate::line::Line;
 use crate::lines::line_of;
 use crate::stepping::{Given, take_step};
+use crate::thinning::thinned;
 use racp_clauses::{Clause, Derivation, Domain, OfProblem};
 use std::alloc::{AllocError, Global};
 use std::marker::Model;
@@ -96,7 +98,7 @@ impl<N: OfProblem> Checking<N> {
     }
 }
 
-/// Adds the clause of a derivation, if nothing is left, begins anew and says true.
+/// Adds the clause of a derivation, thinned if it is long, if nothing is left, begins anew and says true.
 fn conclude<N: OfProblem>(
     alloc: Global,
     base: &Derivation<N>,
@@ -105,12 +107,13 @@ fn conclude<N: OfProblem>(
 ) -> Result<bool, AllocError>
     requires { base.now.clause ≡ [] }
     ensures { IfOk result (λ yes. MatchBool yes
-        ((present.old.empty ≡ true) × (present.new ≡ base.now) × (clauses.new.items ≡ clauses.old.items ++ present.old.clause ∷ []))
+        ((present.old.empty ≡ true) × (present.new ≡ base.now) × (clauses.new.items ≡ clauses.old.items ++ thinned base.now present.old.clause ∷ []))
         (present.old.empty ≡ false)) }
 {
     let Some(clause) = present.finish(alloc)? else {
         return Ok(false);
     };
+    let clause = thinned(alloc, base, present, clause)?;
     clauses.push(clause)?;
     Ok(present.begin(base))
 }

@@ -27,7 +27,8 @@
 //! There are two derivations, `base` with which each one begins, and the present one, and the clauses so far. Lines and
 //! words are slices of the text; memory is taken for the literals of clauses alone. A pair of the precedence relation
 //! is found by halving. Otherwise a line takes as long as its step, which is in proportion to the jobs, the resources
-//! or the literals of the clause that it names; no text takes longer than its bytes times that.
+//! or the literals of the clause that it names; no text takes longer than its bytes times that. Of a clause with more than
+//! 256 literals one is kept for each variable and side, so that a long one does not take long again and again (`thinned`).
 //!
 //! Who makes a text (`certificate_by_clauses`) has what a search recorded. A search that learns (racp_learning) derives
 //! thousands of clauses, and the plan follows from a few of them: one for each variable that could be less. These were
@@ -71,6 +72,7 @@ mod pairs;
 mod reading;
 mod root;
 mod stepping;
+mod thinning;
 mod trimming;
 mod verdict;
 mod words;
