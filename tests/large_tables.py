@@ -27,6 +27,8 @@ def tables():
     yield "a long cell in quotes", filled(head + b'"Walls', b"\n", b'",1,1\n'), 0, b"1 task,"
     yield "columns", filled(b"Name,Duration", b",c", b"\n"), 5, b"there are more than 1000 columns"
     yield "links", b"Name,Duration,Masons,Predecessors\n" + links, 5, b"more than 1000000 words"
+    name = b"A" * (MOST_BYTES // 2 - 100)
+    yield "a long word beside a long name", b"Name,Duration,Masons,Predecessors\n" + name + b",1,1,\nWalls,1,1," + name + b"A\n", 5, b"AAA ..' is no task"
     yield "names of resources", filled(b"Name,Duration,Resource Names\nWalls,1,", b"N;"), 5, b"more than 1000000 words"
 
 
