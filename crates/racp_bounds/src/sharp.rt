@@ -25,6 +25,13 @@ pub struct Sharp {
     pub pairs: Vec<(u32, u32)>,
 }
 
+/// Bounds on the units of each resource, by place from 0.
+#[derive(Clone, Copy)]
+struct Bounds<'a> {
+    floors: &'a Capacities,
+    roofs: &'a Capacities,
+}
+
 /// Sharpens the floors of a project by questions about its root window. The sharpened floor of a resource is the least
 /// number of units, from its floor on, with which some starts fit when the other resources have their roofs. A pair of
 /// resources is refuted if no starts fit when both have their sharpened floors and the others their roofs. Floors
@@ -61,13 +68,21 @@ pub fn sharpen<A: Asker<AnySeries>>(
     let mut reached = floors;
     for k in 0..net.resource_count() {
         asker.hear(News::Floors(&reached));
-        match raised(alloc, net, root, &reached, roofs, k, asker) {
+        let bounds = Bounds {
+            floors: &reached,
+            roofs,
+        };
+        match raised(alloc, net, root, &bounds, k, asker) {
             Ok(units) => reached = reached.with_units(k, units),
             Err(stop) => return Err((reached, stop)),
         }
     }
     asker.hear(News::Floors(&reached));
-    match refuted_pairs(alloc, net, root, &reached, roofs, asker) {
+    let bounds = Bounds {
+        floors: &reached,
+        roofs,
+    };
+    match refuted_pairs(alloc, net, root, &bounds, asker) {
         Ok(pairs) => Ok(Sharp {
             floors: reached,
             pairs,
@@ -81,27 +96,31 @@ fn raised<A: Asker<AnySeries>>(
     alloc: Global,
     net: &Network,
     root: &Window,
-    floors: &Capacities,
-    roofs: &Capacities,
+    bounds: &Bounds,
     k: usize,
     asker: &mut A,
 ) -> Result<u32, AskStop>
     requires named { A.about asker.old net.now }
     requires root { HasBounds net.now root.now }
-    requires floors { length floors.now ≡ net.now.resources }
-    requires roofs { length roofs.now ≡ net.now.resources }
+    requires floors { length bounds.now.floors.now ≡ net.now.resources }
+    requires roofs { length bounds.now.roofs.now ≡ net.now.resources }
     requires resource { k < net.now.resources }
-    requires bounds { slice_index floors.now k ≤ slice_index roofs.now k }
-    requires admits { IsYes net.now roofs.now root.now }
+    requires bounds { slice_index bounds.now.floors.now k ≤ slice_index bounds.now.roofs.now k }
+    requires admits { IsYes net.now bounds.now.roofs.now root.now }
     ensures network { A.about asker.new net.now }
-    ensures sharp { IfOk result (IsSharpened net.now root.now floors.now roofs.now k) }
+    ensures sharp { IfOk result (IsSharpened net.now root.now bounds.now.floors.now bounds.now.roofs.now k) }
     ensures answered { OnOk result (A.answered asker.new ≡ A.answered asker.old + 1) }
     ensures unanswered { OnErr result (A.answered asker.new ≡ A.answered asker.old) }
     ensures stop { IfErr result (MayGiveUp (A.may_stop asker.new) (A.may_want_thread asker.new)) }
 {
-    let singles = Singles::new(alloc, floors, roofs, k, root)?;
+    let singles = Singles::new(alloc, bounds.floors, bounds.roofs, k, root)?;
     match asker.first(net, AnySeries::Singles(singles))? {
-        First::Yes { index, .. } => Ok(units_at(floors.as_slice(), roofs.as_slice(), k, index)),
+        First::Yes { index, .. } => Ok(units_at(
+            bounds.floors.as_slice(),
+            bounds.roofs.as_slice(),
+            k,
+            index,
+        )),
         First::None => unreachable!(),
     }
 }
@@ -122,16 +141,15 @@ fn refuted_pairs<A: Asker<AnySeries>>(
     alloc: Global,
     net: &Network,
     root: &Window,
-    floors: &Capacities,
-    roofs: &Capacities,
+    bounds: &Bounds,
     asker: &mut A,
 ) -> Result<Vec<(u32, u32)>, AskStop>
     requires named { A.about asker.old net.now }
     requires root { HasBounds net.now root.now }
-    requires floors { length floors.now ≡ net.now.resources }
-    requires roofs { length roofs.now ≡ net.now.resources }
+    requires floors { length bounds.now.floors.now ≡ net.now.resources }
+    requires roofs { length bounds.now.roofs.now ≡ net.now.resources }
     ensures network { A.about asker.new net.now }
-    ensures refuted { IfOk result (λ pairs. AreRefutedPairs net.now root.now floors.now roofs.now pairs.items) }
+    ensures refuted { IfOk result (λ pairs. AreRefutedPairs net.now root.now bounds.now.floors.now bounds.now.roofs.now pairs.items) }
     ensures answered { OnOk result (A.answered asker.new ≡ A.answered asker.old + pair_count net.now.resources) }
     ensures no_fewer { A.answered asker.old ≤ A.answered asker.new }
     ensures stop { IfErr result (MayGiveUp
@@ -141,7 +159,7 @@ fn refuted_pairs<A: Asker<AnySeries>>(
     let mut pairs = Vec::new(alloc);
     for k in 0..net.resource_count() {
         for l in k + 1..net.resource_count() {
-            if is_refuted(alloc, net, root, floors, roofs, (k, l), asker)? {
+            if is_refuted(alloc, net, root, bounds, (k, l), asker)? {
                 add_pair(&mut pairs, k, l)?;
             }
         }
@@ -164,25 +182,24 @@ fn is_refuted<A: Asker<AnySeries>>(
     alloc: Global,
     net: &Network,
     root: &Window,
-    floors: &Capacities,
-    roofs: &Capacities,
+    bounds: &Bounds,
     pair: (usize, usize),
     asker: &mut A,
 ) -> Result<bool, AskStop>
     requires named { A.about asker.old net.now }
     requires root { HasBounds net.now root.now }
-    requires floors { length floors.now ≡ net.now.resources }
-    requires roofs { length roofs.now ≡ net.now.resources }
+    requires floors { length bounds.now.floors.now ≡ net.now.resources }
+    requires roofs { length bounds.now.roofs.now ≡ net.now.resources }
     requires first { pair.0 < net.now.resources }
     requires second { pair.1 < net.now.resources }
     ensures network { A.about asker.new net.now }
     ensures refuted { IfOk result (λ refuted. IsTrue refuted ↔
-        IsRefutedPair net.now root.now floors.now roofs.now pair.0 pair.1) }
+        IsRefutedPair net.now root.now bounds.now.floors.now bounds.now.roofs.now pair.0 pair.1) }
     ensures answered { OnOk result (A.answered asker.new ≡ A.answered asker.old + 1) }
     ensures unanswered { OnErr result (A.answered asker.new ≡ A.answered asker.old) }
     ensures stop { IfErr result (MayGiveUp (A.may_stop asker.new) (A.may_want_thread asker.new)) }
 {
-    let capacities = pair_capacities(alloc, floors, roofs, pair)?;
+    let capacities = pair_capacities(alloc, bounds, pair)?;
     let question = One::new(alloc, &capacities, root)?;
     let first = asker.first(net, AnySeries::One(question))?;
     Ok(matches!(first, First::None))
@@ -191,19 +208,18 @@ fn is_refuted<A: Asker<AnySeries>>(
 /// The roofs, with the floors of a pair of resources.
 fn pair_capacities(
     alloc: Global,
-    floors: &Capacities,
-    roofs: &Capacities,
+    bounds: &Bounds,
     pair: (usize, usize),
 ) -> Result<Capacities, AllocError>
-    requires first { pair.0 < length roofs.now }
-    requires second { pair.1 < length roofs.now }
-    requires floors { length floors.now ≡ length roofs.now }
+    requires first { pair.0 < length bounds.now.roofs.now }
+    requires second { pair.1 < length bounds.now.roofs.now }
+    requires floors { length bounds.now.floors.now ≡ length bounds.now.roofs.now }
     ensures { IfOk result (λ capacities. capacities ≡
-        set (set roofs.now pair.0 (slice_index floors.now pair.0)) pair.1 (slice_index floors.now pair.1)) }
+        set (set bounds.now.roofs.now pair.0 (slice_index bounds.now.floors.now pair.0)) pair.1 (slice_index bounds.now.floors.now pair.1)) }
 {
     let (k, l) = pair;
-    let mut units = roofs.as_slice().to_vec(alloc)?;
-    units[k] = floors.as_slice()[k];
-    units[l] = floors.as_slice()[l];
+    let mut units = bounds.roofs.as_slice().to_vec(alloc)?;
+    units[k] = bounds.floors.as_slice()[k];
+    units[l] = bounds.floors.as_slice()[l];
     Ok(Capacities::new(units))
 }
