@@ -9,7 +9,7 @@ use crate::ended::Ended;
 use crate::expanding::expand;
 use crate::frame::Frame;
 use crate::glance::{Glance, look_at};
-use crate::halt::{Halt, Next, Step, is_spent};
+use crate::halt::{Halt, Limit, Next, Step, is_spent};
 use crate::subject::Subject;
 use crate::workspace::{Spare, Workspace};
 use racp_cutset::{Local, Nogood};
@@ -34,11 +34,11 @@ pub(crate) fn search<N: OfNetwork, S: Stop>(
     ensures nodes { IfSome quantum (λ most. nodes.new ≤ most) }
     ensures kept { StayKept local.old local.new }
 {
-    let first = local.kept_count();
     let window = subject.whole().copy()?;
     let next = Next { window, from: 0 };
+    let limit = Limit { quantum, stop };
     let mut stack: Stack<N> = Stack::new(alloc, subject.network());
-    let halt = stack.go_on(subject, next, quantum, nodes, local, first, stop);
+    let halt = stack.go_on(subject, next, &limit, nodes, local);
     let ended = stack.finish(alloc, subject, halt);
     // Dropped here once, not at each way out.
     drop(stack);
@@ -65,31 +65,30 @@ impl<N: OfNetwork> Stack<N> {
     }
 
     /// Goes on by depth, until starts are found, nothing is left, as many nodes were entered as the quantum allows, or the
-    /// search is stopped. Counts the nodes. The first `first` records stay.
+    /// search is stopped. Counts the nodes. The records that were kept stay.
     fn go_on<S: Stop>(
         &mut self,
         subject: &Subject<N>,
         mut next: Next,
-        quantum: Option<u64>,
+        limit: &Limit<'_, S>,
         nodes: &mut u64,
         local: &mut Local<N>,
-        first: usize,
-        stop: &S,
     ) -> Result<Halt, AllocError>
         requires state { IsSearchingNext N.network subject.now.capacities subject.now.window
             self.old.frames.items next.window next.from }
         requires nodes { nodes.old ≡ 0 }
-        requires quantum { IfSome quantum (λ most. 1 ≤ most) }
-        ensures halt { IfOk result (IsHalt N.network subject.now.capacities subject.now.window quantum nodes.new (S.is_quiet stop.now)
-            self.new.frames.items) }
-        ensures nodes { IfSome quantum (λ most. nodes.new ≤ most) }
-        ensures kept { StayKept (front first local.old) local.new }
+        requires quantum { IfSome limit.now.quantum (λ most. 1 ≤ most) }
+        ensures halt { IfOk result (IsHalt N.network subject.now.capacities subject.now.window limit.now.quantum nodes.new
+            (S.is_quiet limit.now.stop.now) self.new.frames.items) }
+        ensures nodes { IfSome limit.now.quantum (λ most. nodes.new ≤ most) }
+        ensures kept { StayKept local.old local.new }
     {
+        let first = local.kept_count();
         'next: loop {
-            if is_spent(quantum, *nodes) {
+            if is_spent(limit.quantum, *nodes) {
                 return Ok(Halt::Left(next, false));
             }
-            if stop.asked() {
+            if limit.stop.asked() {
                 return Ok(Halt::Left(next, true));
             }
             *nodes = nodes.saturating_add(1);

@@ -2,13 +2,20 @@
 
 ghost use Rattle.racp_search.specs.Ends.{IsSpent};
 
-use racp_model::{Starts, Window};
+use racp_model::{Starts, Stop, Window};
 
 /// A window to be searched next, and a time before which its early starts keep the capacities.
 #[derive(Drop)]
 pub(crate) struct Next {
     pub(crate) window: Window,
     pub(crate) from: u32,
+}
+
+/// How far a search goes: over so many nodes at most, where that is said, and until it is stopped.
+#[derive(Drop)]
+pub(crate) struct Limit<'a, S: Stop> {
+    pub(crate) quantum: Option<u64>,
+    pub(crate) stop: &'a S,
 }
 
 /// What one step of a search comes to.

@@ -1,7 +1,7 @@
 use Rattle.std.proofs.Common.{◌∙◌, ap}
 use Rattle.racp_model.specs.Window.{Bounds}
 use Rattle.racp_search.proofs.Entering.{none_yet, started}
-use Rattle.racp_search.proofs.Popping.{stays, all_stay}
+use Rattle.racp_search.proofs.Popping.{stays}
 use Rattle.racp_search.proofs.Ending.{halt_of, finished, finished_quiet}
 use Rattle.racp_search.proofs.depth_first.search.Goals as goal
 
@@ -29,7 +29,7 @@ pub returns-clause-nodes : goal.returns-clause-nodes
 returns-clause-nodes g c = c.go_on-halt.ensures.nodes
 
 pub returns-clause-kept : goal.returns-clause-kept
-returns-clause-kept g c = all_stay c.kept_count-first.result c.args.local.now c.go_on-halt.new.local c.kept_count-first.ensures.count c.go_on-halt.ensures.kept
+returns-clause-kept g c = c.go_on-halt.ensures.kept
 
 pub returns-in_err-window-clause-kept : goal.returns-in_err-window-clause-kept
 returns-in_err-window-clause-kept g c = stays c.args.local.now

@@ -8,7 +8,7 @@ abbrev pub invariant-next : goal.invariant-next
 invariant-next g l = record {
   state : IsSearchingNext g.N.OfNetwork.network l.subject.capacities l.subject.window l.self.frames.items l.next.window l.next.from;
   higher : 0 < l.nodes → IsHigher g.N.OfNetwork.network l.subject.window l.next.window;
-  bounded : IfSome l.quantum (λ most. l.nodes ≤ most);
+  bounded : IfSome l.limit.quantum (λ most. l.nodes ≤ most);
   kept : StayKept (front l.first l.fn.local) l.local;
 }
 
