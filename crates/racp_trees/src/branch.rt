@@ -7,7 +7,7 @@ ghost use Rattle.racp_trees.specs.Records.{IsRecordOf};
 ghost use Rattle.racp_trees.specs.Branches.{open_node, IsBranch, IsChildAnswer, IsAlternativeAnswer, IsWindowAnswer, IsRaised};
 
 use crate::patience::Patience;
-use crate::record::Record;
+use crate::record::{NodeTimes, Record};
 use crate::shared_row::SharedRow;
 use racp_cpm::early;
 use racp_delay::{Alternative, first_end, laws};
@@ -68,15 +68,11 @@ impl Branch {
     {
         let lower = self.lower.bounds(alloc)?;
         let early = early(alloc, net, &lower)?;
-        let kept = Record::new(
-            alloc,
-            net,
-            capacities.as_slice(),
-            &lower,
-            early.as_slice(),
-            self.time,
-            usual,
-        )?;
+        let node = NodeTimes {
+            lower: &lower,
+            early: &early,
+        };
+        let kept = Record::new(alloc, net, capacities.as_slice(), &node, self.time, usual)?;
         Ok(kept)
     }
 

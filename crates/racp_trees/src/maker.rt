@@ -13,7 +13,7 @@ use crate::closed::Closed;
 use crate::offer::Offers;
 use crate::patience::Brief;
 use crate::reader::{Ground, Reader};
-use crate::record::Record;
+use crate::record::{NodeTimes, Record};
 use crate::step::Step;
 use crate::writer::push_step;
 use racp_cpm::early;
@@ -221,12 +221,12 @@ fn row_of(
     ensures { IfOk result (HasRows ground.now.net.now) }
 {
     prove!(ground.net.job_count() == ground.net.job_count());
+    let node = NodeTimes { lower, early };
     let row = Record::new(
         alloc,
         ground.net,
         ground.capacities.as_slice(),
-        lower,
-        early.as_slice(),
+        &node,
         time,
         usual,
     )?;

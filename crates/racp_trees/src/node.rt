@@ -9,7 +9,8 @@ ghost use Rattle.racp_trees.specs.Nodes.{IsDivisionAnswer, AreRecords, HaveRows,
 
 use crate::before::is_at_most;
 use crate::closed::Closed;
-use crate::record::Record;
+use crate::reader::Ground;
+use crate::record::{NodeTimes, Record};
 use racp_delay::conflict;
 use racp_model::{Capacities, JobSet, Network, Starts};
 use std::alloc::{AllocError, Global};
@@ -56,24 +57,22 @@ pub(crate) fn active_at(
 /// its first conflict. Records share the row of usual bounds.
 pub(crate) fn is_covered(
     alloc: Global,
-    net: &Network,
-    capacities: &Capacities,
-    lower: &[u32],
-    early: &Starts,
+    ground: &Ground,
+    node: &NodeTimes,
     closed: &Closed,
     number: u32,
     usual: &Rc<Vec<u32>>,
 ) -> Result<bool, AllocError>
-    requires capacities { length capacities.now ≡ net.now.resources }
-    requires lower { length lower.now ≡ length net.now.jobs }
-    requires early { IsEarly net.now (slice_index lower.now) early.now }
-    requires small { (i : ℕ) → i < length net.now.jobs → slice_index early.now i ≤ most_early }
-    requires rows { HaveRows net.now closed.now }
+    requires capacities { length ground.now.capacities.now ≡ ground.now.net.now.resources }
+    requires lower { length node.now.lower.now ≡ length ground.now.net.now.jobs }
+    requires early { IsEarly ground.now.net.now (slice_index node.now.lower.now) node.now.early.now }
+    requires small { (i : ℕ) → i < length ground.now.net.now.jobs → slice_index node.now.early.now i ≤ most_early }
+    requires rows { HaveRows ground.now.net.now closed.now }
     requires place { HasPlace closed.now number }
-    ensures { IfOk result (λ yes. (upper : List ℕ) (nodes : List (ℕ × SearchNode)) → length upper ≡ length net.now.jobs → AreRecords net.now upper nodes closed.now →
-        IsTrue yes ↔ IsCoveredHere net.now capacities.now (record { lower = lower.now; upper = upper }) nodes number) }
+    ensures { IfOk result (λ yes. (upper : List ℕ) (nodes : List (ℕ × SearchNode)) → length upper ≡ length ground.now.net.now.jobs → AreRecords ground.now.net.now upper nodes closed.now →
+        IsTrue yes ↔ IsCoveredHere ground.now.net.now ground.now.capacities.now (record { lower = node.now.lower.now; upper = upper }) nodes number) }
 {
-    let Some(clash) = conflict(net, capacities, early) else {
+    let Some(clash) = conflict(ground.net, ground.capacities, node.early) else {
         return Ok(false);
     };
     let Some(by) = closed.record(number as u64) else {
@@ -81,10 +80,9 @@ pub(crate) fn is_covered(
     };
     let row = Record::new(
         alloc,
-        net,
-        capacities.as_slice(),
-        lower,
-        early.as_slice(),
+        ground.net,
+        ground.capacities.as_slice(),
+        node,
         clash.time,
         usual,
     )?;

@@ -15,6 +15,7 @@ use crate::closed::Closed;
 use crate::node::{active_at, is_covered, is_too_late};
 use crate::patience::Patience;
 use crate::reading::read_step;
+use crate::record::NodeTimes;
 use crate::shared_row::SharedRow;
 use crate::step::Step;
 use racp_cpm::early;
@@ -119,17 +120,11 @@ impl Reader {
         match step {
             Step::L(job) => Ok(is_too_late(upper, early.as_slice(), job)),
             Step::C(node) => {
-                let (net, capacities) = (ground.net, ground.capacities);
-                is_covered(
-                    alloc,
-                    net,
-                    capacities,
-                    &lower,
-                    &early,
-                    &self.closed,
-                    node,
-                    &self.usual,
-                )
+                let times = NodeTimes {
+                    lower: &lower,
+                    early: &early,
+                };
+                is_covered(alloc, ground, &times, &self.closed, node, &self.usual)
             }
             Step::D(time) => self.open(alloc, ground, lower, &early, time),
         }

@@ -8,13 +8,20 @@ ghost use Rattle.racp_trees.specs.Records.{IsRecordOf, RecordCovers, AreAlike, A
 use crate::before::is_at_most;
 use crate::branch::copied;
 use racp_cutset::started_before;
-use racp_model::{JobSet, Network};
+use racp_model::{JobSet, Network, Starts};
 use std::alloc::{AllocError, Global};
 use std::cmp::max;
 use std::rc::Rc;
 
 /// The wait of a job whose bound stands in the row of far bounds.
 const FAR: u16 = u16::MAX;
+
+/// The lower bounds of a node's window, and the early starts that they give, by place of the job from 0.
+#[derive(Clone, Copy)]
+pub(crate) struct NodeTimes<'a> {
+    pub(crate) lower: &'a [u32],
+    pub(crate) early: &'a Starts,
+}
 
 /// What tells which nodes a closed node covers. It tells one bound for each job: the end of a started job, the lower
 /// bound of another, and the node's time if that is later. It keeps in two bytes how long that is after the time; if
@@ -29,23 +36,23 @@ pub(crate) struct Record {
 }
 
 impl Record {
-    /// The record of a node of these capacities and lower bounds, with these early starts and this time. It shares the
+    /// The record of a node of these capacities, lower bounds and early starts, with this time. It shares the
     /// row of usual bounds if its far bounds are among them.
     pub(crate) fn new(
         alloc: Global,
         net: &Network,
         capacities: &[u32],
-        lower: &[u32],
-        early: &[u32],
+        node: &NodeTimes,
         time: u32,
         usual: &Rc<Vec<u32>>,
     ) -> Result<Self, AllocError>
-        requires lower { length lower.now ≡ length net.now.jobs }
-        requires early { length early.now ≡ length net.now.jobs }
-        requires small { (i : ℕ) → i < length net.now.jobs → slice_index early.now i ≤ most_early }
-        ensures { IfOk result (λ kept. (upper : List ℕ) → IsRecordOf net.now (record { capacities = capacities.now; window = record { lower = lower.now; upper = upper }; early = early.now; time = time }) kept) }
+        requires lower { length node.now.lower.now ≡ length net.now.jobs }
+        requires early { length node.now.early.now ≡ length net.now.jobs }
+        requires small { (i : ℕ) → i < length net.now.jobs → slice_index node.now.early.now i ≤ most_early }
+        ensures { IfOk result (λ kept. (upper : List ℕ) → IsRecordOf net.now (record { capacities = capacities.now; window = record { lower = node.now.lower.now; upper = upper }; early = node.now.early.now; time = time }) kept) }
     {
-        let bounds = bounds_of(alloc, net, lower, early, time)?;
+        let early = node.early.as_slice();
+        let bounds = bounds_of(alloc, net, node.lower, early, time)?;
         let waits = waits_of(alloc, &bounds, time)?;
         let far = far_of(alloc, bounds, &waits, usual)?;
         let capacities = copied(alloc, capacities)?;

@@ -16,13 +16,13 @@ pub new-requires-clause-lower : goal.new-requires-clause-lower
 new-requires-clause-lower c = ap (λ (xs : List ℕ). length xs) (c.deref-2.ensures.value ∙ c.in_ok-lower.ensures) ∙ c.requires.branch.places
 
 pub new-requires-clause-early : goal.new-requires-clause-early
-new-requires-clause-early c = ap (λ (xs : List ℕ). length xs) c.as_slice-2.ensures ∙ c.in_ok-early.ensures.places
+new-requires-clause-early c = c.in_ok-early.ensures.places
 
 pub new-requires-clause-small : goal.new-requires-clause-small
 new-requires-clause-small c i l =
     let same : c.in_ok-early.early ≡ early_of c.args.net.now c.args.self.now.lower =
     early_again c.args.net.now c.args.capacities.now c.args.self.now c.deref.result.now c.in_ok-early.early c.requires.branch (c.deref.ensures.value ∙ c.in_ok-lower.ensures) c.in_ok-early.ensures in
-    subst (λ (xs : List ℕ). slice_index xs i ≤ most_early) (sym (c.as_slice-2.ensures ∙ same)) (omega (arith, c.requires.branch.below i l))
+    subst (λ (xs : List ℕ). slice_index xs i ≤ most_early) (sym same) (omega (arith, c.requires.branch.below i l))
 
 pub returns : goal.returns
 returns c upper =
@@ -30,6 +30,6 @@ returns c upper =
     let t : ℕ = c.args.self.now.time in
     let early : List ℕ = early_of p c.args.self.now.lower in
     let same : c.in_ok-early.early ≡ early = early_again p c.args.capacities.now c.args.self.now c.deref.result.now c.in_ok-early.early c.requires.branch (c.deref.ensures.value ∙ c.in_ok-lower.ensures) c.in_ok-early.ensures in
-    subst (λ (xs : List ℕ). IsRecordOf p (node_at c.args.capacities.now c.args.self.now.lower upper xs t) c.in_ok-kept.kept) (c.as_slice-2.ensures ∙ same)
-    (subst (λ (xs : List ℕ). IsRecordOf p (node_at c.args.capacities.now xs upper c.as_slice-2.result.now t) c.in_ok-kept.kept) (c.deref-2.ensures.value ∙ c.in_ok-lower.ensures)
-    (subst (λ (xs : List ℕ). IsRecordOf p (node_at xs c.deref-2.result.now upper c.as_slice-2.result.now t) c.in_ok-kept.kept) c.as_slice.ensures (c.in_ok-kept.ensures upper)))
+    subst (λ (xs : List ℕ). IsRecordOf p (node_at c.args.capacities.now c.args.self.now.lower upper xs t) c.in_ok-kept.kept) same
+    (subst (λ (xs : List ℕ). IsRecordOf p (node_at c.args.capacities.now xs upper c.in_ok-early.early t) c.in_ok-kept.kept) (c.deref-2.ensures.value ∙ c.in_ok-lower.ensures)
+    (subst (λ (xs : List ℕ). IsRecordOf p (node_at xs c.deref-2.result.now upper c.in_ok-early.early t) c.in_ok-kept.kept) c.as_slice.ensures (c.in_ok-kept.ensures upper)))
