@@ -7,7 +7,7 @@ ghost use Rattle.racp_by_clauses.specs.Optima.{IsTaskOf};
 
 use crate::descent::Descent;
 use crate::task::Task;
-use racp_clauses::{Clause, OfProblem, establishes, leaves_none};
+use racp_clauses::{Clause, OfProblem, PlanValues, establishes, leaves_none};
 use racp_drafts::Draft;
 use racp_found::Found;
 use std::alloc::AllocError;
@@ -40,15 +40,11 @@ fn with_draft<P: OfProblem>(
         starts,
         ..
     } = draft;
-    let is_shown = establishes(
-        task.alloc,
-        task.net,
-        task.order,
-        task.root,
-        &capacities,
-        &starts,
-        clauses,
-    )?;
+    let plan = PlanValues {
+        capacities: &capacities,
+        starts: &starts,
+    };
+    let is_shown = establishes(task.alloc, task.net, task.order, task.root, &plan, clauses)?;
     if is_shown {
         return Ok(Found::Plan(capacities, starts));
     }

@@ -18,6 +18,15 @@ use racp_plan::are_fitting;
 use racp_prices::{Order, cost_of};
 use std::alloc::{AllocError, Global};
 
+/// The values of a plan, or of what may be one: units of each resource, and a start of each job, by place from 0.
+#[derive(Clone, Copy)]
+pub struct PlanValues<'a> {
+    /// The units of each resource.
+    pub capacities: &'a Capacities,
+    /// The start of each job, in time units.
+    pub starts: &'a Starts,
+}
+
 /// Whether clauses show that capacities and starts are the plan of an order.
 ///
 /// They are: that the cost is at least that of these capacities; of each resource in turn, that the cost is more, or
@@ -33,24 +42,23 @@ pub fn establishes<N: OfProblem>(
     net: &Network,
     order: &Order,
     root: &Domain,
-    capacities: &Capacities,
-    starts: &Starts,
+    plan: &PlanValues,
     clauses: &[Clause<N>],
 ) -> Result<bool, AllocError>
     requires named { net.now ≡ N.problem.network }
     requires terms { order.now ≡ N.problem.terms }
     requires root { root.now ≡ N.problem.root }
     requires open { IsOpen N.problem }
-    ensures plan { IfOk result (λ yes. IsTrue yes → IsPlan net.now order.now capacities.now starts.now) }
-    ensures whole { IfOk result (λ yes. AreFitting net.now order.now capacities.now starts.now →
-        AreAllOut net.now root.now (values order.now starts.now capacities.now) (cost_place net.now + 1) clauses.now → IsTrue yes) }
-    ensures shown { IfOk result (λ yes. IsTrue yes → AreFitting net.now order.now capacities.now starts.now ×
-        AreAllOut net.now root.now (values order.now starts.now capacities.now) (cost_place net.now + 1) clauses.now) }
+    ensures plan { IfOk result (λ yes. IsTrue yes → IsPlan net.now order.now plan.now.capacities.now plan.now.starts.now) }
+    ensures whole { IfOk result (λ yes. AreFitting net.now order.now plan.now.capacities.now plan.now.starts.now →
+        AreAllOut net.now root.now (values order.now plan.now.starts.now plan.now.capacities.now) (cost_place net.now + 1) clauses.now → IsTrue yes) }
+    ensures shown { IfOk result (λ yes. IsTrue yes → AreFitting net.now order.now plan.now.capacities.now plan.now.starts.now ×
+        AreAllOut net.now root.now (values order.now plan.now.starts.now plan.now.capacities.now) (cost_place net.now + 1) clauses.now) }
 {
-    if !are_fitting(net, order, capacities, starts) {
+    if !are_fitting(net, order, plan.capacities, plan.starts) {
         return Ok(false);
     }
-    are_the_least(alloc, net, order, root, capacities, starts, clauses)
+    are_the_least(alloc, net, order, root, plan, clauses)
 }
 
 /// Whether clauses show that capacities and starts that fit them are the plan of an order.
@@ -63,22 +71,27 @@ pub fn are_the_least<N: OfProblem>(
     net: &Network,
     order: &Order,
     root: &Domain,
-    capacities: &Capacities,
-    starts: &Starts,
+    plan: &PlanValues,
     clauses: &[Clause<N>],
 ) -> Result<bool, AllocError>
     requires named { net.now ≡ N.problem.network }
     requires terms { order.now ≡ N.problem.terms }
     requires root { root.now ≡ N.problem.root }
     requires open { IsOpen N.problem }
-    requires fit { AreFitting net.now order.now capacities.now starts.now }
-    ensures plan { IfOk result (λ yes. IsTrue yes → IsPlan net.now order.now capacities.now starts.now) }
+    requires fit { AreFitting net.now order.now plan.now.capacities.now plan.now.starts.now }
+    ensures plan { IfOk result (λ yes. IsTrue yes → IsPlan net.now order.now plan.now.capacities.now plan.now.starts.now) }
     ensures whole { IfOk result (λ yes.
-        AreAllOut net.now root.now (values order.now starts.now capacities.now) (cost_place net.now + 1) clauses.now → IsTrue yes) }
+        AreAllOut net.now root.now (values order.now plan.now.starts.now plan.now.capacities.now) (cost_place net.now + 1) clauses.now → IsTrue yes) }
     ensures shown { IfOk result (λ yes. IsTrue yes →
-        AreAllOut net.now root.now (values order.now starts.now capacities.now) (cost_place net.now + 1) clauses.now) }
+        AreAllOut net.now root.now (values order.now plan.now.starts.now plan.now.capacities.now) (cost_place net.now + 1) clauses.now) }
 {
-    let row = row_of(alloc, net, order, starts.as_slice(), capacities.as_slice())?;
+    let row = row_of(
+        alloc,
+        net,
+        order,
+        plan.starts.as_slice(),
+        plan.capacities.as_slice(),
+    )?;
     let turns = net.job_count() + net.resource_count() + 1;
     Ok(are_least(net, root, &row, clauses, turns))
 }

@@ -97,7 +97,7 @@ mod unit;
 pub use clause::Clause;
 pub use derivation::Derivation;
 pub use domain::Domain;
-pub use established::{are_the_least, establishes, leaves_none, none_stand_before};
+pub use established::{PlanValues, are_the_least, establishes, leaves_none, none_stand_before};
 pub use literal::Literal;
 pub use named::OfProblem;
 pub use root::root_of;

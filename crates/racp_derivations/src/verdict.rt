@@ -10,7 +10,7 @@ use crate::checking::Checking;
 use crate::reading::read_text;
 use crate::root::root_bounds;
 use crate::stepping::Given;
-use racp_clauses::{Domain, OfProblem, establishes};
+use racp_clauses::{Domain, OfProblem, PlanValues, establishes};
 use racp_model::{Network, Never, Stop, Unfound};
 use racp_plan::Plan;
 use racp_prices::Order;
@@ -107,14 +107,11 @@ fn establishes_of<N: OfProblem, S: Stop>(
     if !read_text(alloc, given, &mut checking, text, stop)? {
         return Ok(false);
     }
-    let is_shown = establishes(
-        alloc,
-        given.net,
-        given.order,
-        root,
-        &plan.capacities,
-        &plan.starts,
-        checking.clauses(),
-    )?;
+    let values = PlanValues {
+        capacities: &plan.capacities,
+        starts: &plan.starts,
+    };
+    let clauses = checking.clauses();
+    let is_shown = establishes(alloc, given.net, given.order, root, &values, clauses)?;
     Ok(is_shown)
 }

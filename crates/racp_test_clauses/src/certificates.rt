@@ -7,7 +7,7 @@ use crate::listener::Listener;
 use crate::sums::Sums;
 use crate::tasks::{Trial, try_order};
 use racp_by_clauses::{Limits, Task, optimum_recorded};
-use racp_clauses::{Clause, OfProblem, establishes, none_stand_before};
+use racp_clauses::{Clause, OfProblem, PlanValues, establishes, none_stand_before};
 use racp_derivations::{
     bound_certificate, certificate_by_clauses, establishes_by_text, least_by_text,
 };
@@ -110,7 +110,11 @@ fn are_first<N: OfProblem>(task: Task<'_>, units: u32) -> Result<bool, AllocErro
     let starts = Starts::new(vec![in alloc; 0; net.job_count()]?);
     let none: Vec<Clause<N>> = Vec::new(alloc);
     let first = none_stand_before(alloc, net, order, root, &capacities, &none);
-    let plan = establishes(alloc, net, order, root, &capacities, &starts, &none);
+    let values = PlanValues {
+        capacities: &capacities,
+        starts: &starts,
+    };
+    let plan = establishes(alloc, net, order, root, &values, &none);
     drop((capacities, starts, none));
     Ok(first? && plan?)
 }

@@ -10,7 +10,7 @@ are_least-requires-clause-row g c =
 
 pub returns-clause-plan : goal.returns-clause-plan
 returns-clause-plan g c so =
-    let row-is : c.deref.result.now ≡ values c.args.order.now c.args.starts.now c.args.capacities.now =
-    c.deref.ensures.value ∙ (c.in_ok-row.ensures ∙ (ap (λ (xs : List ℕ). values c.args.order.now xs c.as_slice-2.result.now) c.as_slice.ensures ∙ ap (λ (xs : List ℕ). values c.args.order.now c.args.starts.now xs) c.as_slice-2.ensures)) in
-    ending-plan g.N.OfProblem.problem c.args.net.now c.args.order.now c.deref.result.now c.args.starts.now c.args.capacities.now (c.job_count.result + c.resource_count.result + 1)
+    let row-is : c.deref.result.now ≡ values c.args.order.now c.args.plan.now.starts.now c.args.plan.now.capacities.now =
+    c.deref.ensures.value ∙ (c.in_ok-row.ensures ∙ (ap (λ (xs : List ℕ). values c.args.order.now xs c.as_slice-2.result.now) c.as_slice.ensures ∙ ap (λ (xs : List ℕ). values c.args.order.now c.args.plan.now.starts.now xs) c.as_slice-2.ensures)) in
+    ending-plan g.N.OfProblem.problem c.args.net.now c.args.order.now c.deref.result.now c.args.plan.now.starts.now c.args.plan.now.capacities.now (c.job_count.result + c.resource_count.result + 1)
     c.requires.named c.requires.terms c.requires.open row-is (c.are_least.ensures.least so) (omega (arith, c.job_count.ensures.count, c.resource_count.ensures.count)) c.requires.fit
