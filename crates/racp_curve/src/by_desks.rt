@@ -15,7 +15,7 @@ use crate::step::{CurveAnswer, CurveStop, out_of_memory};
 use racp_by_questions::{Crowd, OfTurns};
 use racp_candidates::AnySeries;
 use racp_clauses::OfProblem;
-use racp_desk::{Closed, DeskFault, Gate, Records, RunLimits};
+use racp_desk::{Closed, DeskFault, Gate, Records, RunBounds, RunLimits};
 use racp_found::Observer;
 use racp_lexfix::{Crew, MemoryLimit};
 use racp_model::{OfNetwork, Stop};
@@ -83,7 +83,14 @@ pub(crate) fn curve_named<
             requires { (net.now ≡ K.network) × AreFormed net.now (any_questions series) }
             ensures { IfOk result (IsRunClosed net.entry.now (any_questions series) limits.turns
                 (P.is_quiet crew.entry.now.stop.now)) }
-        { records.run(rt, alloc, net, series, limits, crew.gate, crew.stop) },
+        {
+            let bounds = RunBounds {
+                limits,
+                gate: crew.gate,
+                stop: crew.stop,
+            };
+            records.run(rt, alloc, net, series, &bounds)
+        },
     );
     let mut crowd = crowd.with_search(crew.leeway(), crew.stop);
     curve_with(ground, facts, &mut crowd)

@@ -95,7 +95,7 @@ pub use book::{Book, Rules};
 pub use closed::Closed;
 pub use fault::DeskFault;
 pub use gate::{Gate, Open};
-pub use limits::RunLimits;
+pub use limits::{RunBounds, RunLimits};
 pub use log::{Cause, Entry};
 pub use names::RunNames;
 pub use records::Records;

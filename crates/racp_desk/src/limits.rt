@@ -2,6 +2,9 @@
 
 ghost use Rattle.std.specs.Prelude.{◌≤◌};
 
+use crate::gate::Gate;
+use racp_model::Stop;
+
 /// How many workers a run has, and how far it goes at most.
 #[derive(Clone, Copy)]
 pub struct RunLimits {
@@ -16,4 +19,15 @@ pub struct RunLimits {
     pub ghost quantum_some: { 1 ≤ quantum },
     pub ghost quantum_small: { quantum ≤ 1000000 },
     pub ghost turns_few: { turns ≤ 1000000000000 },
+}
+
+/// What bounds a run: its limits, the gate that each piece has to pass, and when the user asks to stop.
+#[derive(Drop)]
+pub struct RunBounds<'a, G: Gate, P: Stop> {
+    /// How many workers there are, and how far they go at most.
+    pub limits: RunLimits,
+    /// The gate.
+    pub gate: &'a G,
+    /// The user's stop.
+    pub stop: &'a P,
 }

@@ -8,7 +8,7 @@ ghost use Rattle.racp_desk.specs.Closing.{IsRunClosed};
 use crate::closed::Closed;
 use crate::fault::DeskFault;
 use crate::gate::Gate;
-use crate::limits::RunLimits;
+use crate::limits::RunBounds;
 use crate::worker::RunSetup;
 use racp_cutset::{Board, Local, MemoryLimit};
 use racp_model::{Network, OfNetwork, Stop};
@@ -45,8 +45,8 @@ impl<N: OfNetwork> Records<N> {
 }
 
 impl<N: OfNetwork + Send + Sync> Records<N> {
-    /// Lets workers answer a series of questions about the network, as `run` does, as far as the limits let them, with what
-    /// those of the runs before have kept.
+    /// Lets workers answer a series of questions about the network, as `run` does, as far as its bounds let them, with
+    /// what those of the runs before have kept.
     ///
     /// # Errors
     ///
@@ -57,21 +57,20 @@ impl<N: OfNetwork + Send + Sync> Records<N> {
         alloc: Global,
         net: &Network,
         series: S,
-        limits: RunLimits,
-        gate: &G,
-        stop: &P,
+        bounds: &RunBounds<'_, G, P>,
     ) -> Result<Closed, DeskFault>
         requires named { net.now ≡ N.network }
         requires formed { AreFormed net.now (S.questions series) }
-        ensures { IfOk result (IsRunClosed net.now (S.questions series) limits.turns (P.is_quiet stop.now)) }
+        ensures { IfOk result (IsRunClosed net.now (S.questions series) bounds.now.limits.turns
+            (P.is_quiet bounds.now.stop.now)) }
     {
         let setup = RunSetup {
             alloc,
             net,
-            limits,
+            limits: bounds.limits,
             board: &self.board,
-            gate,
-            stop,
+            gate: bounds.gate,
+            stop: bounds.stop,
         };
         let mut locals = self.locals.replace(Vec::new(alloc));
         let closed = setup.run(rt, series, &mut locals);

@@ -16,7 +16,7 @@ use crate::searches::by_searches;
 use racp_by_questions::{Crowd, Effort, OfTurns, PlanStop};
 use racp_candidates::AnySeries;
 use racp_cutset::MemoryLimit;
-use racp_desk::{Closed, DeskFault, Gate, Records, RunLimits};
+use racp_desk::{Closed, DeskFault, Gate, Records, RunBounds, RunLimits};
 use racp_found::{News, Observer};
 use racp_model::{Network, OfNetwork, Stop};
 use racp_prices::read_order;
@@ -183,7 +183,14 @@ fn plan_by<
             requires { (net.now ≡ N.network) × AreFormed net.now (any_questions series) }
             ensures { IfOk result (IsRunClosed net.entry.now (any_questions series) limits.turns
                 (P.is_quiet crew.entry.now.stop.now)) }
-        { records.run(rt, alloc, net, series, limits, crew.gate, crew.stop) },
+        {
+            let bounds = RunBounds {
+                limits,
+                gate: crew.gate,
+                stop: crew.stop,
+            };
+            records.run(rt, alloc, net, series, &bounds)
+        },
     );
     let mut crowd = crowd.with_search(crew.leeway(), crew.stop);
     let found = by_searches(rt, task, crew.workers, &crowd)?;
