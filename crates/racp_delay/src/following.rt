@@ -124,6 +124,15 @@ fn look_behind<S: Stop>(
     extend_behind(choice, gone, last, rows, stop)
 }
 
+/// The jobs that are active at a conflict, and those that are free: of the active ones these alone may go.
+#[derive(Clone, Copy)]
+pub struct ActiveJobs<'a> {
+    /// The active jobs, by number from 1.
+    pub all: &'a JobSet,
+    /// The free jobs, by number from 1; others than active ones make no difference.
+    pub free: &'a JobSet,
+}
+
 /// A minimal delaying alternative, in memory that is used again from one to the next. Contracts see the numbers of the
 /// jobs that go.
 #[derive(Drop)]
@@ -167,19 +176,18 @@ impl Alternative {
         &mut self,
         net: &Network,
         capacities: &Capacities,
-        active: &JobSet,
-        free: &JobSet,
+        active: &ActiveJobs,
         last: &[u32],
         stop: &S,
     ) -> Result<bool, Unfound>
         requires capacities { length capacities.now ≡ net.now.resources }
-        requires active { All (IsNumber (length net.now.jobs)) active.now }
+        requires active { All (IsNumber (length net.now.jobs)) active.now.all.now }
         ensures found { IfOk result (λ more.
-            IsFollowing net.now capacities.now active.now free.now last.now more self.new) }
+            IsFollowing net.now capacities.now active.now.all.now active.now.free.now last.now more self.new) }
         ensures quiet { IsTrue (S.is_quiet stop.now) → IsErrOf result Unfound.Stopped → ⊥ }
     {
         self.gone.clear();
-        let (kept, left) = split_free(net, active, free, &mut self.free)?;
+        let (kept, left) = split_free(net, active.all, active.free, &mut self.free)?;
         let choice = Choice {
             net,
             capacities: capacities.as_slice(),

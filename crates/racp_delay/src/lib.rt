@@ -69,7 +69,7 @@ mod stop;
 
 pub use conflicts::{Clash, conflict, conflict_from};
 pub use delaying::{DelayingAlternatives, alternatives, first_end};
-pub use following::Alternative;
+pub use following::{ActiveJobs, Alternative};
 pub use profile::Profile;
 pub use racp_model::{Never, Stop, Unfound};
 pub use stop::Steps;

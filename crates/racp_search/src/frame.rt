@@ -10,7 +10,7 @@ use crate::child::{Child, child_of, free_of, insert};
 use crate::subject::Subject;
 use crate::workspace::{Spare, Workspace};
 use racp_cutset::Node;
-use racp_delay::{Steps, laws};
+use racp_delay::{ActiveJobs, Steps, laws};
 use racp_model::{JobSet, OfNetwork, Unfound, Window};
 use smallvec::SmallVec;
 use std::alloc::AllocError;
@@ -168,8 +168,12 @@ impl<N: OfNetwork> Frame<N> {
         laws::others_stay();
         let (net, capacities) = (subject.network(), subject.capacities());
         let free = free_of(net, &self.node, &self.active);
+        let active = ActiveJobs {
+            all: &self.active,
+            free: &free,
+        };
         let next = &mut workspace.next;
-        match next.find_behind(net, capacities, &self.active, &free, &self.last, steps) {
+        match next.find_behind(net, capacities, &active, &self.last, steps) {
             Ok(true) => self.take_up(&mut workspace.spare, subject, workspace.next.jobs()),
             Ok(false) => {
                 self.more = false;

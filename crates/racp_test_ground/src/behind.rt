@@ -6,7 +6,7 @@ ghost use Rattle.racp_model.specs.Project.{IsNumber};
 use crate::conflicts::rows::FOUR;
 use crate::job_sets::set_of;
 use crate::samples::{Setting, set_up};
-use racp_delay::{Alternative, Clash, conflict};
+use racp_delay::{ActiveJobs, Alternative, Clash, conflict};
 use racp_model::{JobSet, Never};
 use std::alloc::Global;
 
@@ -30,15 +30,11 @@ pub(crate) fn is_behind(
     requires capacities { length setting.now.capacities ≡ setting.now.net.resources }
     requires active { All (IsNumber (length setting.now.net.jobs)) conflict.now.active }
 {
-    let active = &conflict.active;
-    match found.find_behind(
-        &setting.net,
-        &setting.capacities,
-        active,
+    let active = ActiveJobs {
+        all: &conflict.active,
         free,
-        last,
-        &Never,
-    ) {
+    };
+    match found.find_behind(&setting.net, &setting.capacities, &active, last, &Never) {
         Ok(true) => expected.is_some_and(|jobs| found.jobs() == jobs),
         Ok(false) => expected.is_none(),
         Err(_) => false,

@@ -4,7 +4,7 @@ ghost use Rattle.std.specs.Prelude.{◌≡◌, All, IfOk, IsErrOf, IsFalse, IsTr
 ghost use Rattle.racp_model.specs.Project.{IsNumber};
 ghost use Rattle.racp_delay.specs.Alternatives.{IsFollowing};
 
-use racp_delay::{Alternative, Steps};
+use racp_delay::{ActiveJobs, Alternative, Steps};
 use racp_model::{Capacities, JobSet, Network, Stop, Unfound};
 
 /// How many steps a search takes at most where a tree is made.
@@ -56,7 +56,11 @@ impl<'a, S: Stop> Patience for Until<'a, S> {
         active: &JobSet,
         last: &[u32],
     ) -> Result<bool, Unfound> {
-        next.find_behind(net, capacities, active, active, last, self.stop)
+        let active = ActiveJobs {
+            all: active,
+            free: active,
+        };
+        next.find_behind(net, capacities, &active, last, self.stop)
     }
 }
 
@@ -110,6 +114,10 @@ impl<'a, S: Stop> Patience for Brief<'a, S> {
             steps: Steps::new(MOST_STEPS),
             patience: Until { stop: self.stop },
         };
-        next.find_behind(net, capacities, active, active, last, &stop)
+        let active = ActiveJobs {
+            all: active,
+            free: active,
+        };
+        next.find_behind(net, capacities, &active, last, &stop)
     }
 }
