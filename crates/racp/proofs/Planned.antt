@@ -8,7 +8,7 @@ use Rattle.racp_cli.specs.Proofs.{IsProofAnswerUntil, IsProofRunUntil}
 use Rattle.racp_cli.specs.ClauseProofs.{IsClauseProofAnswer, IsClauseProofRun}
 use Rattle.racp_cli.specs.Verifies.{IsVerifyAnswerUntil}
 use Rattle.racp_cli.specs.VerifyBounds.{IsBoundAnswer, IsBoundRun}
-use Rattle.racp_cli.specs.Streams.{IsAnswerWritten, Reader, ToOne, ToTwo, ToThree, ToFour, IsPlanRun, IsVerifyRunUntil}
+use Rattle.racp_cli.specs.Streams.{IsAnswerWritten, Reader, ToOne, ToTwo, ToThree, IsPlanRun, IsVerifyRunUntil}
 use Rattle.racp_cli.specs.declared.fault.StreamFault.{StreamFault}
 use Rattle.racp_cli.specs.CurveAnswers.{IsCurveAnswer, IsCurveCrowdAnswer, IsCurveCrowdRun, IsCurveRun}
 use Rattle.racp_cli.specs.OrderAnswers.{IsOrderAnswer, IsOrderRun}
@@ -65,17 +65,16 @@ proved_by_clauses net order old new (Ok status) run = with_clauses run.0 status 
 proved_by_clauses net order old new (Err fault) run = tt
 
 -- what is answered to a certificate
-of_certificate : (quiet : Bool) (inputs : List (List ℕ)) (status : ℕ) (text : List ℕ) → ToFour (IsVerifyAnswerUntil quiet) inputs status text → IsStatusOfAnswer status
-of_certificate quiet [] status text answer = absurd answer
-of_certificate quiet (net ∷ []) status text answer = absurd answer
-of_certificate quiet (net ∷ (order ∷ [])) status text answer = absurd answer
-of_certificate quiet (net ∷ (order ∷ (plan ∷ []))) status text answer = absurd answer
-of_certificate quiet (net ∷ (order ∷ (plan ∷ (proof ∷ [])))) status text answer = inr (inr (inr (inr (inl (quiet, net, order, plan, proof, text, inl answer)))))
-of_certificate quiet (net ∷ (order ∷ (plan ∷ (proof ∷ (other ∷ inputs))))) status text answer = absurd answer
+of_certificate : (quiet : Bool) (proof : List ℕ) (inputs : List (List ℕ)) (status : ℕ) (text : List ℕ) → ToThree (λ first second third. IsVerifyAnswerUntil quiet first second third proof) inputs status text → IsStatusOfAnswer status
+of_certificate quiet proof [] status text answer = absurd answer
+of_certificate quiet proof (net ∷ []) status text answer = absurd answer
+of_certificate quiet proof (net ∷ (order ∷ [])) status text answer = absurd answer
+of_certificate quiet proof (net ∷ (order ∷ (plan ∷ []))) status text answer = inr (inr (inr (inr (inl (quiet, net, order, plan, proof, text, inl answer)))))
+of_certificate quiet proof (net ∷ (order ∷ (plan ∷ (other ∷ inputs)))) status text answer = absurd answer
 
-pub verified : (quiet : Bool) (net order plan proof : Reader) (old new : Option (List ℕ)) (result : Result ℕ StreamFault) → IsVerifyRunUntil quiet net order plan proof old new result → IfOk result IsStatusOfAnswer
-verified quiet net order plan proof old new (Ok status) run = of_certificate quiet run.0 status run.2.0 run.2.1
-verified quiet net order plan proof old new (Err fault) run = tt
+pub verified : (quiet : Bool) (proof : List ℕ) (net order plan : Reader) (old new : Option (List ℕ)) (result : Result ℕ StreamFault) → IsVerifyRunUntil quiet proof net order plan old new result → IfOk result IsStatusOfAnswer
+verified quiet proof net order plan old new (Ok status) run = of_certificate quiet proof run.0 status run.2.0 run.2.1
+verified quiet proof net order plan old new (Err fault) run = tt
 
 -- what is answered to one of a bound
 of_bound : (quiet : Bool) (inputs : List (List ℕ)) (status : ℕ) (text : List ℕ) → ToThree (IsBoundAnswer quiet) inputs status text → IsStatusOfAnswer status
@@ -90,30 +89,28 @@ bounded quiet net order proof old new (Ok status) run = of_bound quiet run.0 sta
 bounded quiet net order proof old new (Err fault) run = tt
 
 -- what is shown of a plan
-of_picture : (look : Look) (inputs : List (List ℕ)) (status : ℕ) (text : List ℕ) → ToFour (IsShowAnswer look) inputs status text → IsStatusOfTool status
+of_picture : (look : Look) (inputs : List (List ℕ)) (status : ℕ) (text : List ℕ) → ToThree (IsShowAnswer look) inputs status text → IsStatusOfTool status
 of_picture look [] status text answer = absurd answer
 of_picture look (net ∷ []) status text answer = absurd answer
 of_picture look (net ∷ (order ∷ [])) status text answer = absurd answer
-of_picture look (net ∷ (order ∷ (plan ∷ []))) status text answer = absurd answer
-of_picture look (net ∷ (order ∷ (plan ∷ (names ∷ [])))) status text answer = inl (net, order, plan, names, look, text, answer)
-of_picture look (net ∷ (order ∷ (plan ∷ (names ∷ (other ∷ inputs))))) status text answer = absurd answer
+of_picture look (net ∷ (order ∷ (plan ∷ []))) status text answer = inl (net, order, plan, look, text, answer)
+of_picture look (net ∷ (order ∷ (plan ∷ (other ∷ inputs)))) status text answer = absurd answer
 
-pub shown : (look : Look) (net order plan names : Reader) (old new : Option (List ℕ)) (result : Result ℕ StreamFault) → IsShowRun look net order plan names old new result → IfOk result IsStatusOfTool
-shown look net order plan names old new (Ok status) run = of_picture look run.0 status run.2.0 run.2.1
-shown look net order plan names old new (Err fault) run = tt
+pub shown : (look : Look) (net order plan : Reader) (old new : Option (List ℕ)) (result : Result ℕ StreamFault) → IsShowRun look net order plan old new result → IfOk result IsStatusOfTool
+shown look net order plan old new (Ok status) run = of_picture look run.0 status run.2.0 run.2.1
+shown look net order plan old new (Err fault) run = tt
 
 -- what is reported of a plan
-of_report : (page : Page) (inputs : List (List ℕ)) (status : ℕ) (text : List ℕ) → ToFour (IsReportAnswer page) inputs status text → IsStatusOfTool status
+of_report : (page : Page) (inputs : List (List ℕ)) (status : ℕ) (text : List ℕ) → ToThree (IsReportAnswer page) inputs status text → IsStatusOfTool status
 of_report page [] status text answer = absurd answer
 of_report page (net ∷ []) status text answer = absurd answer
 of_report page (net ∷ (order ∷ [])) status text answer = absurd answer
-of_report page (net ∷ (order ∷ (plan ∷ []))) status text answer = absurd answer
-of_report page (net ∷ (order ∷ (plan ∷ (names ∷ [])))) status text answer = inr (inr (inr (inl (page, net, order, plan, names, text, answer))))
-of_report page (net ∷ (order ∷ (plan ∷ (names ∷ (other ∷ inputs))))) status text answer = absurd answer
+of_report page (net ∷ (order ∷ (plan ∷ []))) status text answer = inr (inr (inr (inl (page, net, order, plan, text, answer))))
+of_report page (net ∷ (order ∷ (plan ∷ (other ∷ inputs)))) status text answer = absurd answer
 
-pub reported : (page : Page) (net order plan names : Reader) (old new : Option (List ℕ)) (result : Result ℕ StreamFault) → IsReportRun page net order plan names old new result → IfOk result IsStatusOfTool
-reported page net order plan names old new (Ok status) run = of_report page run.0 status run.2.0 run.2.1
-reported page net order plan names old new (Err fault) run = tt
+pub reported : (page : Page) (net order plan : Reader) (old new : Option (List ℕ)) (result : Result ℕ StreamFault) → IsReportRun page net order plan old new result → IfOk result IsStatusOfTool
+reported page net order plan old new (Ok status) run = of_report page run.0 status run.2.0 run.2.1
+reported page net order plan old new (Err fault) run = tt
 
 -- what one thread tells of deadlines is what workers may tell
 told_alone : (turns : ℕ) (quiet is_drawn : Bool) (net order : List ℕ) (status : ℕ) (text : List ℕ) → IsCurveAnswer is_drawn net order status text → IsCurveCrowdAnswer turns quiet is_drawn net order status text

@@ -61,12 +61,11 @@ IsStatusOfTable (Err fault) lack status = ⊥
 -- some answer of a command that goes with plans has this status
 abbrev pub IsStatusOfTool : ℕ → Type 0
 IsStatusOfTool status =
-    ((net order plan names : List ℕ) × (look : Look) × (text : List ℕ) × IsShowAnswer look net order plan names status text) ⊎
+    ((net order plan : List ℕ) × (look : Look) × (text : List ℕ) × IsShowAnswer look net order plan status text) ⊎
     ((turns : ℕ) × (quiet is_drawn : Bool) × (net order : List ℕ) × (text : List ℕ) ×
     IsCurveCrowdAnswer turns quiet is_drawn net order status text) ⊎
     ((asked : Asked) × (net : List ℕ) × (text : List ℕ) × IsOrderAnswer asked net status text) ⊎
-    ((page : Page) × (net order plan names : List ℕ) × (text : List ℕ) ×
-    IsReportAnswer page net order plan names status text) ⊎
+    ((page : Page) × (net order plan : List ℕ) × (text : List ℕ) × IsReportAnswer page net order plan status text) ⊎
     ((turns : ℕ) × (quiet is_json : Bool) × (net order : List ℕ) × (plan : Option (List ℕ)) × (names text : List ℕ) ×
     IsWhatIfAnswer turns quiet is_json net order plan names status text) ⊎
     (status ≡ 0) ⊎ (status ≡ 4) ⊎ (status ≡ 6) ⊎ (status ≡ 7)

@@ -190,15 +190,7 @@ fn curve_by<R: Crewed, W: Write>(
         observer: &listener,
     };
     let (mut network, mut terms) = (net, order);
-    let status = curve_crowd_over(
-        rt,
-        rt.alloc(),
-        workers,
-        &mut network,
-        &mut terms,
-        costing.is_drawn,
-        out,
-    );
+    let status = curve_crowd_over(rt, workers, &mut network, &mut terms, costing.is_drawn, out);
     // Dropped here once, not at each way out.
     drop(limit);
     status

@@ -83,8 +83,9 @@ fn report_of<R: Print + AllocGlobal>(
     ensures { IfOk result IsStatusOfTool }
 {
     let (mut net, mut order) = (texts.net.bytes, texts.order.bytes);
-    let (mut plan, mut names) = (texts.plan.bytes, texts.names.bytes);
+    let mut plan = texts.plan.bytes;
     let page = Page {
+        names: texts.names.bytes,
         curve: bytes_of(texts.curve),
         changes: bytes_of(texts.changes),
         calendar,
@@ -94,7 +95,6 @@ fn report_of<R: Print + AllocGlobal>(
         &mut net,
         &mut order,
         &mut plan,
-        &mut names,
         page,
         &mut io::writer(rt),
     )

@@ -9,13 +9,23 @@ use crate::inputs::Inputs;
 use crate::machine::Machine;
 use crate::telling::{Manner, end};
 use crate::until::Until;
-use racp_cli::{StreamFault, verify_over_until};
+use racp_cli::{Certificate, StreamFault, verify_over_until};
 use racp_explain::{Input as Text, proof_cause};
 use racp_json::{Command, FileNames, Told, Work};
 use racp_words::ProofFiles;
+use std::alloc::{AllocError, Global};
 use std::io;
-use std::io::{Read, Write};
+use std::io::Write;
 use std::time::Duration;
+
+/// The texts of a certificate, and of what it is about.
+#[derive(Clone, Copy)]
+struct Texts<'a> {
+    net: Text<'a>,
+    order: Text<'a>,
+    plan: Text<'a>,
+    proof: Text<'a>,
+}
 
 /// Which certificate is looked at, and after what time that stops, if it does.
 #[derive(Drop)]
@@ -40,27 +50,25 @@ pub(crate) fn verify<R: Machine>(rt: &R, asked: Verifying<'_>) -> Result<u8, Fai
         Some(files.proof),
     ];
     let inputs = Inputs::read(rt, &paths)?;
-    let (net, order) = (inputs.text(0), inputs.text(1));
-    verify_told(rt, &net, &order, &inputs.text(2), &inputs.text(3), &asked)
+    let texts = Texts {
+        net: inputs.text(0),
+        order: inputs.text(1),
+        plan: inputs.text(2),
+        proof: inputs.text(3),
+    };
+    verify_told(rt, &texts, &asked)
 }
 
 /// Whether the plan in these texts is right, and the certificate proves it; it stops after so much time, if that is
 /// asked, or when the user asks for it.
-fn verify_told<R: Machine>(
-    rt: &R,
-    net: &Text<'_>,
-    order: &Text<'_>,
-    plan: &Text<'_>,
-    proof: &Text<'_>,
-    asked: &Verifying<'_>,
-) -> Result<u8, Failure>
+fn verify_told<R: Machine>(rt: &R, texts: &Texts<'_>, asked: &Verifying<'_>) -> Result<u8, Failure>
     ensures { IfOk result IsStatusOfAnswer }
 {
     let manner = asked.manner;
     let mut text = Vec::new(rt.alloc());
-    let status = verify_written(rt, net, order, plan, proof.bytes, asked, &mut text)?;
+    let status = verify_written(rt, texts, asked, &mut text)?;
     let cause = if manner.looks(status) {
-        proof_cause(rt.alloc(), net, order, plan, proof.name)
+        cause(rt.alloc(), texts)
     } else {
         Ok(String::new(rt.alloc()))
     };
@@ -68,14 +76,14 @@ fn verify_told<R: Machine>(
         command: Command::Verify,
         status,
         text: &text,
-        net: net.bytes,
-        order: order.bytes,
+        net: texts.net.bytes,
+        order: texts.order.bytes,
         best: &[],
         files: FileNames {
-            net: net.name,
-            order: order.name,
-            plan: plan.name,
-            proof: proof.name,
+            net: texts.net.name,
+            order: texts.order.name,
+            plan: texts.plan.name,
+            proof: texts.proof.name,
         },
         work: Work::unknown(),
     };
@@ -83,58 +91,53 @@ fn verify_told<R: Machine>(
     Ok(status)
 }
 
+/// What is wrong with the texts.
+fn cause(alloc: Global, texts: &Texts<'_>) -> Result<String, AllocError> {
+    let proof = texts.proof.name;
+    proof_cause(alloc, &texts.net, &texts.order, &texts.plan, proof)
+}
+
 /// Writes whether the plan in these texts is right, and the certificate proves it; to `text`, if it is to be JSON.
 fn verify_written<R: Machine>(
     rt: &R,
-    net: &Text<'_>,
-    order: &Text<'_>,
-    plan: &Text<'_>,
-    proof: &[u8],
+    texts: &Texts<'_>,
     asked: &Verifying<'_>,
     text: &mut Vec<u8>,
 ) -> Result<u8, StreamFault>
     ensures { IfOk result IsStatusOfAnswer }
 {
-    let (mut network, mut terms) = (net.bytes, order.bytes);
-    let (mut planned, mut certificate) = (plan.bytes, proof);
     if asked.manner.is_json {
-        verify_of(
-            rt,
-            &mut network,
-            &mut terms,
-            &mut planned,
-            &mut certificate,
-            asked.limit,
-            text,
-        )
+        verify_of(rt, texts, asked.limit, text)
     } else {
-        verify_of(
-            rt,
-            &mut network,
-            &mut terms,
-            &mut planned,
-            &mut certificate,
-            asked.limit,
-            &mut io::writer(rt),
-        )
+        verify_of(rt, texts, asked.limit, &mut io::writer(rt))
     }
 }
 
-/// Writes whether the plan that is read there is right, and the certificate shows that no capacities before its own are
-/// enough; or that it was stopped, after so much time or by the user.
-fn verify_of<R: Machine, N: Read, O: Read, P: Read, C: Read, W: Write>(
+/// Writes whether the plan in these texts is right, and the certificate shows what it is to show; or that it was stopped,
+/// after so much time or by the user.
+fn verify_of<R: Machine, W: Write>(
     rt: &R,
-    net: &mut N,
-    order: &mut O,
-    plan: &mut P,
-    proof: &mut C,
+    texts: &Texts<'_>,
     limit: Option<Duration>,
     out: &mut W,
 ) -> Result<u8, StreamFault>
     ensures { IfOk result IsStatusOfAnswer }
 {
     let until = Until::of(rt, limit, Asks::of(rt));
-    let status = verify_over_until(rt.alloc(), net, order, plan, proof, out, &until);
+    let (mut net, mut order) = (texts.net.bytes, texts.order.bytes);
+    let mut plan = texts.plan.bytes;
+    let certificate = Certificate {
+        text: texts.proof.bytes,
+        stop: &until,
+    };
+    let status = verify_over_until(
+        rt.alloc(),
+        &mut net,
+        &mut order,
+        &mut plan,
+        certificate,
+        out,
+    );
     // Dropped here once, not at each way out.
     drop(until);
     status

@@ -45,12 +45,3 @@ run_stopped Answer readers old new Read unread left until stopped keeps = (stopp
 run_stopped Answer readers old new Write unread left until stopped keeps = absurd until
 run_stopped Answer readers old new TooLong unread left until stopped keeps = (stopped, keeps)
 run_stopped Answer readers old new Memory unread left until stopped keeps = (stopped, keeps)
-
--- a run whose answers are answers of another kind too
-pub run_as : (A B : List (List ℕ) → ℕ → List ℕ → Type 0) (readers : List Reader) (old new : Option (List ℕ)) (result : Result ℕ StreamFault) →
-    ((inputs : List (List ℕ)) (status : ℕ) (text : List ℕ) → A inputs status text → B inputs status text) → IsRun A readers old new result → IsRun B readers old new result
-run_as A B readers old new (Ok status) f (inputs, are, answered) = (inputs, are, answered_as (A inputs) (B inputs) old new (Ok status) (f inputs) answered)
-run_as A B readers old new (Err Read) f run = run
-run_as A B readers old new (Err Write) f (inputs, are, answered) = (inputs, are, answered_as (A inputs) (B inputs) old new (Err Write) (f inputs) answered)
-run_as A B readers old new (Err TooLong) f run = run
-run_as A B readers old new (Err Memory) f run = run

@@ -1,4 +1,4 @@
--- What `report` answers to the texts of a network, an order, a plan and names, and to what a page has beside them.
+-- What `report` answers to the texts of a network, an order and a plan, and to what a page has beside them.
 use Rattle.std.specs.Prelude.{◌≡◌, ◌≢◌, ◌⊎◌, ◌+◌, ◌++◌, ◌==◌, ◌&&◌, ℕ, Bool, List, [], ◌∷◌, IsUtf8, Option, Some, None, Result, Ok, String, codes, false, length, not, option_map, string_bytes, true}
 use Rattle.std.specs.Global.{Global}
 use Rattle.std.specs.List.{list_all}
@@ -17,7 +17,7 @@ use Rattle.racp_show.specs.Called.{are_names_for, names_of}
 use Rattle.racp_show.specs.Outlines.{Outlined, outline_of}
 use Rattle.racp_cli.specs.Checks.{AreRead, HasRightHead}
 use Rattle.racp_cli.specs.ShowAnswers.{IsFaulty, count_line, names_line}
-use Rattle.racp_cli.specs.Streams.{Reader, IsRun, ToFour}
+use Rattle.racp_cli.specs.Streams.{Reader, IsRun, ToThree}
 use Rattle.racp_cli.specs.declared.fault.StreamFault.{StreamFault}
 use Rattle.racp_cli.specs.declared.report.Page.{Page}
 
@@ -108,23 +108,21 @@ IsNamedReport page network terms plan names status text =
     ((IsUtf8 names → ⊥) × (status ≡ 5) × (text ≡ names_line))
 
 -- the page about a plan with which nothing is wrong
-pub record IsReported (page : Page) (net order plan names : List ℕ) (status : ℕ) (text : List ℕ) : Type 0 where
+pub record IsReported (page : Page) (net order plan : List ℕ) (status : ℕ) (text : List ℕ) : Type 0 where
   pub network : Project
   pub terms : Terms
   pub found : Plan
   pub are_read : AreRead net order plan network terms found
   pub head : HasRightHead network terms found
   pub checked : IsChecked network terms found (Ok tt)
-  pub named : IsNamedReport page network terms found names status text
+  pub named : IsNamedReport page network terms found page.names.now status text
 
 -- what is right for the texts: the page, if nothing is wrong with the plan; else what `check` says; memory may run out
 -- at any texts
-abbrev pub IsReportAnswer : Page → List ℕ → List ℕ → List ℕ → List ℕ → ℕ → List ℕ → Type 0
-IsReportAnswer page net order plan names status text =
-    IsReported page net order plan names status text ⊎ IsFaulty net order plan status text
+abbrev pub IsReportAnswer : Page → List ℕ → List ℕ → List ℕ → ℕ → List ℕ → Type 0
+IsReportAnswer page net order plan status text =
+    IsReported page net order plan status text ⊎ IsFaulty net order plan status text
 
 -- a run of `report`
-abbrev pub IsReportRun : Page → Reader → Reader → Reader → Reader → Option (List ℕ) → Option (List ℕ) →
-    Result ℕ StreamFault → Type 0
-IsReportRun page net order plan names =
-    IsRun (ToFour (IsReportAnswer page)) (net ∷ (order ∷ (plan ∷ (names ∷ []))))
+abbrev pub IsReportRun : Page → Reader → Reader → Reader → Option (List ℕ) → Option (List ℕ) → Result ℕ StreamFault → Type 0
+IsReportRun page net order plan = IsRun (ToThree (IsReportAnswer page)) (net ∷ (order ∷ (plan ∷ [])))

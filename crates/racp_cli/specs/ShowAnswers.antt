@@ -1,4 +1,4 @@
--- What `show` answers to the texts of a network, an order, a plan and names.
+-- What `show` answers to the texts of a network, an order and a plan, by the names and the form that are asked for.
 use Rattle.std.specs.Prelude.{◌≡◌, ◌⊎◌, ◌+◌, ℕ, Bool, List, [], ◌∷◌, ⊤, IsUtf8, Option, Result, Ok, Err, codes, false, length, true}
 use Rattle.racp_model.specs.Project.{Project}
 use Rattle.racp_model.specs.Terms.{Terms}
@@ -15,7 +15,7 @@ use Rattle.racp_show.specs.Sheets.{IsSheet}
 use Rattle.racp_show.specs.Tables.{table_text}
 use Rattle.racp_show.specs.declared.sheet.Sheet.{Sheet}
 use Rattle.racp_cli.specs.Checks.{AreRead, HasRightHead, IsCheck, check_status, check_text}
-use Rattle.racp_cli.specs.Streams.{Reader, IsRun, ToFour}
+use Rattle.racp_cli.specs.Streams.{Reader, IsRun, ToThree}
 use Rattle.racp_cli.specs.declared.check_fault.CheckFault.{CheckFault}
 use Rattle.racp_cli.specs.declared.fault.StreamFault.{StreamFault}
 use Rattle.racp_show.specs.declared.form.Form.{Form}
@@ -72,14 +72,14 @@ IsNamed look network terms plan names status text =
     ((IsUtf8 names → ⊥) × (status ≡ 5) × (text ≡ names_line))
 
 -- the plan, with which nothing is wrong
-pub record IsShown (look : Look) (net order plan names : List ℕ) (status : ℕ) (text : List ℕ) : Type 0 where
+pub record IsShown (look : Look) (net order plan : List ℕ) (status : ℕ) (text : List ℕ) : Type 0 where
   pub network : Project
   pub terms : Terms
   pub found : Plan
   pub are_read : AreRead net order plan network terms found
   pub head : HasRightHead network terms found
   pub checked : IsChecked network terms found (Ok tt)
-  pub named : IsNamed look network terms found names status text
+  pub named : IsNamed look network terms found look.names.now status text
 
 -- what `check` says of it
 pub record IsFaulty (net order plan : List ℕ) (status : ℕ) (text : List ℕ) : Type 0 where
@@ -88,14 +88,12 @@ pub record IsFaulty (net order plan : List ℕ) (status : ℕ) (text : List ℕ)
   pub with_status : status ≡ check_status (Err fault)
   pub with_text : text ≡ check_text (Err fault)
 
--- what is right for the texts of a network, an order, a plan and names: the plan, if nothing is wrong with it; else what `check`
+-- what is right for the texts of a network, an order and a plan: the plan, if nothing is wrong with it; else what `check`
 -- says; memory may run out at any texts
-abbrev pub IsShowAnswer : Look → List ℕ → List ℕ → List ℕ → List ℕ → ℕ → List ℕ → Type 0
-IsShowAnswer look net order plan names status text =
-    IsShown look net order plan names status text ⊎ IsFaulty net order plan status text
+abbrev pub IsShowAnswer : Look → List ℕ → List ℕ → List ℕ → ℕ → List ℕ → Type 0
+IsShowAnswer look net order plan status text =
+    IsShown look net order plan status text ⊎ IsFaulty net order plan status text
 
 -- a run of `show`
-abbrev pub IsShowRun : Look → Reader → Reader → Reader → Reader → Option (List ℕ) → Option (List ℕ) →
-    Result ℕ StreamFault → Type 0
-IsShowRun look net order plan names =
-    IsRun (ToFour (IsShowAnswer look)) (net ∷ (order ∷ (plan ∷ (names ∷ []))))
+abbrev pub IsShowRun : Look → Reader → Reader → Reader → Option (List ℕ) → Option (List ℕ) → Result ℕ StreamFault → Type 0
+IsShowRun look net order plan = IsRun (ToThree (IsShowAnswer look)) (net ∷ (order ∷ (plan ∷ [])))

@@ -121,10 +121,10 @@ IsCheckRun net order plan = IsRun (ToThree IsCheckAnswer) (net ∷ (order ∷ (p
 abbrev pub IsVerifyRun : Reader → Reader → Reader → Reader → Option (List ℕ) → Option (List ℕ) → Result ℕ StreamFault → Type 0
 IsVerifyRun net order plan proof = IsRun (ToFour IsVerifyAnswer) (net ∷ (order ∷ (plan ∷ (proof ∷ []))))
 
--- a run of `verify` that may be stopped
-abbrev pub IsVerifyRunUntil : Bool → Reader → Reader → Reader → Reader → Option (List ℕ) → Option (List ℕ) → Result ℕ StreamFault → Type 0
-IsVerifyRunUntil quiet net order plan proof =
-    IsRun (ToFour (IsVerifyAnswerUntil quiet)) (net ∷ (order ∷ (plan ∷ (proof ∷ []))))
+-- a run of `verify` that may be stopped, for the text of a certificate
+abbrev pub IsVerifyRunUntil : Bool → List ℕ → Reader → Reader → Reader → Option (List ℕ) → Option (List ℕ) → Result ℕ StreamFault → Type 0
+IsVerifyRunUntil quiet proof net order plan =
+    IsRun (ToThree (λ first second third. IsVerifyAnswerUntil quiet first second third proof)) (net ∷ (order ∷ (plan ∷ [])))
 
 -- what is printed of a fault
 abbrev pub fault_line : StreamFault → List ℕ

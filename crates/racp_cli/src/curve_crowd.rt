@@ -38,7 +38,7 @@ use std::thread::Threads;
 /// `Memory`, memory for an input was refused. After `Write`, a write failed or took no byte, and what is out is a
 /// beginning of the text.
 pub fn curve_crowd_over<
-    R: Threads + Wait + Sync,
+    R: Threads + Wait + Sync + AllocGlobal,
     G: Gate + Sync,
     P: Stop + Sync,
     B: Observer,
@@ -47,7 +47,6 @@ pub fn curve_crowd_over<
     W: Write,
 >(
     rt: &R,
-    alloc: Global,
     crew: Crew<'_, G, P, B>,
     net: &mut N,
     order: &mut O,
@@ -62,6 +61,7 @@ pub fn curve_crowd_over<
         (record { unread = O.remaining order.old; left = O.remaining order.new })
         (W.contents out.old) (W.contents out.new) result }
 {
+    let alloc = rt.alloc();
     let net = read_whole(alloc, net)?;
     let order = read_whole(alloc, order)?;
     respond(answer(rt, alloc, &net, &order, is_drawn, crew), out)

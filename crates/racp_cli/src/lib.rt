@@ -104,6 +104,6 @@ pub use prove_by_clauses::prove_by_clauses_over;
 pub use report::{Page, report_over};
 pub use show::{Look, show_over};
 pub use status::{CHECK_FAILED, DONE, IMPOSSIBLE, OUT_OF_MEMORY, REFUSED, STOPPED, STREAM_FAILED};
-pub use verify::{verify_over, verify_over_until};
+pub use verify::{Certificate, verify_over, verify_over_until};
 pub use verify_bound::verify_bound_over;
 pub use whatif::{WhatIfTexts, whatif_to};

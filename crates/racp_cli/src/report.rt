@@ -23,6 +23,9 @@ use std::io::{Read, Write};
 /// What a page has beside a plan.
 #[derive(Clone, Copy)]
 pub struct Page<'a> {
+    /// The text of the names of the jobs and then of the resources, one a line, or an empty one. Other lines tell which
+    /// jobs are tasks, and which phases there are.
+    pub names: &'a [u8],
     /// The text of what each deadline costs, if there is one.
     pub curve: Option<&'a [u8]>,
     /// The text of what changes cost, as `whatif` writes it, if there is one.
@@ -31,11 +34,10 @@ pub struct Page<'a> {
     pub calendar: Calendar<'a>,
 }
 
-/// Reads a network text, an order text, a plan text and names, all of each before the next, and writes to `out` a page
-/// in HTML about the plan, with the steps of a curve and with changes, if there are such texts, and times as the
-/// calendar tells them; or, if something is wrong with the plan, what `check_over` writes. The names are those of the
-/// jobs and then of the resources, one a line; there may be none. Returns the status that belongs to what was written:
-/// 0 for a page, 5 if the names are refused as by `show_over`, or the curve is not UTF-8 or has no line that begins with
+/// Reads a network text, an order text and a plan text, all of each before the next, and writes to `out` a page in HTML
+/// about the plan, with the steps of a curve and with changes, if there are such texts, and times as the calendar tells
+/// them; or, if something is wrong with the plan, what `check_over` writes. Returns the status that belongs to what was
+/// written: 0 for a page, 5 if the names are refused as by `show_over`, or the curve is not UTF-8 or has no line that begins with
 /// `deadline`, or the text of changes is not UTF-8 or does not begin with the line of the plan, else that of
 /// `check_over`.
 ///
@@ -44,42 +46,37 @@ pub struct Page<'a> {
 /// After these nothing was written: `Read`, a read failed; `TooLong`, a reader has more than 16,777,216 bytes;
 /// `Memory`, memory for an input was refused. After `Write`, a write failed or took no byte, and what is out is a
 /// beginning of the text.
-pub fn report_over<N: Read, O: Read, P: Read, M: Read, W: Write>(
+pub fn report_over<N: Read, O: Read, P: Read, W: Write>(
     alloc: Global,
     net: &mut N,
     order: &mut O,
     plan: &mut P,
-    names: &mut M,
     page: Page<'_>,
     out: &mut W,
 ) -> Result<u8, StreamFault>
     ensures { IsReportRun page.entry (record { unread = N.remaining net.old; left = N.remaining net.new })
         (record { unread = O.remaining order.old; left = O.remaining order.new })
-        (record { unread = P.remaining plan.old; left = P.remaining plan.new })
-        (record { unread = M.remaining names.old; left = M.remaining names.new }) (W.contents out.old)
+        (record { unread = P.remaining plan.old; left = P.remaining plan.new }) (W.contents out.old)
         (W.contents out.new) result }
 {
     let net = read_whole(alloc, net)?;
     let order = read_whole(alloc, order)?;
     let plan = read_whole(alloc, plan)?;
-    let names = read_whole(alloc, names)?;
-    respond(answer(alloc, &net, &order, &plan, &names, page), out)
+    respond(answer(alloc, &net, &order, &plan, page), out)
 }
 
-/// The status and the text of the answer to the texts of a network, an order, a plan, names, and what a page has beside.
+/// The status and the text of the answer to the texts of a network, an order and a plan, and what a page has beside.
 fn answer(
     alloc: Global,
     net: &[u8],
     order: &[u8],
     plan: &[u8],
-    names: &[u8],
     page: Page<'_>,
 ) -> Result<(u8, Vec<u8>), AllocError>
-    ensures { IfOk result (λ answer. IsReportAnswer page.entry net.now order.now plan.now names.now
-        answer.0 answer.1.items) }
+    ensures { IfOk result (λ answer. IsReportAnswer page.entry net.now order.now plan.now answer.0 answer.1.items) }
 {
     match read_checked(alloc, net, order, plan) {
-        Ok(found) => named(alloc, &found, names, page),
+        Ok(found) => named(alloc, &found, page),
         Err(fault) => {
             let line = fault.line(alloc)?;
             Ok((fault.status(), line))
@@ -89,19 +86,14 @@ fn answer(
 
 /// The status and the text if nothing is wrong with a plan.
 #[tactic(auto, unfolding(racp_plan::specs::Texts::line))]
-fn named(
-    alloc: Global,
-    found: &Checked,
-    names: &[u8],
-    page: Page<'_>,
-) -> Result<(u8, Vec<u8>), AllocError>
+fn named(alloc: Global, found: &Checked, page: Page<'_>) -> Result<(u8, Vec<u8>), AllocError>
     requires terms { AreTermsOf found.now.net found.now.order }
     requires capacities { length found.now.plan.capacities ≡ found.now.net.resources }
     requires fitting { IsFitting found.now.net found.now.order found.now.plan }
     ensures { IfOk result (λ answer. IsNamedReport page.entry found.now.net found.now.order found.now.plan
-        names.now answer.0 answer.1.items) }
+        page.entry.names.now answer.0 answer.1.items) }
 {
-    match std::str::from_utf8(names) {
+    match std::str::from_utf8(page.names) {
         Ok(text) => counted(alloc, found, text, page),
         Err(_) => Ok((REFUSED, b"refused names 1 NotUtf8\n".to_vec(alloc)?)),
     }

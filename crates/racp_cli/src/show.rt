@@ -29,55 +29,52 @@ pub struct Look<'a> {
     pub has_links: bool,
     /// How times are told.
     pub calendar: Calendar<'a>,
+    /// The text of the names of the jobs and then of the resources, one a line, or an empty one. Other lines tell which
+    /// jobs are tasks, and which phases there are.
+    pub names: &'a [u8],
 }
 
-/// Reads a network text, an order text, a plan text and names, all of each before the next, and writes to `out` the
-/// plan in the form that is asked for; or, if something is wrong with the plan, what `check_over` writes. The names are
-/// those of the jobs and then of the resources, one a line; there may be none, and other lines tell which jobs are tasks
-/// and which phases there are. Returns the status that belongs to what
-/// was written: 0 for a plan, 5 if the names are not UTF-8, or neither none nor one for each job and resource, else that
-/// of `check_over`.
+/// Reads a network text, an order text and a plan text, all of each before the next, and writes to `out` the plan in
+/// the form that is asked for; or, if something is wrong with the plan, what `check_over` writes. Returns the status
+/// that belongs to what was written: 0 for a plan, 5 if the names are not UTF-8, or neither none nor one for each job
+/// and resource, else that of `check_over`.
 ///
 /// # Errors
 ///
 /// After these nothing was written: `Read`, a read failed; `TooLong`, a reader has more than 16,777,216 bytes;
 /// `Memory`, memory for an input was refused. After `Write`, a write failed or took no byte, and what is out is a
 /// beginning of the text.
-pub fn show_over<N: Read, O: Read, P: Read, M: Read, W: Write>(
+pub fn show_over<N: Read, O: Read, P: Read, W: Write>(
     alloc: Global,
     net: &mut N,
     order: &mut O,
     plan: &mut P,
-    names: &mut M,
     look: Look<'_>,
     out: &mut W,
 ) -> Result<u8, StreamFault>
     ensures { IsShowRun look.entry (record { unread = N.remaining net.old; left = N.remaining net.new })
         (record { unread = O.remaining order.old; left = O.remaining order.new })
-        (record { unread = P.remaining plan.old; left = P.remaining plan.new })
-        (record { unread = M.remaining names.old; left = M.remaining names.new }) (W.contents out.old)
+        (record { unread = P.remaining plan.old; left = P.remaining plan.new }) (W.contents out.old)
         (W.contents out.new) result }
 {
     let net = read_whole(alloc, net)?;
     let order = read_whole(alloc, order)?;
     let plan = read_whole(alloc, plan)?;
-    let names = read_whole(alloc, names)?;
-    respond(answer(alloc, &net, &order, &plan, &names, look), out)
+    respond(answer(alloc, &net, &order, &plan, look), out)
 }
 
-/// The status and the text of the answer to the texts of a network, an order, a plan and names.
+/// The status and the text of the answer to the texts of a network, an order and a plan.
 fn answer(
     alloc: Global,
     net: &[u8],
     order: &[u8],
     plan: &[u8],
-    names: &[u8],
     look: Look<'_>,
 ) -> Result<(u8, Vec<u8>), AllocError>
-    ensures { IfOk result (λ answer. IsShowAnswer look.entry net.now order.now plan.now names.now answer.0 answer.1.items) }
+    ensures { IfOk result (λ answer. IsShowAnswer look.entry net.now order.now plan.now answer.0 answer.1.items) }
 {
     match read_checked(alloc, net, order, plan) {
-        Ok(found) => named(alloc, &found, names, look),
+        Ok(found) => named(alloc, &found, look),
         Err(fault) => {
             let line = fault.line(alloc)?;
             Ok((fault.status(), line))
@@ -87,18 +84,13 @@ fn answer(
 
 /// The status and the text if nothing is wrong with a plan.
 #[tactic(auto, unfolding(racp_plan::specs::Texts::line))]
-fn named(
-    alloc: Global,
-    found: &Checked,
-    names: &[u8],
-    look: Look<'_>,
-) -> Result<(u8, Vec<u8>), AllocError>
+fn named(alloc: Global, found: &Checked, look: Look<'_>) -> Result<(u8, Vec<u8>), AllocError>
     requires terms { AreTermsOf found.now.net found.now.order }
     requires capacities { length found.now.plan.capacities ≡ found.now.net.resources }
     requires fitting { IsFitting found.now.net found.now.order found.now.plan }
-    ensures { IfOk result (λ answer. IsNamed look.entry found.now.net found.now.order found.now.plan names.now answer.0 answer.1.items) }
+    ensures { IfOk result (λ answer. IsNamed look.entry found.now.net found.now.order found.now.plan look.entry.names.now answer.0 answer.1.items) }
 {
-    match std::str::from_utf8(names) {
+    match std::str::from_utf8(look.names) {
         Ok(text) => counted(alloc, found, text, look),
         Err(_) => Ok((REFUSED, b"refused names 1 NotUtf8\n".to_vec(alloc)?)),
     }
@@ -168,8 +160,9 @@ fn chart(
         width: look.width,
         is_ascii,
         calendar: look.calendar,
+        outline,
     };
-    let text = chart_text(alloc, net, order, plan, names, outline, lettering)?;
+    let text = chart_text(alloc, net, order, plan, names, lettering)?;
     Ok(text.into_bytes())
 }
 

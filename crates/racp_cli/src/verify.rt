@@ -16,6 +16,15 @@ use racp_model::{Never, Stop, Unfound};
 use std::alloc::{AllocError, Global};
 use std::io::{Read, Write};
 
+/// A certificate to be checked, and what may stop that.
+#[derive(Clone, Copy)]
+pub struct Certificate<'a, S> {
+    /// Its text.
+    pub text: &'a [u8],
+    /// What is asked whether to stop.
+    pub stop: &'a S,
+}
+
 /// Reads a network text, an order text, a plan text and a certificate, all of each before the next, and writes to `out`
 /// whether the certificate shows that the plan is the plan of the order, if its first line is `proof 2`, or else that
 /// no capacities before the plan's are enough; or, if something is wrong with the plan, what `check_over` writes.
@@ -41,37 +50,40 @@ pub fn verify_over<N: Read, O: Read, P: Read, C: Read, W: Write>(
         (record { unread = C.remaining proof.old; left = C.remaining proof.new }) (W.contents out.old)
         (W.contents out.new) result }
 {
-    verify_over_until(alloc, net, order, plan, proof, out, &Never)
+    let net = read_whole(alloc, net)?;
+    let order = read_whole(alloc, order)?;
+    let plan = read_whole(alloc, plan)?;
+    let proof = read_whole(alloc, proof)?;
+    respond(answer(alloc, &net, &order, &plan, &proof, &Never), out)
 }
 
-/// Does what `verify_over` does, unless it is stopped while it looks at the certificate: then it writes the line
-/// `stopped`, with status 4. A quiet stop never stops it.
+/// Does what `verify_over` does for the text of a certificate, unless it is stopped while it looks at that: then it
+/// writes the line `stopped`, with status 4. A quiet stop never stops it.
 ///
 /// # Errors
 ///
 /// After these nothing was written: `Read`, a read failed; `TooLong`, a reader has more than 16,777,216 bytes;
 /// `Memory`, memory for an input was refused. After `Write`, a write failed or took no byte, and what is out is a
 /// beginning of the line.
-pub fn verify_over_until<N: Read, O: Read, P: Read, C: Read, W: Write, S: Stop>(
+pub fn verify_over_until<N: Read, O: Read, P: Read, W: Write, S: Stop>(
     alloc: Global,
     net: &mut N,
     order: &mut O,
     plan: &mut P,
-    proof: &mut C,
+    certificate: Certificate<'_, S>,
     out: &mut W,
-    stop: &S,
 ) -> Result<u8, StreamFault>
-    ensures { IsVerifyRunUntil (S.is_quiet stop.now) (record { unread = N.remaining net.old; left = N.remaining net.new })
+    ensures { IsVerifyRunUntil (S.is_quiet certificate.entry.stop.now) certificate.entry.text.now
+        (record { unread = N.remaining net.old; left = N.remaining net.new })
         (record { unread = O.remaining order.old; left = O.remaining order.new })
-        (record { unread = P.remaining plan.old; left = P.remaining plan.new })
-        (record { unread = C.remaining proof.old; left = C.remaining proof.new }) (W.contents out.old)
+        (record { unread = P.remaining plan.old; left = P.remaining plan.new }) (W.contents out.old)
         (W.contents out.new) result }
 {
     let net = read_whole(alloc, net)?;
     let order = read_whole(alloc, order)?;
     let plan = read_whole(alloc, plan)?;
-    let proof = read_whole(alloc, proof)?;
-    respond(answer(alloc, &net, &order, &plan, &proof, stop), out)
+    let Certificate { text, stop } = certificate;
+    respond(answer(alloc, &net, &order, &plan, text, stop), out)
 }
 
 /// The status and the line of the answer to the texts of a network, an order, a plan and a certificate.

@@ -10,7 +10,7 @@ use crate::faulty::of_fault;
 use crate::finding::{push_more, push_short};
 use crate::input::Input;
 use crate::opening::of_opening;
-use crate::placing::{line_text, placed};
+use crate::placing::{Named, line_text, placed};
 use crate::subject::{Line, Subject};
 use racp_model::Network;
 use racp_plan::{TextFault, read_plan};
@@ -151,16 +151,12 @@ pub(crate) fn of_network(
 {
     let mut rest = String::new(alloc);
     push_network(alloc, &mut rest, net.bytes, fault)?;
-    let (number, kind) = (fault.kind as u8, fault.kind.name());
-    line_text(
-        alloc,
-        net.name,
-        fault.line,
-        "sm",
-        number,
-        kind,
-        rest.as_str(),
-    )
+    let named = Named {
+        format: "sm",
+        number: fault.kind as u8,
+        name: fault.kind.name(),
+    };
+    line_text(alloc, net.name, fault.line, named, rest.as_str())
 }
 
 /// Adds what is told of a fault of a network text after its name.
@@ -193,8 +189,12 @@ pub(crate) fn of_order(
     };
     let mut rest = String::new(alloc);
     push_order(alloc, &mut rest, order.bytes, fault, sizes)?;
-    let (number, kind) = (fault as u8, fault.name());
-    placed(alloc, order.name, "", "order", number, kind, rest.as_str())
+    let named = Named {
+        format: "order",
+        number: fault as u8,
+        name: fault.name(),
+    };
+    placed(alloc, order.name, "", named, rest.as_str())
 }
 
 /// Adds what is told of a fault of an order after its name.
@@ -222,9 +222,13 @@ fn of_text(
 {
     let mut rest = String::new(alloc);
     push_text(&mut rest, network, plan.bytes, fault)?;
-    let (number, kind) = (fault.kind as u8, fault.kind.name());
+    let named = Named {
+        format: "plan",
+        number: fault.kind as u8,
+        name: fault.kind.name(),
+    };
     let line = fault.line;
-    line_text(alloc, plan.name, line, "plan", number, kind, rest.as_str())
+    line_text(alloc, plan.name, line, named, rest.as_str())
 }
 
 /// Adds what is told of a fault of a plan text after its name.

@@ -6,20 +6,30 @@ ghost use Rattle.racp_explain.specs.Causes.{line_head, line_place, placed_head};
 
 use std::alloc::{AllocError, Global};
 
+/// A fault as it is named: the format whose fault it is, its number, and its name.
+#[derive(Clone, Copy)]
+pub(crate) struct Named<'a> {
+    /// The word for the format.
+    pub(crate) format: &'a str,
+    /// The number of the fault.
+    pub(crate) number: u8,
+    /// The name of the fault.
+    pub(crate) name: &'a str,
+}
+
 /// The words `racp: NAME:LINE: FORMAT NUMBER FAULT`, or `racp: NAME: FORMAT NUMBER FAULT` of no one line, and the rest.
 pub(crate) fn line_text(
     alloc: Global,
     name: &str,
     line: usize,
-    format: &str,
-    number: u8,
-    fault: &str,
+    fault: Named<'_>,
     rest: &str,
 ) -> Result<String, AllocError>
-    ensures { IfOk result (λ text. StartsWith (string_bytes text) (line_head name.now line format.now number fault.now)) }
+    ensures { IfOk result (λ text. StartsWith (string_bytes text)
+        (line_head name.now line fault.entry.format.now fault.entry.number fault.entry.name.now)) }
 {
     let place = line_place(alloc, line)?;
-    placed(alloc, name, place.as_str(), format, number, fault, rest)
+    placed(alloc, name, place.as_str(), fault, rest)
 }
 
 /// The words `racp: NAMEPLACE: FORMAT NUMBER FAULT`, and the rest.
@@ -27,15 +37,14 @@ pub(crate) fn placed(
     alloc: Global,
     name: &str,
     place: &str,
-    format: &str,
-    number: u8,
-    fault: &str,
+    fault: Named<'_>,
     rest: &str,
 ) -> Result<String, AllocError>
     ensures { IfOk result (λ text. StartsWith (string_bytes text)
-        (placed_head name.now place.now format.now number fault.now)) }
+        (placed_head name.now place.now fault.entry.format.now fault.entry.number fault.entry.name.now)) }
 {
-    format!(in alloc; "racp: {name}{place}: {format} {number} {fault}{rest}")
+    let (format, number, kind) = (fault.format, fault.number, fault.name);
+    format!(in alloc; "racp: {name}{place}: {format} {number} {kind}{rest}")
 }
 
 /// The words `:LINE`, and nothing of no one line.

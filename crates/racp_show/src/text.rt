@@ -42,6 +42,8 @@ pub struct Lettering<'a> {
     pub is_ascii: bool,
     /// How times are told.
     pub calendar: Calendar<'a>,
+    /// Which tasks and phases have a line.
+    pub outline: &'a Outline,
 }
 
 /// A plan as a chart in lines: a line for each task of the outline, with its name or its number, a bar from its start to
@@ -64,7 +66,6 @@ pub fn chart_text(
     order: &Order,
     plan: &Plan,
     names: &Names,
-    outline: &Outline,
     lettering: Lettering<'_>,
 ) -> Result<String, AllocError>
     requires terms { AreTermsOf net.now order.now }
@@ -73,7 +74,7 @@ pub fn chart_text(
 {
     let deadline = deadline_of(order);
     let width = lettering.width.max(LEAST_WIDTH).min(MOST_WIDTH);
-    let calendar = lettering.calendar;
+    let (calendar, outline) = (lettering.calendar, lettering.outline);
     let note = note_width(alloc, net, plan.capacities.as_slice(), deadline, calendar)?;
     let room = width.saturating_sub(note.saturating_add(GAPS));
     let most = label_width(room);
@@ -89,7 +90,7 @@ pub fn chart_text(
         line: width,
     };
     push_ruler(alloc, &mut text, sides.width, &chart.scale, calendar)?;
-    push_rows(alloc, &mut text, outline, &sides, &chart, lettering)?;
+    push_rows(alloc, &mut text, &sides, &chart, lettering)?;
     push_resources(
         alloc,
         &mut text,

@@ -30,12 +30,11 @@ pub(crate) struct Sides<'a> {
 pub(crate) fn push_rows(
     alloc: Global,
     text: &mut String,
-    outline: &Outline,
     sides: &Sides<'_>,
     chart: &Chart,
     lettering: Lettering<'_>,
 ) -> Result<(), AllocError> {
-    for (place, entry) in outline.rows().iter().enumerate() {
+    for (place, entry) in lettering.outline.rows().iter().enumerate() {
         match entry {
             Entry::Heading { depth, title } => {
                 push_title(alloc, text, title.as_str(), *depth, sides.line)?

@@ -3,4 +3,4 @@ use Rattle.racp.proofs.Planned.{reported}
 use Rattle.racp.proofs.reporting.report_of.Goals as goal
 
 pub returns : goal.returns
-returns g c = reported _ _ _ _ _ None None c.report_over.result c.report_over.ensures
+returns g c = reported _ _ _ _ None None c.report_over.result c.report_over.ensures

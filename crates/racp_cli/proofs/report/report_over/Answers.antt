@@ -1,12 +1,9 @@
-use Rattle.std.proofs.Common.{◌≡◌, ℕ, Err, [], ◌∷◌, Option, List, IfOk, inl, inr, refl, sym, subst, rules}
-use Rattle.std.specs.Prelude.{Result}
-use Rattle.std.specs.Io.KnownBytes.{Keeps}
-use Rattle.racp_cli.specs.ReportAnswers.{IsReportAnswer, IsReportRun}
-use Rattle.racp_cli.specs.Streams.{Reader, AreInputs, IsStopped, ToFour}
+use Rattle.std.proofs.Common.{Err, [], ◌∷◌, IfOk, inr, refl}
+use Rattle.racp_cli.specs.ReportAnswers.{IsReportAnswer}
+use Rattle.racp_cli.specs.Streams.{Reader, AreInputs, ToThree}
 use Rattle.racp_cli.specs.Texts.{memory_line}
-use Rattle.racp_cli.specs.declared.fault.StreamFault.{StreamFault}
 use Rattle.racp_cli.specs.declared.check_fault.CheckFault.TheVariants.{OutOfMemory}
-use Rattle.racp_cli.proofs.Responding.{answered_as, made_right, run_answered, run_stopped}
+use Rattle.racp_cli.proofs.Responding.{answered_as, made_right, run_answered}
 use Rattle.racp_cli.proofs.report.report_over.Goals as goal
 
 pub returns : goal.returns
@@ -16,27 +13,10 @@ returns g c =
     let plan = c.in_ok-plan.plan.items in
     let first : Reader = record { unread = g.N.Read.remaining c.args.net.now; left = g.N.Read.remaining c.read_whole.new.reader } in
     let second : Reader = record { unread = g.O.Read.remaining c.args.order.now; left = g.O.Read.remaining c.read_whole-2.new.reader } in
-    let names = c.in_ok-names.names.items in
     let third : Reader = record { unread = g.P.Read.remaining c.args.plan.now; left = g.P.Read.remaining c.read_whole-3.new.reader } in
-    let fourth : Reader = record { unread = g.M.Read.remaining c.args.names.now; left = g.M.Read.remaining c.read_whole-4.new.reader } in
-    let are : AreInputs (first ∷ (second ∷ (third ∷ (fourth ∷ [])))) (net ∷ (order ∷ (plan ∷ (names ∷ [])))) = (c.in_ok-net.ensures, (c.in_ok-order.ensures, (c.in_ok-plan.ensures, (c.in_ok-names.ensures, tt)))) in
-    let made : IfOk c.answer.result (λ answer. IsReportAnswer c.args.page net order plan names answer.0 answer.1.items) =
-    rw (← c.deref.ensures.value, ← c.deref-2.ensures.value, ← c.deref-3.ensures.value, ← c.deref-4.ensures.value) c.answer.ensures in
-    let memory : IsReportAnswer c.args.page net order plan names 6 memory_line = inr (record { fault = OutOfMemory; right = tt; with_status = refl; with_text = refl }) in
-    run_answered (ToFour (IsReportAnswer c.args.page)) (first ∷ (second ∷ (third ∷ (fourth ∷ [])))) (net ∷ (order ∷ (plan ∷ (names ∷ [])))) _ _ c.respond.result are
-    (answered_as _ (IsReportAnswer c.args.page net order plan names) _ _ c.respond.result (made_right (IsReportAnswer c.args.page net order plan names) c.answer.result made memory) c.respond.ensures)
-
-pub returns-in_err-names : goal.returns-in_err-names
-returns-in_err-names g c =
-    let first : Reader = record { unread = g.N.Read.remaining c.args.net.now; left = g.N.Read.remaining c.read_whole.new.reader } in
-    let second : Reader = record { unread = g.O.Read.remaining c.args.order.now; left = g.O.Read.remaining c.read_whole-2.new.reader } in
-    let third : Reader = record { unread = g.P.Read.remaining c.args.plan.now; left = g.P.Read.remaining c.read_whole-3.new.reader } in
-    let fourth : Reader = record { unread = g.M.Read.remaining c.args.names.now; left = g.M.Read.remaining c.read_whole-4.new.reader } in
-    let out : Option (List ℕ) = g.W.Write.contents c.args.out.now in
-    let fault : StreamFault = c.in_err-names.field-0.0 in
-    let stopped : IsStopped (first ∷ (second ∷ (third ∷ (fourth ∷ [])))) fault =
-    inr (c.in_ok-net.net.items, c.in_ok-net.ensures, inr (c.in_ok-order.order.items, c.in_ok-order.ensures, inr (c.in_ok-plan.plan.items, c.in_ok-plan.ensures, inl (c.in_err-names.ensures, tt)))) in
-    let keeps : Keeps out out = search rules in
-    let is : c.from_residual-in_err-names.result ≡ Err fault = search rules in
-    subst (λ (r : Result ℕ StreamFault). IsReportRun c.args.page first second third fourth out out r) (sym is)
-    (run_stopped (ToFour (IsReportAnswer c.args.page)) (first ∷ (second ∷ (third ∷ (fourth ∷ [])))) out out fault fourth.unread fourth.left c.in_err-names.ensures stopped keeps)
+    let are : AreInputs (first ∷ (second ∷ (third ∷ []))) (net ∷ (order ∷ (plan ∷ []))) = (c.in_ok-net.ensures, (c.in_ok-order.ensures, (c.in_ok-plan.ensures, tt))) in
+    let made : IfOk c.answer.result (λ answer. IsReportAnswer c.args.page net order plan answer.0 answer.1.items) =
+    rw (← c.deref.ensures.value, ← c.deref-2.ensures.value, ← c.deref-3.ensures.value) c.answer.ensures in
+    let memory : IsReportAnswer c.args.page net order plan 6 memory_line = inr (record { fault = OutOfMemory; right = tt; with_status = refl; with_text = refl }) in
+    run_answered (ToThree (IsReportAnswer c.args.page)) (first ∷ (second ∷ (third ∷ []))) (net ∷ (order ∷ (plan ∷ []))) _ _ c.respond.result are
+    (answered_as _ (IsReportAnswer c.args.page net order plan) _ _ c.respond.result (made_right (IsReportAnswer c.args.page net order plan) c.answer.result made memory) c.respond.ensures)

@@ -1,12 +1,9 @@
-use Rattle.std.proofs.Common.{◌≡◌, ℕ, Err, [], ◌∷◌, Option, List, IfOk, inl, inr, refl, sym, subst, rules}
-use Rattle.std.specs.Prelude.{Result}
-use Rattle.std.specs.Io.KnownBytes.{Keeps}
+use Rattle.std.proofs.Common.{Err, [], ◌∷◌, IfOk, inl, refl}
 use Rattle.racp_cli.specs.Verifies.{IsVerifyAnswerUntil}
-use Rattle.racp_cli.specs.Streams.{Reader, AreInputs, IsStopped, ToFour, IsVerifyRunUntil}
+use Rattle.racp_cli.specs.Streams.{Reader, AreInputs, ToThree}
 use Rattle.racp_cli.specs.Texts.{memory_line}
-use Rattle.racp_cli.specs.declared.fault.StreamFault.{StreamFault}
 use Rattle.racp_cli.specs.declared.check_fault.CheckFault.TheVariants.{OutOfMemory}
-use Rattle.racp_cli.proofs.Responding.{answered_as, made_right, run_answered, run_stopped}
+use Rattle.racp_cli.proofs.Responding.{answered_as, made_right, run_answered}
 use Rattle.racp_cli.proofs.verify.verify_over_until.Goals as goal
 
 pub returns : goal.returns
@@ -14,29 +11,14 @@ returns g c =
     let net = c.in_ok-net.net.items in
     let order = c.in_ok-order.order.items in
     let plan = c.in_ok-plan.plan.items in
-    let first : Reader = record { unread = g.N.Read.remaining c.args.net.now; left = g.N.Read.remaining c.read_whole.new.reader } in
-    let second : Reader = record { unread = g.O.Read.remaining c.args.order.now; left = g.O.Read.remaining c.read_whole-2.new.reader } in
-    let proof = c.in_ok-proof.proof.items in
-    let third : Reader = record { unread = g.P.Read.remaining c.args.plan.now; left = g.P.Read.remaining c.read_whole-3.new.reader } in
-    let fourth : Reader = record { unread = g.C.Read.remaining c.args.proof.now; left = g.C.Read.remaining c.read_whole-4.new.reader } in
-    let are : AreInputs (first ∷ (second ∷ (third ∷ (fourth ∷ [])))) (net ∷ (order ∷ (plan ∷ (proof ∷ [])))) = (c.in_ok-net.ensures, (c.in_ok-order.ensures, (c.in_ok-plan.ensures, (c.in_ok-proof.ensures, tt)))) in
-    let made : IfOk c.answer.result (λ answer. IsVerifyAnswerUntil (g.S.Stop.is_quiet c.args.stop.now) net order plan proof answer.0 answer.1.items) =
-    rw (← c.deref.ensures.value, ← c.deref-2.ensures.value, ← c.deref-3.ensures.value, ← c.deref-4.ensures.value) c.answer.ensures in
-    let memory : IsVerifyAnswerUntil (g.S.Stop.is_quiet c.args.stop.now) net order plan proof 6 memory_line = inl (record { answer = Err OutOfMemory; right = tt; with_status = refl; with_text = refl }) in
-    run_answered (ToFour (IsVerifyAnswerUntil (g.S.Stop.is_quiet c.args.stop.now))) (first ∷ (second ∷ (third ∷ (fourth ∷ [])))) (net ∷ (order ∷ (plan ∷ (proof ∷ [])))) _ _ c.respond.result are
-    (answered_as _ (IsVerifyAnswerUntil (g.S.Stop.is_quiet c.args.stop.now) net order plan proof) _ _ c.respond.result (made_right (IsVerifyAnswerUntil (g.S.Stop.is_quiet c.args.stop.now) net order plan proof) c.answer.result made memory) c.respond.ensures)
-
-pub returns-in_err-proof : goal.returns-in_err-proof
-returns-in_err-proof g c =
+    let quiet = g.S.Stop.is_quiet c.args.certificate.stop.now in
+    let proof = c.args.certificate.text.now in
     let first : Reader = record { unread = g.N.Read.remaining c.args.net.now; left = g.N.Read.remaining c.read_whole.new.reader } in
     let second : Reader = record { unread = g.O.Read.remaining c.args.order.now; left = g.O.Read.remaining c.read_whole-2.new.reader } in
     let third : Reader = record { unread = g.P.Read.remaining c.args.plan.now; left = g.P.Read.remaining c.read_whole-3.new.reader } in
-    let fourth : Reader = record { unread = g.C.Read.remaining c.args.proof.now; left = g.C.Read.remaining c.read_whole-4.new.reader } in
-    let out : Option (List ℕ) = g.W.Write.contents c.args.out.now in
-    let fault : StreamFault = c.in_err-proof.field-0.0 in
-    let stopped : IsStopped (first ∷ (second ∷ (third ∷ (fourth ∷ [])))) fault =
-    inr (c.in_ok-net.net.items, c.in_ok-net.ensures, inr (c.in_ok-order.order.items, c.in_ok-order.ensures, inr (c.in_ok-plan.plan.items, c.in_ok-plan.ensures, inl (c.in_err-proof.ensures, tt)))) in
-    let keeps : Keeps out out = search rules in
-    let is : c.from_residual-in_err-proof.result ≡ Err fault = search rules in
-    subst (λ (r : Result ℕ StreamFault). IsVerifyRunUntil (g.S.Stop.is_quiet c.args.stop.now) first second third fourth out out r) (sym is)
-    (run_stopped (ToFour (IsVerifyAnswerUntil (g.S.Stop.is_quiet c.args.stop.now))) (first ∷ (second ∷ (third ∷ (fourth ∷ [])))) out out fault fourth.unread fourth.left c.in_err-proof.ensures stopped keeps)
+    let are : AreInputs (first ∷ (second ∷ (third ∷ []))) (net ∷ (order ∷ (plan ∷ []))) = (c.in_ok-net.ensures, (c.in_ok-order.ensures, (c.in_ok-plan.ensures, tt))) in
+    let made : IfOk c.answer.result (λ answer. IsVerifyAnswerUntil quiet net order plan proof answer.0 answer.1.items) =
+    rw (← c.deref.ensures.value, ← c.deref-2.ensures.value, ← c.deref-3.ensures.value) c.answer.ensures in
+    let memory : IsVerifyAnswerUntil quiet net order plan proof 6 memory_line = inl (record { answer = Err OutOfMemory; right = tt; with_status = refl; with_text = refl }) in
+    run_answered (ToThree (λ first second third. IsVerifyAnswerUntil quiet first second third proof)) (first ∷ (second ∷ (third ∷ []))) (net ∷ (order ∷ (plan ∷ []))) _ _ c.respond.result are
+    (answered_as _ (IsVerifyAnswerUntil quiet net order plan proof) _ _ c.respond.result (made_right (IsVerifyAnswerUntil quiet net order plan proof) c.answer.result made memory) c.respond.ensures)

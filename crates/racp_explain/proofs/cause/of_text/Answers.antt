@@ -8,5 +8,5 @@ pub returns : goal.returns
 returns c =
     let fault = c.args.fault in
     let BeginsWithName : List ℕ → Type 0 = λ name. IfOk c.line_text.result (λ text. StartsWith (string_bytes text) (line_head c.args.plan.now.name.now fault.line (codes "plan") (fault_number fault.kind) name)) in
-    let told : BeginsWithName c.name-kind.result.now = search rules in
-    subst BeginsWithName c.name-kind.ensures told
+    let told : BeginsWithName c.name.result.now = search rules in
+    subst BeginsWithName c.name.ensures told
