@@ -12,32 +12,12 @@ use crate::closed::Closed;
 use crate::patience::{Patience, Until};
 use crate::reader::{Ground, Reader};
 use crate::reading::{behind, read_vector};
-use racp_model::{Capacities, Network, Never, Stop, Unfound, Window};
-use std::alloc::{AllocError, Global};
+use racp_model::{Capacities, Network, Stop, Unfound, Window};
+use std::alloc::Global;
 
-/// The capacity vectors of the blocks of a certificate's text, in their order; `None` if the text is not one of blocks
-/// that hold with the root window. Whether the blocks are enough is not looked at.
-///
-/// # Errors
-///
-/// Memory was refused.
-pub fn block_vectors(
-    alloc: Global,
-    net: &Network,
-    root: &Window,
-    text: &[u8],
-) -> Result<Option<Vec<Vec<u32>>>, AllocError>
-    requires root { HasBounds net.now root.now }
-    ensures { IfOk result (IsBlocksAnswer net.now root.now text.now) }
-{
-    match block_vectors_until(alloc, net, root, text, &Never) {
-        Ok(found) => Ok(found),
-        Err(_) => Err(AllocError),
-    }
-}
-
-/// The same as `block_vectors`, unless it is stopped. The stop is asked at each line of a tree, and about each job that
-/// is chosen to go where the next child of a node is looked for.
+/// The capacity vectors of the blocks of a certificate's text, in their order, unless it is stopped; `None` if the text
+/// is not one of blocks that hold with the root window. Whether the blocks are enough is not looked at. The stop is asked
+/// at each line of a tree, and about each job that is chosen to go where the next child of a node is looked for.
 ///
 /// # Errors
 ///

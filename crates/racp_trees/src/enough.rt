@@ -2,53 +2,18 @@
 
 ghost use Rattle.std.specs.Prelude.{◌≡◌, ◌↔◌, ◌≤◌, ℕ, ◌<◌, IfOk, IsErrOf, IsTrue, length, slice_index, slice_index_or};
 ghost use Rattle.racp_model.specs.Project.{IsSound};
-ghost use Rattle.racp_model.specs.Terms.{AreTermsOf};
 ghost use Rattle.racp_trees.specs.Enough.{AreEnoughBlocks, IsClaim, IsGapAnswer};
 
 use crate::before::is_before;
 use crate::claim::Claim;
 use crate::parts::{Part, push_parts};
 use crate::splitting::place_above;
-use racp_model::{Network, Never, Stop, Unfound};
-use racp_prices::Order;
+use racp_model::{Stop, Unfound};
 use std::alloc::{AllocError, Global};
 
-/// Whether each capacity vector up to the roofs that stands before the capacities is at most that of some block. Goes
-/// by boxes of vectors: a box whose least vector is at most some block's goes on as the parts of it that are above that
-/// block, each at its first such place.
-///
-/// # Errors
-///
-/// Memory was refused.
-pub fn are_enough(
-    alloc: Global,
-    net: &Network,
-    order: &Order,
-    roofs: &[u32],
-    capacities: &[u32],
-    blocks: &[Vec<u32>],
-) -> Result<bool, AllocError>
-    requires sound { IsSound net.now }
-    requires terms { AreTermsOf net.now order.now }
-    requires roofs { length roofs.now ≡ net.now.resources }
-    requires capacities { length capacities.now ≡ net.now.resources }
-    requires blocks { (k : ℕ) → k < length blocks.now → (d : _) → length (slice_index_or blocks.now k d).items ≡ net.now.resources }
-    ensures { IfOk result (λ yes. IsTrue yes ↔ AreEnoughBlocks net.now order.now roofs.now capacities.now blocks.now) }
-{
-    let claim = Claim {
-        net,
-        order,
-        roofs,
-        capacities,
-    };
-    // It is never stopped, so memory was refused.
-    match gap_until(alloc, &claim, blocks, &Never) {
-        Ok(found) => Ok(found.is_none()),
-        Err(_) => Err(AllocError),
-    }
-}
-
-/// What `are_enough` tells of the blocks of a claim, unless it is stopped. The stop is asked at each box.
+/// Whether each capacity vector up to the roofs that stands before the capacities of a claim is at most that of some block,
+/// unless it is stopped. Goes by boxes of vectors: a box whose least vector is at most some block's goes on as the parts
+/// of it that are above that block, each at its first such place. The stop is asked at each box.
 ///
 /// # Errors
 ///

@@ -31,9 +31,9 @@
 //! At time 0 the jobs 2, 3 and 4 need 4 units. The alternative [2] puts job 2 off to the time 2, past its upper bound
 //! 1; the alternative [3, 4] puts job 3 off to 3, past 2.
 //!
-//! `block_vectors` reads a whole text, block by block, and answers the capacities of its blocks; `are_enough` tells
-//! whether they are enough. `check_proof` of racp_check has both. `block_vectors_until` asks at each line, and in each
-//! search for an alternative, whether it is to stop.
+//! `block_vectors_until` reads a whole text, block by block, and answers the capacities of its blocks; `are_enough_until`
+//! tells whether they are enough. `check_proof` of racp_check has both. Reading asks at each line, and in each search for
+//! an alternative, whether it is to stop.
 //!
 //! The text is read line by line. `Follow` in specs/ says what has to come of it while nodes are open, and each line
 //! changes that in one of three ways. Of an open node the reader knows the alternative whose child was read last, and
@@ -55,16 +55,15 @@
 //! vectors above all blocks so far, until there is none. What `certificate` makes is proved to be a certificate.
 //!
 //! Blocks are enough if each vector within the roofs that stands before the plan is at most the vector of some block.
-//! That is decided by boxes of vectors, in `are_enough`: the least vector of a box that is at most a block's leads to
-//! the parts of the box above that block, one for each place that can be the first such place. Of several such blocks
-//! it is one whose parts leave least to be spent before the plan's cost; one that is at most another is not taken
-//! before that.
+//! That is decided by boxes of vectors: the least vector of a box that is at most a block's leads to the parts of the
+//! box above that block, one for each place that can be the first such place. Of several such blocks it is one whose
+//! parts leave least to be spent before the plan's cost; one that is at most another is not taken before that.
 //!
 //! Proved: the vectors of a text are answered exactly if it consists of blocks that hold, and they are those of its
 //! blocks; the tree of a block is read exactly if the text begins with one that holds, and after it the closed nodes
-//! that lines name are known; `are_enough` is true exactly if the blocks are enough. In `laws`: trees that hold refute
-//! their windows, and if a text is a certificate, no capacities that are enough stand before the plan's. Not proved:
-//! how many boxes `are_enough` takes; of m blocks and R resources it can be about m ^ (R / 2).
+//! that lines name are known; `are_enough_until` is true exactly if the blocks are enough. In `laws`: trees that hold
+//! refute their windows, and if a text is a certificate, no capacities that are enough stand before the plan's. Not
+//! proved: how many boxes that takes; of m blocks and R resources it can be about m ^ (R / 2).
 #![tactic(auto)]
 
 mod before;
@@ -88,8 +87,8 @@ mod splitting;
 mod step;
 mod writer;
 
-pub use blocks::{block_vectors, block_vectors_until};
+pub use blocks::block_vectors_until;
 pub use certifying::certificate;
 pub use claim::Claim;
-pub use enough::{are_enough, are_enough_until};
+pub use enough::are_enough_until;
 pub use step::Step;
