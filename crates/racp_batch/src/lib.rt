@@ -38,9 +38,9 @@ mod named;
 mod order;
 mod planning;
 mod row;
+mod row_stop;
 mod running;
 mod telling;
-mod until;
 
 pub use batch::{Batch, BatchFault, Ending};
 pub use case::{Case, File, Input, Multiple, cases};

@@ -10,7 +10,7 @@ use crate::case::{Case, Input};
 use crate::heard::Heard;
 use crate::order::{deadline_of, order_by};
 use crate::row::{Answered, Row, Work};
-use crate::until::Until;
+use crate::row_stop::RowStop;
 use racp_desk::Open;
 use racp_found::OfOrder;
 use racp_lexfix::{Crew, PlanStop};
@@ -142,7 +142,7 @@ impl Planning {
         ensures work { IfOk result (λ made. IsWork N.network N.terms made.1) }
     {
         let heard: Heard<N> = Heard::new();
-        let until = Until::of(rt, self.limit, is_halted);
+        let until = RowStop::of(rt, self.limit, is_halted);
         let crew = Crew {
             workers: 1,
             turns: TURNS,

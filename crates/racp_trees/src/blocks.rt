@@ -9,7 +9,7 @@ ghost use Rattle.racp_trees.specs.Nodes.{HasPlace};
 ghost use Rattle.racp_trees.specs.Blocks.{IsBetween, IsBlockRead, AreBlocksRead};
 
 use crate::closed::Closed;
-use crate::patience::{Patience, Until};
+use crate::patience::{Patience, UntilStopped};
 use crate::reader::{Ground, Reader};
 use crate::reading::{behind, read_vector};
 use racp_model::{Capacities, Network, Stop, Unfound, Window};
@@ -37,7 +37,7 @@ pub fn block_vectors_until<S: Stop>(
         return Ok(None);
     };
     let reader = Reader::new(alloc, root, Closed::for_text(alloc, rest)?)?;
-    read_blocks(alloc, net, root, reader, rest, &Until { stop })
+    read_blocks(alloc, net, root, reader, rest, &UntilStopped { stop })
 }
 
 /// The vectors of the blocks that a text has up to its last line, or `None` if it has other lines.

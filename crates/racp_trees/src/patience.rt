@@ -37,11 +37,11 @@ pub(crate) trait Patience {
 
 /// As long as a stop does not say otherwise.
 #[derive(Drop)]
-pub(crate) struct Until<'a, S: Stop> {
+pub(crate) struct UntilStopped<'a, S: Stop> {
     pub(crate) stop: &'a S,
 }
 
-impl<'a, S: Stop> Patience for Until<'a, S> {
+impl<'a, S: Stop> Patience for UntilStopped<'a, S> {
     ghost is_quiet = { λ until. S.is_quiet until.stop.now };
 
     fn asked(&self) -> bool {
@@ -112,7 +112,7 @@ impl<'a, S: Stop> Patience for Brief<'a, S> {
     ) -> Result<bool, Unfound> {
         let stop = StepsUntil {
             steps: Steps::new(MOST_STEPS),
-            patience: Until { stop: self.stop },
+            patience: UntilStopped { stop: self.stop },
         };
         let active = ActiveJobs {
             all: active,

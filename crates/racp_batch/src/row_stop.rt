@@ -19,7 +19,7 @@ impl<'a> Halt for &'a AtomicBool {
 /// Stops the planning of a row when so much time has passed since it was made, or once all rows are to stop. If there is a limit
 /// and the clock cannot be read, it stops at once. Each time that it is asked counts as a node of the search.
 #[derive(Drop)]
-pub(crate) struct Until<C: Clock + Drop, H: Halt + Drop> {
+pub(crate) struct RowStop<C: Clock + Drop, H: Halt + Drop> {
     clock: C,
     begun: Option<Instant>,
     limit: Option<Duration>,
@@ -27,11 +27,11 @@ pub(crate) struct Until<C: Clock + Drop, H: Halt + Drop> {
     nodes: AtomicU64,
 }
 
-impl<C: Clock + Drop, H: Halt + Drop> Until<C, H> {
+impl<C: Clock + Drop, H: Halt + Drop> RowStop<C, H> {
     /// This time from now on, if there is a limit, and until all rows are to stop.
     pub(crate) fn of(clock: C, limit: Option<Duration>, halt: H) -> Self {
         let begun = Instant::now(&clock).ok();
-        Until {
+        RowStop {
             clock,
             begun,
             limit,
@@ -67,7 +67,7 @@ impl<C: Clock + Drop, H: Halt + Drop> Until<C, H> {
     }
 }
 
-impl<C: Clock + Drop, H: Halt + Drop> Stop for Until<C, H> {
+impl<C: Clock + Drop, H: Halt + Drop> Stop for RowStop<C, H> {
     ghost use Rattle.std.specs.Prelude.{false};
 
     ghost QUIET = { false };
