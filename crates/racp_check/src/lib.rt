@@ -24,6 +24,8 @@
 //! most the deadline. In `laws`: nothing is wrong with the plan of an order, and the check has one answer for a plan.
 //! Not looked at by `check_plan`: the deadline and the critical length that a plan names, and whether cheaper
 //! capacities or lesser starts would do.
+//!
+//! Wanted by name, and not called by the program: `check_proof`. The program calls `check_proof_until`.
 #![tactic(auto)]
 
 mod check;

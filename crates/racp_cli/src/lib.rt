@@ -60,6 +60,9 @@
 //! some bytes. In `laws`: no two answers of `cpm` share a text if their numbers fit 64 bits, and no text of `plan` goes
 //! with two statuses. Tested alone: that `Read` and `Write` come only if a read or a write fails, and `memory` only if
 //! memory is refused.
+//!
+//! Wanted by name, and not called by the program: `run_over`, `crowd_over`, `prove_over` and `verify_over`. It calls the
+//! forms of these that also take how much memory there is, or what may stop them.
 #![tactic(auto)]
 
 mod beside;

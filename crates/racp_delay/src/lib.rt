@@ -53,6 +53,8 @@
 //! the first end. In `laws`: the child windows cover their window and lie inside it, and the sum of the lower bounds
 //! rises; before the conflict of a window its children have none. A `Profile` answers for its starts what `conflict`
 //! does. Not proved: that memory is not refused without need, and the time that all this takes.
+//!
+//! Wanted by name, and not called by the program: `alternatives` and `Profile`.
 #![tactic(auto)]
 
 mod choosing;

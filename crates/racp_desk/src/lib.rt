@@ -69,6 +69,8 @@
 //! Tested alone: that two workers search at once, that a stop and the end of the turns halt, and that memory and
 //! threads are not wanted without need. Not promised: that a run ends, that a worker is served, how work is shared,
 //! and which of two findings comes first.
+//!
+//! Wanted by name, and not called by the program: `run`, for a single series. The program calls that of `Records`.
 #![tactic(auto)]
 
 mod book;

@@ -39,6 +39,9 @@
 //! least, and plans that fit the order; that it tells them in time is tested alone. In `laws`: an order for a network has an
 //! answer, and only one. Tested alone: that memory is not refused without need. How long planning takes is measured
 //! (docs/PERFORMANCE.md), not promised.
+//!
+//! Wanted by name, and not called by the program: `plan_alone` and `plan_crowd`. It calls `plan_alone_within`,
+//! `plan_crowd_by` and `plan_by_crew`.
 #![tactic(auto)]
 
 mod answer;

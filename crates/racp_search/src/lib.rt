@@ -51,6 +51,8 @@
 //! memory nothing is left. The type keeps that truth, whoever holds the finding.
 //! Tested alone: that the stop is asked, that records are looked for and made, and that memory is not refused without
 //! need. In which order windows are searched, and how many, is not promised.
+//!
+//! Wanted by name, and not called by the program: `decide` and `refute`.
 #![tactic(auto)]
 
 mod child;
