@@ -29,6 +29,17 @@ def open_lines(jobs, count):
     return texts_of(network, order, plan, "proof\nvector 2 2 2\n" + "".join(f"D {time}\n" for time in range(1, count + 1)))
 
 
+def long_clause(size):
+    """A certificate by clauses of this many bytes. Half of it is the literals of one clause, which are false of all that is in time, and
+    the other half names that clause. It is unproved, since that shows nothing of the plan."""
+    jobs = 5
+    network = Network(1, [1] * jobs, [[1]] * jobs, set())
+    order, plan = Order(jobs, [1], [0], None, [0] * jobs, [jobs] * jobs), Plan(jobs, 1, 1, [1], list(range(jobs)))
+    literals = "".join(f"start {job % jobs + 1} >= {jobs + job % 5}\n" for job in range(size // 26))
+    begin, name, end = f"proof 2\n{literals}cost >= 0\nholds\n", "clause 1\n", "end\n"
+    return texts_of(network, order, plan, begin + name * ((size - len(begin) - len(end)) // len(name)) + end)
+
+
 def useless_blocks(chance, resources, most, count):
     """A certificate for a job that requests all units of each resource. Blocks with a unit less of one of them are enough, and
     before them stands this number of blocks of fewer units. It is verified."""

@@ -3,4 +3,5 @@ mod Splitting
 mod Rooted
 mod TellingBounds
 mod CostLeaving
+mod Inferring
 mod Halving

@@ -1,13 +1,16 @@
 //! What was derived so far.
 
-ghost use Rattle.std.specs.Prelude.{◌≡◌, ◌++◌, ◌∷◌, [], true, false, IfOk, MatchBool, Some, None};
+ghost use Rattle.std.specs.Prelude.{◌≡◌, ◌++◌, ◌∷◌, [], true, false, IfOk, IfSome, MatchBool, Some, None};
 ghost use Rattle.racp_model.specs.Terms.{AreTermsOf};
 ghost use Rattle.racp_clauses.specs.Solutions.{HasPlaces};
 ghost use Rattle.racp_derivations.specs.Checking.{after, after_line, at_first};
+ghost use Rattle.racp_derivations.specs.Thinning.{InfersAs};
 
+use crate::held::Held;
 use crate::line::Line;
 use crate::lines::line_of;
 use crate::stepping::{Given, take_step};
+use crate::thinning::{MANY_LITERALS, thinned};
 use racp_clauses::{Clause, Derivation, Domain, OfProblem};
 use std::alloc::{AllocError, Global};
 use std::marker::Model;
@@ -18,7 +21,7 @@ use std::marker::Model;
 pub(crate) struct Checking<N: OfProblem> {
     base: Derivation<N>,
     present: Derivation<N>,
-    clauses: Vec<Clause<N>>,
+    clauses: Held<N>,
 }
 
 impl<N: OfProblem> Model for Checking<N> {
@@ -27,7 +30,7 @@ impl<N: OfProblem> Model for Checking<N> {
 
     ghost Value = { Checked };
 
-    ghost view = { λ c. record { base = c.base; now = c.present; clauses = c.clauses.items } };
+    ghost view = { λ c. record { base = c.base; now = c.present; clauses = c.clauses } };
 
     ghost invariant = { λ c. c.base.clause ≡ [] };
 }
@@ -44,7 +47,7 @@ impl<N: OfProblem> Checking<N> {
         Ok(Checking {
             base,
             present,
-            clauses: Vec::new(alloc),
+            clauses: Held::new(alloc),
         })
     }
 
@@ -52,7 +55,7 @@ impl<N: OfProblem> Checking<N> {
     pub(crate) fn clauses(&self) -> &[Clause<N>]
         ensures { result.now ≡ self.now.clauses }
     {
-        &self.clauses
+        self.clauses.clauses()
     }
 
     /// Does what a line says, and says true; false if it says nothing, or something that does not follow.
@@ -101,16 +104,33 @@ fn conclude<N: OfProblem>(
     alloc: Global,
     base: &Derivation<N>,
     present: &mut Derivation<N>,
-    clauses: &mut Vec<Clause<N>>,
+    clauses: &mut Held<N>,
 ) -> Result<bool, AllocError>
     requires { base.now.clause ≡ [] }
     ensures { IfOk result (λ yes. MatchBool yes
-        ((present.old.empty ≡ true) × (present.new ≡ base.now) × (clauses.new.items ≡ clauses.old.items ++ present.old.clause ∷ []))
+        ((present.old.empty ≡ true) × (present.new ≡ base.now) × (clauses.new ≡ clauses.old ++ present.old.clause ∷ []))
         (present.old.empty ≡ false)) }
 {
     let Some(clause) = present.finish(alloc)? else {
         return Ok(false);
     };
-    clauses.push(clause)?;
+    let short = short_of(alloc, base, present, &clause)?;
+    clauses.push(clause, short)?;
     Ok(present.begin(base))
+}
+
+/// A shorter clause from which the same follows, if one is long. The derivation that is at work may be any.
+fn short_of<N: OfProblem>(
+    alloc: Global,
+    base: &Derivation<N>,
+    work: &mut Derivation<N>,
+    clause: &Clause<N>,
+) -> Result<Option<Clause<N>>, AllocError>
+    requires { base.now.clause ≡ [] }
+    ensures { IfOk result (λ found. IfSome found (λ short. InfersAs short clause.now)) }
+{
+    if clause.literals().len() <= MANY_LITERALS {
+        return Ok(None);
+    }
+    thinned(alloc, base, work, clause)
 }

@@ -27,7 +27,8 @@
 //! There are two derivations, `base` with which each one begins, and the present one, and the clauses so far. Lines and
 //! words are slices of the text; memory is taken for the literals of clauses alone. A pair of the precedence relation
 //! is found by halving. Otherwise a line takes as long as its step, which is in proportion to the jobs, the resources
-//! or the literals of the clause that it names; no text takes longer than its bytes times that.
+//! or the literals of the clause that it names; no text takes longer than its bytes times that. Beside a clause of more than 256
+//! literals stands a shorter one, from which the same follows within all bounds, and whose literals are looked at in its place.
 //!
 //! Who makes a text (`certificate_by_clauses`) has what a search recorded. A search that learns (racp_learning) derives
 //! thousands of clauses, and the plan follows from a few of them: one for each variable that could be less. These were
@@ -65,12 +66,14 @@
 mod bound;
 mod bounding;
 mod checking;
+mod held;
 mod line;
 mod lines;
 mod pairs;
 mod reading;
 mod root;
 mod stepping;
+mod thinning;
 mod trimming;
 mod verdict;
 mod words;

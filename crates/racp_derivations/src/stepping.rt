@@ -5,8 +5,9 @@ ghost use Rattle.racp_model.specs.Terms.{AreTermsOf};
 ghost use Rattle.racp_derivations.specs.Checking.{stepped};
 ghost use Rattle.racp_derivations.specs.declared.line.Step.TheVariants.{Earlier};
 
+use crate::held::Held;
 use crate::line::Step;
-use racp_clauses::{Clause, Derivation, OfProblem, Times};
+use racp_clauses::{Derivation, OfProblem, Times};
 use racp_model::Network;
 use racp_prices::Order;
 
@@ -20,7 +21,7 @@ pub(crate) struct Given<'a> {
 /// Takes a step, and says true; false if it names a clause that is no earlier one.
 pub(crate) fn take_step<N: OfProblem>(
     given: &Given,
-    clauses: &[Clause<N>],
+    clauses: &Held<N>,
     derivation: &mut Derivation<N>,
     step: Step,
 ) -> bool
@@ -52,7 +53,7 @@ pub(crate) fn take_step<N: OfProblem>(
 fn take_clause<N: OfProblem>(
     net: &Network,
     order: &Order,
-    clauses: &[Clause<N>],
+    clauses: &Held<N>,
     derivation: &mut Derivation<N>,
     at: usize,
 ) -> bool
@@ -60,11 +61,5 @@ fn take_clause<N: OfProblem>(
         (stepped net.now order.now clauses.now derivation.old (Earlier at) ≡ Some derivation.new)
         (stepped net.now order.now clauses.now derivation.old (Earlier at) ≡ None) }
 {
-    match clauses.get(at) {
-        Some(clause) => {
-            derivation.clause(clause);
-            true
-        }
-        None => false,
-    }
+    clauses.take(derivation, at)
 }
