@@ -6,6 +6,24 @@ use std::{env, fs};
 /// The variable of the environment that names a file: a command is to stop as soon as there is such a file.
 const VARIABLE: &str = "RACP_STOP";
 
+/// Tells whether there is a file. Unlike `Files`, it is a bound of what threads share.
+pub(crate) trait Looks {
+    /// Whether there is a file with this path.
+    fn has_file(&self, path: &str) -> bool;
+}
+
+impl Looks for HostRuntime {
+    fn has_file(&self, path: &str) -> bool {
+        matches!(fs::exists(self, path), Ok(true))
+    }
+}
+
+impl<L: Looks> Looks for &L {
+    fn has_file(&self, path: &str) -> bool {
+        (**self).has_file(path)
+    }
+}
+
 /// A file by which the user asks for a stop.
 #[derive(Drop)]
 pub(crate) struct Asks {
@@ -26,5 +44,10 @@ impl Asks {
     /// Whether there is the file.
     pub(crate) fn are_made<F: Files>(&self, files: &F) -> bool {
         matches!(fs::exists(files, self.path.as_str()), Ok(true))
+    }
+
+    /// Whether there is the file, as threads may look.
+    pub(crate) fn are_seen<L: Looks>(&self, looks: &L) -> bool {
+        looks.has_file(self.path.as_str())
     }
 }

@@ -103,14 +103,7 @@ fn written_to<'a, R: Crewed, W: Write>(
         path: None,
         in_memory: false,
     };
-    let listener = Listener::of(
-        rt,
-        limit.known(),
-        limit.progress(),
-        limit.asks(),
-        kept,
-        &best,
-    );
+    let listener = Listener::of(rt, limit.known(), limit.progress(), kept, &best);
     let count = worker_count(rt, crew.workers);
     let workers = Crew {
         workers: count,

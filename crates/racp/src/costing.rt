@@ -172,14 +172,7 @@ fn curve_by<R: Crewed, W: Write>(
         path: crew.best,
         in_memory: false,
     };
-    let listener = Listener::of(
-        rt,
-        limit.known(),
-        limit.progress(),
-        limit.asks(),
-        kept,
-        &best,
-    );
+    let listener = Listener::of(rt, limit.known(), limit.progress(), kept, &best);
     let count = worker_count(rt, crew.workers);
     let workers = Crew {
         workers: count,

@@ -114,14 +114,7 @@ fn plan_by<'a, R: Crewed, W: Write>(
         path: crew.best,
         in_memory: manner.is_json,
     };
-    let listener = Listener::of(
-        rt,
-        limit.known(),
-        limit.progress(),
-        limit.asks(),
-        kept,
-        &best,
-    );
+    let listener = Listener::of(rt, limit.known(), limit.progress(), kept, &best);
     let count = worker_count(rt, crew.workers);
     let workers = racp_lexfix::Crew {
         workers: count,

@@ -3,20 +3,19 @@
 use racp_batch::gap;
 use std::fmt;
 use std::fmt::{Display, Formatter};
-use std::sync::atomic::{AtomicBool, AtomicU64, Ordering};
+use std::sync::atomic::{AtomicU64, Ordering};
 
 /// What stands for a deadline or a cost while none is known.
 const NONE: u64 = u64::MAX;
 
 /// What is known of a plan while it is made: its deadline, the longest deadline for which one was made so far, what the
-/// cheapest costs that is known, what each costs at least, and whether the user has asked for a stop.
+/// cheapest costs that is known, and what each costs at least.
 #[derive(Drop)]
 pub(crate) struct Known {
     longest: AtomicU64,
     deadline: AtomicU64,
     best: AtomicU64,
     bound: AtomicU64,
-    is_asked: AtomicBool,
 }
 
 impl Known {
@@ -27,7 +26,6 @@ impl Known {
             deadline: AtomicU64::new(NONE),
             best: AtomicU64::new(NONE),
             bound: AtomicU64::new(0),
-            is_asked: AtomicBool::new(false),
         }
     }
 
@@ -57,16 +55,6 @@ impl Known {
     /// Notes that a plan costs at least so much.
     pub(crate) fn note_bound(&self, cost: u64) {
         let _ = self.bound.fetch_max(cost, Ordering::SeqCst);
-    }
-
-    /// Notes that the user has asked for a stop.
-    pub(crate) fn note_asked(&self) {
-        self.is_asked.store(true, Ordering::SeqCst);
-    }
-
-    /// Whether the user has asked for a stop.
-    pub(crate) fn is_asked(&self) -> bool {
-        self.is_asked.load(Ordering::SeqCst)
     }
 
     /// What the cheapest plan costs that is known, if one is.

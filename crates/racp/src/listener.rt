@@ -1,6 +1,5 @@
 //! Who hears how far planning has come.
 
-use crate::asks::Asks;
 use crate::best::keep;
 use crate::known::Known;
 use crate::memory::mebibytes_used;
@@ -24,24 +23,22 @@ pub(crate) struct Kept<'a> {
 }
 
 /// Hears how far planning has come, and notes it; the best plan that is known for the longest deadline, that of the order,
-/// it keeps in a file, if that is wanted. Each time it looks whether the user has asked for a stop.
+/// it keeps in a file, if that is wanted.
 #[derive(Drop)]
 pub(crate) struct Listener<'a, 'b, 'k, R: Files + Eprint + AllocGlobal + Drop> {
     host: R,
     known: &'a Known,
     progress: Option<&'a Progress>,
     kept: Kept<'k>,
-    asks: Option<&'a Asks>,
     best: &'b Cell<Vec<u8>>,
 }
 
 impl<'a, 'b, 'k, R: Files + Eprint + AllocGlobal + Drop> Listener<'a, 'b, 'k, R> {
-    /// Notes it there, and keeps plans so, and there in memory; hears the user so, or does not.
+    /// Notes it there, and keeps plans so, and there in memory.
     pub(crate) fn of(
         host: R,
         known: &'a Known,
         progress: Option<&'a Progress>,
-        asks: Option<&'a Asks>,
         kept: Kept<'k>,
         best: &'b Cell<Vec<u8>>,
     ) -> Self {
@@ -50,7 +47,6 @@ impl<'a, 'b, 'k, R: Files + Eprint + AllocGlobal + Drop> Listener<'a, 'b, 'k, R>
             known,
             progress,
             kept,
-            asks,
             best,
         }
     }
@@ -65,15 +61,10 @@ impl<'a, 'b, 'k, R: Files + Eprint + AllocGlobal + Drop> Listener<'a, 'b, 'k, R>
         }
     }
 
-    /// Notes the memory that is used, and whether the user has asked for a stop.
+    /// Notes the memory that is used.
     fn look(&self) {
         if let Some(progress) = self.progress {
             progress.note_memory(mebibytes_used(&self.host));
-        }
-        if let Some(asks) = self.asks {
-            if asks.are_made(&self.host) {
-                self.known.note_asked();
-            }
         }
     }
 

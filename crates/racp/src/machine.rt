@@ -1,5 +1,6 @@
 //! What commands use of the machine that the program runs on.
 
+use crate::asks::Looks;
 use std::rt::{Env, Files};
 use std::sync::Wait;
 use std::thread::Threads;
@@ -10,7 +11,7 @@ pub(crate) trait Machine: Clock + Env + Files + Print + Eprint + AllocGlobal {}
 
 impl<R: Clock + Env + Files + Print + Eprint + AllocGlobal> Machine for R {}
 
-/// A machine that can also start threads and wait for them.
-pub(crate) trait Crewed: Machine + Threads + Wait + Sync {}
+/// A machine that can also start threads and wait for them, and on which these look for a file.
+pub(crate) trait Crewed: Machine + Looks + Threads + Wait + Sync {}
 
-impl<R: Machine + Threads + Wait + Sync> Crewed for R {}
+impl<R: Machine + Looks + Threads + Wait + Sync> Crewed for R {}
