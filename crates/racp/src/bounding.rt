@@ -3,12 +3,12 @@
 ghost use Rattle.std.specs.Prelude.{IfOk};
 ghost use Rattle.racp.specs.Statuses.{IsStatusOfAnswer};
 
+use crate::alone_limit::AloneLimit;
 use crate::asks::Asks;
 use crate::failure::Failure;
 use crate::inputs::Inputs;
 use crate::machine::Machine;
 use crate::telling::{Manner, end};
-use crate::until::Until;
 use racp_cli::{StreamFault, verify_bound_over};
 use racp_explain::{Input as Text, bound_cause};
 use racp_json::{Command, FileNames, Told, Work};
@@ -125,7 +125,7 @@ fn verify_of<R: Machine, N: Read, O: Read, C: Read, W: Write>(
 ) -> Result<u8, StreamFault>
     ensures { IfOk result IsStatusOfAnswer }
 {
-    let until = Until::of(rt, limit, Asks::of(rt));
+    let until = AloneLimit::of(rt, limit, Asks::of(rt));
     let status = verify_bound_over(rt.alloc(), net, order, proof, out, &until);
     // Dropped here once, not at each way out.
     drop(until);

@@ -45,6 +45,7 @@
 //! changes neither standard output nor the status. Trusted: the toolchain, the C library and the machine.
 #![tactic(auto)]
 
+mod alone_limit;
 mod asks;
 mod batching;
 mod begun;
@@ -87,7 +88,6 @@ mod telling;
 mod terms;
 mod texts;
 mod tools;
-mod until;
 mod verifying;
 mod warned;
 

@@ -3,13 +3,13 @@
 ghost use Rattle.std.specs.Prelude.{IfOk};
 ghost use Rattle.racp.specs.Statuses.{IsStatusOfAnswer};
 
+use crate::alone_limit::AloneLimit;
 use crate::asks::Asks;
 use crate::failure::{Failure, OptionFault};
 use crate::inputs::Inputs;
 use crate::machine::Machine;
 use crate::seconds::time_limit;
 use crate::telling::{Manner, tell};
-use crate::until::Until;
 use racp_cli::{CHECK_FAILED, STOPPED, StreamFault, prove_by_clauses_over, prove_over_until};
 use racp_explain::{Input as Text, order_cause};
 use racp_model::Stop;
@@ -87,7 +87,7 @@ fn prove_of<R: Machine, N: Read, O: Read>(
 ) -> Result<u8, StreamFault>
     ensures { IfOk result IsStatusOfAnswer }
 {
-    let until = Until::of(rt, asked.limit, Asks::of(rt));
+    let until = AloneLimit::of(rt, asked.limit, Asks::of(rt));
     let status = if asked.by_clauses {
         prove_by_clauses(rt, net, order, &until)
     } else {

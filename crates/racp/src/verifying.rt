@@ -3,12 +3,12 @@
 ghost use Rattle.std.specs.Prelude.{IfOk};
 ghost use Rattle.racp.specs.Statuses.{IsStatusOfAnswer};
 
+use crate::alone_limit::AloneLimit;
 use crate::asks::Asks;
 use crate::failure::Failure;
 use crate::inputs::Inputs;
 use crate::machine::Machine;
 use crate::telling::{Manner, end};
-use crate::until::Until;
 use racp_cli::{Certificate, StreamFault, verify_over_until};
 use racp_explain::{Input as Text, proof_cause};
 use racp_json::{Command, FileNames, Told, Work};
@@ -123,7 +123,7 @@ fn verify_of<R: Machine, W: Write>(
 ) -> Result<u8, StreamFault>
     ensures { IfOk result IsStatusOfAnswer }
 {
-    let until = Until::of(rt, limit, Asks::of(rt));
+    let until = AloneLimit::of(rt, limit, Asks::of(rt));
     let (mut net, mut order) = (texts.net.bytes, texts.order.bytes);
     let mut plan = texts.plan.bytes;
     let certificate = Certificate {

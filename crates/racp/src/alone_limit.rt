@@ -15,7 +15,7 @@ const PERIOD: u64 = 100;
 /// Stops a command of one thread when so much time has passed since it was made, or when the user asks so. If there is
 /// a limit and the clock cannot be read, it stops at once.
 #[derive(Drop)]
-pub(crate) struct Until<R: Clock + Files + Drop> {
+pub(crate) struct AloneLimit<R: Clock + Files + Drop> {
     host: R,
     limit: Option<Duration>,
     begun: Begun,
@@ -25,12 +25,12 @@ pub(crate) struct Until<R: Clock + Files + Drop> {
     has_stopped: AtomicBool,
 }
 
-impl<R: Clock + Files + Drop> Until<R> {
+impl<R: Clock + Files + Drop> AloneLimit<R> {
     /// This time from now on, if there is a limit, and with the file by which the user asks for a stop, if there is
     /// one.
     pub(crate) fn of(host: R, limit: Option<Duration>, asks: Option<Asks>) -> Self {
         let begun = Begun::now(&host);
-        Until {
+        AloneLimit {
             host,
             limit,
             begun,
@@ -78,7 +78,7 @@ impl<R: Clock + Files + Drop> Until<R> {
     }
 }
 
-impl<R: Clock + Files + Drop> Stop for Until<R> {
+impl<R: Clock + Files + Drop> Stop for AloneLimit<R> {
     ghost use Rattle.std.specs.Prelude.{◌&&◌, false, is_none};
     ghost use Rattle.std.proofs.Common.{rules};
 
