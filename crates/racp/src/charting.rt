@@ -8,8 +8,10 @@ use crate::failure::Failure;
 use crate::inputs::Inputs;
 use crate::machine::Machine;
 use crate::telling::{Manner, tell};
+use racp_calendar::Calendar;
 use racp_cli::{Look, StreamFault, show_over};
 use racp_explain::{Input as Text, shown_cause};
+use racp_show::Form;
 use racp_words::PlanFiles;
 use std::alloc::{AllocError, Global};
 use std::rt::Env;
@@ -27,6 +29,17 @@ struct Texts<'a> {
     names: Text<'a>,
 }
 
+/// The form of a picture.
+#[derive(Clone, Copy)]
+struct Shape {
+    /// How many columns a line has at most.
+    width: usize,
+    /// What is written.
+    form: Form,
+    /// Whether there are arrows.
+    has_links: bool,
+}
+
 /// How many columns a line has if nothing says so.
 const DEFAULT_WIDTH: usize = 80;
 
@@ -42,63 +55,75 @@ fn width_of<R: Env + AllocGlobal>(rt: &R, asked: Option<u64>) -> usize {
 }
 
 /// Writes a picture of the plan in these files.
-pub(crate) fn show<'a, R: Machine>(
+pub(crate) fn show<R: Machine>(
     rt: &R,
-    files: PlanFiles<'a>,
-    look: racp_words::Look<'a>,
+    files: PlanFiles<'_>,
+    look: racp_words::Look<'_>,
     manner: Manner,
 ) -> Result<u8, Failure>
     ensures { IfOk result IsStatusOfTool }
 {
     let workdays = workdays_of(rt, look.dates)?;
+    let calendar = calendar_of(&workdays);
     let paths = [
         look.names,
         Some(files.net),
         Some(files.order),
         Some(files.plan),
     ];
+    let shape = Shape {
+        width: width_of(rt, look.width),
+        form: look.form,
+        has_links: look.has_links,
+    };
     let inputs = Inputs::read(rt, &paths)?;
-    let texts = Texts {
+    let texts = texts_of(&inputs);
+    let status = show_of(rt, texts, shape, calendar)?;
+    if manner.tells(status) {
+        tell(rt, manner, cause(rt.alloc(), texts));
+    }
+    Ok(status)
+}
+
+/// The texts of a picture, of its files in the order in which they are opened.
+fn texts_of<'a>(inputs: &'a Inputs<'_>) -> Texts<'a> {
+    Texts {
         net: inputs.text(1),
         order: inputs.text(2),
         plan: inputs.text(3),
         names: inputs.text(0),
-    };
-    let asked = Look {
-        width: width_of(rt, look.width),
-        form: look.form,
-        has_links: look.has_links,
-        calendar: calendar_of(&workdays),
-        names: texts.names.bytes,
-    };
-    let status = show_of(rt, &texts, asked)?;
-    if manner.tells(status) {
-        tell(rt, manner, cause(rt.alloc(), &texts));
     }
-    Ok(status)
 }
 
 /// Writes a picture of the plan in these texts.
 fn show_of<R: Print + AllocGlobal>(
     rt: &R,
-    texts: &Texts<'_>,
-    how: Look<'_>,
+    texts: Texts<'_>,
+    shape: Shape,
+    calendar: Calendar<'_>,
 ) -> Result<u8, StreamFault>
     ensures { IfOk result IsStatusOfTool }
 {
     let (mut net, mut order) = (texts.net.bytes, texts.order.bytes);
     let mut plan = texts.plan.bytes;
+    let look = Look {
+        width: shape.width,
+        form: shape.form,
+        has_links: shape.has_links,
+        calendar,
+        names: texts.names.bytes,
+    };
     show_over(
         rt.alloc(),
         &mut net,
         &mut order,
         &mut plan,
-        how,
+        look,
         &mut io::writer(rt),
     )
 }
 
 /// What is wrong with the texts.
-fn cause(alloc: Global, texts: &Texts<'_>) -> Result<String, AllocError> {
+fn cause(alloc: Global, texts: Texts<'_>) -> Result<String, AllocError> {
     shown_cause(alloc, &texts.net, &texts.order, &texts.plan, &texts.names)
 }

@@ -3,4 +3,4 @@ use Rattle.racp.proofs.Planned.{shown}
 use Rattle.racp.proofs.charting.show_of.Goals as goal
 
 pub returns : goal.returns
-returns g c = shown c.args.how _ _ _ None None c.show_over.result c.show_over.ensures
+returns g c = shown _ _ _ _ None None c.show_over.result c.show_over.ensures
