@@ -14,7 +14,6 @@ use Rattle.racp_lexfix.specs.declared.answer.Answer.TheVariants.{Plan as ThePlan
 use Rattle.racp_curve.specs.Curves.{order_by, ArePlanned, first_deadline, AreOthersThanFirst, AreSteps, IsCurve, IsCurveAnswer, IsCurveStop}
 use Rattle.racp_clauses.specs.Solutions.{Problem}
 use Rattle.racp_clauses.specs.Roots.{IsOpen}
-use Rattle.racp_by_clauses.specs.declared.task.Task.{Task}
 use Rattle.racp_curve.specs.declared.earlier.Earlier.{Earlier}
 use Rattle.racp_curve.specs.declared.earlier.Earlier.TheVariants.{Enough, NotEnough, Unknown}
 use Rattle.racp_curve.specs.declared.ground.Ground.{Ground}
@@ -94,11 +93,6 @@ abbrev pub IsFollowed : Project → Terms → (deadline : ℕ) → List Step →
 IsFollowed p terms deadline steps (Some plan) = IsNext p terms plan steps × (plan.deadline < deadline)
 IsFollowed p terms deadline steps None = IsCurve p terms steps
 
--- terms with the same prices and owned units: those of a problem of which clauses may be taken over
-pub record IsVariantOf (whole other : Terms) : Type 0 where
-  pub prices : other.prices ≡ whole.prices
-  pub owned : other.owned ≡ whole.owned
-
 -- what a curve is of is a problem's network and terms
 pub record IsGroundOf (q : Problem) (ground : Ground) : Type 0 where
   pub network : ground.net.now ≡ q.network
@@ -114,16 +108,6 @@ order_within capacities terms = record {
   release = terms.release;
   due = terms.due;
 }
-
--- the problem that a task is of
-abbrev pub problem_of : Task → Problem
-problem_of task = record { network = task.net.now; terms = task.order.now; root = task.root.now }
-
--- a task is of a variant of a problem, and its root bounds leave nothing out
-pub record IsVariantTask (q : Problem) (part : Task) : Type 0 where
-  pub network : part.net.now ≡ q.network
-  pub variant : IsVariantOf q.terms part.order.now
-  pub is_open : IsOpen (problem_of part)
 
 -- where searches begin: root bounds that leave nothing out
 abbrev pub IsStart : Project → Terms → Start → Type 0

@@ -3,7 +3,8 @@
 ghost use Rattle.std.specs.Prelude.{IfOk};
 ghost use Rattle.racp_model.specs.Terms.{AreTermsOf};
 ghost use Rattle.racp_by_clauses.specs.Optima.{IsFeasible};
-ghost use Rattle.racp_curve.specs.Following.{IsGroundOf, IsVariantOf, MayBeToldOfWork};
+ghost use Rattle.racp_curve.specs.Following.{IsGroundOf, MayBeToldOfWork};
+ghost use Rattle.racp_lexfix.specs.Variants.{IsVariantOf};
 
 use crate::awaiting::{Awaited, Muted};
 use crate::facts::Facts;
@@ -53,7 +54,9 @@ impl<N: OfProblem> Facts<'_, N> {
             end: &awaited,
         };
         let muted = Muted { observer: &until };
-        self.optimizer
-            .feasible::<Brand, Muted<'_, Until<'_, A, Awaited<'_, N>>>>(self.whole, part, &muted)
+        let learned = &mut self.learned;
+        learned
+            .optimizer
+            .feasible::<Brand, Muted<'_, Until<'_, A, Awaited<'_, N>>>>(learned.whole, part, &muted)
     }
 }

@@ -1,61 +1,48 @@
 //! What is learned of one deadline and serves the others.
 
 ghost use Rattle.std.specs.Prelude.{◌≡◌, ◌≤◌, IfOk, IfSome};
-ghost use Rattle.std.proofs.Props.{props};
-ghost use Rattle.racp_model.specs.Path.{IsCriticalLength};
-ghost use Rattle.racp_model.specs.Plan.{IsOverCeilings, NoneIsEnough};
-ghost use Rattle.racp_model.specs.Terms.{AreTermsOf, release_of, due_of};
-ghost use Rattle.racp_model.specs.Window.{IsRootWindow};
-ghost use Rattle.racp_plan.specs.Plans.{IsPlanOf};
-ghost use Rattle.racp_clauses.specs.Roots.{IsOpen};
+ghost use Rattle.racp_model.specs.Terms.{AreTermsOf};
 ghost use Rattle.racp_lexfix.specs.Answers.{IsAnswer};
 ghost use Rattle.racp_found.specs.Told.{MayBeTold};
 ghost use Rattle.racp_by_clauses.specs.Optima.{IsTaskOf};
 ghost use Rattle.racp_curve.specs.Curves.{order_by};
-ghost use Rattle.racp_curve.specs.Following.{ArePlannedFrom, IsEarlier, IsGroundOf, IsVariantOf, IsVariantTask};
+ghost use Rattle.racp_curve.specs.Following.{ArePlannedFrom, IsEarlier, IsGroundOf};
+ghost use Rattle.racp_lexfix.specs.Variants.{IsVariantOf};
 
 use crate::ahead::Ahead;
 use crate::awaiting::Awaited;
 use crate::earlier::Earlier;
 use crate::ground::Ground;
-use racp_by_clauses::{Limits, Optimizer, Task};
+use racp_by_clauses::Limits;
 use racp_candidates::AnySeries;
 use racp_clauses::OfProblem;
-use racp_found::{Found, News, Observer, Until};
-use racp_lexfix::{Answer, root_bounds};
-use racp_model::{Capacities, Window};
-use racp_plan::Plan;
-use racp_prices::{Order, cost_of};
+use racp_found::Until;
+use racp_lexfix::{Answer, Learned};
+use racp_model::Capacities;
+use racp_prices::Order;
 use racp_questions::Asker;
-use racp_root::{Opening, opening_of};
+use racp_root::Task;
 use std::alloc::AllocError;
-use std::marker::Brand;
 
 /// The order of a curve, and what a worker has learned of it. That holds for each earlier deadline, and for lower ceilings.
 /// With other workers, what they have found ahead.
 #[derive(Drop)]
 pub(crate) struct Facts<'a, N: OfProblem> {
-    pub(crate) whole: Task<'a>,
-    pub(crate) optimizer: Optimizer<N>,
+    pub(crate) learned: Learned<'a, N>,
     ahead: Option<&'a Ahead<'a, N>>,
-    ghost of: { IsTaskOf N.problem whole } by { Prim.hlevel props },
 }
 
 impl<'a, N: OfProblem> Facts<'a, N> {
     /// Nothing is learned yet.
     pub(crate) fn new(
-        whole: Task<'a>,
+        whole: racp_by_clauses::Task<'a>,
         limits: Limits,
         ahead: Option<&'a Ahead<'a, N>>,
     ) -> Result<Self, AllocError>
         requires { IsTaskOf N.problem whole }
     {
-        let optimizer: Optimizer<N> = Optimizer::new(whole, limits)?;
-        Ok(Facts {
-            whole,
-            optimizer,
-            ahead,
-        })
+        let learned: Learned<'_, N> = Learned::new(whole, limits)?;
+        Ok(Facts { learned, ahead })
     }
 
     /// Tells the other workers that the curve is followed from a deadline on.
@@ -130,47 +117,17 @@ impl<'a, N: OfProblem> Facts<'a, N> {
         requires heard { MayBeTold ground.now.net.now other.now A.may_hear }
         ensures { IfOk result (λ told. IfSome told (IsAnswer ground.now.net.now other.now)) }
     {
-        let Opening::Root { critical, window } = opening_of(ground.alloc, ground.net, other)? else {
-            return Ok(None);
-        };
-        self.answer_within(ground, other, critical, &window, asker)
-    }
-
-    /// The same within the root window, with the critical length.
-    fn answer_within<A: Asker<AnySeries>>(
-        &mut self,
-        ground: &Ground,
-        other: &Order,
-        critical: u64,
-        window: &Window,
-        asker: &A,
-    ) -> Result<Option<Answer>, AllocError>
-        requires of { IsGroundOf N.problem ground.now }
-        requires terms { AreTermsOf ground.now.net.now other.now }
-        requires variant { IsVariantOf ground.now.order.now other.now }
-        requires critical { IsCriticalLength ground.now.net.now (release_of other.now) critical }
-        requires root { IsRootWindow ground.now.net.now (release_of other.now) (due_of other.now) window.now }
-        requires heard { MayBeTold ground.now.net.now other.now A.may_hear }
-        ensures { IfOk result (λ told. IfSome told (IsAnswer ground.now.net.now other.now)) }
-    {
-        let Ground { alloc, net, .. } = *ground;
-        let Some(root) = root_bounds(alloc, net, other, window)? else {
-            return Ok(Some(Answer::Ceiling));
-        };
-        asker.hear(News::Floors(&root.floors));
-        let part = Task {
-            alloc,
-            net,
+        let task = Task {
+            alloc: ground.alloc,
+            net: ground.net,
             order: other,
-            window,
-            root: &root.bounds,
         };
         let awaited = self.awaited(other.deadline);
         let until = Until {
             observer: asker,
             end: &awaited,
         };
-        self.answer_of(part, critical, &until)
+        self.learned.answer(&task, &until)
     }
 
     /// Whether other workers plan ahead.
@@ -183,39 +140,6 @@ impl<'a, N: OfProblem> Facts<'a, N> {
         Awaited {
             ahead: self.ahead,
             deadline,
-        }
-    }
-
-    /// The plan of a part of the order, or that no capacities are enough. `None` where neither is found.
-    pub(crate) fn answer_of<O: Observer>(
-        &mut self,
-        part: Task<'_>,
-        critical: u64,
-        observer: &O,
-    ) -> Result<Option<Answer>, AllocError>
-        requires part { IsVariantTask N.problem part }
-        requires critical { IsCriticalLength part.net.now (release_of part.order.now) critical }
-        requires over { NoneIsEnough part.net.now part.order.now → IsOverCeilings part.net.now part.order.now }
-        requires may { MayBeTold part.net.now part.order.now O.may_hear }
-        ensures { IfOk result (λ told. IfSome told (IsAnswer part.entry.net.now part.entry.order.now)) }
-    {
-        match self
-            .optimizer
-            .optimum::<Brand, O>(self.whole, part, observer)?
-        {
-            Found::Plan(capacities, starts) => {
-                let order = part.order;
-                let cost = cost_of(part.net, order, capacities.as_slice());
-                Ok(Some(Answer::Plan(Plan {
-                    deadline: order.deadline,
-                    critical,
-                    cost,
-                    capacities,
-                    starts,
-                })))
-            }
-            Found::NoneEnough => Ok(Some(Answer::Ceiling)),
-            Found::Open => Ok(None),
         }
     }
 }

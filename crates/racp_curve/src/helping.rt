@@ -8,12 +8,11 @@ use crate::ahead::Ahead;
 use crate::awaiting::Outrun;
 use crate::deadline::{plan_in, with_deadline};
 use crate::facts::Facts;
-use racp_by_clauses::{Limits, Task};
+use racp_by_clauses::Limits;
 use racp_clauses::OfProblem;
-use racp_lexfix::root_bounds;
 use racp_plan::Plan;
 use racp_prices::Order;
-use racp_root::{Opening, opening_of};
+use racp_root::Task;
 use std::alloc::AllocError;
 use std::sync::Wait;
 use std::thread::{JoinHandle, Scope, Threads};
@@ -104,27 +103,16 @@ fn plan_of<N: OfProblem>(
     requires by { other.now ≡ order_by other.now.deadline ahead.now.base.order.now }
     ensures { IfOk result (λ found. IfSome found (λ plan. IsPlanOf N.problem.network (order_by plan.deadline N.problem.terms) plan)) }
 {
-    let (alloc, net) = (ahead.base.alloc, ahead.base.net);
-    let (critical, window) = match opening_of(alloc, net, other)? {
-        Opening::Root { critical, window } => (critical, window),
-        Opening::TooLong { critical: _ } => return Ok(None),
-        Opening::TooLate { job: _ } => return Ok(None),
-    };
-    let Some(root) = root_bounds(alloc, net, other, &window)? else {
-        return Ok(None);
-    };
-    let part = Task {
-        alloc,
-        net,
+    let task = Task {
+        alloc: ahead.base.alloc,
+        net: ahead.base.net,
         order: other,
-        window: &window,
-        root: &root.bounds,
     };
     let outrun = Outrun {
         ahead,
         deadline: other.deadline,
     };
-    match facts.answer_of(part, critical, &outrun)? {
+    match facts.learned.answer(&task, &outrun)? {
         Some(answer) => Ok(plan_in(answer)),
         None => Ok(None),
     }

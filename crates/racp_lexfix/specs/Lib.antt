@@ -3,3 +3,4 @@ pub mod Texts
 pub mod Printing
 pub mod Stages
 pub mod Laws
+pub mod Variants

@@ -27,7 +27,8 @@
 //! at most (racp_cutset), and before that the clauses; the others take 1,024. Where turns are limited, workers leave no
 //! room for a search of planning's own, so that all work is done in turns.
 //!
-//! `plan_by_crew` answers the plan of a network and an order that are at hand, as a value, made by such workers.
+//! `plan_by_crew` answers the plan of a network and an order that are at hand, as a value, made by such workers. `Learned`
+//! keeps what a search by clauses has learned of an order for its variants, as with an earlier deadline or lower ceilings.
 //!
 //! Proved: the answer of `plan` is right (`IsAnswer`): the plan, without any bound on the numbers of units, or the
 //! first reason for which there is none. `plan_alone` prints that answer for what the texts are read as, or tells the
@@ -47,6 +48,7 @@
 mod answer;
 mod by_workers;
 pub mod laws;
+mod learned;
 mod lines;
 mod one_thread;
 mod planning;
@@ -58,6 +60,7 @@ pub mod status;
 
 pub use answer::{Answer, plan_of};
 pub use by_workers::{Crew, plan_by_crew, plan_crowd_by};
+pub use learned::Learned;
 pub use lines::answer_lines;
 pub use one_thread::plan_alone_within;
 pub use planning::{plan, plan_after};

@@ -117,7 +117,7 @@ fn decided<A: Asker<AnySeries>>(
 }
 
 /// The answer for what is decided, with the critical length.
-fn answer_of(task: &Task, critical: u64, decided: Found) -> Answer
+pub(crate) fn answer_of(task: &Task, critical: u64, decided: Found) -> Answer
     requires critical { IsCriticalLength task.now.net.now (release_of task.now.order.now) critical }
     requires over { NoneIsEnough task.now.net.now task.now.order.now → IsOverCeilings task.now.net.now task.now.order.now }
     requires decided { IsDecided task.now.net.now task.now.order.now decided }

@@ -1,5 +1,5 @@
 use Rattle.std.specs.Prelude.{[]}
-use Rattle.racp_curve.specs.Following.{problem_of}
+use Rattle.racp_lexfix.specs.Variants.{problem_of}
 use Rattle.racp_curve.proofs.crowd.followed.Given as goal
 
 abbrev pub ghosts-curve_ahead-N-OfProblem : goal.ghosts-curve_ahead-N-OfProblem

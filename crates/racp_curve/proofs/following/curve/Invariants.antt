@@ -1,5 +1,5 @@
 use Rattle.std.specs.Prelude.{[]}
-use Rattle.racp_curve.specs.Following.{problem_of}
+use Rattle.racp_lexfix.specs.Variants.{problem_of}
 use Rattle.racp_curve.proofs.following.curve.Given as goal
 
 abbrev pub ghosts-curve_learned : goal.ghosts-curve_learned
