@@ -1,13 +1,12 @@
 -- What is asked about an order is what an order may say.
-use Rattle.std.proofs.Common.{◌≡◌, ◌∙◌, ℕ, zero, suc, ◌+◌, ◌<◌, ◌≤◌, min, true, false, Bool, List, [], ◌∷◌, ◌++◌, length, All, Option, Some, None, IfSome, arith, sym, refl, nat_lt, if◌then◌else◌}
+use Rattle.std.proofs.Common.{◌≡◌, ℕ, zero, suc, ◌+◌, ◌<◌, ◌≤◌, min, true, false, Bool, List, [], ◌∷◌, length, All, Option, Some, None, IfSome, arith, sym, refl, nat_lt, if◌then◌else◌}
 use Rattle.std.proofs.lemmas.List.Elements.{All-append, All-cons, All-nil}
 use Rattle.std.proofs.lemmas.Bool.{ltb-true}
 use Rattle.racp_model.specs.Limits.{latest_time, most_units}
 use Rattle.racp_model.specs.Project.{Project}
 use Rattle.racp_model.specs.Terms.{Terms, AreTermsOf}
-use Rattle.racp_whatif.specs.declared.change.Change.{Change}
 use Rattle.racp_whatif.specs.declared.change.Change.TheVariants.{Ceiling, Owned, Deadline}
-use Rattle.racp_whatif.specs.Changes.{IsChangeFor, changes_of, each_fewer, each_owned, earlier, later, one_fewer, one_owned}
+use Rattle.racp_whatif.specs.Changes.{IsChangeFor, changes_of, each_fewer, each_owned, earlier, later, one_owned}
 
 placed : (ceilings : Option (List ℕ)) (count place : ℕ) → IfSome ceilings (λ list. length list ≡ count) → place < count → IfSome ceilings (λ list. place < length list)
 placed None count place h l = tt

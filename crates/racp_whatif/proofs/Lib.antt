@@ -9,3 +9,4 @@ mod Moving
 mod Fitting
 mod Stopping
 mod Gathering
+mod Naming

@@ -1,5 +1,5 @@
 -- Terms with another deadline are terms.
-use Rattle.std.proofs.Common.{◌≡◌, ◌∙◌, ℕ, ◌==◌, ◌≤◌, true, false, Bool, List, length, map, All, if◌then◌else◌}
+use Rattle.std.proofs.Common.{◌∙◌, ℕ, ◌==◌, ◌≤◌, true, false, Bool, if◌then◌else◌}
 use Rattle.std.proofs.lemmas.List.{length-map}
 use Rattle.std.proofs.lemmas.List.Elements.{All-map, All-weaker}
 use Rattle.racp_model.specs.Limits.{latest_time}

@@ -4,7 +4,7 @@ use Rattle.racp_model.specs.Project.{number}
 use Rattle.racp_whatif.specs.declared.change.Change.{Change}
 use Rattle.racp_whatif.specs.declared.change.Change.TheVariants.{Ceiling, Owned, Deadline}
 use Rattle.racp_whatif.specs.declared.outcome.Outcome.{Outcome}
-use Rattle.racp_whatif.specs.declared.outcome.Outcome.TheVariants.{Plan as ThePlan, TooLong, TooLate, NoneEnough, Open}
+use Rattle.racp_whatif.specs.declared.outcome.Outcome.TheVariants.{Plan as ThePlan, NoneEnough, Open}
 use Rattle.racp_whatif.specs.declared.outcome.Finding.{Finding}
 use Rattle.racp_whatif.specs.declared.need.Need.{Need}
 use Rattle.racp_whatif.specs.declared.json.ToldFinding.{ToldFinding}

@@ -10,19 +10,23 @@ ghost use Rattle.racp_by_questions.specs.Crowds.{MayStop};
 ghost use Rattle.racp_lexfix.specs.Answers.{IsAnswer};
 ghost use Rattle.racp_whatif.specs.Faults.{IsFault};
 
+use crate::beside::found_beside;
 use crate::change::Change;
 use crate::changes::changes_of;
 use crate::changing::changed;
+use crate::collected::{Found, taken};
 use crate::need::need_above;
 use crate::outcome::{Finding, Outcome};
+use racp_by_questions::OfTurns;
 use racp_desk::Gate;
-use racp_found::Observer;
+use racp_found::{Observer, OfOrder};
 use racp_lexfix::{Answer, Crew, PlanStop, plan_by_crew};
 use racp_model::limits::MOST_RESOURCES;
 use racp_model::{Network, Stop};
 use racp_prices::{Order, cost_of};
 use racp_root::Task;
 use std::alloc::{AllocError, Global};
+use std::marker::Brand;
 use std::sync::Wait;
 use std::thread::Threads;
 
@@ -46,11 +50,19 @@ pub fn findings<G: Gate + Sync, P: Stop + Sync, O: Observer, R: Threads + Wait +
 {
     prove!(task.net.resource_count() <= MOST_RESOURCES);
     let changes = changes_of(task.alloc, task.order, capacities)?;
-    each_finding(rt, task, &changes, crew)
+    findings_of::<Brand, Brand, G, P, O, R>(rt, task, &changes, crew)
 }
 
-/// What becomes of an order with each of these changes, in their order.
-fn each_finding<G: Gate + Sync, P: Stop + Sync, O: Observer, R: Threads + Wait + Sync>(
+/// What becomes of an order with each of these changes, in their order. Where searches learn, workers plan changed
+/// orders side by side.
+fn findings_of<
+    N: OfOrder + Send + Sync,
+    M: OfTurns + Send + Sync,
+    G: Gate + Sync,
+    P: Stop + Sync,
+    O: Observer,
+    R: Threads + Wait + Sync,
+>(
     rt: &R,
     task: &Task<'_>,
     changes: &[Change],
@@ -58,17 +70,82 @@ fn each_finding<G: Gate + Sync, P: Stop + Sync, O: Observer, R: Threads + Wait +
 ) -> Result<Vec<Finding>, PlanStop>
     requires asked { All (IsChangeFor task.now.order.now) changes.now }
     requires heard { HearsAll O.may_hear }
+    requires named { task.now.net.now ≡ N.network }
+    requires named_terms { task.now.order.now ≡ N.terms }
+    requires named_turns { crew.now.turns ≡ M.turns }
+    requires named_quiet { P.is_quiet crew.now.stop.now ≡ M.quiet }
     ensures changes { IfOk result (λ findings. map change_of findings.items ≡ changes.now) }
-    ensures right { IfOk result (λ findings. All (IsFinding (MayStop task.now.net.now (P.is_quiet crew.now.stop.now) crew.now.turns)
-        task.now.net.now task.now.order.now) findings.items) }
+    ensures right { IfOk result (λ findings. All (IsFinding (MayStop N.network M.quiet M.turns) N.network N.terms) findings.items) }
     ensures fault { IfErr result IsFault }
 {
+    let found = found_beside::<N, M, G, P, O, R>(rt, task, changes, crew)?;
+    each_finding(rt, task, changes, found, crew)
+}
+
+/// What becomes of an order with each of these changes, in their order: what is found already, and the rest by all workers,
+/// change by change.
+fn each_finding<
+    N: OfOrder,
+    M: OfTurns,
+    G: Gate + Sync,
+    P: Stop + Sync,
+    O: Observer,
+    R: Threads + Wait + Sync,
+>(
+    rt: &R,
+    task: &Task<'_>,
+    changes: &[Change],
+    found: Vec<Found<N, M>>,
+    crew: &Crew<'_, G, P, O>,
+) -> Result<Vec<Finding>, PlanStop>
+    requires asked { All (IsChangeFor task.now.order.now) changes.now }
+    requires heard { HearsAll O.may_hear }
+    requires named { task.now.net.now ≡ N.network }
+    requires named_terms { task.now.order.now ≡ N.terms }
+    requires named_turns { crew.now.turns ≡ M.turns }
+    requires named_quiet { P.is_quiet crew.now.stop.now ≡ M.quiet }
+    ensures changes { IfOk result (λ findings. map change_of findings.items ≡ changes.now) }
+    ensures right { IfOk result (λ findings. All (IsFinding (MayStop N.network M.quiet M.turns) N.network N.terms) findings.items) }
+    ensures fault { IfErr result IsFault }
+{
+    let mut found = found;
     let mut findings = Vec::new(task.alloc);
     for change in changes {
-        let found = finding(rt, task, *change, crew)?;
-        keep(&mut findings, found)?;
+        let next = next_finding(rt, task, *change, &mut found, crew)?;
+        keep(&mut findings, next)?;
     }
     Ok(findings)
+}
+
+/// What becomes of an order with this change: what is found already, or what all workers find.
+fn next_finding<
+    N: OfOrder,
+    M: OfTurns,
+    G: Gate + Sync,
+    P: Stop + Sync,
+    O: Observer,
+    R: Threads + Wait + Sync,
+>(
+    rt: &R,
+    task: &Task<'_>,
+    change: Change,
+    found: &mut Vec<Found<N, M>>,
+    crew: &Crew<'_, G, P, O>,
+) -> Result<Finding, PlanStop>
+    requires change { IsChangeFor task.now.order.now change }
+    requires heard { HearsAll O.may_hear }
+    requires named { task.now.net.now ≡ N.network }
+    requires named_terms { task.now.order.now ≡ N.terms }
+    requires named_turns { crew.now.turns ≡ M.turns }
+    requires named_quiet { P.is_quiet crew.now.stop.now ≡ M.quiet }
+    ensures change { IfOk result (λ finding. finding.change ≡ change) }
+    ensures right { IfOk result (IsFinding (MayStop N.network M.quiet M.turns) N.network N.terms) }
+    ensures fault { IfErr result IsFault }
+{
+    match taken(found, change) {
+        Some(next) => Ok(next),
+        None => finding::<N, M, G, P, O, R>(rt, task, change, crew),
+    }
 }
 
 /// Adds a finding.
@@ -79,18 +156,24 @@ fn keep(findings: &mut Vec<Finding>, found: Finding) -> Result<(), AllocError>
     Ok(())
 }
 
-/// What becomes of an order with this change.
-fn finding<G: Gate + Sync, P: Stop + Sync, O: Observer, R: Threads + Wait + Sync>(
-    rt: &R,
-    task: &Task<'_>,
-    change: Change,
-    crew: &Crew<'_, G, P, O>,
-) -> Result<Finding, PlanStop>
+/// What becomes of an order with this change. The order is the one that `N` names; the turns, and whether the stop is quiet,
+/// are as `M` says.
+pub(crate) fn finding<
+    N: OfOrder,
+    M: OfTurns,
+    G: Gate + Sync,
+    P: Stop + Sync,
+    O: Observer,
+    R: Threads + Wait + Sync,
+>(rt: &R, task: &Task<'_>, change: Change, crew: &Crew<'_, G, P, O>) -> Result<Finding, PlanStop>
     requires change { IsChangeFor task.now.order.now change }
     requires heard { HearsAll O.may_hear }
+    requires named { task.now.net.now ≡ N.network }
+    requires named_terms { task.now.order.now ≡ N.terms }
+    requires named_turns { crew.now.turns ≡ M.turns }
+    requires named_quiet { P.is_quiet crew.now.stop.now ≡ M.quiet }
     ensures change { IfOk result (λ finding. finding.change ≡ change) }
-    ensures right { IfOk result (IsFinding (MayStop task.now.net.now (P.is_quiet crew.now.stop.now) crew.now.turns)
-        task.now.net.now task.now.order.now) }
+    ensures right { IfOk result (IsFinding (MayStop N.network M.quiet M.turns) N.network N.terms) }
     ensures fault { IfErr result IsFault }
 {
     let order = changed(task.alloc, task.order, change)?;
@@ -131,7 +214,7 @@ pub fn outcome_by_crew<G: Gate + Sync, P: Stop + Sync, O: Observer, R: Threads +
 }
 
 /// What an answer says of an order, with a need above a ceiling if the ceilings leave no plan.
-fn outcome_of(task: &Task<'_>, answer: Answer) -> Result<Outcome, PlanStop>
+pub(crate) fn outcome_of(task: &Task<'_>, answer: Answer) -> Result<Outcome, PlanStop>
     requires answer { IsAnswer task.now.net.now task.now.order.now answer }
     ensures outcome { (quiet : Bool) (turns : ℕ) → IfOk result (IsOutcome (MayStop task.now.net.now quiet turns)
         task.now.net.now task.now.order.now) }

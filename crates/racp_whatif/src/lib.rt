@@ -29,8 +29,10 @@
 //! `findings_json` tells the same as an object of JSON, and `base_line` the first of these lines alone.
 //!
 //! `findings(rt, &task, capacities, &crew)` makes the order of each change that is asked about an order and the
-//! capacities of its plan, and its plan, as racp_lexfix has the workers of a crew make it. Each plan has records and
-//! turns of its own; the stop is one for all.
+//! capacities of its plan, and its plan. The workers of a crew take changes one after another. Each has a search of its
+//! own, which keeps what it learns for other ceilings and deadlines, and its share of the memory. Where turns are limited
+//! or there are few vectors, and for what no worker has found, all of them make one plan after another, as racp_lexfix has
+//! them do it: with records and turns of its own. The stop is one for all.
 //!
 //! With examples/a.sm and a4.toml the plan has 3 units of the one resource, for 30. With one unit fewer there is no
 //! plan, one owned unit saves 10, a time unit more saves 10, and one less costs 10.
@@ -68,9 +70,11 @@
 //! is not refused without need.
 #![tactic(auto)]
 
+mod beside;
 mod change;
 mod changes;
 mod changing;
+mod collected;
 mod finding;
 mod joint;
 mod json;
@@ -80,7 +84,9 @@ mod need;
 mod needed;
 mod outcome;
 mod overload;
+mod side_by_side;
 mod single;
+mod variants;
 mod work;
 
 pub use change::Change;

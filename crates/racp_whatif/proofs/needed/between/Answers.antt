@@ -1,4 +1,4 @@
-use Rattle.std.proofs.Common.{rules, append_assoc}
+use Rattle.std.proofs.Common.{rules}
 use Rattle.racp_whatif.proofs.Listing.{between_pieces}
 use Rattle.racp_whatif.proofs.needed.between.Goals as goal
 
