@@ -1,12 +1,14 @@
 //! Tests of facts about the engine by clauses: searches that learn beside all schedules, with little memory and with few conflicts,
-//! optima beside plans by definition, certificates by clauses of what a search has recorded, and a stop within the check of such a
-//! text.
+//! optima beside plans by definition, what one of two searches side by side takes from the other, certificates by clauses of what a
+//! search has recorded, and a stop within the check of such a text.
 #![tactic(auto)]
 
 #[cfg(test)]
 mod all_schedules;
 #[cfg(test)]
 mod asking;
+#[cfg(test)]
+mod beside;
 #[cfg(test)]
 mod certificates;
 #[cfg(test)]
@@ -17,6 +19,8 @@ mod listener;
 mod optima;
 #[cfg(test)]
 mod orders;
+#[cfg(test)]
+mod pausing;
 #[cfg(test)]
 mod searches;
 #[cfg(test)]
