@@ -8,8 +8,9 @@ use Rattle.racp_cli.specs.Proofs.{IsProofAnswerUntil, IsProofRunUntil}
 use Rattle.racp_cli.specs.ClauseProofs.{IsClauseProofAnswer, IsClauseProofRun}
 use Rattle.racp_cli.specs.Verifies.{IsVerifyAnswerUntil}
 use Rattle.racp_cli.specs.VerifyBounds.{IsBoundAnswer, IsBoundRun}
-use Rattle.racp_cli.specs.Streams.{IsAnswerWritten, Reader, ToOne, ToTwo, ToThree, IsPlanRun, IsVerifyRunUntil}
-use Rattle.racp_cli.specs.declared.fault.StreamFault.{StreamFault}
+use Rattle.racp_streams.specs.Streams.{IsAnswerWritten, Reader, ToOne, ToTwo, ToThree}
+use Rattle.racp_cli.specs.Runs.{IsPlanRun, IsVerifyRunUntil}
+use Rattle.racp_streams.specs.declared.fault.StreamFault.{StreamFault}
 use Rattle.racp_cli.specs.CurveAnswers.{IsCurveAnswer, IsCurveCrowdAnswer, IsCurveCrowdRun, IsCurveRun}
 use Rattle.racp_cli.specs.OrderAnswers.{IsOrderAnswer, IsOrderRun}
 use Rattle.racp_cli.specs.ReportAnswers.{IsReportAnswer, IsReportRun}

@@ -1,8 +1,5 @@
 -- The status that tells why no answer is written.
 use Rattle.std.specs.Prelude.{◌≡◌, ◌⊎◌, ℕ, Bool, List, Option, Some, None, Result, Ok, Err, if◌then◌else◌}
-use Rattle.clap.specs.Words.{kind_of}
-use Rattle.clap.specs.declared.error.kind.ErrorKind.{ErrorKind}
-use Rattle.clap.specs.declared.error.kind.ErrorKind.TheVariants.{DisplayHelp, DisplayVersion, OutOfMemory}
 use Rattle.racp_cli.specs.Answers.{IsCpmAnswer}
 use Rattle.racp_cli.specs.Crowds.{IsCrowdAnswer}
 use Rattle.racp_cli.specs.Checks.{IsCheckAnswer}
@@ -18,32 +15,12 @@ use Rattle.racp_cli.specs.Proofs.{IsProofAnswerUntil}
 use Rattle.racp_cli.specs.ClauseProofs.{IsClauseProofAnswer}
 use Rattle.racp_cli.specs.Verifies.{IsVerifyAnswerUntil}
 use Rattle.racp_cli.specs.VerifyBounds.{IsBoundAnswer}
-use Rattle.racp_cli.specs.Streams.{fault_status}
-use Rattle.racp_cli.specs.declared.fault.StreamFault.TheVariants as stream
 use Rattle.racp_batch.specs.declared.batch.BatchFault.{BatchFault}
 use Rattle.racp_batch.specs.declared.batch.Ending.{Ending}
 use Rattle.racp.specs.declared.keeping.Lack.{Lack}
 use Rattle.racp.specs.declared.keeping.Lack.TheVariants.{Memory, Thread, Write}
-use Rattle.racp.specs.declared.failure.Failure.{Failure}
-use Rattle.racp.specs.declared.failure.Failure.TheVariants.{Words, NotText, Option as OptionIs, Value, Stream, Told, Refused}
-
--- the status if the library of the command line stops: help and the version are written, or writing them fails; memory
--- runs out; or the words are refused
-abbrev pub IsStatusOfKind : ErrorKind → ℕ → Type 0
-IsStatusOfKind DisplayHelp status = (status ≡ 0) ⊎ (status ≡ fault_status stream.Write)
-IsStatusOfKind DisplayVersion status = (status ≡ 0) ⊎ (status ≡ fault_status stream.Write)
-IsStatusOfKind OutOfMemory status = status ≡ fault_status stream.Memory
-IsStatusOfKind _ status = status ≡ 2
-
--- the status that tells of a failure
-abbrev pub IsStatusOf : Failure → ℕ → Type 0
-IsStatusOf (Words error) status = IsStatusOfKind (kind_of error) status
-IsStatusOf NotText status = status ≡ 2
-IsStatusOf (OptionIs fault) status = status ≡ 2
-IsStatusOf (Value words) status = status ≡ 2
-IsStatusOf (Stream fault) status = status ≡ fault_status fault
-IsStatusOf (Told fault words) status = status ≡ fault_status fault
-IsStatusOf (Refused words) status = status ≡ 5
+use Rattle.racp_host.specs.Statuses.{IsStatusOf}
+use Rattle.racp_host.specs.declared.failure.Failure.{Failure}
 
 -- the status of a table that is written: what a row lacked, or the file of its plan, tells it, and else 0 says that each case has
 -- a row, and 4 that the user wanted a stop before

@@ -3,17 +3,17 @@
 ghost use Rattle.std.specs.Prelude.{◌≤◌, IfOk};
 ghost use Rattle.racp.specs.Statuses.{IsStatusBy, IsStatusOfTable, IsStatusOfTool};
 
-use crate::asks::Asks;
-use crate::failure::{Failure, OptionFault};
 use crate::gathering::gathered;
-use crate::inputs::told;
 use crate::keeping::{Keeping, Lack, name_of};
-use crate::machine::Crewed;
-use crate::making::worker_count;
-use crate::seconds::time_limit;
-use crate::telling::Manner;
 use racp_batch::{Batch, BatchFault, Case, Ending, File, Multiple, Planning, cases, table_over};
 use racp_cli::{DONE, OUT_OF_MEMORY, STOPPED, STREAM_FAILED, StreamFault};
+use racp_host::asks::Asks;
+use racp_host::failure::{Failure, OptionFault};
+use racp_host::inputs::told;
+use racp_host::machine::Crewed;
+use racp_host::making::worker_count;
+use racp_host::seconds::time_limit;
+use racp_host::telling::Manner;
 use racp_model::limits::MOST_PRICE;
 use racp_prices::Factor;
 use racp_words::{BatchWords, Memory};

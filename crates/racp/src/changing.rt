@@ -3,17 +3,17 @@
 ghost use Rattle.std.specs.Prelude.{IfOk};
 ghost use Rattle.racp.specs.Statuses.{IsStatusOfTool};
 
-use crate::asks::Asks;
-use crate::failure::Failure;
-use crate::inputs::Inputs;
-use crate::limit::Limit;
 use crate::listener::{Kept, Listener};
-use crate::machine::Crewed;
-use crate::making::{Making, memory_of, one_worker, worker_count};
-use crate::telling::{Manner, end};
 use racp_cli::{StreamFault, WhatIfTexts, whatif_to};
 use racp_desk::Open;
 use racp_explain::{Input as Text, named_cause, shown_cause};
+use racp_host::asks::Asks;
+use racp_host::failure::Failure;
+use racp_host::inputs::Inputs;
+use racp_host::limit::Limit;
+use racp_host::machine::Crewed;
+use racp_host::making::{Making, memory_of, one_worker, worker_count};
+use racp_host::telling::{Manner, end};
 use racp_json::{Command, FileNames, Told, Work};
 use racp_lexfix::Crew;
 use racp_words::{OrderFiles, WhatIfWords};

@@ -3,14 +3,14 @@
 ghost use Rattle.std.specs.Prelude.{IfOk};
 ghost use Rattle.racp.specs.Statuses.{IsStatusOfTool};
 
-use crate::dates::{calendar_of, workdays_of};
-use crate::failure::Failure;
-use crate::inputs::Inputs;
-use crate::machine::Machine;
-use crate::telling::{Manner, tell};
 use racp_calendar::Calendar;
 use racp_cli::{Look, StreamFault, show_over};
 use racp_explain::{Input as Text, shown_cause};
+use racp_host::dates::{calendar_of, workdays_of};
+use racp_host::failure::Failure;
+use racp_host::inputs::Inputs;
+use racp_host::machine::Machine;
+use racp_host::telling::{Manner, tell};
 use racp_show::Form;
 use racp_words::PlanFiles;
 use std::alloc::{AllocError, Global};

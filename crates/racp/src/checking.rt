@@ -3,12 +3,12 @@
 ghost use Rattle.std.specs.Prelude.{IfOk};
 ghost use Rattle.racp.specs.Statuses.{IsStatusOfAnswer};
 
-use crate::failure::Failure;
-use crate::inputs::Inputs;
-use crate::machine::Machine;
-use crate::telling::{Manner, end};
 use racp_cli::{StreamFault, check_over};
 use racp_explain::{Input as Text, plan_cause};
+use racp_host::failure::Failure;
+use racp_host::inputs::Inputs;
+use racp_host::machine::Machine;
+use racp_host::telling::{Manner, end};
 use racp_json::{Command, FileNames, Told, Work};
 use racp_words::PlanFiles;
 use std::alloc::Global;

@@ -3,15 +3,15 @@
 ghost use Rattle.std.specs.Prelude.{◌≡◌, IfOk};
 ghost use Rattle.racp.specs.Statuses.{IsStatusOfAnswer};
 
-use crate::asks::Asks;
-use crate::best::keep;
-use crate::limit::Limit;
 use crate::listener::{Kept, Listener};
-use crate::machine::Crewed;
-use crate::making::{Making, memory_of, progress_of, worker_count};
 use racp_by_questions::Effort;
 use racp_cli::{DONE, STOPPED, StreamFault, crowd_over_by};
 use racp_desk::Open;
+use racp_host::asks::Asks;
+use racp_host::best::keep;
+use racp_host::limit::Limit;
+use racp_host::machine::Crewed;
+use racp_host::making::{Making, memory_of, progress_of, worker_count};
 use racp_json::Work;
 use racp_words::CrewOptions;
 use std::alloc::Global;

@@ -3,12 +3,12 @@
 ghost use Rattle.std.specs.Prelude.{IfOk};
 ghost use Rattle.racp.specs.Statuses.{IsStatusOfAnswer};
 
-use crate::failure::Failure;
-use crate::inputs::{STANDARD_INPUT, read_file, text, whole};
-use crate::machine::Machine;
-use crate::telling::{Manner, end};
 use racp_cli::{StreamFault, cpm_over};
 use racp_explain::{Input as Text, network_cause};
+use racp_host::failure::Failure;
+use racp_host::inputs::{STANDARD_INPUT, read_file, text, whole};
+use racp_host::machine::Machine;
+use racp_host::telling::{Manner, end};
 use racp_json::{Command, FileNames, Told, Work};
 use racp_words::Source;
 use std::alloc::Global;

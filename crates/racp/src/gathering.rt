@@ -1,12 +1,12 @@
 //! The networks of a table of results, read before the first plan is made.
 
-use crate::failure::Failure;
-use crate::inputs::{read_file, shown, text};
-use crate::shown::Shown;
-use crate::telling::Manner;
 use racp_batch::{File, Input};
 use racp_cli::StreamFault;
 use racp_explain::{Input as Text, network_cause, one_line, parts_of};
+use racp_host::failure::Failure;
+use racp_host::inputs::{read_file, shown, text};
+use racp_host::shown::Shown;
+use racp_host::telling::Manner;
 use racp_sm::{SmFaultKind, read_sm};
 use std::alloc::{AllocError, Global};
 use std::rt::Files;

@@ -3,16 +3,16 @@
 ghost use Rattle.std.specs.Prelude.{IfOk};
 ghost use Rattle.racp.specs.Statuses.{IsStatusOfTool};
 
-use crate::failure::Failure;
-use crate::files::write_files;
 use crate::parts::taken_of;
 use crate::reading::{project_of, reading_of};
 use crate::replacing::{outputs_of, test_earlier};
-use crate::shown::Shown;
-use crate::telling::Manner;
 use crate::texts::{Texts, texts_of};
 use crate::warned::Told;
 use racp_cli::{DONE, StreamFault};
+use racp_host::failure::Failure;
+use racp_host::files::write_files;
+use racp_host::shown::Shown;
+use racp_host::telling::Manner;
 use racp_tables::counted;
 use racp_words::TableWords;
 use std::alloc::{AllocError, Global};

@@ -1,8 +1,8 @@
 //! Who hears of the rows of a table: keeps their plans, and knows whether the user wants a stop.
 
-use crate::asks::Asks;
-use crate::best::keep;
 use racp_batch::{Case, Host, Row};
+use racp_host::asks::Asks;
+use racp_host::best::keep;
 use racp_plan::{Plan, write_plan};
 use racp_whatif::Outcome;
 use std::alloc::{AllocError, Global};

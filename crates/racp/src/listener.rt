@@ -1,11 +1,11 @@
 //! Who hears how far planning has come.
 
-use crate::best::keep;
-use crate::known::Known;
-use crate::memory::mebibytes_used;
-use crate::progress::Progress;
 use racp_cli::known_text;
 use racp_found::{News, Observer};
+use racp_host::best::keep;
+use racp_host::known::Known;
+use racp_host::memory::mebibytes_used;
+use racp_host::progress::Progress;
 use std::cell::Cell;
 use std::rt::Files;
 

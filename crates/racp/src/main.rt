@@ -45,46 +45,28 @@
 //! changes neither standard output nor the status. Trusted: the toolchain, the C library and the machine.
 #![tactic(auto)]
 
-mod alone_limit;
-mod asks;
 mod batching;
-mod begun;
-mod best;
 mod bounding;
 mod changing;
 mod charting;
 mod checking;
 mod costing;
 mod crewing;
-mod dates;
 mod early;
-mod failure;
-mod files;
 mod gathering;
 mod importing;
-mod inputs;
 mod keeping;
-mod known;
-mod limit;
 mod listener;
-mod machine;
-mod making;
-mod memory;
 mod ordering;
 mod parts;
 mod planning;
 mod pricing;
-mod progress;
 mod proving;
 mod reading;
 mod refusing;
 mod replacing;
 mod reporting;
-mod resources;
 mod run;
-mod seconds;
-mod shown;
-mod telling;
 mod terms;
 mod texts;
 mod tools;

@@ -3,14 +3,14 @@
 ghost use Rattle.std.specs.Prelude.{IfOk};
 ghost use Rattle.racp.specs.Statuses.{IsStatusOfTool};
 
-use crate::failure::Failure;
-use crate::inputs::Inputs;
-use crate::machine::Machine;
-use crate::resources::{refused_names, resource_names};
-use crate::telling::{Manner, end, tell};
 use crate::terms::{Times, asked_order};
 use racp_cli::{Asked, DONE, REFUSED, StreamFault, Time, order_over};
 use racp_explain::{Input as Text, Listed, Numbers, asked_cause};
+use racp_host::failure::Failure;
+use racp_host::inputs::Inputs;
+use racp_host::machine::Machine;
+use racp_host::resources::{refused_names, resource_names};
+use racp_host::telling::{Manner, end, tell};
 use racp_json::{Command, FileNames, Told, Work};
 use racp_words::{NamedNet, Terms};
 use std::alloc::Global;

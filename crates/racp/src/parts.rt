@@ -1,11 +1,11 @@
 //! The tables that are read for a network: one, or several that are joined.
 
-use crate::failure::Failure;
-use crate::inputs::{read_file, shown};
 use crate::refusing::table_failure;
 use crate::texts::network_of;
 use crate::warned::{Told, tell_table};
 use racp_cli::StreamFault;
+use racp_host::failure::Failure;
+use racp_host::inputs::{read_file, shown};
 use racp_model::Job;
 use racp_tables::{Part, Reading, Table, joined, read_table};
 use std::alloc::{AllocError, Global};

@@ -3,16 +3,16 @@
 ghost use Rattle.std.specs.Prelude.{IfOk};
 ghost use Rattle.racp.specs.Statuses.{IsStatusOfAnswer};
 
-use crate::best::test_best;
 use crate::crewing::{Made, plan_kept};
-use crate::failure::Failure;
-use crate::inputs::{Inputs, STANDARD_INPUT};
-use crate::machine::Crewed;
-use crate::making::{Making, crew_of};
-use crate::shown::Shown;
-use crate::telling::end;
 use racp_cli::{STOPPED, StreamFault, run_over_within};
 use racp_explain::{Input as Text, order_cause};
+use racp_host::best::test_best;
+use racp_host::failure::Failure;
+use racp_host::inputs::{Inputs, STANDARD_INPUT};
+use racp_host::machine::Crewed;
+use racp_host::making::{Making, crew_of};
+use racp_host::shown::Shown;
+use racp_host::telling::end;
 use racp_json::{Command, FileNames, Told};
 use racp_words::{CrewOptions, Memory, OrderFiles};
 use std::io;

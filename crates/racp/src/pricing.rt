@@ -1,11 +1,11 @@
 //! The order of a table of tasks.
 
-use crate::failure::{Failure, OptionFault};
-use crate::inputs::text;
 use crate::ordering::numbers_of;
 use crate::terms::{Times, asked_order};
 use racp_cli::{Asked, DONE, REFUSED, StreamFault, order_over};
 use racp_explain::{asked_cause, one_line};
+use racp_host::failure::{Failure, OptionFault};
+use racp_host::inputs::text;
 use racp_words::{TableWords, Terms};
 use std::alloc::Global;
 

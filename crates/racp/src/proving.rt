@@ -3,15 +3,15 @@
 ghost use Rattle.std.specs.Prelude.{IfOk};
 ghost use Rattle.racp.specs.Statuses.{IsStatusOfAnswer};
 
-use crate::alone_limit::AloneLimit;
-use crate::asks::Asks;
-use crate::failure::{Failure, OptionFault};
-use crate::inputs::Inputs;
-use crate::machine::Machine;
-use crate::seconds::time_limit;
-use crate::telling::{Manner, tell};
 use racp_cli::{CHECK_FAILED, STOPPED, StreamFault, prove_by_clauses_over, prove_over_until};
 use racp_explain::{Input as Text, order_cause};
+use racp_host::alone_limit::AloneLimit;
+use racp_host::asks::Asks;
+use racp_host::failure::{Failure, OptionFault};
+use racp_host::inputs::Inputs;
+use racp_host::machine::Machine;
+use racp_host::seconds::time_limit;
+use racp_host::telling::{Manner, tell};
 use racp_model::Stop;
 use racp_words::OrderFiles;
 use std::io;

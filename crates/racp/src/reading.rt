@@ -1,6 +1,6 @@
 //! How the words of `import` say that tables are read, and what the files are called.
 
-use crate::failure::OptionFault;
+use racp_host::failure::OptionFault;
 use racp_tables::{Format, Reading, Scale};
 use racp_words::TableWords;
 

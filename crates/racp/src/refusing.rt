@@ -1,7 +1,7 @@
 //! How it is told why a table is refused.
 
-use crate::failure::Failure;
 use racp_cli::StreamFault;
+use racp_host::failure::Failure;
 use racp_model::NetFault;
 use racp_tables::TableFault;
 use std::alloc::{AllocError, Global};

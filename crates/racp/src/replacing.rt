@@ -1,10 +1,10 @@
 //! Files that are there already where those of a table are to be written.
 
-use crate::failure::Failure;
-use crate::files::Output;
-use crate::inputs::{told, whole};
 use crate::texts::Texts;
 use racp_cli::StreamFault;
+use racp_host::failure::Failure;
+use racp_host::files::Output;
+use racp_host::inputs::{told, whole};
 use racp_tables::{are_own_names, is_own_network, is_own_order};
 use std::alloc::{AllocError, Global};
 use std::fs::File;

@@ -2,23 +2,23 @@
 
 ghost use Rattle.std.specs.Prelude.{◌≡◌, ◌⊎◌, IfOk, IfErr};
 ghost use Rattle.racp.specs.Statuses.{IsStatus, IsStatusOfAnswer};
-ghost use Rattle.racp.specs.declared.failure.Failure.TheVariants as failures;
-ghost use Rattle.racp_cli.specs.declared.fault.StreamFault.TheVariants as streams;
+ghost use Rattle.racp_host.specs.declared.failure.Failure.TheVariants as failures;
+ghost use Rattle.racp_streams.specs.declared.fault.StreamFault.TheVariants as streams;
 
 use crate::bounding::{Bounding, verify_bound};
 use crate::checking::check;
 use crate::early::cpm;
-use crate::failure::{Failure, report};
-use crate::inputs::told;
-use crate::machine::Crewed;
-use crate::making::Making;
 use crate::planning::plan;
 use crate::proving::{Proving, prove};
-use crate::seconds::time_limit;
-use crate::telling::Manner;
 use crate::tools::tool;
 use crate::verifying::{Verifying, verify};
 use racp_cli::StreamFault;
+use racp_host::failure::{Failure, report};
+use racp_host::inputs::told;
+use racp_host::machine::Crewed;
+use racp_host::making::Making;
+use racp_host::seconds::time_limit;
+use racp_host::telling::Manner;
 use racp_words::{Request, Source, Task, Tool, asked};
 use std::alloc::Global;
 use std::env;

@@ -1,7 +1,7 @@
 //! What an order is to say, by the words for its terms.
 
-use crate::failure::{Failure, OptionFault};
 use racp_cli::{Asked, StreamFault, Time};
+use racp_host::failure::{Failure, OptionFault};
 use racp_prices::Factor;
 use racp_values::{Quantity, ValueFault, values_of};
 use racp_words::Terms;

@@ -1,11 +1,11 @@
 //! The texts that are made of a table of tasks.
 
-use crate::failure::Failure;
 use crate::parts::Taken;
 use crate::pricing::order_of;
 use crate::refusing::network_failure;
 use crate::terms::Times;
 use crate::warned::{Told, tell_whole};
+use racp_host::failure::Failure;
 use racp_model::Job;
 use racp_tables::{Table, marked_network, marked_order, names_text, network_text};
 use racp_words::TableWords;

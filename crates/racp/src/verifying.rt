@@ -3,14 +3,14 @@
 ghost use Rattle.std.specs.Prelude.{IfOk};
 ghost use Rattle.racp.specs.Statuses.{IsStatusOfAnswer};
 
-use crate::alone_limit::AloneLimit;
-use crate::asks::Asks;
-use crate::failure::Failure;
-use crate::inputs::Inputs;
-use crate::machine::Machine;
-use crate::telling::{Manner, end};
 use racp_cli::{Certificate, StreamFault, verify_over_until};
 use racp_explain::{Input as Text, proof_cause};
+use racp_host::alone_limit::AloneLimit;
+use racp_host::asks::Asks;
+use racp_host::failure::Failure;
+use racp_host::inputs::Inputs;
+use racp_host::machine::Machine;
+use racp_host::telling::{Manner, end};
 use racp_json::{Command, FileNames, Told, Work};
 use racp_words::ProofFiles;
 use std::alloc::{AllocError, Global};

@@ -1,5 +1,3 @@
-mod Writing
-mod Inputs
 mod TextLines
 mod Answering
 mod Responding

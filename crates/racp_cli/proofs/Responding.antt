@@ -6,9 +6,9 @@ use Rattle.std.specs.declared.alloc.Global.{Global}
 use Rattle.std.specs.Io.KnownBytes.{Keeps}
 use Rattle.racp_cli.specs.Texts.{memory_line}
 use Rattle.racp_cli.specs.Responses.{IsMade}
-use Rattle.racp_cli.specs.Streams.{Reader, AreInputs, IsReadUntil, IsStopped, IsAnswerWritten, IsRun}
-use Rattle.racp_cli.specs.declared.fault.StreamFault.{StreamFault}
-use Rattle.racp_cli.specs.declared.fault.StreamFault.TheVariants.{Read, Write, TooLong, Memory}
+use Rattle.racp_streams.specs.Streams.{Reader, AreInputs, IsReadUntil, IsStopped, IsAnswerWritten, IsRun}
+use Rattle.racp_streams.specs.declared.fault.StreamFault.{StreamFault}
+use Rattle.racp_streams.specs.declared.fault.StreamFault.TheVariants.{Read, Write, TooLong, Memory}
 
 -- what was written of an answer is what was written of each answer that it stands for
 pub answered_as : (A B : ℕ → List ℕ → Type 0) (old new : Option (List ℕ)) (result : Result ℕ StreamFault) → ((status : ℕ) (text : List ℕ) → A status text → B status text) →

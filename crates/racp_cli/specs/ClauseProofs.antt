@@ -2,8 +2,8 @@
 use Rattle.std.specs.Prelude.{◌⊎◌, ℕ, List, [], ◌∷◌, Option, Result}
 use Rattle.racp_prove.specs.Showing.{IsShowingPrinted}
 use Rattle.racp_cli.specs.Plans.{IsNetworkLine, IsOrderLine, IsMemoryLine}
-use Rattle.racp_cli.specs.Streams.{Reader, IsRun, ToTwo}
-use Rattle.racp_cli.specs.declared.fault.StreamFault.{StreamFault}
+use Rattle.racp_streams.specs.Streams.{Reader, IsRun, ToTwo}
+use Rattle.racp_streams.specs.declared.fault.StreamFault.{StreamFault}
 
 -- what is right for two texts: a certificate by clauses for the plan, or of a bound, or why there is no plan, or that none was made,
 -- for the network and the order that they are read as; or why the first of them that is refused is; memory may run out at any texts

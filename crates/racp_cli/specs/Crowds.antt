@@ -8,8 +8,8 @@ use Rattle.racp_lexfix.specs.Printing.{AreTextsOf}
 use Rattle.racp_by_questions.specs.declared.crowd.Effort.{Effort}
 use Rattle.racp_cli.specs.Texts.{stopped_line, no_thread_line}
 use Rattle.racp_cli.specs.Plans.{IsPlanAnswer}
-use Rattle.racp_cli.specs.Streams.{Reader, IsRun, ToTwo}
-use Rattle.racp_cli.specs.declared.fault.StreamFault.{StreamFault}
+use Rattle.racp_streams.specs.Streams.{Reader, IsRun, ToTwo}
+use Rattle.racp_streams.specs.declared.fault.StreamFault.{StreamFault}
 
 -- planning was stopped, by workers that may stop: the line tells capacities at or above the floors, before which none are enough
 pub record IsStoppedLine (turns : ℕ) (quiet : Bool) (net order : List ℕ) (status : ℕ) (text : List ℕ) : Type 0 where

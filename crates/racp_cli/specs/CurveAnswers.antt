@@ -16,8 +16,8 @@ use Rattle.racp_charts.specs.declared.costs.Corner.{Corner}
 use Rattle.racp_cli.specs.Texts.{stopped_line}
 use Rattle.racp_cli.specs.Crowds.{IsNoThreadLine}
 use Rattle.racp_cli.specs.Plans.{IsNetworkLine, IsOrderLine, IsMemoryLine}
-use Rattle.racp_cli.specs.Streams.{Reader, IsRun, ToTwo}
-use Rattle.racp_cli.specs.declared.fault.StreamFault.{StreamFault}
+use Rattle.racp_streams.specs.Streams.{Reader, IsRun, ToTwo}
+use Rattle.racp_streams.specs.declared.fault.StreamFault.{StreamFault}
 
 -- the corner of a step in a picture: its deadline and its cost
 abbrev pub corner_of : Step → Corner

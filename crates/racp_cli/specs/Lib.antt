@@ -7,8 +7,7 @@ pub mod Plans
 pub mod Proofs
 pub mod ClauseProofs
 pub mod Crowds
-pub mod Streams
-pub mod Pieces
+pub mod Runs
 pub mod Responses
 pub mod Laws
 pub mod OrderAnswers

@@ -12,8 +12,8 @@ use Rattle.racp_prices.specs.Factors.{deadline_by}
 use Rattle.racp_prices.specs.Wishes.{Wish, table_of}
 use Rattle.racp_cli.specs.Texts.{order_refusal_line}
 use Rattle.racp_cli.specs.Plans.{IsNetworkLine, IsMemoryLine}
-use Rattle.racp_cli.specs.Streams.{Reader, IsRun, ToOne}
-use Rattle.racp_cli.specs.declared.fault.StreamFault.{StreamFault}
+use Rattle.racp_streams.specs.Streams.{Reader, IsRun, ToOne}
+use Rattle.racp_streams.specs.declared.fault.StreamFault.{StreamFault}
 use Rattle.racp_cli.specs.declared.order.Asked.{Asked}
 use Rattle.racp_cli.specs.declared.order.Time.{Time}
 use Rattle.racp_cli.specs.declared.order.Time.TheVariants.{Deadline, Factor}

@@ -17,8 +17,8 @@ use Rattle.racp_show.specs.Called.{are_names_for, names_of}
 use Rattle.racp_show.specs.Outlines.{Outlined, outline_of}
 use Rattle.racp_cli.specs.Checks.{AreRead, HasRightHead}
 use Rattle.racp_cli.specs.ShowAnswers.{IsFaulty, count_line, names_line}
-use Rattle.racp_cli.specs.Streams.{Reader, IsRun, ToThree}
-use Rattle.racp_cli.specs.declared.fault.StreamFault.{StreamFault}
+use Rattle.racp_streams.specs.Streams.{Reader, IsRun, ToThree}
+use Rattle.racp_streams.specs.declared.fault.StreamFault.{StreamFault}
 use Rattle.racp_cli.specs.declared.report.Page.{Page}
 
 -- the page of a report that is right for the plan, the names, the text of a curve and the lines of changes, with times

@@ -15,9 +15,9 @@ use Rattle.racp_show.specs.Sheets.{IsSheet}
 use Rattle.racp_show.specs.Tables.{table_text}
 use Rattle.racp_show.specs.declared.sheet.Sheet.{Sheet}
 use Rattle.racp_cli.specs.Checks.{AreRead, HasRightHead, IsCheck, check_status, check_text}
-use Rattle.racp_cli.specs.Streams.{Reader, IsRun, ToThree}
+use Rattle.racp_streams.specs.Streams.{Reader, IsRun, ToThree}
 use Rattle.racp_cli.specs.declared.check_fault.CheckFault.{CheckFault}
-use Rattle.racp_cli.specs.declared.fault.StreamFault.{StreamFault}
+use Rattle.racp_streams.specs.declared.fault.StreamFault.{StreamFault}
 use Rattle.racp_show.specs.declared.form.Form.{Form}
 use Rattle.racp_show.specs.declared.form.Form.TheVariants.{Text, Ascii, Svg, Json, Csv}
 use Rattle.racp_cli.specs.declared.show.Look.{Look}

@@ -6,9 +6,9 @@ use Rattle.racp_found.specs.Told.{IsLeastOfEnough}
 use Rattle.racp_derivations.specs.BoundTexts.{IsLeastByText}
 use Rattle.racp_lexfix.specs.Printing.{AreTextsOf}
 use Rattle.racp_cli.specs.Plans.{IsNetworkLine, IsOrderLine, IsMemoryLine}
-use Rattle.racp_cli.specs.Streams.{Reader, IsRun, ToThree}
+use Rattle.racp_streams.specs.Streams.{Reader, IsRun, ToThree}
 use Rattle.racp_cli.specs.Texts.{at_least_line, unproved_line, stopped_line}
-use Rattle.racp_cli.specs.declared.fault.StreamFault.{StreamFault}
+use Rattle.racp_streams.specs.declared.fault.StreamFault.{StreamFault}
 
 -- the line that is written of a bound that is shown, or where none is
 abbrev pub bound_text : Option ℕ → List ℕ

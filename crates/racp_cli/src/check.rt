@@ -4,19 +4,18 @@ ghost use Rattle.std.specs.Prelude.{◌≡◌, ◌↔◌, IfOk, IsTrue, length};
 ghost use Rattle.racp_model.specs.Terms.{AreTermsOf};
 ghost use Rattle.racp_cli.specs.Checks.{HasRightHead, IsCheck, IsCheckAnswer, IsCheckOf, check_status, check_text};
 ghost use Rattle.racp_cli.specs.Verifies.{AreChecked};
-ghost use Rattle.racp_cli.specs.Streams.{IsCheckRun};
+ghost use Rattle.racp_cli.specs.Runs.{IsCheckRun};
 
 use crate::check_fault::CheckFault;
-use crate::fault::StreamFault;
 use crate::respond::respond;
 use crate::status::DONE;
-use crate::streams::read_whole;
 use racp_check::check_plan;
 use racp_cpm::longest;
 use racp_model::Network;
 use racp_plan::{Plan, read_plan};
 use racp_prices::{Order, read_order};
 use racp_sm::read_sm;
+use racp_streams::{StreamFault, read_whole};
 use std::alloc::{AllocError, Global};
 use std::io::{Read, Write};
 

@@ -2,17 +2,16 @@
 
 ghost use Rattle.std.specs.Prelude.{◌≡◌, ℕ, ◌++◌, IfOk};
 ghost use Rattle.racp_cli.specs.Answers.{IsCpmAnswer, IsEarlyText};
-ghost use Rattle.racp_cli.specs.Streams.{IsCpmRun};
+ghost use Rattle.racp_cli.specs.Runs.{IsCpmRun};
 
-use crate::fault::StreamFault;
 use crate::lines::early_lines;
 use crate::refusal::network_refused;
 use crate::respond::respond;
 use crate::status::DONE;
-use crate::streams::read_whole;
 use racp_cpm::{early, last_end};
 use racp_model::Network;
 use racp_sm::read_sm;
+use racp_streams::{StreamFault, read_whole};
 use std::alloc::{AllocError, Global};
 use std::io::{Read, Write};
 

@@ -6,16 +6,15 @@ ghost use Rattle.racp_lexfix.specs.Printing.{IsCrowdPrinting};
 ghost use Rattle.racp_cli.specs.Crowds.{IsCrowdAnswer, IsCrowdRun, IsEffortOf};
 ghost use Rattle.racp_cli.specs.Responses.{IsMade};
 
-use crate::fault::StreamFault;
 use crate::refusal::refused;
 use crate::respond::respond;
-use crate::streams::read_whole;
 use racp_by_questions::Effort;
 use racp_cutset::DEFAULT_MEMORY;
 use racp_desk::Gate;
 use racp_found::{Observer, Unheard};
 use racp_lexfix::{Crew, Printed, Refusal, plan_crowd_by};
 use racp_model::Stop;
+use racp_streams::{StreamFault, read_whole};
 use std::alloc::{AllocError, Global};
 use std::io::{Read, Write};
 use std::sync::Wait;

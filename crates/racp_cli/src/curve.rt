@@ -7,16 +7,15 @@ ghost use Rattle.racp_curve.specs.Curves.{IsCurveAnswer as IsAnswerOfCurve};
 ghost use Rattle.racp_cli.specs.CurveAnswers.{IsCurveAnswer, IsCurveRun, IsCurveText, IsToldCurve, corner_of};
 ghost use Rattle.racp_charts.specs.Pictures.{IsCostPicture};
 
-use crate::fault::StreamFault;
 use crate::respond::respond;
 use crate::status::{DONE, IMPOSSIBLE};
-use crate::streams::read_whole;
 use crate::texts::read_texts;
 use racp_charts::{Corner, costs_svg};
 use racp_curve::{CurveAnswer, Step, curve_alone, curve_text};
 use racp_lexfix::answer_lines;
 use racp_model::Network;
 use racp_prices::Order;
+use racp_streams::{StreamFault, read_whole};
 use std::alloc::{AllocError, Global};
 use std::io::{Read, Write};
 

@@ -9,11 +9,9 @@ ghost use Rattle.racp_cli.specs.CurveAnswers.{IsCurveCrowdAnswer, IsCurveCrowdRu
 ghost use Rattle.racp_cli.specs.Responses.{IsEndedText};
 
 use crate::curve::curve_answer;
-use crate::fault::StreamFault;
 use crate::lines::stopped_line;
 use crate::respond::respond;
 use crate::status::{STOPPED, STREAM_FAILED};
-use crate::streams::read_whole;
 use crate::texts::read_texts;
 use racp_curve::{CurveAnswer, CurveStop, Step, curve_crowd, step_lines};
 use racp_desk::Gate;
@@ -21,6 +19,7 @@ use racp_found::Observer;
 use racp_lexfix::{Crew, PlanStop};
 use racp_model::Stop;
 use racp_prices::Order;
+use racp_streams::{StreamFault, read_whole};
 use std::alloc::{AllocError, Global};
 use std::io::{Read, Write};
 use std::sync::Wait;

@@ -3,16 +3,15 @@
 ghost use Rattle.std.specs.Prelude.{◌≡◌, ◌↔◌, IfOk, IsTrue, Some, length, option_map, replicate};
 ghost use Rattle.racp_cli.specs.OrderAnswers.{AreBounds, AreTimesFor, IsAskedDeadline, IsOrderAnswer, IsOrderFor, IsOrderRun, IsReleaseAsked};
 
-use crate::fault::StreamFault;
 use crate::refusal::{network_refused, order_refused};
 use crate::respond::respond;
 use crate::status::DONE;
-use crate::streams::read_whole;
 use racp_cpm::longest;
 use racp_model::Network;
 use racp_model::limits::LATEST_TIME;
 use racp_prices::{Factor, OrderFault, Wanted, order_text, read_order};
 use racp_sm::read_sm;
+use racp_streams::{StreamFault, read_whole};
 use std::alloc::{AllocError, Global};
 use std::io::{Read, Write};
 

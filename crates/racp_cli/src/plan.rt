@@ -2,14 +2,13 @@
 
 ghost use Rattle.std.specs.Prelude.{◌≤◌, IfOk};
 ghost use Rattle.racp_cli.specs.Plans.{IsPlanAnswer};
-ghost use Rattle.racp_cli.specs.Streams.{IsPlanRun};
+ghost use Rattle.racp_cli.specs.Runs.{IsPlanRun};
 
-use crate::fault::StreamFault;
 use crate::refusal::refused;
 use crate::respond::respond;
-use crate::streams::read_whole;
 use racp_cutset::DEFAULT_MEMORY;
 use racp_lexfix::plan_alone_within;
+use racp_streams::{StreamFault, read_whole};
 use std::alloc::{AllocError, Global};
 use std::io::{Read, Write};
 

@@ -3,12 +3,11 @@
 ghost use Rattle.std.specs.Prelude.{IfOk};
 ghost use Rattle.racp_cli.specs.ClauseProofs.{IsClauseProofAnswer, IsClauseProofRun};
 
-use crate::fault::StreamFault;
 use crate::refusal::refused;
 use crate::respond::respond;
-use crate::streams::read_whole;
 use racp_model::Stop;
 use racp_prove::prove_by_clauses;
+use racp_streams::{StreamFault, read_whole};
 use std::alloc::{AllocError, Global};
 use std::io::{Read, Write};
 

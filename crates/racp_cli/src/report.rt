@@ -9,14 +9,13 @@ ghost use Rattle.racp_show.specs.Outlines.{IsOutlineOf};
 ghost use Rattle.racp_cli.specs.ReportAnswers.{IsCountedReport, IsCurved, IsNamedReport, IsReportAnswer, IsReportRun, IsStepped, are_steps};
 
 use crate::check::{Checked, read_checked};
-use crate::fault::StreamFault;
 use crate::report_page::changed;
 use crate::respond::respond;
 use crate::status::REFUSED;
-use crate::streams::read_whole;
 use racp_calendar::Calendar;
 use racp_json::rows_of;
 use racp_show::{Names, Outline};
+use racp_streams::{StreamFault, read_whole};
 use std::alloc::{AllocError, Global};
 use std::io::{Read, Write};
 

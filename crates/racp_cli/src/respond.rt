@@ -1,11 +1,10 @@
 //! Writing an answer.
 
 ghost use Rattle.racp_cli.specs.Responses.{IsMade};
-ghost use Rattle.racp_cli.specs.Streams.{IsAnswerWritten};
+ghost use Rattle.racp_streams.specs.Streams.{IsAnswerWritten};
 
-use crate::fault::StreamFault;
 use crate::status::OUT_OF_MEMORY;
-use crate::streams::write_whole;
+use racp_streams::{StreamFault, write_whole};
 use std::alloc::AllocError;
 use std::io::Write;
 

@@ -8,13 +8,12 @@ ghost use Rattle.racp_show.specs.Outlines.{IsOutlineOf};
 ghost use Rattle.racp_cli.specs.ShowAnswers.{IsCounted, IsDrawn, IsNamed, IsPicture, IsSheetTable, IsShowAnswer, IsShowRun};
 
 use crate::check::{Checked, read_checked};
-use crate::fault::StreamFault;
 use crate::respond::respond;
 use crate::status::{DONE, REFUSED};
-use crate::streams::read_whole;
 use racp_calendar::Calendar;
 use racp_charts::{drawing_of, plan_svg};
 use racp_show::{Form, Lettering, Names, Outline, chart_text, csv_text, json_text, sheet_of};
+use racp_streams::{StreamFault, read_whole};
 use std::alloc::{AllocError, Global};
 use std::io::{Read, Write};
 

@@ -1,18 +1,17 @@
 //! `verify`: whether a text is a certificate for a plan.
 
 ghost use Rattle.std.specs.Prelude.{◌≡◌, IfOk};
-ghost use Rattle.racp_cli.specs.Streams.{IsVerifyRun, IsVerifyRunUntil};
+ghost use Rattle.racp_cli.specs.Runs.{IsVerifyRun, IsVerifyRunUntil};
 ghost use Rattle.racp_cli.specs.Verifies.{IsVerifyAnswerUntil, IsVerifyUntil, until_status, until_text};
 
 use crate::check::read_checked;
 use crate::check_fault::CheckFault;
-use crate::fault::StreamFault;
 use crate::lines::stopped_line;
 use crate::respond::respond;
 use crate::status::{CHECK_FAILED, DONE, STOPPED};
-use crate::streams::read_whole;
 use crate::verdict::is_proved;
 use racp_model::{Never, Stop, Unfound};
+use racp_streams::{StreamFault, read_whole};
 use std::alloc::{AllocError, Global};
 use std::io::{Read, Write};
 

@@ -4,15 +4,14 @@ ghost use Rattle.std.specs.Prelude.{◌≡◌, IfOk};
 ghost use Rattle.racp_model.specs.Terms.{AreTermsOf};
 ghost use Rattle.racp_cli.specs.VerifyBounds.{IsBoundAnswer, IsBoundRun, IsBoundTold, bound_status, bound_text};
 
-use crate::fault::StreamFault;
 use crate::lines::{at_least_line, stopped_line};
 use crate::respond::respond;
 use crate::status::{CHECK_FAILED, DONE, STOPPED};
-use crate::streams::read_whole;
 use crate::texts::read_texts;
 use racp_derivations::least_by_text_until;
 use racp_model::{Network, Stop, Unfound};
 use racp_prices::Order;
+use racp_streams::{StreamFault, read_whole};
 use std::alloc::{AllocError, Global};
 use std::io::{Read, Write};
 

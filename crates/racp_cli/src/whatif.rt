@@ -2,12 +2,11 @@
 
 ghost use Rattle.std.specs.Prelude.{IfOk, None, Some, option_map};
 ghost use Rattle.racp_found.specs.Told.{HearsAll};
-ghost use Rattle.racp_cli.specs.Streams.{IsAnswerWritten};
+ghost use Rattle.racp_streams.specs.Streams.{IsAnswerWritten};
 ghost use Rattle.racp_cli.specs.WhatIfAnswers.{IsWhatIfAnswer};
 
 use crate::beside::named;
 use crate::check::read_checked;
-use crate::fault::StreamFault;
 use crate::respond::respond;
 use crate::texts::read_texts;
 use racp_desk::Gate;
@@ -15,6 +14,7 @@ use racp_found::Observer;
 use racp_lexfix::Crew;
 use racp_model::Stop;
 use racp_root::Task;
+use racp_streams::StreamFault;
 use std::alloc::{AllocError, Global};
 use std::io::Write;
 use std::sync::Wait;

@@ -1,7 +1,7 @@
 use Rattle.std.proofs.Common.{ℕ, Option, IfOk, subst}
 use Rattle.std.specs.Prelude.{Result}
 use Rattle.racp_by_questions.specs.declared.crowd.Effort.{Effort}
-use Rattle.racp_cli.specs.declared.fault.StreamFault.{StreamFault}
+use Rattle.racp_streams.specs.declared.fault.StreamFault.{StreamFault}
 use Rattle.racp.specs.Statuses.{IsStatusOfAnswer}
 use Rattle.racp.proofs.Planned.{planned_by}
 use Rattle.racp.proofs.crewing.plan_by.Goals as goal

@@ -1,6 +1,6 @@
 use Rattle.std.proofs.Common.{[], ◌∷◌, IfOk}
 use Rattle.racp_cli.specs.Answers.{IsCpmAnswer}
-use Rattle.racp_cli.specs.Streams.{Reader, AreInputs, ToOne}
+use Rattle.racp_streams.specs.Streams.{Reader, AreInputs, ToOne}
 use Rattle.racp_cli.proofs.Answering.{answers_memory}
 use Rattle.racp_cli.proofs.Responding.{answered_as, made_right, run_answered}
 use Rattle.racp_cli.proofs.cpm.cpm_over.Goals as goal

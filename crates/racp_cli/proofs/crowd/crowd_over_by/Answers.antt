@@ -2,7 +2,7 @@ use Rattle.std.proofs.Common.{[], ◌∷◌, inl, Ok, Err}
 use Rattle.std.proofs.lemmas.Result.{err_from_is_err_and}
 use Rattle.racp_lexfix.specs.Printing.{IsCrowdPrinting}
 use Rattle.racp_cli.specs.Crowds.{IsCrowdAnswer}
-use Rattle.racp_cli.specs.Streams.{Reader, AreInputs, ToTwo}
+use Rattle.racp_streams.specs.Streams.{Reader, AreInputs, ToTwo}
 use Rattle.racp_cli.proofs.Planning.{plan_memory}
 use Rattle.racp_cli.proofs.Responding.{answered_as, made_right, run_answered}
 use Rattle.racp_cli.proofs.crowd.crowd_over_by.Goals as goal

@@ -1,6 +1,6 @@
 use Rattle.std.proofs.Common.{[], ◌∷◌, IfOk, inr, refl}
 use Rattle.racp_cli.specs.CurveAnswers.{IsCurveCrowdAnswer}
-use Rattle.racp_cli.specs.Streams.{Reader, AreInputs, ToTwo}
+use Rattle.racp_streams.specs.Streams.{Reader, AreInputs, ToTwo}
 use Rattle.racp_cli.proofs.Responding.{answered_as, made_right, run_answered}
 use Rattle.racp_cli.proofs.curve_crowd.curve_crowd_over.Goals as goal
 

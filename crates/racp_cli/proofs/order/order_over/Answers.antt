@@ -1,6 +1,6 @@
 use Rattle.std.proofs.Common.{[], ◌∷◌, IfOk, inr, refl}
 use Rattle.racp_cli.specs.OrderAnswers.{IsOrderAnswer}
-use Rattle.racp_cli.specs.Streams.{Reader, AreInputs, ToOne}
+use Rattle.racp_streams.specs.Streams.{Reader, AreInputs, ToOne}
 use Rattle.racp_cli.proofs.Responding.{answered_as, made_right, run_answered}
 use Rattle.racp_cli.proofs.order.order_over.Goals as goal
 

@@ -1,6 +1,6 @@
 use Rattle.std.proofs.Common.{[], ◌∷◌, IfOk}
 use Rattle.racp_cli.specs.Plans.{IsPlanAnswer}
-use Rattle.racp_cli.specs.Streams.{Reader, AreInputs, ToTwo}
+use Rattle.racp_streams.specs.Streams.{Reader, AreInputs, ToTwo}
 use Rattle.racp_cli.proofs.Planning.{plan_memory}
 use Rattle.racp_cli.proofs.Responding.{answered_as, made_right, run_answered}
 use Rattle.racp_cli.proofs.plan.run_over_within.Goals as goal

@@ -1,6 +1,6 @@
 use Rattle.std.proofs.Common.{Err, [], ◌∷◌, IfOk, inr, refl}
 use Rattle.racp_cli.specs.ShowAnswers.{IsShowAnswer}
-use Rattle.racp_cli.specs.Streams.{Reader, AreInputs, ToThree}
+use Rattle.racp_streams.specs.Streams.{Reader, AreInputs, ToThree}
 use Rattle.racp_cli.specs.Texts.{memory_line}
 use Rattle.racp_cli.specs.declared.check_fault.CheckFault.TheVariants.{OutOfMemory}
 use Rattle.racp_cli.proofs.Responding.{answered_as, made_right, run_answered}

@@ -3,9 +3,10 @@ use Rattle.std.specs.Prelude.{Result}
 use Rattle.std.proofs.lemmas.Result.{IfOk-weaker}
 use Rattle.std.specs.Io.KnownBytes.{Keeps}
 use Rattle.racp_cli.specs.Verifies.{IsVerifyAnswer, IsVerifyAnswerUntil}
-use Rattle.racp_cli.specs.Streams.{Reader, AreInputs, IsStopped, ToFour, IsVerifyRun}
+use Rattle.racp_streams.specs.Streams.{Reader, AreInputs, IsStopped, ToFour}
+use Rattle.racp_cli.specs.Runs.{IsVerifyRun}
 use Rattle.racp_cli.specs.Texts.{memory_line}
-use Rattle.racp_cli.specs.declared.fault.StreamFault.{StreamFault}
+use Rattle.racp_streams.specs.declared.fault.StreamFault.{StreamFault}
 use Rattle.racp_cli.specs.declared.check_fault.CheckFault.TheVariants.{OutOfMemory}
 use Rattle.racp_cli.proofs.Verifying.{never_stopped}
 use Rattle.racp_cli.proofs.Responding.{answered_as, made_right, run_answered, run_stopped}

@@ -1,6 +1,6 @@
 use Rattle.std.proofs.Common.{[], ◌∷◌, IfOk, inr, refl}
 use Rattle.racp_cli.specs.VerifyBounds.{IsBoundAnswer}
-use Rattle.racp_cli.specs.Streams.{Reader, AreInputs, ToThree}
+use Rattle.racp_streams.specs.Streams.{Reader, AreInputs, ToThree}
 use Rattle.racp_cli.proofs.Responding.{answered_as, made_right, run_answered}
 use Rattle.racp_cli.proofs.verify_bound.verify_bound_over.Goals as goal
 
