@@ -17,8 +17,8 @@
 //! - `racp cpm NET` prints the critical length and the early starts.
 //! - `racp explain` says what faults mean.
 //!
-//! What the commands do is proved in racp_cli, over any readers and any writer. This crate opens files and standard
-//! streams, hands them over, and ends with the status.
+//! What the commands do is proved in racp_cli, over any readers and any writer. This crate hands them files and standard
+//! streams, which racp_host opens, and ends with the status.
 //!
 //! ```text
 //! racp plan b.sm b3.toml             what examples/b3.plan has                    status 0
@@ -38,9 +38,8 @@
 //! memory for the words or the inputs are told on standard error. If nothing can be written there, the status alone
 //! tells.
 //!
-//! Proved: `failure::report` answers 2, 5, 6 or 7 by the reason why no answer is written, and 0 or 7 after help and the
-//! version; `run::status` answers a status that some answer or some reason has. Not proved, and tested over the built
-//! program: that each command reads its own files in their order, that the bytes of files and of standard input are
+//! Proved: `run::status` answers a status that some answer or some reason has, and racp_host which status goes with which reason.
+//! Not proved, and tested over the built program: that each command reads its own files in their order, that the bytes of files and of standard input are
 //! those that racp_cli is handed, which stream each text goes to, which status goes with which words, and that what is told
 //! changes neither standard output nor the status. Trusted: the toolchain, the C library and the machine.
 #![tactic(auto)]
