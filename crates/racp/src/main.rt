@@ -57,6 +57,7 @@ mod checking;
 mod costing;
 mod crewing;
 mod dates;
+mod deadline;
 mod early;
 mod failure;
 mod files;

@@ -156,7 +156,7 @@ by_idle works span most day block h none off =
     record {
       keeps = by_before works span most day block h none (count_below (has_work works span) block) (omega arith);
       greatest = later_ends works span most day (count_below (has_work works span) block)
-        (λ unit many. end_past works span most day unit (block + 1) (omega (arith, h.room)) h.within (omega (arith, same, many)));
+          (λ unit many. end_past works span most day unit (block + 1) (omega (arith, h.room)) h.within (omega (arith, same, many)));
     }
 
 pub by_here : (works : ℕ → Bool) (span most day block : ℕ) → IsInBlock span most day block → end_day works span most 0 ≤ day → has_work works span block ≡ true →
@@ -165,7 +165,7 @@ by_here works span most day block h none on less =
     record {
       keeps = by_before works span most day block h none (count_below (has_work works span) block) (omega arith);
       greatest = later_ends works span most day (count_below (has_work works span) block)
-        (λ unit many. unit_ends unit many (nat_lt (count_below (has_work works span) block) unit) refl);
+          (λ unit many. unit_ends unit many (nat_lt (count_below (has_work works span) block) unit) refl);
     }
   where
     unit_ends : (unit : ℕ) → count_below (has_work works span) block ≤ unit → (b : Bool) → nat_lt (count_below (has_work works span) block) unit ≡ b →
@@ -186,7 +186,7 @@ by_next works span most day block h on le =
     record {
       keeps = subst (λ (n : ℕ). end_day works span most n ≤ day) more (subst (λ (n : ℕ). last_in works span n ≤ day) (sym same) le);
       greatest = later_ends works span most day (count_below (has_work works span) block + 1)
-        (λ unit many. end_past works span most day unit (block + 1) (omega (arith, h.room)) h.within (omega (arith, next, many)));
+          (λ unit many. end_past works span most day unit (block + 1) (omega (arith, h.room)) h.within (omega (arith, next, many)));
     }
 
 -- the block of a day
