@@ -18,10 +18,10 @@ _racp() {
         report) options="--names --curve --whatif --calendar --start-date --workdays --unit --explain --quiet" ;;
         curve) options="--workers --turns --memory --time-limit --progress --best --svg --json --explain --quiet" ;;
         whatif) options="--names --workers --turns --memory --time-limit --json --explain --quiet" ;;
-        order) options="--names --factor --deadline --prices --owned --ceiling --json --explain --quiet" ;;
+        order) options="--names --factor --deadline --prices --owned --ceiling --calendar --json --explain --quiet" ;;
         batch) options="--factors --price --time-limit --memory --jobs --out --quiet" ;;
-        import) options="--out --from --prices --factor --deadline --owned --ceiling --resources --ignore --hours-a-day --unit --strict
-            --force --quiet" ;;
+        import) options="--out --from --prices --factor --deadline --owned --ceiling --resources --ignore --hours-a-day --unit --calendar
+            --date-format --strict --force --quiet" ;;
         explain)
             mapfile -t COMPREPLY < <(compgen -W "sm order plan names impossible fault --help" -- "$word")
             return
@@ -33,7 +33,7 @@ _racp() {
     esac
     case $before in
         --workers | --turns | --memory | --time-limit | --width) return ;;
-        --factor | --deadline | --prices | --owned | --ceiling | --from) return ;;
+        --factor | --deadline | --prices | --owned | --ceiling | --from | --date-format) return ;;
     esac
     if [[ $word == -* ]]; then
         mapfile -t COMPREPLY < <(compgen -W "$options --help" -- "$word")

@@ -67,6 +67,7 @@ complete -c racp -n "__fish_seen_subcommand_from order" -l deadline -x -d deadli
 complete -c racp -n "__fish_seen_subcommand_from order" -l prices -x -d prices
 complete -c racp -n "__fish_seen_subcommand_from order" -l owned -x -d "owned units"
 complete -c racp -n "__fish_seen_subcommand_from order" -l ceiling -x -d "most units"
+complete -c racp -n "__fish_seen_subcommand_from order" -l calendar -r -d "working days and holidays"
 complete -c racp -n "__fish_seen_subcommand_from prove" -l facts -d "one by clauses"
 complete -c racp -n "__fish_seen_subcommand_from prove" -l time-limit -x -d seconds
 complete -c racp -n "__fish_seen_subcommand_from prove" -l explain -d "say what is wrong"
@@ -109,6 +110,8 @@ complete -c racp -n "__fish_seen_subcommand_from import" -l resources -x -d "col
 complete -c racp -n "__fish_seen_subcommand_from import" -l ignore -x -d "columns that are passed over"
 complete -c racp -n "__fish_seen_subcommand_from import" -l hours-a-day -x -d "hours of a day"
 complete -c racp -n "__fish_seen_subcommand_from import" -l unit -x -a "day half-day" -d "length of a time unit"
+complete -c racp -n "__fish_seen_subcommand_from import" -l calendar -r -d "working days and holidays"
+complete -c racp -n "__fish_seen_subcommand_from import" -l date-format -x -a "YYYY-MM-DD D.M.YYYY DD.MM.YYYY M/D/YYYY MM/DD/YYYY" -d "how dates are written"
 complete -c racp -n "__fish_seen_subcommand_from import" -l strict -d "refuse a table that looks wrong"
 complete -c racp -n "__fish_seen_subcommand_from import" -l force -d "replace files that were changed"
 complete -c racp -n "__fish_seen_subcommand_from import" -l quiet -d "say nothing of what is wrong"

@@ -97,3 +97,30 @@ def told(calendar, start, end, blocks):
     if start == end:
         return last_day(end), last_day(end)
     return (blocks[start][0] if start < len(blocks) else None), last_day(end)
+
+
+def numbered_blocks(calendar, until):
+    """The first and the last working day of each block that counts, as numbers of Python's dates, which may go on after the year 9999:
+    those of blocks that begin no later than the day of this number, and of one more."""
+    free = {day.toordinal() for day in calendar.free}
+    found, begin = [], calendar.start.toordinal()
+    while not found or found[-1][0] <= until:
+        days = [day for day in range(begin, begin + calendar.span) if (day - 1) % 7 in calendar.worked and day not in free]
+        if days:
+            found.append((days[0], days[-1]))
+        begin += calendar.span
+    return found
+
+
+def time_by(calendar, date):
+    """The greatest time of which the last day is not after a date, or none."""
+    blocks = numbered_blocks(calendar, date.toordinal())
+    ends = [blocks[0][0], *(last for _, last in blocks)]
+    times = [time for time, end in enumerate(ends) if end <= date.toordinal()]
+    return max(times, default=None)
+
+
+def time_from(calendar, date):
+    """The least time of which the first day is not before a date."""
+    blocks = numbered_blocks(calendar, date.toordinal())
+    return min(time for time, (first, _) in enumerate(blocks) if first >= date.toordinal())

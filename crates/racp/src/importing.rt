@@ -9,6 +9,7 @@ use crate::replacing::{outputs_of, test_earlier};
 use crate::texts::{Texts, texts_of};
 use crate::warned::Told;
 use racp_cli::{DONE, StreamFault};
+use racp_host::dates::{calendar_of, named_calendar};
 use racp_host::failure::Failure;
 use racp_host::files::write_files;
 use racp_host::shown::Shown;
@@ -28,10 +29,12 @@ pub(crate) fn import<R: Files + Print + Eprint + AllocGlobal>(
 ) -> Result<u8, Failure>
     ensures { IfOk result IsStatusOfTool }
 {
-    let reading = reading_of(words)?;
+    let workdays = named_calendar(rt, words.calendar)?;
+    let calendar = calendar_of(&workdays);
+    let reading = reading_of(words, calendar)?;
     let out = project_of(words.out)?;
     let taken = taken_of(rt, &words.files, out, &reading)?;
-    let mut texts = texts_of(rt.alloc(), words, taken)?;
+    let mut texts = texts_of(rt.alloc(), words, calendar, taken)?;
     test_earlier(rt, out, words.is_forced, &mut texts)?;
     tell_of(rt, words, manner, &texts.told)?;
     write_texts(rt, out, texts)?;

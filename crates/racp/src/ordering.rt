@@ -4,8 +4,10 @@ ghost use Rattle.std.specs.Prelude.{IfOk};
 ghost use Rattle.racp.specs.Statuses.{IsStatusOfTool};
 
 use crate::terms::{Times, asked_order};
+use racp_calendar::Calendar;
 use racp_cli::{Asked, DONE, REFUSED, StreamFault, Time, order_over};
 use racp_explain::{Input as Text, Listed, Numbers, asked_cause};
+use racp_host::dates::{calendar_of, named_calendar};
 use racp_host::failure::Failure;
 use racp_host::inputs::Inputs;
 use racp_host::machine::Machine;
@@ -26,10 +28,12 @@ pub(crate) fn order<R: Machine>(
 ) -> Result<u8, Failure>
     ensures { IfOk result IsStatusOfTool }
 {
+    let workdays = named_calendar(rt, terms.calendar)?;
+    let calendar = calendar_of(&workdays);
     let paths = [files.names, Some(files.net)];
     let inputs = Inputs::read(rt, &paths)?;
     let (net, names) = (inputs.text(1), inputs.text_if(0));
-    match asked_of(rt.alloc(), &net, names, terms)? {
+    match asked_of(rt.alloc(), &net, names, terms, calendar)? {
         Some(asked) => order_told(rt, &net, asked, manner),
         None => {
             tell(rt, manner, refused_names(rt.alloc(), &net, names));
@@ -38,16 +42,20 @@ pub(crate) fn order<R: Machine>(
     }
 }
 
-/// What the words for the terms of an order ask for, for the text of a network and perhaps one of names; `None` if that of
+/// What the words for the terms of an order ask for, by a calendar, for the text of a network and perhaps one of names; `None` if that of
 /// the names is refused.
 fn asked_of(
     alloc: Global,
     net: &Text<'_>,
     names: Option<Text<'_>>,
     terms: &Terms<'_>,
+    calendar: Calendar<'_>,
 ) -> Result<Option<Asked>, Failure> {
     match resource_names(alloc, net, names)? {
-        Some(names) => Ok(Some(asked_order(alloc, terms, &names, Times::none())?)),
+        Some(names) => {
+            let asked = asked_order(alloc, terms, calendar, &names, Times::none())?;
+            Ok(Some(asked))
+        },
         None => Ok(None),
     }
 }

@@ -2,6 +2,7 @@
 
 use crate::ordering::numbers_of;
 use crate::terms::{Times, asked_order};
+use racp_calendar::Calendar;
 use racp_cli::{Asked, DONE, REFUSED, StreamFault, order_over};
 use racp_explain::{asked_cause, one_line};
 use racp_host::failure::{Failure, OptionFault};
@@ -9,11 +10,12 @@ use racp_host::inputs::text;
 use racp_words::{TableWords, Terms};
 use std::alloc::Global;
 
-/// The text of the order that the words ask for, for the text of a network that is told of by a name, with these resources, and
-/// with these times, if they ask for one.
+/// The text of the order that the words ask for, by a calendar, for the text of a network that is told of by a name, with these
+/// resources, and with these times, if they ask for one.
 pub(crate) fn order_of(
     alloc: Global,
     words: &TableWords<'_>,
+    calendar: Calendar<'_>,
     network: (&str, &[u8]),
     resources: &[String],
     times: Times,
@@ -24,11 +26,12 @@ pub(crate) fn order_of(
     let terms = Terms {
         factor: words.factor,
         deadline: words.deadline,
+        calendar: words.calendar,
         prices,
         owned: words.owned,
         ceiling: words.ceiling,
     };
-    let asked = asked_order(alloc, &terms, resources, times)?;
+    let asked = asked_order(alloc, &terms, calendar, resources, times)?;
     Ok(Some(order_text(alloc, network, asked)?))
 }
 

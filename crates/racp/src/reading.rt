@@ -1,11 +1,15 @@
 //! How the words of `import` say that tables are read, and what the files are called.
 
+use racp_calendar::{Calendar, DateForm, Unit};
 use racp_host::failure::OptionFault;
-use racp_tables::{Format, Reading, Scale};
+use racp_tables::{Dating, Format, Reading, Scale};
 use racp_words::TableWords;
 
-/// How the words say that a table is read.
-pub(crate) fn reading_of<'a>(words: &TableWords<'a>) -> Result<Reading<'a>, OptionFault> {
+/// How the words say that a table is read, whose dates are those of a calendar.
+pub(crate) fn reading_of<'a>(
+    words: &TableWords<'a>,
+    calendar: Calendar<'a>,
+) -> Result<Reading<'a>, OptionFault> {
     let hours_a_day = match words.hours_a_day {
         Some(word) => word.parse().ok(),
         None => None,
@@ -18,7 +22,36 @@ pub(crate) fn reading_of<'a>(words: &TableWords<'a>) -> Result<Reading<'a>, Opti
             hours_a_day,
             is_half_day: is_half_day(words.unit)?,
         },
+        dating: dating_of(words, calendar)?,
     })
+}
+
+/// How dates in a table are times: by a calendar that counts days, as the table does.
+fn dating_of<'a>(
+    words: &TableWords<'_>,
+    calendar: Calendar<'a>,
+) -> Result<Dating<'a>, OptionFault> {
+    let form = form_of(words.date_format)?;
+    match calendar {
+        Calendar::Numbers if words.date_format.is_some() => Err(OptionFault::DateFormat),
+        Calendar::Dates(workdays) if !is_daily(workdays.unit(), words.unit) => {
+            Err(OptionFault::OtherUnit)
+        }
+        _ => Ok(Dating { calendar, form }),
+    }
+}
+
+/// Whether both a calendar and a table, whose unit a word may tell, count days.
+fn is_daily(unit: Unit, word: Option<&str>) -> bool {
+    matches!(unit, Unit::Day) && word != Some("half-day")
+}
+
+/// How dates are written, by a word that may be there.
+fn form_of(word: Option<&str>) -> Result<DateForm, OptionFault> {
+    match word {
+        Some(word) => DateForm::read(word).ok_or(OptionFault::NoDateFormat),
+        None => Ok(DateForm::ISO),
+    }
 }
 
 /// The format with this name, if one is named.

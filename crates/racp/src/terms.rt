@@ -1,5 +1,7 @@
 //! What an order is to say, by the words for its terms.
 
+use crate::deadline::deadline_of;
+use racp_calendar::Calendar;
 use racp_cli::{Asked, StreamFault, Time};
 use racp_host::failure::{Failure, OptionFault};
 use racp_prices::Factor;
@@ -58,14 +60,16 @@ impl Times {
     }
 }
 
-/// What an order is to say, by the words for its terms, for resources with these names, and with these times.
+/// What an order is to say, by the words for its terms, for resources with these names, and with these times. A deadline may be
+/// a date of the calendar.
 pub(crate) fn asked_order(
     alloc: Global,
     terms: &Terms<'_>,
+    calendar: Calendar<'_>,
     names: &[String],
     times: Times,
 ) -> Result<Asked, Failure> {
-    let time = time_of(terms.factor, terms.deadline)?;
+    let time = time_of(alloc, terms, calendar)?;
     let prices = listed(alloc, terms.prices, names, PRICES)?;
     let owned = optional_list(alloc, terms.owned, names, OWNED)?;
     let ceilings = optional_list(alloc, terms.ceiling, names, CEILING)?;
@@ -80,18 +84,15 @@ pub(crate) fn asked_order(
     })
 }
 
-/// The deadline that one of these two words tells.
-fn time_of(factor: Option<&str>, deadline: Option<&str>) -> Result<Time, OptionFault> {
-    match (factor, deadline) {
+/// The deadline that one of two words tells.
+fn time_of(alloc: Global, terms: &Terms<'_>, calendar: Calendar<'_>) -> Result<Time, Failure> {
+    match (terms.factor, terms.deadline) {
         (Some(factor), None) => match Factor::read(factor) {
             Some(factor) => Ok(Time::Factor(factor)),
-            None => Err(OptionFault::Factor),
+            None => Err(Failure::Option(OptionFault::Factor)),
         },
-        (None, Some(deadline)) => match deadline.parse() {
-            Ok(deadline) => Ok(Time::Deadline(deadline)),
-            Err(_) => Err(OptionFault::Deadline),
-        },
-        _ => Err(OptionFault::Time),
+        (None, Some(word)) => Ok(Time::Deadline(deadline_of(alloc, word, calendar)?)),
+        _ => Err(Failure::Option(OptionFault::Time)),
     }
 }
 

@@ -1,10 +1,12 @@
 //! The texts that are made of a table of tasks.
 
+use crate::deadline::deadline_if;
 use crate::parts::Taken;
 use crate::pricing::order_of;
 use crate::refusing::network_failure;
 use crate::terms::Times;
 use crate::warned::{Told, tell_whole};
+use racp_calendar::Calendar;
 use racp_host::failure::Failure;
 use racp_model::Job;
 use racp_tables::{Table, marked_network, marked_order, names_text, network_text};
@@ -22,19 +24,25 @@ pub(crate) struct Texts {
     pub(crate) resources: usize,
 }
 
-/// The texts of a table, with their marks.
+/// The texts of a table, with their marks. The words may tell a date of the calendar.
 pub(crate) fn texts_of(
     alloc: Global,
     words: &TableWords<'_>,
+    calendar: Calendar<'_>,
     taken: Taken,
 ) -> Result<Texts, Failure> {
-    let mut texts = texts_in(alloc, words, taken)?;
+    let mut texts = texts_in(alloc, words, calendar, taken)?;
     mark(alloc, &mut texts)?;
     Ok(texts)
 }
 
 /// The texts of a table, without marks.
-fn texts_in(alloc: Global, words: &TableWords<'_>, taken: Taken) -> Result<Texts, Failure> {
+fn texts_in(
+    alloc: Global,
+    words: &TableWords<'_>,
+    calendar: Calendar<'_>,
+    taken: Taken,
+) -> Result<Texts, Failure> {
     let Taken {
         name,
         table,
@@ -54,12 +62,14 @@ fn texts_in(alloc: Global, words: &TableWords<'_>, taken: Taken) -> Result<Texts
     let network = network_of(alloc, &name, &resources, jobs, pairs)?;
     let called = (name.as_str(), network.as_str());
     let about = (&earliest, resources.as_slice());
-    tell_whole(alloc, &mut told, words.deadline, called, about, &notes)?;
+    let deadline = deadline_if(alloc, words.deadline, calendar);
+    tell_whole(alloc, &mut told, deadline, called, about, &notes)?;
     let times = Times {
         release: earliest,
         due,
     };
-    let order = order_of(alloc, words, (&name, network.as_bytes()), &resources, times)?;
+    let whole = (name.as_str(), network.as_bytes());
+    let order = order_of(alloc, words, calendar, whole, &resources, times)?;
     let names = names_text(alloc, &names, &headings, notes.tasks, &resources)?;
     Ok(Texts {
         network,

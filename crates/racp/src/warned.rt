@@ -66,11 +66,11 @@ fn push_warning(
     }
 }
 
-/// The same of the table of a network, with a warning if the deadline that a word tells is before its critical length.
+/// The same of the table of a network, with a warning if a deadline is before its critical length.
 pub(crate) fn tell_whole(
     alloc: Global,
     told: &mut Told,
-    deadline: Option<&str>,
+    deadline: Option<u32>,
     network: (&str, &str),
     table: (&Option<Vec<u32>>, &[String]),
     notes: &Notes,
@@ -79,21 +79,17 @@ pub(crate) fn tell_whole(
     push_deadline(told, deadline, network.0, critical)
 }
 
-/// Adds a warning if the deadline that a word tells is before the critical length of the table that is told of by this name.
+/// Adds a warning if a deadline is before the critical length of the table that is told of by this name.
 fn push_deadline(
     told: &mut Told,
-    word: Option<&str>,
+    deadline: Option<u32>,
     name: &str,
     critical: u64,
 ) -> Result<(), AllocError> {
-    let Some(word) = word else {
+    let Some(deadline) = deadline else {
         return Ok(());
     };
-    let deadline: u64 = match word.parse() {
-        Ok(deadline) => deadline,
-        Err(_) => return Ok(()),
-    };
-    if deadline >= critical {
+    if deadline as u64 >= critical {
         return Ok(());
     }
     write!(

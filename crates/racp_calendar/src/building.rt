@@ -100,8 +100,9 @@ fn later(number: u32, other: u32) -> u32
 }
 
 /// The number of a date among all dates.
-fn number_of(date: Date) -> u32
+pub(crate) fn number_of(date: Date) -> u32
     ensures value { result ≡ day_number date }
+    ensures some { 366 ≤ result }
     ensures small { result ≤ 7_304_849 }
 {
     date.days_since_min() + 366

@@ -69,6 +69,13 @@ impl Workdays {
         })
     }
 
+    /// How long a time unit is.
+    pub fn unit(&self) -> Unit
+        ensures { result ≡ self.now.unit }
+    {
+        self.unit
+    }
+
     /// The first day of what runs so long from a time on: what takes no time is done on the evening of that day.
     pub(crate) fn first_day(&self, start: u128, duration: u128) -> u64
         ensures { result ≡ first_of self.now start duration }

@@ -37,9 +37,29 @@ pub fn workdays_of<R: Files + AllocGlobal>(
     if dates.start.is_some() || dates.workdays.is_some() || dates.unit.is_some() {
         return Err(Failure::Option(OptionFault::Calendar));
     }
+    Ok(Some(calendar_in(rt, path)?))
+}
+
+/// The calendar of working days of a file that may be named.
+///
+/// # Errors
+///
+/// The file cannot be read, or is no calendar.
+pub fn named_calendar<R: Files + AllocGlobal>(
+    rt: &R,
+    path: Option<&str>,
+) -> Result<Option<Workdays>, Failure> {
+    match path {
+        Some(path) => Ok(Some(calendar_in(rt, path)?)),
+        None => Ok(None),
+    }
+}
+
+/// The calendar of working days of the file with this path.
+fn calendar_in<R: Files + AllocGlobal>(rt: &R, path: &str) -> Result<Workdays, Failure> {
     let text = read_file(rt, path)?;
     match read_calendar(rt.alloc(), &text) {
-        Ok(workdays) => Ok(Some(workdays)),
+        Ok(workdays) => Ok(workdays),
         Err(error) => Err(refused(rt.alloc(), path, error)),
     }
 }

@@ -30,6 +30,21 @@ pub enum OptionFault {
     /// The deadline is no whole number.
     #[error("--deadline has to be a whole number from 0 to 10,000,000")]
     Deadline,
+    /// The deadline is a date, and nothing says which time that is.
+    #[error("--deadline as a date needs --calendar, which says which days are worked on")]
+    DatedDeadline,
+    /// The deadline is neither a whole number nor a date.
+    #[error("--deadline has to be a whole number from 0 to 10,000,000, or a date such as 2026-11-27")]
+    NoDeadline,
+    /// It is told how dates are written, and nothing says which times they are.
+    #[error("--date-format goes with --calendar, which says which days are worked on")]
+    DateFormat,
+    /// It is told in no way that is known how dates are written.
+    #[error("--date-format has to be a form such as D.M.YYYY, DD.MM.YYYY, M/D/YYYY, MM/DD/YYYY or YYYY-MM-DD")]
+    NoDateFormat,
+    /// A table counts other time units than its calendar.
+    #[error("a table counts days: no --unit half-day beside --calendar, and unit = \"day\" in it")]
+    OtherUnit,
     /// The limit of time is no number of seconds, or out of its range.
     #[error("--time-limit has to be a number of seconds such as 60 or 0.5, above 0 and up to 1,000,000,000")]
     TimeLimit,

@@ -19,6 +19,7 @@ struct Told {
 pub(crate) struct Choice {
     resources: Vec<Told>,
     ignored: Vec<Told>,
+    has_dates: bool,
 }
 
 impl Choice {
@@ -32,6 +33,11 @@ impl Choice {
         has(&self.ignored, key)
     }
 
+    /// Whether deadlines are due times, as they are by a calendar.
+    pub(crate) fn takes_deadlines(&self) -> bool {
+        self.has_dates
+    }
+
     /// Whether it is told which columns are resources.
     pub(crate) fn is_of_resources(&self) -> bool {
         !self.resources.is_empty()
@@ -42,7 +48,11 @@ impl Choice {
 pub(crate) fn choice_of(alloc: Global, reading: &Reading<'_>) -> Result<Choice, AllocError> {
     let resources = told_in(alloc, reading.resources.unwrap_or(""))?;
     let ignored = told_in(alloc, reading.ignored.unwrap_or(""))?;
-    Ok(Choice { resources, ignored })
+    Ok(Choice {
+        resources,
+        ignored,
+        has_dates: reading.dating.calendar.has_dates(),
+    })
 }
 
 /// The titles between commas.

@@ -113,7 +113,15 @@ fn note(
     if choice.is_of_resources() && title_of(key.as_str()) == Title::Unknown {
         return Ok(pass_over(alloc, columns, title)?);
     }
-    note_known(alloc, columns, head, (place, key.as_str()))
+    let mut known = title_of(key.as_str());
+    if known == Title::Deadline {
+        known = if choice.takes_deadlines() {
+            Title::Due
+        } else {
+            Title::Other
+        };
+    }
+    note_known(alloc, columns, head, (place, key.as_str(), known))
 }
 
 /// Notes the column at a place, whose title has this key, by what that means.
@@ -121,11 +129,11 @@ fn note_known(
     alloc: Global,
     columns: &mut Columns,
     head: &StringRecord,
-    keyed: (usize, &str),
+    keyed: (usize, &str, Title),
 ) -> Result<(), TableFault> {
-    let (place, key) = keyed;
+    let (place, key, known) = keyed;
     let title = cell_at(head, place);
-    let earlier = match title_of(key) {
+    let earlier = match known {
         Title::Id => note_once(&mut columns.id, place),
         Title::Name => note_once(&mut columns.name, place),
         Title::Duration => note_once(&mut columns.duration, place),
@@ -136,7 +144,7 @@ fn note_known(
         Title::Assigned => note_once(&mut columns.assigned, place),
         Title::Level => note_once(&mut columns.level, place),
         Title::Nothing => None,
-        Title::Other => return Ok(pass_over(alloc, columns, title)?),
+        Title::Other | Title::Deadline => return Ok(pass_over(alloc, columns, title)?),
         Title::Unknown => return note_unknown(alloc, columns, (title, key), place),
     };
     match earlier {

@@ -34,7 +34,7 @@ pub(crate) fn read_rows(
     text: &str,
     reading: &Reading<'_>,
 ) -> Result<Table, TableFault>
-    ensures { IfOk result (IsTableRead reading.now.scale) }
+    ensures { IfOk result (IsTableRead reading.now.scale reading.now.dating) }
 {
     let lines = with_line_feeds(alloc, text)?;
     let layout = layout_of(alloc, &lines)?;
@@ -58,7 +58,7 @@ fn table_below(
     records: &[StringRecord],
     reading: &Reading<'_>,
 ) -> Result<Table, TableFault>
-    ensures { IfOk result (IsTableBelow reading.now.scale (map fields_of records.now)) }
+    ensures { IfOk result (IsTableBelow reading.now.scale reading.now.dating (map fields_of records.now)) }
 {
     if is_empty_from(head, 0) {
         return Err(no_rows(alloc));
@@ -76,6 +76,7 @@ fn table_below(
         roster: &roster,
         parents: &parents,
         scale: reading.scale,
+        dating: reading.dating,
     };
     let rows = rows_of(alloc, taken, records)?;
     table_of(alloc, taken, &rows, &outline)
@@ -121,7 +122,7 @@ fn rows_of(
     taken: Taken<'_>,
     records: &[StringRecord],
 ) -> Result<Vec<Row>, TableFault>
-    ensures { IfOk result (λ rows. AreRowsOf taken.entry.columns.now (map string_bytes taken.entry.roster.now) taken.entry.parents.now taken.entry.scale 1
+    ensures { IfOk result (λ rows. AreRowsOf taken.entry.columns.now (map string_bytes taken.entry.roster.now) taken.entry.parents.now taken.entry.scale taken.entry.dating 1
         (with_text (map fields_of records.now)) rows.items) }
 {
     let mut rows = Vec::new(alloc);
@@ -140,7 +141,7 @@ fn push_row(
     taken: Taken<'_>,
     record: &StringRecord,
 ) -> Result<(), TableFault>
-    ensures { OnOk result (IsRowAdded taken.entry.columns.now (map string_bytes taken.entry.roster.now) taken.entry.parents.now taken.entry.scale (fields_of «record».now)
+    ensures { OnOk result (IsRowAdded taken.entry.columns.now (map string_bytes taken.entry.roster.now) taken.entry.parents.now taken.entry.scale taken.entry.dating (fields_of «record».now)
         rows.old.items rows.new.items) }
 {
     let place = rows.len();
@@ -150,6 +151,7 @@ fn push_row(
         roster: taken.roster,
         record,
         scale: taken.scale,
+        dating: taken.dating,
         is_phase: is_phase_at(taken.parents, place)?,
     };
     let row = row_of(alloc, cells, number)?;

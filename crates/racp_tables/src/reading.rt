@@ -1,6 +1,7 @@
 //! How a table is to be read.
 
 use crate::format::Format;
+use racp_calendar::{Calendar, DateForm};
 
 /// How a table is to be read, as far as the table does not say it.
 #[derive(Clone, Copy)]
@@ -13,6 +14,17 @@ pub struct Reading<'a> {
     pub ignored: Option<&'a str>,
     /// What durations and times are counted in.
     pub scale: Scale,
+    /// How dates are times.
+    pub dating: Dating<'a>,
+}
+
+/// How dates are times.
+#[derive(Clone, Copy)]
+pub struct Dating<'a> {
+    /// The calendar whose days dates are; none is a time if it tells times by their numbers.
+    pub calendar: Calendar<'a>,
+    /// How dates are written.
+    pub form: DateForm,
 }
 
 /// What durations and times are counted in.

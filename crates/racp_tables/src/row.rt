@@ -3,16 +3,18 @@
 ghost use Rattle.std.specs.Prelude.{◌≡◌, ◌++◌, IfOk, map, nat_lt, string_bytes};
 ghost use Rattle.std.specs.List.{list_any};
 ghost use Rattle.csv.specs.Records.{fields_of};
-ghost use Rattle.racp_tables.specs.CellRows.{IsRowOf, duration_said, needs_said, time_or};
+ghost use Rattle.racp_tables.specs.CellRows.{IsRowOf, IsTimeSaid, duration_said, needs_said, time_or};
+ghost use Rattle.racp_calendar.specs.Times.{IsTimeBy, IsTimeFrom};
 ghost use Rattle.racp_tables.specs.Cells.{cell_of, id_said, plain};
 
 use crate::assigned::{Assigned, assigned_in, push_named};
 use crate::cell::{cell_at, is_empty_from, line_of, optional_cell, plain};
 use crate::columns::Columns;
+use crate::dated::{due_in, earliest_in, looks_dated, no_date};
 use crate::duration::{Said, units_of};
 use crate::fault::TableFault;
 use crate::needs::requests_of;
-use crate::reading::Scale;
+use crate::reading::{Dating, Scale};
 use csv::StringRecord;
 use racp_model::limits::{LATEST_TIME, MOST_DURATION};
 use std::alloc::{AllocError, Global};
@@ -48,6 +50,7 @@ pub(crate) struct Cells<'a> {
     pub(crate) roster: &'a [String],
     pub(crate) record: &'a StringRecord,
     pub(crate) scale: Scale,
+    pub(crate) dating: Dating<'a>,
     /// Whether other rows are parts of this one, which is no task then.
     pub(crate) is_phase: bool,
 }
@@ -55,7 +58,7 @@ pub(crate) struct Cells<'a> {
 /// The row of the task with this number.
 pub(crate) fn row_of(alloc: Global, cells: Cells<'_>, number: usize) -> Result<Row, TableFault>
     ensures { IfOk result (IsRowOf cells.entry.columns.now (map string_bytes cells.entry.roster.now) cells.entry.is_phase number
-        cells.entry.scale (fields_of cells.entry.record.now)) }
+        cells.entry.scale cells.entry.dating (fields_of cells.entry.record.now)) }
 {
     let Cells {
         columns,
@@ -70,8 +73,8 @@ pub(crate) fn row_of(alloc: Global, cells: Cells<'_>, number: usize) -> Result<R
     let name = name_of(alloc, line, optional_cell(record, columns.name))?;
     let requests = needs_of(alloc, cells)?;
     let duration = duration_of(alloc, cells, &requests)?;
-    let earliest = time_of(alloc, cells, columns.earliest, ("earliest", 0))?;
-    let due = time_of(alloc, cells, columns.due, ("due", LATEST_TIME))?;
+    let earliest = earliest_of(alloc, cells)?;
+    let due = due_of(alloc, cells)?;
     Ok(Row {
         line,
         id: id_of(alloc, cells, number)?,
@@ -149,6 +152,33 @@ fn has_needs(requests: &[u32]) -> bool
     requests.iter().any(|units| *units > 0)
 }
 
+/// The time from which the task of a row may start.
+fn earliest_of(alloc: Global, cells: Cells<'_>) -> Result<u32, TableFault>
+    ensures { IfOk result (IsTimeSaid IsTimeFrom 0 (cell_of (fields_of cells.entry.record.now) cells.entry.columns.now.earliest)
+        cells.entry.scale cells.entry.dating) }
+{
+    let place = cells.columns.earliest;
+    let dated = earliest_in(alloc, cells.dating, optional_cell(cells.record, place))?;
+    match dated {
+        Some(time) => Ok(time),
+        None => time_of(alloc, cells, place, ("earliest", 0)),
+    }
+}
+
+/// The time by which the task of a row has to end.
+fn due_of(alloc: Global, cells: Cells<'_>) -> Result<u32, TableFault>
+    ensures { IfOk result (IsTimeSaid IsTimeBy 10000000 (cell_of (fields_of cells.entry.record.now) cells.entry.columns.now.due)
+        cells.entry.scale cells.entry.dating) }
+{
+    let place = cells.columns.due;
+    let cell = optional_cell(cells.record, place);
+    let dated = due_in(alloc, cells.dating, cell, line_of(cells.record))?;
+    match dated {
+        Some(time) => Ok(time),
+        None => time_of(alloc, cells, place, ("due", LATEST_TIME)),
+    }
+}
+
 /// The time that the cell of a column says, which is called so; another where there is no such column, or the cell is
 /// empty.
 fn time_of(
@@ -169,5 +199,8 @@ fn time_of(
         column,
         cell,
     };
+    if looks_dated(cell) {
+        return Err(no_date(alloc, said, cells.dating));
+    }
     units_of(alloc, said, cells.scale, LATEST_TIME)
 }

@@ -38,6 +38,7 @@ pub(crate) fn table_of(
         roster,
         parents,
         scale,
+        ..
     } = taken;
     let resources = columns.resources.len().saturating_add(roster.len());
     test_counts(alloc, columns.line, resources, rows.len())?;

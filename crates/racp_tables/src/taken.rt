@@ -1,7 +1,7 @@
 //! How the rows of a table are read.
 
 use crate::columns::Columns;
-use crate::reading::Scale;
+use crate::reading::{Dating, Scale};
 
 /// How the rows of a table are read: by its columns, the resources that its rows name, and the number of the row that each row is a part
 /// of, by places; 0 if it is a part of none.
@@ -11,4 +11,5 @@ pub(crate) struct Taken<'a> {
     pub(crate) roster: &'a [String],
     pub(crate) parents: &'a [u32],
     pub(crate) scale: Scale,
+    pub(crate) dating: Dating<'a>,
 }

@@ -24,6 +24,8 @@ pub(crate) enum Title {
     Assigned,
     /// How deep they lie in the outline.
     Level,
+    /// By which date they are to end, which is no matter of a table without a calendar.
+    Deadline,
     /// What a plan has no use for.
     Other,
     /// It has no title.
@@ -77,9 +79,13 @@ const KINDS: &[Kind] = &[
         keys: "outlinelevel level gliederungsebene",
     },
     Kind {
+        title: Title::Deadline,
+        keys: "deadline stichtag",
+    },
+    Kind {
         title: Title::Other,
         keys: "start finish end begin begindate startdate enddate finishdate scheduledstart scheduledfinish \
-            actualstart actualfinish anfang ende deadline stichtag cost costs kosten priority priorität \
+            actualstart actualfinish anfang ende cost costs kosten priority priorität \
             %complete complete completion percentcomplete progress %abgeschlossen fortschritt wbs wbscode pspcode \
             outlinenumber gliederungsnummer slack totalslack freeslack \
             gesamtepufferzeit puffer critical kritisch notes note comment comments notizen bemerkung \
@@ -135,6 +141,7 @@ pub(crate) fn near_title(alloc: Global, key: &str) -> Result<Option<&'static str
     }
     for kind in KINDS {
         if kind.title != Title::Other
+            && kind.title != Title::Deadline
             && let Some(near) = near_among(alloc, kind.keys, key)?
         {
             return Ok(Some(near));

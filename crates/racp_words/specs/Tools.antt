@@ -84,10 +84,11 @@ abbrev pub order_priced : App
 order_priced = with_rule (with_rule order_scaled (text_rule (codes "deadline")))
     (record (text_rule (codes "prices")) { required = true })
 
--- `order NET [--names FILE] [--factor F] [--deadline T] --prices N,.. [--owned N,..] [--ceiling N,..] [--json]
+-- `order NET [--names FILE] [--factor F] [--deadline T] --prices N,.. [--owned N,..] [--ceiling N,..] [--calendar FILE] [--json]
 -- [--explain] [--quiet]`
 abbrev pub order : App
-order = answering (with_rule (with_rule order_priced (text_rule (codes "owned"))) (text_rule (codes "ceiling")))
+order = answering (with_rule (with_rule (with_rule order_priced (text_rule (codes "owned"))) (text_rule (codes "ceiling")))
+    (text_rule (codes "calendar")))
 
 -- `import FILE.. --out PROJECT [--from FORMAT]`
 abbrev pub import_from : App
@@ -105,10 +106,15 @@ abbrev pub import_chosen : App
 import_chosen = with_rule (with_rule (with_rule (with_rule import_priced (text_rule (codes "owned"))) (text_rule (codes "ceiling")))
     (text_rule (codes "resources"))) (text_rule (codes "ignore"))
 
--- the same, and `[--hours-a-day N] [--unit UNIT] [--strict] [--force] [--quiet]`
+-- the same, and `[--hours-a-day N] [--unit UNIT] [--calendar FILE] [--date-format FORMAT]`
+abbrev pub import_dated : App
+import_dated = with_rule (with_rule (with_rule (with_rule import_chosen (number_rule (codes "hours-a-day") 24))
+    (text_rule (codes "unit"))) (text_rule (codes "calendar"))) (text_rule (codes "date-format"))
+
+-- the same, and `[--strict] [--force] [--quiet]`
 abbrev pub import_table : App
-import_table = with_rule (with_rule (with_rule (with_rule (with_rule import_chosen (number_rule (codes "hours-a-day") 24))
-    (text_rule (codes "unit"))) (flag_rule (codes "strict"))) (flag_rule (codes "force"))) (flag_rule (codes "quiet"))
+import_table = with_rule (with_rule (with_rule import_dated (flag_rule (codes "strict"))) (flag_rule (codes "force")))
+    (flag_rule (codes "quiet"))
 
 -- `explain [FORMAT] [FAULT]`
 abbrev pub explain : App
@@ -156,6 +162,7 @@ pub record IsNamedNet (words : List Row) (files : NamedNet) : Type 0 where
 pub record AreTerms (words : List Row) (terms : Terms) : Type 0 where
   pub factor : option_map (λ word. word.now) terms.factor ≡ first_of (codes "factor") words
   pub deadline : option_map (λ word. word.now) terms.deadline ≡ first_of (codes "deadline") words
+  pub calendar : option_map (λ word. word.now) terms.calendar ≡ first_of (codes "calendar") words
   pub prices : terms.prices.now ≡ path_at (codes "prices") words
   pub owned : option_map (λ word. word.now) terms.owned ≡ first_of (codes "owned") words
   pub ceiling : option_map (λ word. word.now) terms.ceiling ≡ first_of (codes "ceiling") words
@@ -174,6 +181,8 @@ pub record AreTableWords (words : List Row) (table : TableWords) : Type 0 where
   pub ignored : option_map (λ word. word.now) table.ignored ≡ first_of (codes "ignore") words
   pub hours_a_day : option_map (λ word. word.now) table.hours_a_day ≡ first_of (codes "hours-a-day") words
   pub unit : option_map (λ word. word.now) table.unit ≡ first_of (codes "unit") words
+  pub calendar : option_map (λ word. word.now) table.calendar ≡ first_of (codes "calendar") words
+  pub date_format : option_map (λ word. word.now) table.date_format ≡ first_of (codes "date-format") words
   pub is_strict : table.is_strict ≡ is_set (codes "strict") words
   pub is_forced : table.is_forced ≡ is_set (codes "force") words
 

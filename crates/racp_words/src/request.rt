@@ -137,6 +137,8 @@ pub struct Terms<'a> {
     pub factor: Option<&'a str>,
     /// The deadline, if it is told itself.
     pub deadline: Option<&'a str>,
+    /// The path of the calendar by which a date is a time, if there is one.
+    pub calendar: Option<&'a str>,
     /// The prices.
     pub prices: &'a str,
     /// How many units are owned, if that is told.

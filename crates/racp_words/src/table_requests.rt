@@ -29,6 +29,10 @@ pub struct TableWords<'a> {
     pub hours_a_day: Option<&'a str>,
     /// How long a time unit is, if that is told.
     pub unit: Option<&'a str>,
+    /// The path of the calendar by which dates are times, if there is one.
+    pub calendar: Option<&'a str>,
+    /// How dates are written, if that is told.
+    pub date_format: Option<&'a str>,
     /// Whether a table that looks wrong is refused.
     pub is_strict: bool,
     /// Whether files are replaced that were changed since they were written.

@@ -17,6 +17,13 @@ pub(crate) const CALENDAR: Word<'static> = Word::Text(
     "Tells times by the dates of working days; FILE has the first day, the working days and the holidays",
 );
 
+/// The option for the calendar by which dates are times.
+pub(crate) const TIMES: Word<'static> = Word::Text(
+    "calendar",
+    "FILE",
+    "Takes dates for times; FILE has the first day, the working days and the holidays",
+);
+
 /// The option for the date of the time 0.
 pub(crate) const START_DATE: Word<'static> = Word::Text(
     "start-date",
@@ -78,7 +85,11 @@ pub(crate) const IMPORT: &[Word] = &[
         "F",
         "The deadline as so many times the critical length, rounded down: 1.2",
     ),
-    Word::Text("deadline", "T", "The deadline, 0 to 10,000,000"),
+    Word::Text(
+        "deadline",
+        "T",
+        "The deadline, 0 to 10,000,000, or with --calendar a date: 2026-11-27",
+    ),
     OWNED,
     CEILING,
     Word::Text(
@@ -101,6 +112,12 @@ pub(crate) const IMPORT: &[Word] = &[
         "unit",
         "UNIT",
         "How long a time unit is: day or half-day, which doubles the times of the table; a day if not said",
+    ),
+    TIMES,
+    Word::Text(
+        "date-format",
+        "FORMAT",
+        "With --calendar, how the table writes dates: D.M.YYYY or MM/DD/YYYY; YYYY-MM-DD if not said",
     ),
     Word::Flag("strict", "Refuses a table that looks wrong"),
     Word::Flag(
@@ -131,6 +148,8 @@ pub(crate) fn table_of<'a>(
         ignored: text_of(words, "ignore"),
         hours_a_day: text_of(words, "hours-a-day"),
         unit: text_of(words, "unit"),
+        calendar: text_of(words, "calendar"),
+        date_format: text_of(words, "date-format"),
         is_strict: is_set(words, "strict"),
         is_forced: is_set(words, "force"),
     })

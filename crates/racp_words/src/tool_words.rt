@@ -67,6 +67,7 @@ pub(crate) fn terms_of<'a>(words: &ArgMatches<'a>) -> Terms<'a>
     Terms {
         factor: text_of(words, "factor"),
         deadline: text_of(words, "deadline"),
+        calendar: text_of(words, "calendar"),
         prices: path_of(words, "prices"),
         owned: text_of(words, "owned"),
         ceiling: text_of(words, "ceiling"),

@@ -5,7 +5,7 @@ use crate::most::{MOST_WIDTH, MOST_WORKERS};
 use crate::table::{
     EXPLAIN, JSON, Line, MEMORY, NET, ORDER, PLAN, PROGRESS, QUIET, TIME_LIMIT, TURNS, Word,
 };
-use crate::table_words::{CALENDAR, CEILING, IMPORT, OWNED, START_DATE, UNIT, WORKDAYS};
+use crate::table_words::{CALENDAR, CEILING, IMPORT, OWNED, START_DATE, TIMES, UNIT, WORKDAYS};
 
 /// How many workers make several plans.
 const CREW: Word = Word::Lettered(
@@ -130,7 +130,11 @@ pub(crate) const TOOLS: &[Line] = &[
                 "F",
                 "The deadline as so many times the critical length, rounded down: 1.2",
             ),
-            Word::Text("deadline", "T", "The deadline, 0 to 10,000,000"),
+            Word::Text(
+                "deadline",
+                "T",
+                "The deadline, 0 to 10,000,000, or with --calendar a date: 2026-11-27",
+            ),
             Word::Needed(
                 "prices",
                 "N,..",
@@ -138,6 +142,7 @@ pub(crate) const TOOLS: &[Line] = &[
             ),
             OWNED,
             CEILING,
+            TIMES,
             JSON,
             EXPLAIN,
             QUIET,

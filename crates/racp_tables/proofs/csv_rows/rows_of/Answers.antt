@@ -9,5 +9,5 @@ pub returns : goal.returns
 returns c =
     let none : drop c.loop-record.record-index c.args.records.now ≡ [] = drop_all c.loop-record.record-index c.args.records.now (omega (arith, c.loop-record-test.false)) in
     let last : with_text (map fields_of (drop c.loop-record.record-index c.args.records.now)) ≡ [] = ap (λ (rest : List Row). with_text (map fields_of rest)) none in
-    reading_ends c.args.taken.columns.now (map string_bytes c.args.taken.roster.now) c.args.taken.parents.now c.args.taken.scale (with_text (map fields_of c.args.records.now)) c.loop-record.rows.items
+    reading_ends c.args.taken.columns.now (map string_bytes c.args.taken.roster.now) c.args.taken.parents.now c.args.taken.scale c.args.taken.dating (with_text (map fields_of c.args.records.now)) c.loop-record.rows.items
     (rw last at c.loop-record.invariant)
