@@ -9,8 +9,7 @@ Examples without an import begin with `from racp import *`.
 >>> bridge.add("piers", 5, needs={"crane": 1})
 >>> bridge.add("deck", 4, after=["piers"], needs={"crane": 1, "welder": 2})
 >>> racp.plan(bridge, deadline=9, prices={"welder": 5, "crane": 20})
-<Plan with cost 30, capacity {'welder': 2, 'crane': 1}>
-"""
+<Plan with cost 30, capacity {'welder': 2, 'crane': 1}>"""
 
 from ._calendar import Calendar
 from ._commands import batch, check, critical, curve, plan, prove, soonest, verify, whatif

@@ -14,8 +14,7 @@ class Calendar:
 
     >>> work = Calendar(date(2026, 4, 2), free=[5, 6], holidays=[date(2026, 4, 3), date(2026, 4, 6)])
     >>> work.first_day(1), work.last_day(1), work.deadline(date(2026, 4, 12))
-    (datetime.date(2026, 4, 7), datetime.date(2026, 4, 2), 5)
-    """
+    (datetime.date(2026, 4, 7), datetime.date(2026, 4, 2), 5)"""
 
     start: date
     unit: str = "day"
@@ -50,15 +49,13 @@ class Calendar:
 
     def text(self) -> str:
         """The file that `racp show` and `racp report` read with `--calendar`."""
-        names = ("mon", "tue", "wed", "thu", "fri", "sat", "sun")
-        worked = ",".join(name for day, name in enumerate(names) if day not in self.free)
-        holidays = ", ".join(day.isoformat() for day in sorted(self.holidays))
-        return f'start = {self.start.isoformat()}\nworkdays = "{worked}"\nunit = "{self.unit}"\nholidays = [{holidays}]\n'
+        worked = ",".join(name for day, name in enumerate("mon tue wed thu fri sat sun".split()) if day not in self.free)
+        holidays = ", ".join(map(str, sorted(self.holidays)))
+        return f'start = {self.start}\nworkdays = "{worked}"\nunit = "{self.unit}"\nholidays = [{holidays}]\n'
 
     def _units(self) -> Iterator[list[date]]:
         """The working days of each time unit."""
         length = 7 if self.unit == "week" else 1
-        for begin in count(0, length):
-            days = [self.start + timedelta(begin + day) for day in range(length)]
-            if worked := [day for day in days if day.weekday() not in self.free and day not in self.holidays]:
-                yield worked
+        units = ([self.start + timedelta(first + day) for day in range(length)] for first in count(0, length))
+        worked = ([day for day in unit if day.weekday() not in self.free and day not in self.holidays] for unit in units)
+        return filter(None, worked)

@@ -1,4 +1,4 @@
-"""The commands. Each asks the program, which runs beside this one, and returns values under your own keys. Limits of time are in
+"""The commands. Each asks the program, which runs beside this one, and returns values under your keys. Limits of time are in
 seconds. All raise `Refused` for what is no network, order or plan, `OutOfMemory`, and `ProgramError` if no program answers."""
 
 from __future__ import annotations
@@ -7,7 +7,7 @@ import csv
 import json
 from collections.abc import Hashable, Iterable, Mapping, Sequence
 from dataclasses import replace
-from itertools import accumulate
+from itertools import product
 from pathlib import Path
 from typing import Any
 
@@ -20,8 +20,7 @@ def critical(network: Network) -> tuple[int, dict[Hashable, int]]:
     """How many time units the project takes with enough of everything, and the earliest start of each job.
 
     >>> critical(Network.from_lists([4, 6], needs=[[1], [2]], after=[[], [0]]))
-    (10, {0: 0, 1: 4})
-    """
+    (10, {0: 0, 1: 4})"""
     answer = _ask(network, "cpm")
     return answer["critical"], dict(zip(network.jobs, answer["starts"]))
 
@@ -37,17 +36,14 @@ def plan(network: Network, order: Order | None = None, *, time_limit: float | No
 
     >>> house = Network.from_lists([4, 6, 5], needs=[[0, 1], [3, 1], [2, 0]], after=[[], [0], [0]])
     >>> plan(house, deadline=12, prices=[9, 30])
-    <Plan with cost 75, capacity {0: 5, 1: 1}>
-    """
+    <Plan with cost 75, capacity {0: 5, 1: 1}>"""
     network = Network(network.resources, network.jobs)
     order = replace(order, **terms) if order else Order(**terms)
-    answer = _ask(network, "plan", {"order": order.text(network)}, accept=(0, 4), time_limit=time_limit, workers=workers,
-                  memory=memory, progress=progress)
-    if answer["status"] == "optimal":
-        return _plan(network, order, answer, answer["cost"])
-    if answer["best"] is None:
+    answer = _ask(network, "plan", order, time_limit=time_limit, workers=workers, memory=memory, progress=progress)
+    best = answer.get("best", answer)
+    if best is None:
         raise Stopped({**answer, "says": f"no plan is known by now; each costs at least {answer['bound']}"})
-    return _plan(network, order, {**answer, **answer["best"]}, answer["bound"])
+    return _plan(network, order, {"bound": best["cost"], **answer, **best})
 
 
 def curve(network: Network, order: Order | None = None, *, time_limit: float | None = None, workers: int | None = None,
@@ -56,11 +52,9 @@ def curve(network: Network, order: Order | None = None, *, time_limit: float | N
 
     >>> house = Network.from_lists([4, 6, 5], needs=[[0, 1], [3, 1], [2, 0]], after=[[], [0], [0]])
     >>> [(step.deadline, step.cost) for step in curve(house, deadline=20, prices=[9, 30])]
-    [(10, 75), (15, 57)]
-    """
+    [(10, 75), (15, 57)]"""
     order = replace(order, **terms) if order else Order(**terms)
-    answer = _ask(network, "curve", {"order": order.text(network)}, accept=(0, 4), time_limit=time_limit, workers=workers,
-                  memory=memory, progress=progress)
+    answer = _ask(network, "curve", order, time_limit=time_limit, workers=workers, memory=memory, progress=progress)
     steps = [Step(step["deadline"], step["cost"], dict(zip(network.resources, step["capacities"]))) for step in answer["steps"]]
     return Curve(tuple(steps), answer["status"] == "done")
 
@@ -73,23 +67,20 @@ def soonest(network: Network, team: Values, *, release: Values | None = None, du
     that is due, and `Stopped` if nothing was known in time.
 
     >>> soonest(Network.from_lists([4, 6], needs=[[1], [1]], after=[[], []]), team=[1]).order.deadline
-    10
-    """
+    10"""
     # One job more comes after all others, and needs the whole team for a time unit. So only these units come into question, and
     # the first line of the curve is known soon.
     team, free = in_order(network.resources, team, "team"), [0] * len(network.resources)
     longer = Network(network.resources, network.jobs)
     longer.add(object(), 1, needs=dict(zip(network.resources, (min(units, 10_000) for units in team))), after=network.jobs)
-    begins, ends = in_order(network.jobs, release or {}, "release", 0), in_order(network.jobs, due or {}, "due", MOST)
-    far = max(begins, default=0) + sum(job.duration for job in longer.jobs.values())
-    order = Order(far, free, ceiling=team, release=[*begins, 0], due=[*ends, MOST])
+    order = Order(MOST, free, ceiling=team, release=[*in_order(network.jobs, release or {}, "release", 0), 0],
+                  due=[*in_order(network.jobs, due or {}, "due", MOST), MOST])
     steps = curve(longer, order, time_limit=time_limit, workers=workers)
     if not steps.steps:
         raise Stopped({"status": "stopped", "says": "no time is known by which the team can end"})
-    end = steps.steps[0].deadline
-    found = plan(longer, order, deadline=end, time_limit=time_limit, workers=workers)
-    order = Order(end - 1, free, ceiling=team, release=release, due=due)
-    return replace(check(network, order, {key: found.starts[key] for key in network.jobs}), optimal=steps.complete)
+    found = plan(longer, order, deadline=steps.steps[0].deadline, time_limit=time_limit, workers=workers)
+    order = Order(found.order.deadline - 1, free, ceiling=team, release=release, due=due)
+    return replace(check(network, order, [*found.starts.values()][:-1]), optimal=steps.complete)
 
 
 def whatif(plan: Plan, *, time_limit: float | None = None, workers: int | None = None) -> Changes:
@@ -97,17 +88,13 @@ def whatif(plan: Plan, *, time_limit: float | None = None, workers: int | None =
 
     >>> house = Network.from_lists([4, 6, 5], needs=[[0, 1], [3, 1], [2, 0]], after=[[], [0], [0]])
     >>> [(str(change), change.cost) for change in whatif(plan(house, deadline=15, prices=[9, 30]))][-2:]
-    [('deadline 14', 75), ('deadline 16', 57)]
-    """
-    answer = _ask(plan.network, "whatif", plan.texts(), accept=(0, 4), time_limit=time_limit, workers=workers)
-    changes, jobs, resources = [], [*plan.network.jobs], plan.network.resources
-    for told in answer["changes"]:
-        resource, needed = told["resource"] and resources[told["resource"] - 1], (told["need"] or {"jobs": []})["jobs"]
-        capacity = told["capacities"] and dict(zip(resources, told["capacities"]))
-        more = None if told["cost"] is None else told["cost"] - plan.cost
-        changes.append(Change(told["change"], resource, told["value"], told["outcome"], told["cost"], more, capacity,
-                              tuple(jobs[job - 1] for job in needed)))
-    return Changes(changes)
+    [('deadline 14', 75), ('deadline 16', 57)]"""
+    answer = _ask(plan.network, "whatif", None, plan.texts(), time_limit=time_limit, workers=workers)
+    jobs, resources = dict(enumerate(plan.network.jobs, 1)), dict(enumerate(plan.network.resources, 1))
+    return Changes(Change(told["change"], resources.get(told["resource"]), told["value"], told["outcome"], told["cost"],
+                          None if told["cost"] is None else told["cost"] - plan.cost,
+                          told["capacities"] and dict(zip(resources.values(), told["capacities"])),
+                          tuple(jobs[job] for job in (told["need"] or {"jobs": []})["jobs"])) for told in answer["changes"])
 
 
 def check(network: Network, order: Order, starts: Values) -> Plan:
@@ -119,16 +106,19 @@ def check(network: Network, order: Order, starts: Values) -> Plan:
     <Plan with cost 18, at least 0, capacity {0: 2}>
     >>> check(house, Order(20, [9]), starts=[0, 3])
     Traceback (most recent call last):
-    racp._program.Fault: plan: fault order: a job of a plan does not wait for another; ...
-    """
+    racp._program.Fault: plan: fault order: a job of a plan does not wait for another; ..."""
     network, begun = Network(network.resources, network.jobs), in_order(network.jobs, starts, "starts")
-    capacity = [_most(network, begun, resource) for resource in network.resources]
+    jobs, times = list(zip(begun, network.jobs.values())), {*begun, 0}
+    running = [[job for start, job in jobs if start <= time < start + job.duration] for time in times]
+    capacity = [max(sum(job.needs.get(key, 0) for job in together) for together in running) for key in network.resources]
     prices = in_order(network.resources, order.prices, "prices")
     owned = in_order(network.resources, {} if order.owned is None else order.owned, "owned", 0)
     cost = sum(price * max(0, units - own) for price, units, own in zip(prices, capacity, owned))
-    files = {"order": order.text(network), "plan": plan_text(order.deadline, _critical(network, order), cost, capacity, begun)}
-    _ask(network, "check", files)
-    return _plan(network, order, _ask(network, "show", files), 0)
+    # The critical length from release times on is what an order with the deadline 0 is refused with, if it has no plan.
+    at_once = _ask(network, "plan", Order(0, [0] * len(capacity), release=order.release), accept=(0, 3))
+    text = plan_text(order.deadline, at_once.get("numbers", [0])[0], cost, capacity, begun)
+    _ask(network, "check", order, {"plan": text})
+    return _plan(network, order, {**_ask(network, "show", order, {"plan": text}), "bound": 0})
 
 
 def prove(plan: Plan, *, facts: bool = False, time_limit: float | None = None) -> str:
@@ -136,8 +126,7 @@ def prove(plan: Plan, *, facts: bool = False, time_limit: float | None = None) -
     starts are less. Raises `Unproved` if none can be made, or not in time.
 
     >>> prove(plan(Network.from_lists([4, 6], [[1], [2]], [[], [0]]), deadline=12, prices=[9]), facts=True)[:7]
-    'proof 2'
-    """
+    'proof 2'"""
     return run(plan.texts(), "prove", "net", "order", facts=facts, time_limit=time_limit)
 
 
@@ -146,9 +135,8 @@ def verify(plan: Plan, certificate: str, *, time_limit: float | None = None) -> 
     is wrong, `Unproved` if the certificate does not prove it, and `Stopped`.
 
     >>> cheapest = plan(Network.from_lists([4, 6], [[1], [2]], [[], [0]]), deadline=12, prices=[9])
-    >>> verify(cheapest, prove(cheapest))
-    """
-    _ask(plan.network, "verify", {**plan.texts(), "proof": certificate}, time_limit=time_limit)
+    >>> verify(cheapest, prove(cheapest))"""
+    _ask(plan.network, "verify", None, {**plan.texts(), "proof": certificate}, accept=(0,), time_limit=time_limit)
 
 
 def batch(paths: Iterable[str | Path], factors: Iterable[float], *, price: int = 1,
@@ -158,45 +146,28 @@ def batch(paths: Iterable[str | Path], factors: Iterable[float], *, price: int =
     file that is missing or no network raises nothing: its rows say so.
 
     >>> [row["status"] for row in batch(["no such file.sm"], factors=[1, 1.5])]
-    ['refused', 'refused']
-    """
+    ['refused', 'refused']"""
     given, times = list(paths), list(factors)
     table = run({}, "batch", *(str(Path(path).absolute()) for path in given), factors=",".join(map(str, times)), price=price,
                 time_limit=time_limit, jobs=jobs, memory=memory, quiet=True)
-    asked = [{"file": str(path), "factor": time} for path in given for time in times]
     rows = [{name: json.loads(word) if word.replace(".", "", 1).isdecimal() else word or None for name, word in row.items()}
             for row in csv.DictReader(table.splitlines())]
-    return Batch({**row, **own} for row, own in zip(rows, asked))
+    return Batch({**row, "file": str(path), "factor": time} for row, (path, time) in zip(rows, product(given, times)))
 
 
-def _ask(network: Network, command: str, files: Mapping[str, str] = {}, **words: Any) -> dict[str, Any]:
-    """What a command answers that reads the network and then these files; words as with `run`."""
-    texts, jobs = {"net": network.text(), **files}, tuple(network.jobs)
+def _ask(network: Network, command: str, order: Order | None = None, files: Mapping[str, str] = {},
+         accept: Sequence[int] = (0, 4), **words: Any) -> Any:
+    """The object that a command answers which reads the network, an order and then these files; words as with `run`."""
+    texts, jobs = {"net": network.text(), **({"order": order.text(network)} if order else {}), **files}, tuple(network.jobs)
     keys = {"job": jobs, "before": jobs, "resource": network.resources}
-    answer: dict[str, Any] = json.loads(run(texts, command, *texts, keys=keys, json=True, **words))
-    return answer
+    return json.loads(run(texts, command, *texts, accept=accept, keys=keys, json=True, **words))
 
 
-def _plan(network: Network, order: Order, shown: Mapping[str, Any], bound: int) -> Plan:
+def _plan(network: Network, order: Order, shown: Mapping[str, Any]) -> Plan:
     """A plan of what the program tells of one."""
     jobs, resources = dict(zip(network.jobs, shown["jobs"])), dict(zip(network.resources, shown["resources"]))
-    return Plan(network, order, shown["critical"], shown["cost"], bound, shown.get("status") == "optimal",
-                capacity={key: told["capacity"] for key, told in resources.items()},
-                starts={key: told["start"] for key, told in jobs.items()},
-                slack={key: told["slack"] for key, told in jobs.items()},
+    return Plan(network, order, shown["critical"], shown["cost"], shown["bound"], shown.get("status") == "optimal",
+                capacity={key: resource["capacity"] for key, resource in resources.items()},
+                starts={key: job["start"] for key, job in jobs.items()}, slack={key: job["slack"] for key, job in jobs.items()},
                 usage={key: [(step["from"], step["units"]) for step in told["usage"]] for key, told in resources.items()},
                 work={name: shown[name] for name in ("pieces", "nodes", "conflicts", "seconds") if name in shown})
-
-
-def _critical(network: Network, order: Order) -> int:
-    """The critical length from the release times on: for the deadline 0 the program says that it is too long, or plans it."""
-    at_once = Order(0, [0] * len(network.resources), release=order.release).text(network)
-    answer = _ask(network, "plan", {"order": at_once}, accept=(0, 3))
-    return int(answer["critical"] if answer["status"] == "optimal" else answer["numbers"][0])
-
-
-def _most(network: Network, starts: Sequence[int], resource: Hashable) -> int:
-    """The peak of the usage of a resource."""
-    changes = [change for start, job in zip(starts, network.jobs.values()) if job.duration
-               for change in ((start, job.needs.get(resource, 0)), (start + job.duration, -job.needs.get(resource, 0)))]
-    return max(accumulate(units for _, units in sorted(changes)), default=0)

@@ -37,14 +37,14 @@ class Network:
     >>> Network.from_lists([4, 6], needs=[[0, 1], [3, 1]], after=[[], [0]]).jobs[1]
     Job(duration=6, needs={0: 3, 1: 1}, after=(0,))
     >>> Network.read("examples/a.sm")
-    <Network of 5 jobs and 1 resources>
-    """
+    <Network of 5 jobs and 1 resources>"""
 
     def __init__(self, resources: Iterable[Hashable], jobs: Mapping[Any, Job] | None = None) -> None:
         self.resources: tuple[Hashable, ...] = tuple(dict.fromkeys(resources))
         self.jobs: dict[Hashable, Job] = dict(jobs or {})
 
-    def add(self, key: Hashable, duration: int, *, needs: Mapping[Any, int] | None = None, after: Iterable[Hashable] = ()) -> None:
+    def add(self, key: Hashable, duration: int, *, needs: Mapping[Any, int] | None = None,
+            after: Iterable[Hashable] = ()) -> None:
         """One job more (see `Job`); those of `after` may follow later. Raises ValueError if the key is taken, or the job needs
         what is no resource. All other rules are the program's, which refuses the network when it is first used."""
         if key in self.jobs:
@@ -59,12 +59,12 @@ class Network:
         Raises ValueError if the lists are not of the same length."""
         if not len(durations) == len(needs) == len(after):
             raise ValueError(f"there are {len(durations)} durations, {len(needs)} needs and {len(after)} lists of jobs before")
-        jobs = (Job(duration, dict(enumerate(needed)), tuple(before)) for duration, needed, before in zip(durations, needs, after))
+        jobs = (Job(length, dict(enumerate(needed)), tuple(before)) for length, needed, before in zip(durations, needs, after))
         return cls(range(max(map(len, needs), default=0)), dict(enumerate(jobs)))
 
     @classmethod
     def from_networkx(cls, graph: Any, *, duration: str = "duration", needs: str = "needs") -> Network:
-        """The nodes of a networkx.DiGraph as jobs, and its edges as the pairs of which one comes before the other. Each node has
+        """The nodes of a networkx.DiGraph as jobs, and its edges as pairs of which one comes before the other. Each node has
         its duration, and perhaps a mapping from resources to units, under these names. Raises KeyError without a duration."""
         jobs = {key: Job(node[duration], dict(node.get(needs, {})), tuple(graph.predecessors(key)))
                 for key, node in graph.nodes(data=True)}
@@ -78,26 +78,25 @@ class Network:
         early = json.loads(run({}, "cpm", file, json=True))
         [row] = csv.DictReader(run({}, "batch", file, factors=1, price=0, time_limit=1e-9).splitlines())
         count, length = int(row["resources"]), early["critical"]
-        plan = plan_text(length, length, 0, [MOST] * count, early["starts"])
-        texts = {"order": f"deadline = {length}\nprices = {[0] * count}\n", "plan": plan}
+        texts = {"order": f"deadline = {length}\nprices = {[0] * count}\n",
+                 "plan": plan_text(length, length, 0, [MOST] * count, early["starts"])}
         jobs = {job["job"]: Job(job["duration"], {key: units for key, units in enumerate(job["requests"], 1) if units},
                                 tuple(job["predecessors"]))
                 for job in json.loads(run(texts, "show", file, "order", "plan", json=True))["jobs"]}
         return cls(range(1, count + 1), jobs)
 
     def text(self) -> str:
-        """What `racp` reads: the jobs by their numbers, as PSPLIB has them. Raises ValueError if a job is after what is no job."""
-        number = {key: place for place, key in enumerate(self.jobs, 1)}
+        """What `racp` reads: jobs by their numbers, as PSPLIB has them. Raises ValueError if one comes after what is no job."""
         followers: dict[Hashable, list[int]] = {key: [] for key in self.jobs}
-        for key, job in self.jobs.items():
+        for number, (key, job) in enumerate(self.jobs.items(), 1):
             for before in dict.fromkeys(job.after):
-                if before not in number:
+                if before not in followers:
                     raise ValueError(f"job {key!r} comes after {before!r}, and there is no such job")
-                followers[before].append(number[key])
-        arcs = [(number[key], 1, len(jobs), *jobs) for key, jobs in followers.items()]
-        needs = [(number[key], 1, job.duration, *(job.needs.get(resource, 0) for resource in self.resources))
-                 for key, job in self.jobs.items()]
-        return _lines([("jobs:", len(number)), ("- renewable:", len(self.resources)), ("PRECEDENCE RELATIONS:",), (), *arcs,
+                followers[before].append(number)
+        arcs = [(number, 1, len(after), *after) for number, after in enumerate(followers.values(), 1)]
+        needs = [(number, 1, job.duration, *(job.needs.get(resource, 0) for resource in self.resources))
+                 for number, job in enumerate(self.jobs.values(), 1)]
+        return _lines([("jobs:", len(arcs)), ("- renewable:", len(self.resources)), ("PRECEDENCE RELATIONS:",), (), *arcs,
                        ("REQUESTS/DURATIONS:",), (), *needs])
 
     def __repr__(self) -> str:
@@ -116,8 +115,7 @@ class Order:
     >>> pit = Network(["crane"], {"dig": Job(4, {"crane": 2})})
     >>> print(Order(deadline=9, prices={"crane": 30}).text(pit), end="")
     deadline = 9
-    prices = [30]
-    """
+    prices = [30]"""
 
     deadline: int
     prices: Values
@@ -128,12 +126,11 @@ class Order:
 
     def text(self, network: Network) -> str:
         """What `racp` reads, in TOML. Raises ValueError for keys that the network has not, and prices left out."""
-        rows = [("deadline =", self.deadline), ("prices =", in_order(network.resources, self.prices, "prices"))]
-        for name, keys, default in (("owned", network.resources, 0), ("ceiling", network.resources, MOST),
-                                    ("release", network.jobs, 0), ("due", network.jobs, MOST)):
-            if (values := getattr(self, name)) is not None:
-                rows.append((f"{name} =", in_order(keys, values, name, default)))
-        return _lines([*[("version =", 2)] * (len(rows) > 2), *rows])
+        terms = (("prices", network.resources, None), ("owned", network.resources, 0), ("ceiling", network.resources, MOST),
+                 ("release", network.jobs, 0), ("due", network.jobs, MOST))
+        rows = [(f"{name} =", in_order(keys, values, name, default)) for name, keys, default in terms
+                if (values := getattr(self, name)) is not None]
+        return _lines([*[("version =", 2)] * (len(rows) > 1), ("deadline =", self.deadline), *rows])
 
 
 def in_order(keys: Collection[Hashable], values: Values, what: str, default: int | None = None) -> list[int]:

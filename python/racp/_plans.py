@@ -35,20 +35,17 @@ class Table:
 
 @dataclass(frozen=True)
 class Plan(Table):
-    """How many units of each resource to have, and when each job starts.
-
-    `capacity` has units, `starts` times, and `slack` by how many time units each job could start later if only what comes
-    after it counted. `usage` has, for each resource, pairs of a time and the units in use from then on. `critical` is the
-    length of the project with enough of everything. No plan of the order costs less than `bound`, and one that is proved to
-    be the cheapest is `optimal`. `work` tells what planning took, such as "seconds".
+    """How many units of each resource to have, and when each job starts. `capacity` has units, `starts` times, and `slack` by
+    how many time units each job could start later if only what comes after it counted. `usage` has, for each resource, pairs of
+    a time and the units in use from then on. `critical` is the length of the project with enough of everything. No plan of the
+    order costs less than `bound`; one that is proved cheapest is `optimal`. `work` tells what planning took, such as "seconds".
 
     >>> import racp
     >>> plan = racp.plan(racp.Network(["crane"], {"dig": racp.Job(4, {"crane": 2})}), deadline=9, prices=[30])
     >>> plan.cost, plan.gap, plan.ends, plan.days(racp.Calendar(date(2026, 3, 5), free=[5, 6]))
     (60, 0.0, {'dig': 4}, {'dig': (datetime.date(2026, 3, 5), datetime.date(2026, 3, 10))})
     >>> plan.report(curve=True)[:15]
-    '<!DOCTYPE html>'
-    """
+    '<!DOCTYPE html>'"""
 
     network: Network
     order: Order
@@ -87,13 +84,11 @@ class Plan(Table):
         other deadlines and changes of the order cost, each planned within the limit of time, in seconds. With a calendar it
         tells the first and the last day of each job."""
         names = "".join(" ".join(str(key).split()) + "\n" for key in (*self.network.jobs, *self.network.resources))
-        texts = {**self.texts(), "names": names}
+        texts = {**self.texts(), "names": names, "calendar": calendar.text() if calendar else ""}
         if curve:
             texts["curve"] = run(texts, "curve", "net", "order", accept=(0, 4), time_limit=time_limit)
         if whatif:
             texts["whatif"] = run(texts, "whatif", "net", "order", "plan", names="names", accept=(0, 4), time_limit=time_limit)
-        if calendar:
-            texts["calendar"] = calendar.text()
         page = run(texts, "report", "net", "order", "plan", names="names", curve=curve and "curve", whatif=whatif and "whatif",
                    calendar=calendar and "calendar")
         if path is not None:
@@ -102,10 +97,9 @@ class Plan(Table):
 
     def table(self) -> list[list[Any]]:
         """A row for each job: its key, start, end and slack, and its units of each resource."""
-        resources, ends = self.network.resources, self.ends
-        rows = [[key, self.starts[key], ends[key], self.slack[key], *(job.needs.get(resource, 0) for resource in resources)]
-                for key, job in self.network.jobs.items()]
-        return [["job", "start", "end", "slack", *resources], *rows]
+        needs = {key: [job.needs.get(resource, 0) for resource in self.capacity] for key, job in self.network.jobs.items()}
+        rows = [[key, self.starts[key], end, self.slack[key], *needs[key]] for key, end in self.ends.items()]
+        return [["job", "start", "end", "slack", *self.capacity], *rows]
 
     def to_pandas(self, calendar: Calendar | None = None) -> Any:
         """A pandas.DataFrame with these rows under the keys of the jobs; with a calendar it has the first and last day too."""
@@ -122,12 +116,10 @@ class Plan(Table):
         heights = [0.25 * len(self.starts) + 0.5] + [1.0] * len(self.capacity)
         figure, (chart, *below) = pyplot.subplots(len(heights), sharex=True, constrained_layout=True,
                                                   figsize=(9, sum(heights) + 1), gridspec_kw={"height_ratios": heights})
-        lengths = [job.duration for job in self.network.jobs.values()]
-        chart.barh(range(len(lengths)), lengths, left=[*self.starts.values()], tick_label=[*map(str, self.starts)],
-                   color=["C0" if slack else "C3" for slack in self.slack.values()])
-        chart.invert_yaxis()
+        chart.barh(range(len(self.starts)), [job.duration for job in self.network.jobs.values()], left=[*self.starts.values()],
+                   tick_label=[*map(str, self.starts)], color=["C0" if slack else "C3" for slack in self.slack.values()])
+        chart.set(ylim=chart.get_ylim()[::-1], title=f"cost {self.cost}{'' if self.optimal else f', at least {self.bound}'}")
         chart.axvline(self.order.deadline, color="black", linewidth=1)
-        chart.set_title(f"cost {self.cost}" if self.optimal else f"cost {self.cost}, at least {self.bound}")
         for axes, (resource, usage) in zip(below, self.usage.items()):
             axes.fill_between(*zip(*usage, (self.order.deadline, 0)), step="post", alpha=0.5)
             axes.axhline(self.capacity[resource], color="black", linestyle="dashed", linewidth=1)
@@ -138,7 +130,7 @@ class Plan(Table):
         return figure
 
     def __repr__(self) -> str:
-        return f"<Plan with cost {self.cost}{'' if self.optimal else f', at least {self.bound}'}, capacity {dict(self.capacity)}>"
+        return f"<Plan with cost {self.cost}{'' if self.optimal else f', at least {self.bound}'}, capacity {self.capacity}>"
 
 
 @dataclass(frozen=True)
@@ -159,8 +151,7 @@ class Curve(Table):
     >>> pit = racp.Network(["digger"], {job: racp.Job(4, {"digger": 1}) for job in ("north", "south")})
     >>> curve = racp.curve(pit, deadline=9, prices=[30])
     >>> [(step.deadline, step.cost) for step in curve], curve.at(7).cost, curve.cheapest(each_time_unit=5).deadline
-    ([(4, 60), (8, 30)], 60, 8)
-    """
+    ([(4, 60), (8, 30)], 60, 8)"""
 
     steps: tuple[Step, ...]
     complete: bool
@@ -184,9 +175,9 @@ class Curve(Table):
 
 @dataclass(frozen=True)
 class Change:
-    """An order in which one `term`, "ceiling", "owned" or "deadline", has another `value`. The `outcome` is "plan" with its cost,
-    how much `more` that is, and its units; "impossible", perhaps with the jobs by which more units are `needed`; or "open" if the
-    time was up."""
+    """An order in which one `term`, "ceiling", "owned" or "deadline", has another `value`. The `outcome` is "plan" with its
+    cost, how much `more` that is, and its units; "impossible", perhaps with the jobs by which more units are `needed`; or
+    "open" if the time was up."""
 
     term: str
     resource: Hashable

@@ -12,9 +12,8 @@ from pathlib import Path
 from typing import Any, Callable, Optional
 
 Progress = Optional[Callable[[dict[str, Any]], object]]  #: is called with each line of progress of docs/FORMATS.md
-#: What the numbers of a fault mean, by its name.
-_MEANINGS = {"critical": ("critical", "deadline"), "due": ("job",), "late": ("job",), "early": ("job",), "ceiling": ("resource",),
-             "order": ("before", "job"), "over": ("resource", "time")}
+_MEANINGS = {"critical": ("critical", "deadline"), "order": ("before", "job"), "over": ("resource", "time"), "due": ("job",),
+             "late": ("job",), "early": ("job",), "ceiling": ("resource",)}  #: what the numbers of a fault mean, by its name
 
 
 class RacpError(Exception):
@@ -28,8 +27,7 @@ class RacpError(Exception):
     ...     racp.plan(racp.Network(["crane"], {"dig": racp.Job(4)}), deadline=3, prices=[30])
     ... except racp.RacpError as error:
     ...     error.name, error.numbers, error.where
-    ('critical', [4, 3], {'critical': 4, 'deadline': 3})
-    """
+    ('critical', [4, 3], {'critical': 4, 'deadline': 3})"""
 
     def __init__(self, answer: Mapping[str, Any], where: Mapping[str, Hashable] = {}) -> None:
         self.answer, self.where = dict(answer), dict(where)
@@ -69,31 +67,31 @@ class ProgramError(RacpError):
     """There is no program, or something ended it, or it could not read a file."""
 
 
-_ERRORS = {"refused": Refused, "impossible": Impossible, "fault": Fault, "unproved": Unproved, "stopped": Stopped, "memory": OutOfMemory}
+_ERRORS = {"refused": Refused, "impossible": Impossible, "fault": Fault, "unproved": Unproved, "stopped": Stopped,
+           "memory": OutOfMemory}
 
 
 def program() -> str:
     """The path of the program that runs: what the variable RACP names, or else the first of these that is there: the one in
     this package, `racp` in PATH, and the one in dist/ of the clone of the package. Raises `ProgramError` if there is none."""
     here, named = Path(__file__).resolve().parent, os.environ.get("RACP")
-    clone = here / "clone.txt"
-    above = Path(clone.read_text(encoding="utf-8")) if clone.exists() else here.parents[1]
-    places = [str(here / "program" / "racp"), shutil.which("racp") or "", str(above / "dist" / "racp-x86_64-linux")]
-    for place in [named] if named else places:
-        if os.access(place, os.X_OK):
-            return os.path.abspath(place)
-    raise ProgramError({"status": "no program", "says": f"there is no program {named or 'racp'}; the variable RACP can name it"})
+    clone = Path(noted.read_text(encoding="utf-8")) if (noted := here / "clone.txt").exists() else here.parents[1]
+    places = [str(here / "program" / "racp"), shutil.which("racp") or "", str(clone / "dist" / "racp-x86_64-linux")]
+    if found := [place for place in ([named] if named else places) if os.access(place, os.X_OK)]:
+        return os.path.abspath(found[0])
+    raise ProgramError({"status": "no program", "says": f"there is no {named or 'racp'}; the variable RACP can name it"})
 
 
 def run(texts: Mapping[str, str], *words: str, accept: Sequence[int] = (0,), keys: Mapping[str, Sequence[Hashable]] = {},
         progress: Progress = None, **options: object) -> str:
     """What the program writes if it runs beside files of these texts. Raises its error, with these keys in place of numbers,
-    if it ends with a status that is not in `accept`. Lines of progress are told while it runs, on this thread.
-
-    Whatever ends the call, Ctrl-C or an error in `progress`, ends the program too, and takes the folder away.
-    """
+    if it ends with a status that is not in `accept`. Options are words of its own: time_limit=2.5 is --time-limit=2.500000000,
+    and facts=True is --facts. Lines of progress are told while it runs, on this thread. Whatever ends the call, Ctrl-C or an
+    error in `progress`, ends the program too, and takes the folder away."""
     options["progress"] = progress is not None
-    told = [_option(name, value) for name, value in options.items() if value is not None and value is not False]
+    given = {f"--{key.replace('_', '-')}": value for key, value in options.items() if value is not None and value is not False}
+    told = [name if value is True else f"{name}={value:.9f}" if isinstance(value, float) else f"{name}={value}"
+            for name, value in given.items()]
     with tempfile.TemporaryDirectory(prefix="racp-") as folder, open(Path(folder, "answer"), "wb") as answer:
         for name, text in texts.items():
             Path(folder, name).write_bytes(text.encode())
@@ -114,12 +112,6 @@ def run(texts: Mapping[str, str], *words: str, accept: Sequence[int] = (0,), key
     if child.returncode in accept and output.startswith("{" if "json" in options else ""):
         return output
     raise _error(child.returncode, output, " ".join(said), keys)
-
-
-def _option(name: str, value: object) -> str:
-    """An option as a word of the command line: time_limit=2.5 is --time-limit=2.500000000, and facts=True is --facts."""
-    text = "" if value is True else f"={value:.9f}" if isinstance(value, float) else f"={value}"
-    return f"--{name.replace('_', '-')}{text}"
 
 
 def _error(status: int, output: str, said: str, keys: Mapping[str, Sequence[Hashable]]) -> RacpError:
