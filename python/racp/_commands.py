@@ -62,9 +62,8 @@ def curve(network: Network, order: Order | None = None, *, time_limit: float | N
 def soonest(network: Network, team: Values, *, release: Values | None = None, due: Values | None = None,
             time_limit: float | None = None, workers: int | None = None) -> Plan:
     """The plan that ends the project, of up to 511 jobs, as soon as a team can: so many units of each resource, at no cost. Its
-    deadline is that end, if the plan is `optimal`. Else the limit of time was reached, which counts once for the deadline and
-    once for the starts, and the team may be able to end sooner. Raises `Impossible` if it cannot do a job at all, or not all
-    that is due, and `Stopped` if nothing was known in time.
+    deadline is that end. If it is not `optimal`, the limit of time came, which counts anew for the starts, and the team may end
+    sooner. Raises `Impossible` if it cannot do a job, or all that is due, and `Stopped` if nothing is known.
 
     >>> soonest(Network.from_lists([4, 6], needs=[[1], [1]], after=[[], []]), team=[1]).order.deadline
     10"""

@@ -80,9 +80,8 @@ class Plan(Table):
 
     def report(self, path: str | Path | None = None, *, curve: bool = False, whatif: bool = False,
                calendar: Calendar | None = None, time_limit: float | None = None) -> str:
-        """A page in HTML to read and to print, which is also written to the path. With `curve` and `whatif` it has what
-        other deadlines and changes of the order cost, each planned within the limit of time, in seconds. With a calendar it
-        tells the first and the last day of each job."""
+        """A page in HTML to read and print, also written to the path. With `curve` and `whatif` it tells what other deadlines
+        and changes cost, planned in up to `time_limit` seconds each; with a calendar the first and last day of each job."""
         names = "".join(" ".join(str(key).split()) + "\n" for key in (*self.network.jobs, *self.network.resources))
         texts = {**self.texts(), "names": names, "calendar": calendar.text() if calendar else ""}
         if curve:

@@ -74,20 +74,19 @@ _ERRORS = {"refused": Refused, "impossible": Impossible, "fault": Fault, "unprov
 def program() -> str:
     """The path of the program that runs: what the variable RACP names, or else the first of these that is there: the one in
     this package, `racp` in PATH, and the one in dist/ of the clone of the package. Raises `ProgramError` if there is none."""
-    here, named = Path(__file__).resolve().parent, os.environ.get("RACP")
+    here, path = Path(__file__).resolve().parent, os.environ.get("RACP")
     clone = Path(noted.read_text(encoding="utf-8")) if (noted := here / "clone.txt").exists() else here.parents[1]
     places = [str(here / "program" / "racp"), shutil.which("racp") or "", str(clone / "dist" / "racp-x86_64-linux")]
-    if found := [place for place in ([named] if named else places) if os.access(place, os.X_OK)]:
+    if found := [place for place in ([path] if path else places) if os.access(place, os.X_OK)]:
         return os.path.abspath(found[0])
-    raise ProgramError({"status": "no program", "says": f"there is no {named or 'racp'}; the variable RACP can name it"})
+    raise ProgramError({"status": "no program", "says": f"there is no program {path or 'racp'}; the variable RACP can name it"})
 
 
 def run(texts: Mapping[str, str], *words: str, accept: Sequence[int] = (0,), keys: Mapping[str, Sequence[Hashable]] = {},
         progress: Progress = None, **options: object) -> str:
-    """What the program writes if it runs beside files of these texts. Raises its error, with these keys in place of numbers,
-    if it ends with a status that is not in `accept`. Options are words of its own: time_limit=2.5 is --time-limit=2.500000000,
-    and facts=True is --facts. Lines of progress are told while it runs, on this thread. Whatever ends the call, Ctrl-C or an
-    error in `progress`, ends the program too, and takes the folder away."""
+    """What the program writes beside files of these texts, with options as words: time_limit=2.5 is --time-limit=2.500000000.
+    Raises its error, under these keys, if its status is not in `accept`. Lines of progress are told meanwhile, on this thread.
+    Whatever ends the call, Ctrl-C or an error in `progress`, ends the program too, and takes the folder away."""
     options["progress"] = progress is not None
     given = {f"--{key.replace('_', '-')}": value for key, value in options.items() if value is not None and value is not False}
     told = [name if value is True else f"{name}={value:.9f}" if isinstance(value, float) else f"{name}={value}"
