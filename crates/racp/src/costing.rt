@@ -189,14 +189,14 @@ fn curve_by<R: Crewed, W: Write>(
     status
 }
 
-/// What tells how far the plans of a curve have come, if that is asked for.
+/// What tells how far the plans of a curve have come, if that is asked for or on a terminal; the object of JSON has no counts.
 fn told_progress(
     alloc: Global,
     is_asked: bool,
     manner: Manner,
 ) -> Result<Option<Progress>, AllocError> {
-    if is_asked {
-        progress_of(alloc, true, manner)
+    if is_asked || !manner.is_json {
+        progress_of(alloc, is_asked, manner)
     } else {
         Ok(None)
     }

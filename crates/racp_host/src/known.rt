@@ -80,6 +80,18 @@ impl Known {
         }
     }
 
+    /// Writes it in few words.
+    pub(crate) fn write_short<W: fmt::Write>(&self, f: &mut Formatter<W>) -> fmt::Result {
+        let bound = self.bound();
+        match self.best() {
+            Some(best) => {
+                let gap = gap(best, bound);
+                write!(f, "cost {best}, at least {bound} (gap {gap}%)")
+            }
+            None => write!(f, "no plan yet, at least {bound}"),
+        }
+    }
+
     /// Tells on standard error what is known when planning was stopped.
     pub fn tell(&self, errors: &impl Eprint) {
         let bound = self.bound();

@@ -115,28 +115,31 @@ pub fn memory_of(asked: Memory, workers: usize) -> usize
     }
 }
 
-/// What counts and tells how far planning has come, if that is asked for, or counts it alone for JSON.
+/// What counts and tells how far planning has come, if that is asked for; on a terminal also unasked, in few words; or counts it
+/// alone for JSON.
+///
+/// # Errors
+///
+/// Memory was refused.
 pub fn progress_of(
     alloc: Global,
     is_asked: bool,
     manner: Manner,
 ) -> Result<Option<Progress>, AllocError> {
-    if is_asked || manner.is_json {
-        Ok(Some(Progress::new(alloc, pace_of(is_asked, manner))?))
-    } else {
-        Ok(None)
+    match pace_of(is_asked, manner) {
+        Some(pace) => Ok(Some(Progress::new(alloc, pace)?)),
+        None => Ok(None),
     }
 }
 
-/// How it is told how far planning has come.
-fn pace_of(is_asked: bool, manner: Manner) -> Pace {
-    if !is_asked {
-        Pace::Silent
-    } else if manner.is_json {
-        Pace::Json
-    } else if manner.on_terminal {
-        Pace::InPlace
-    } else {
-        Pace::Lines
+/// How it is told how far planning has come; `None` if it is not even counted.
+fn pace_of(is_asked: bool, manner: Manner) -> Option<Pace> {
+    match (is_asked, manner.is_json) {
+        (true, true) => Some(Pace::Json),
+        (true, false) if manner.on_terminal => Some(Pace::InPlace),
+        (true, false) => Some(Pace::Lines),
+        (false, true) => Some(Pace::Silent),
+        (false, false) if manner.on_terminal && !manner.is_quiet() => Some(Pace::Short),
+        (false, false) => None,
     }
 }

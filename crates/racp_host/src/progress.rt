@@ -51,11 +51,29 @@ impl<'a> Display for JsonLine<'a> {
     }
 }
 
+/// A short line for a person: the time that has passed, and what is known of the plan.
+#[derive(Drop)]
+struct ShortLine<'a> {
+    seconds: u64,
+    known: &'a Known,
+}
+
+impl<'a> Display for ShortLine<'a> {
+    fn fmt<W: fmt::Write>(&self, f: &mut Formatter<W>) -> fmt::Result {
+        let (minutes, seconds) = (self.seconds / 60, self.seconds % 60);
+        let zero = if seconds < 10 { "0" } else { "" };
+        write!(f, "{minutes}:{zero}{seconds}  ")?;
+        self.known.write_short(f)
+    }
+}
+
 /// How it is told how far planning has come.
 #[derive(Clone, Copy, PartialEq, Eq)]
 pub(crate) enum Pace {
     /// Not at all; it is only counted.
     Silent,
+    /// In short lines, each in the place of the one before it.
+    Short,
     /// In lines.
     Lines,
     /// In lines, each in the place of the one before it.
@@ -164,21 +182,36 @@ impl Progress {
     /// Tells the line that was due when so much time had passed. If that cannot be written, nothing is told.
     pub(crate) fn tell<E: Eprint>(&self, errors: &E, passed: Duration, known: &Known) {
         let seconds = passed.as_secs();
-        if self.pace == Pace::Json {
-            let line = JsonLine {
-                seconds,
-                progress: self,
-                known,
-            };
-            let _ = errors.eprintln(line);
-            return;
+        match self.pace {
+            Pace::Silent => {}
+            Pace::Json => {
+                let _ = errors.eprintln(JsonLine {
+                    seconds,
+                    progress: self,
+                    known,
+                });
+            }
+            Pace::Short => {
+                let place = self.place();
+                let line = ShortLine { seconds, known };
+                let _ = errors.eprintln(format_args!("{place}{line}"));
+            }
+            Pace::Lines => self.tell_line(errors, seconds, "", known),
+            Pace::InPlace => self.tell_line(errors, seconds, self.place(), known),
         }
-        let is_begun = self.is_begun.swap(true, Ordering::SeqCst);
-        let place = if self.pace == Pace::InPlace && is_begun {
+    }
+
+    /// What is sent before a line that takes the place of the one above, if there is one.
+    fn place(&self) -> &'static str {
+        if self.is_begun.swap(true, Ordering::SeqCst) {
             IN_PLACE
         } else {
             ""
-        };
+        }
+    }
+
+    /// Tells a line of all that is counted, behind what puts it into its place.
+    fn tell_line<E: Eprint>(&self, errors: &E, seconds: u64, place: &str, known: &Known) {
         let nodes = self.nodes();
         let told = &self.told;
         let conflicts = self.conflicts();
