@@ -7,7 +7,7 @@ ghost use Rattle.racp_words.specs.Commands.{IsCommandOf, app_of_line, rule_of_wo
 ghost use Rattle.racp_words.specs.Rules.{flag_rule, lettered, ranged_rule, text_rule};
 
 use crate::table::{COMMANDS, Line, Word};
-use crate::tools::TOOLS;
+use crate::tools::{MAKERS, TOOLS};
 use clap::builder::ValueParser;
 use clap::{Arg, ArgAction, Command};
 use std::alloc::{AllocError, Global};
@@ -51,7 +51,8 @@ pub(crate) fn command<'a>(alloc: Global) -> Result<Command<'a>, AllocError>
     ensures { IfOk result (λ command. app_of command ≡ racp) }
 {
     let planning = with_commands(alloc, program(alloc), COMMANDS)?;
-    with_commands(alloc, planning, TOOLS)
+    let charting = with_commands(alloc, planning, TOOLS)?;
+    with_commands(alloc, charting, MAKERS)
 }
 
 /// The program with a command for each line of a table.

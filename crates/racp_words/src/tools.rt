@@ -1,4 +1,4 @@
-//! The commands of the program that go with plans, and their words, in a table.
+//! The commands of the program that go with plans, and their words, in two tables.
 
 use crate::batch_words::BATCH;
 use crate::most::{MOST_WIDTH, MOST_WORKERS};
@@ -119,6 +119,11 @@ pub(crate) const TOOLS: &[Line] = &[
             QUIET,
         ],
     },
+];
+
+/// The commands that make orders, tables of results and networks, and the one that explains, in the order of help, behind those
+/// that go with plans.
+pub(crate) const MAKERS: &[Line] = &[
     Line {
         name: "order",
         about: "Writes an order for a network: a deadline and prices",

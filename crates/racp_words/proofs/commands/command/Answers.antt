@@ -3,4 +3,4 @@ use Rattle.racp_words.proofs.commands.command.Goals as goal
 
 pub returns : goal.returns
 unfolding racp
-returns c = c.with_commands-2.ensures _ (c.in_ok-planning.ensures _ c.program.ensures)
+returns c = c.with_commands-3.ensures _ (c.in_ok-charting.ensures _ (c.in_ok-planning.ensures _ c.program.ensures))
