@@ -5,3 +5,6 @@ mod TellingBounds
 mod CostLeaving
 mod Inferring
 mod Halving
+mod Narrowing
+mod Watching
+mod Holding

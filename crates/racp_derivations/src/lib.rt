@@ -76,6 +76,7 @@ mod stepping;
 mod thinning;
 mod trimming;
 mod verdict;
+mod watching;
 mod words;
 
 pub use bound::{least_by_text, least_by_text_until};

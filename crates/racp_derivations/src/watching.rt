@@ -1,0 +1,176 @@
+//! Steps by clauses of many literals, of which two are watched.
+//!
+//! As long as two literals of a clause may be true, nothing follows from it; and nothing new follows where one has to be true. So
+//! where such literals were found last is looked at first, and the others only if it is so no more: those behind them, and then
+//! those from the first on. These are the watched literals of satisfiability solvers (Moskewicz, Madigan, Zhao, Zhang and Malik
+//! 2001), sought from where the last search ended (Gent 2013).
+//!
+//! A literal that is false stays so until a derivation ends. So in one derivation the search goes two or three times around the
+//! clause at most, and only past literals that are false by the lines of that derivation, or wherever one begins. Of the latter a
+//! clause is rid (`shortened`) as soon as the search has come past as many as it has literals.
+
+ghost use Rattle.std.specs.Prelude.{◌≡◌, IsTrue, true, false};
+ghost use Rattle.racp_clauses.specs.Inferences.{by_clause, may_have, says_more, with_inference};
+ghost use Rattle.racp_derivations.specs.Thinning.{AreIdle, HasToBeAt, MayBeAt};
+
+use racp_clauses::{Clause, Derivation, Domain, Literal, OfProblem};
+
+/// Where two literals of a clause stand that may be true, or one that has to be; where the search for others goes on; and how many
+/// it has come past that are false wherever a derivation begins. These are hints, which are looked at again.
+#[derive(Clone, Copy)]
+pub(crate) struct Watched {
+    first: usize,
+    second: usize,
+    next: usize,
+    passed: usize,
+}
+
+/// No place.
+const NOWHERE: usize = usize::MAX;
+
+impl Watched {
+    /// Nothing was found yet.
+    pub(crate) const NONE: Watched = Watched {
+        first: NOWHERE,
+        second: NOWHERE,
+        next: 0,
+        passed: 0,
+    };
+
+    /// Whether the search has come past as many literals that are false wherever a derivation begins as a clause has literals.
+    pub(crate) fn has_passed(self, count: usize) -> bool {
+        count <= self.passed
+    }
+
+    /// Without the places of literals that are false within bounds.
+    fn still(self, bounds: &Domain, literals: &[Literal]) -> Watched {
+        let none = Watched {
+            first: NOWHERE,
+            second: NOWHERE,
+            ..self
+        };
+        [self.first, self.second]
+            .into_iter()
+            .filter(|place| may_be_at(bounds, literals, *place))
+            .fold(none, |found, place| found.with(place))
+    }
+
+    /// With one more place, if two were not found yet.
+    fn with(self, place: usize) -> Watched {
+        if self.first == NOWHERE {
+            return Watched {
+                first: place,
+                ..self
+            };
+        }
+        Watched {
+            first: self.first.min(place),
+            second: self.first.max(place),
+            ..self
+        }
+    }
+}
+
+/// Goes on by a clause, and gives which of its literals are watched then.
+pub(crate) fn go_on<N: OfProblem>(
+    base: &Derivation<N>,
+    clause: &Clause<N>,
+    watched: Watched,
+    derivation: &mut Derivation<N>,
+) -> Watched
+    ensures { derivation.new ≡ with_inference derivation.old (by_clause derivation.old.bounds clause.now) }
+{
+    if is_idle(derivation, clause, watched) {
+        return watched;
+    }
+    let found = search(
+        base.bounds(),
+        derivation.bounds(),
+        clause.literals(),
+        watched,
+    );
+    if !is_idle(derivation, clause, found) {
+        derivation.clause(clause);
+    }
+    found
+}
+
+/// Whether the watched literals show that nothing new follows from a clause.
+fn is_idle<N: OfProblem>(derivation: &Derivation<N>, clause: &Clause<N>, watched: Watched) -> bool
+    ensures { IsTrue result → with_inference derivation.now (by_clause derivation.now.bounds clause.now) ≡ derivation.now }
+{
+    are_idle(derivation.bounds(), clause.literals(), watched)
+}
+
+/// The same of its literals.
+fn are_idle(bounds: &Domain, literals: &[Literal], watched: Watched) -> bool
+    ensures { IsTrue result → AreIdle bounds.now literals.now }
+{
+    let Watched { first, second, .. } = watched;
+    has_to_be_at(bounds, literals, first) || are_two_open(bounds, literals, first, second)
+}
+
+/// Whether there are two literals at these places, one behind the other, and both may be true.
+fn are_two_open(bounds: &Domain, literals: &[Literal], first: usize, second: usize) -> bool
+    ensures { IsTrue result → AreIdle bounds.now literals.now }
+{
+    first < second && may_be_at(bounds, literals, first) && may_be_at(bounds, literals, second)
+}
+
+/// The literals that are watched from now on: two that may be true, or one, or none, if there are no more.
+fn search(base: &Domain, bounds: &Domain, literals: &[Literal], watched: Watched) -> Watched {
+    let mut found = watched.still(bounds, literals);
+    for _ in 0..literals.len() {
+        if found.second != NOWHERE || has_to_be_at(bounds, literals, found.first) {
+            break;
+        }
+        let place = if found.next < literals.len() {
+            found.next
+        } else {
+            0
+        };
+        found.next = place.saturating_add(1);
+        if may_be_at(bounds, literals, place) {
+            if place != found.first {
+                found = found.with(place);
+            }
+        } else if !may_be_at(base, literals, place) {
+            found.passed = found.passed.saturating_add(1);
+        }
+    }
+    found
+}
+
+/// Whether there is a literal at a place, and it may be true within bounds.
+fn may_be_at(bounds: &Domain, literals: &[Literal], place: usize) -> bool
+    ensures { IsTrue result → MayBeAt bounds.now literals.now place }
+{
+    place < literals.len() && may_be(bounds, literals[place])
+}
+
+/// Whether a literal may be true within bounds; false also where it is about no variable.
+fn may_be(bounds: &Domain, literal: Literal) -> bool
+    ensures { IsTrue result → may_have bounds.now literal ≡ true }
+{
+    match literal {
+        Literal::AtLeast(x, least) => least <= bounds.upper_at(x as usize),
+        Literal::AtMost(x, most) => bounds.lower_at(x as usize) <= most,
+    }
+}
+
+/// Whether there is a literal at a place, and it has to be true within bounds.
+fn has_to_be_at(bounds: &Domain, literals: &[Literal], place: usize) -> bool
+    ensures { IsTrue result → HasToBeAt bounds.now literals.now place }
+{
+    may_be_at(bounds, literals, place) && has_to_be(bounds, literals[place])
+}
+
+/// Whether a literal says no more than bounds do.
+fn has_to_be(bounds: &Domain, literal: Literal) -> bool
+    ensures { IsTrue result → says_more bounds.now literal ≡ false }
+{
+    match literal {
+        Literal::AtLeast(x, least) => least <= bounds.lower_at(x as usize),
+        Literal::AtMost(x, most) => bounds.upper_at(x as usize) <= most,
+    }
+}
