@@ -88,7 +88,7 @@ pub held-more : (base : Derived) (shorts : List (Option (List Literal))) (clause
     AreHeld base shorts clauses → IfSome short (λ s. InfersAs s clause) → AreHeld base (shorts ++ short ∷ []) (clauses ++ clause ∷ [])
 held-more base shorts clauses short clause are is = record {
   ground = are.ground;
-  shorts = shorts-more base.bounds shorts clauses short clause are.shorts (also-within base.bounds short clause is);
+  are = shorts-more base.bounds shorts clauses short clause are.are (also-within base.bounds short clause is);
 }
 
 inside : (inner outer : Bounds) (o : Option (List Literal)) (c : List Literal) → LieWithin inner outer → IfSome o (λ s. InfersWithin outer s c) →
@@ -101,9 +101,9 @@ pub held-inside : (base inner : Derived) (shorts : List (Option (List Literal)))
     inner.clause ≡ [] → LieWithin inner.bounds base.bounds → AreHeld inner shorts clauses
 held-inside base inner shorts clauses are ground w = record {
   ground = ground;
-  shorts = record {
-    same = are.shorts.same;
-    each = λ at place. inside inner.bounds base.bounds (slice_index_or shorts at None) (clause_at clauses at) w (are.shorts.each at place);
+  are = record {
+    same = are.are.same;
+    each = λ at place. inside inner.bounds base.bounds (slice_index_or shorts at None) (clause_at clauses at) w (are.are.each at place);
   };
 }
 
@@ -114,19 +114,19 @@ pub held-shorter : (base : Derived) (shorts after : List (Option (List Literal))
 held-shorter base shorts after clauses at short shorter are is place infers e =
     subst (λ (xs : List (Option (List Literal))). AreHeld base xs clauses) (sym e) (record {
       ground = are.ground;
-      shorts = record {
-        same = length-set shorts at (Some shorter) ∙ are.shorts.same;
+      are = record {
+        same = length-set shorts at (Some shorter) ∙ are.are.same;
         each = λ k l. elim (cases_eq k at) [
           | inl here ↦
               let h : InfersWithin base.bounds short (clause_at clauses at) =
-              subst (λ (o : Option (List Literal)). IfSome o (λ s. InfersWithin base.bounds s (clause_at clauses at))) is (are.shorts.each at place) in
+              subst (λ (o : Option (List Literal)). IfSome o (λ s. InfersWithin base.bounds s (clause_at clauses at))) is (are.are.each at place) in
               told base.bounds (slice_index_or (set shorts at (Some shorter)) k None) (Some shorter) (clause_at clauses k) (clause_at clauses at)
-              (ap (λ (n : ℕ). slice_index_or (set shorts at (Some shorter)) n None) here ∙ get_or-set_same shorts at (Some shorter) None (omega (arith, place, are.shorts.same)))
+              (ap (λ (n : ℕ). slice_index_or (set shorts at (Some shorter)) n None) here ∙ get_or-set_same shorts at (Some shorter) None (omega (arith, place, are.are.same)))
               (ap (clause_at clauses) here)
               (record { same = λ bounds w. infers.same bounds w ∙ h.same bounds w })
           | inr other ↦
               told base.bounds (slice_index_or (set shorts at (Some shorter)) k None) (slice_index_or shorts k None) (clause_at clauses k) (clause_at clauses k)
-              (get_or-set_other shorts at k (Some shorter) None other) refl (are.shorts.each k l)
+              (get_or-set_other shorts at k (Some shorter) None other) refl (are.are.each k l)
         ];
       };
     })
@@ -137,5 +137,5 @@ pub by-short : (base : Derived) (shorts : List (Option (List Literal))) (clauses
     after ≡ with_inference d (by_clause d.bounds short) → after ≡ with_inference d (by_clause d.bounds (clause_at clauses at))
 by-short base shorts clauses at short d after are w place is so =
     let h : InfersWithin base.bounds short (clause_at clauses at) =
-    subst (λ (o : Option (List Literal)). IfSome o (λ s. InfersWithin base.bounds s (clause_at clauses at))) is (are.shorts.each at place) in
+    subst (λ (o : Option (List Literal)). IfSome o (λ s. InfersWithin base.bounds s (clause_at clauses at))) is (are.are.each at place) in
     so ∙ ap (with_inference d) (h.same d.bounds w)

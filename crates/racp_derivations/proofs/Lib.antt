@@ -6,5 +6,5 @@ mod CostLeaving
 mod Inferring
 mod Halving
 mod Narrowing
-mod Watching
+mod Idling
 mod Holding

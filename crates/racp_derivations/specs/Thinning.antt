@@ -40,11 +40,11 @@ pub record AreShorts (outer : Bounds) (shorts : List (Option (List Literal))) (c
 -- each derivation begins without literals, and each short clause stands for its own from there on
 pub record AreHeld (base : Derived) (shorts : List (Option (List Literal))) (clauses : List (List Literal)) : Type 0 where
   pub ground : base.clause ≡ []
-  pub shorts : AreShorts base.bounds shorts clauses
+  pub are : AreShorts base.bounds shorts clauses
 
 -- there is a literal at a place, and it may be true within bounds
 pub record MayBeAt (bounds : Bounds) (ls : List Literal) (place : ℕ) : Type 0 where
-  pub place : place < length ls
+  pub within : place < length ls
   pub is : may_have bounds (slice_index_or ls place (AtLeast 0 0)) ≡ true
 
 -- and it has to be
@@ -53,5 +53,5 @@ pub record HasToBeAt (bounds : Bounds) (ls : List Literal) (place : ℕ) : Type 
   pub has : says_more bounds (slice_index_or ls place (AtLeast 0 0)) ≡ false
 
 -- a derivation with these bounds stays as it is by what follows from some literals
-abbrev pub AreIdle : Bounds → List Literal → Type 0
-AreIdle bounds ls = (d : Derived) → d.bounds ≡ bounds → with_inference d (by_clause bounds ls) ≡ d
+pub record AreIdle (bounds : Bounds) (ls : List Literal) : Type 0 where
+  pub stays : (d : Derived) → d.bounds ≡ bounds → with_inference d (by_clause bounds ls) ≡ d

@@ -111,7 +111,8 @@ impl<N: OfProblem> Held<N> {
         ensures base { self.new.base ≡ self.old.base }
     {
         if short.is_some() {
-            self.watch_up_to(self.clauses.len())?;
+            let at = self.clauses.len();
+            self.watch_up_to(at)?;
         }
         self.clauses.reserve(1)?;
         self.shorts.push(short)?;

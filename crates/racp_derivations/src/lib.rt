@@ -28,7 +28,10 @@
 //! words are slices of the text; memory is taken for the literals of clauses alone. A pair of the precedence relation
 //! is found by halving. Otherwise a line takes as long as its step, which is in proportion to the jobs, the resources
 //! or the literals of the clause that it names; no text takes longer than its bytes times that. Beside a clause of more than 256
-//! literals stands a shorter one, from which the same follows within all bounds, and whose literals are looked at in its place.
+//! literals stands a shorter one, from which the same follows within all bounds, and whose literals are looked at in its place. Two
+//! of these that may be true are watched: as long as they may be, nothing follows, and a step by the clause looks at them alone. What
+//! is false wherever a derivation begins is left out of the shorter clause after some time. So however often a derivation names one
+//! such clause, it looks at no more literals than its own lines have made false, three times, and at a few more for each time.
 //!
 //! Who makes a text (`certificate_by_clauses`) has what a search recorded. A search that learns (racp_learning) derives
 //! thousands of clauses, and the plan follows from a few of them: one for each variable that could be less. These were

@@ -103,6 +103,7 @@ fn is_idle<N: OfProblem>(derivation: &Derivation<N>, clause: &Clause<N>, watched
 }
 
 /// The same of its literals.
+#[tactic(auto, using(crate::proofs::Idling::true_idle))]
 fn are_idle(bounds: &Domain, literals: &[Literal], watched: Watched) -> bool
     ensures { IsTrue result → AreIdle bounds.now literals.now }
 {
@@ -111,6 +112,7 @@ fn are_idle(bounds: &Domain, literals: &[Literal], watched: Watched) -> bool
 }
 
 /// Whether there are two literals at these places, one behind the other, and both may be true.
+#[tactic(auto, using(crate::proofs::Idling::two_idle))]
 fn are_two_open(bounds: &Domain, literals: &[Literal], first: usize, second: usize) -> bool
     ensures { IsTrue result → AreIdle bounds.now literals.now }
 {

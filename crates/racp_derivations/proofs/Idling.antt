@@ -13,10 +13,10 @@ use Rattle.racp_derivations.specs.Thinning.{MayBeAt, HasToBeAt, AreIdle}
 use Rattle.racp_derivations.proofs.Inferring.{two, open-head, open-tail, some-open, two-open}
 
 -- of two literals that may be true nothing follows
-pub two-idle : (bounds : Bounds) (ls : List Literal) (i j : ℕ) → i < j → MayBeAt bounds ls i → MayBeAt bounds ls j → AreIdle bounds ls
-two-idle bounds ls i j before one other =
-    let none : by_clause bounds ls ≡ of_open two = two-open bounds ls i j before other.place one.is other.is in
-    λ d same. ap (with_inference d) none
+pub two_idle : (bounds : Bounds) (ls : List Literal) (i j : ℕ) → i < j → MayBeAt bounds ls i → MayBeAt bounds ls j → AreIdle bounds ls
+two_idle bounds ls i j before one other =
+    let none : by_clause bounds ls ≡ of_open two = two-open bounds ls i j before other.within one.is other.is in
+    record { stays = λ d same. ap (with_inference d) none }
 
 -- nothing, or that one that may be true is true
 abbrev IsIt : Literal → Inference → Type 0
@@ -32,7 +32,6 @@ module _ (bounds : Bounds) where
   it-follows [] i l t = absurd (omega (arith, l))
   it-follows (m ∷ ms) zero l t = subst (IsIt m) (sym (ap of_open (open-head bounds m ms t))) (of-head m (open_literals bounds ms))
   it-follows (m ∷ ms) (suc i) l t =
-      let it : Literal = slice_index_or ms i (AtLeast 0 0) in
       let rest = some-open bounds ms i (omega (arith, l)) t in
       elim (cases_Bool (may_have bounds m)) [
         | inl yes' ↦ inl (ap of_open (open-head bounds m ms yes' ∙ ap (λ (xs : List Literal). m ∷ xs) rest.2))
@@ -47,11 +46,12 @@ stays d l true true t f = cc f
 stays d l false more t f = cc t
 
 -- of one that has to be true nothing new follows
-pub true-idle : (bounds : Bounds) (ls : List Literal) (i : ℕ) → HasToBeAt bounds ls i → AreIdle bounds ls
-true-idle bounds ls i it =
-    let l : Literal = slice_index_or ls i (AtLeast 0 0) in
-    λ d same. elim (it-follows bounds ls i it.may.place it.may.is) [
-      | inl none ↦ ap (with_inference d) none
-      | inr so ↦ ap (with_inference d) so ∙ stays d (slice_index_or ls i (AtLeast 0 0)) (may_have d.bounds (slice_index_or ls i (AtLeast 0 0))) (says_more d.bounds (slice_index_or ls i (AtLeast 0 0)))
-          (ap (λ (b : Bounds). may_have b (slice_index_or ls i (AtLeast 0 0))) same ∙ it.may.is) (ap (λ (b : Bounds). says_more b (slice_index_or ls i (AtLeast 0 0))) same ∙ it.has)
-    ]
+pub true_idle : (bounds : Bounds) (ls : List Literal) (i : ℕ) → HasToBeAt bounds ls i → AreIdle bounds ls
+true_idle bounds ls i it =
+    record {
+      stays = λ d same. elim (it-follows bounds ls i it.may.within it.may.is) [
+        | inl none ↦ ap (with_inference d) none
+        | inr so ↦ ap (with_inference d) so ∙ stays d (slice_index_or ls i (AtLeast 0 0)) (may_have d.bounds (slice_index_or ls i (AtLeast 0 0))) (says_more d.bounds (slice_index_or ls i (AtLeast 0 0)))
+            (ap (λ (b : Bounds). may_have b (slice_index_or ls i (AtLeast 0 0))) same ∙ it.may.is) (ap (λ (b : Bounds). says_more b (slice_index_or ls i (AtLeast 0 0))) same ∙ it.has)
+      ];
+    }
