@@ -7,8 +7,6 @@ use Rattle.racp_clauses.specs.Clauses.{Derived}
 use Rattle.racp_clauses.specs.Inferences.{may_have, says_more, moved_bounds, open_literals, of_open, by_clause, with_inference}
 use Rattle.racp_clauses.specs.declared.literal.Literal.{Literal}
 use Rattle.racp_clauses.specs.declared.literal.Literal.TheVariants.{AtLeast, AtMost}
-use Rattle.racp_clauses.specs.declared.inference.Inference.{Inference}
-use Rattle.racp_clauses.specs.declared.inference.Inference.TheVariants.{Nothing, Narrow}
 use Rattle.racp_derivations.specs.Thinning.{MayBeAt, HasToBeAt, AreIdle}
 use Rattle.racp_derivations.proofs.Inferring.{two, open-head, open-tail, some-open, two-open}
 
@@ -18,25 +16,27 @@ two_idle bounds ls i j before one other =
     let none : by_clause bounds ls ≡ of_open two = two-open bounds ls i j before other.within one.is other.is in
     record { stays = λ d same. ap (with_inference d) none }
 
--- nothing, or that one that may be true is true
-abbrev IsIt : Literal → Inference → Type 0
-IsIt l i = (i ≡ Nothing) ⊎ (i ≡ Narrow l)
-
-of-head : (m : Literal) (rest : List Literal) → IsIt m (of_open (m ∷ rest))
+-- of a literal before others nothing follows, or that it is true
+of-head : (m : Literal) (rest : List Literal) → (of_open (m ∷ rest) ≡ of_open two) ⊎ (of_open (m ∷ rest) ≡ of_open (m ∷ []))
 of-head m [] = inr refl
 of-head m (x ∷ more) = inl refl
 
 module _ (bounds : Bounds) where
   it-follows : (ls : List Literal) (i : ℕ) → i < length ls → may_have bounds (slice_index_or ls i (AtLeast 0 0)) ≡ true →
-      IsIt (slice_index_or ls i (AtLeast 0 0)) (by_clause bounds ls)
+      (by_clause bounds ls ≡ of_open two) ⊎ (by_clause bounds ls ≡ of_open (slice_index_or ls i (AtLeast 0 0) ∷ []))
   it-follows [] i l t = absurd (omega (arith, l))
-  it-follows (m ∷ ms) zero l t = subst (IsIt m) (sym (ap of_open (open-head bounds m ms t))) (of-head m (open_literals bounds ms))
+  it-follows (m ∷ ms) zero l t = elim (of-head m (open_literals bounds ms)) [
+    | inl none ↦ inl (ap of_open (open-head bounds m ms t) ∙ none)
+    | inr so ↦ inr (ap of_open (open-head bounds m ms t) ∙ so)
+  ]
   it-follows (m ∷ ms) (suc i) l t =
       let rest = some-open bounds ms i (omega (arith, l)) t in
       elim (cases_Bool (may_have bounds m)) [
         | inl yes' ↦ inl (ap of_open (open-head bounds m ms yes' ∙ ap (λ (xs : List Literal). m ∷ xs) rest.2))
-        | inr f ↦
-            subst (IsIt (slice_index_or ms i (AtLeast 0 0))) (sym (ap of_open (open-tail bounds m ms f))) (it-follows ms i (omega (arith, l)) t)
+        | inr f ↦ elim (it-follows ms i (omega (arith, l)) t) [
+          | inl none ↦ inl (ap of_open (open-tail bounds m ms f) ∙ none)
+          | inr so ↦ inr (ap of_open (open-tail bounds m ms f) ∙ so)
+        ]
       ]
 
 stays : (d : Derived) (l : Literal) (may more : Bool) → may ≡ true → more ≡ false →

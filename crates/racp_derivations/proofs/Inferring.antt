@@ -1,14 +1,18 @@
 -- Literals from which the same follows, kept one after the other from the last of a clause on.
 use Rattle.std.proofs.Common.{◌≡◌, ◌∙◌, ap, refl, sym, subst, ℕ, zero, suc, ◌+◌, ◌<◌, ◌≤◌, inl, inr, true, false, List, [], ◌∷◌, ◌++◌, length, drop, length-append, slice_index_or, arith}
 use Rattle.std.specs.Prelude.{cond, Option, Some, None, IfSome, ◌⊎◌}
+use Rattle.std.proofs.Math.Nat.{eq-or-lt_of_le}
+use Rattle.std.proofs.Math.Seq.{get_or-append_seam}
 use Rattle.std.proofs.lemmas.Bool.{cases_Bool}
-use Rattle.std.proofs.lemmas.List.{drop_more, append-nil}
+use Rattle.std.proofs.lemmas.List.{drop_more, append-nil, get_or_append_left}
 use Rattle.std.proofs.lemmas.List.Elements.{filter-append}
 use Rattle.racp_model.specs.Window.{Bounds}
-use Rattle.racp_clauses.specs.Inferences.{may_have, open_literals, of_open, by_clause}
+use Rattle.racp_clauses.specs.Clauses.{Derived}
+use Rattle.racp_clauses.specs.Inferences.{may_have, open_literals, of_open, by_clause, with_inference}
+use Rattle.racp_clauses.specs.Tests.{clause_at}
 use Rattle.racp_clauses.specs.declared.literal.Literal.{Literal}
 use Rattle.racp_clauses.specs.declared.literal.Literal.TheVariants.{AtLeast, AtMost}
-use Rattle.racp_derivations.specs.Thinning.{IsWeaker, AreTwoWeaker, InfersAs}
+use Rattle.racp_derivations.specs.Thinning.{IsWeaker, AreTwoWeaker, InfersAs, AreShorts}
 
 -- of open literals it does not matter where a further one stands
 behind : (f g : List Literal) (l : Literal) → of_open f ≡ of_open g → of_open (f ++ l ∷ []) ≡ of_open (l ∷ g)
@@ -127,3 +131,39 @@ pub found-infers : (found : Option (List Literal)) (twice once clause : List Lit
     InfersAs twice once → InfersAs once clause → IfSome found (λ short. InfersAs short clause)
 found-infers None twice once clause h t o = h
 found-infers (Some short) twice once clause h t o = record { same = λ bounds. ap (by_clause bounds) h ∙ (t.same bounds ∙ o.same bounds) }
+
+told : (o p : Option (List Literal)) (c d : List Literal) → o ≡ p → c ≡ d → IfSome p (λ s. InfersAs s d) → IfSome o (λ s. InfersAs s c)
+told o p c d e f h =
+    subst (λ (x : Option (List Literal)). IfSome x (λ s. InfersAs s c)) (sym e)
+    (subst (λ (x : List Literal). IfSome p (λ s. InfersAs s x)) (sym f) h)
+
+within : (clauses : List (List Literal)) (clause : List Literal) (at : ℕ) → at < length (clauses ++ clause ∷ []) → at ≤ length clauses
+within clauses clause at place = omega (arith, place, length-append clauses (clause ∷ []))
+
+-- a clause is added with a shorter one, or without
+pub shorts-more : (shorts : List (Option (List Literal))) (clauses : List (List Literal)) (short : Option (List Literal)) (clause : List Literal) →
+    AreShorts shorts clauses → IfSome short (λ s. InfersAs s clause) → AreShorts (shorts ++ short ∷ []) (clauses ++ clause ∷ [])
+shorts-more shorts clauses short clause are is = record {
+  same = omega (arith, length-append shorts (short ∷ []), length-append clauses (clause ∷ []), are.same);
+  each = λ at place. elim (eq-or-lt_of_le (within clauses clause at place)) [
+    | inl last ↦
+        let s : slice_index_or (shorts ++ short ∷ []) at None ≡ short =
+        ap (λ (n : ℕ). slice_index_or (shorts ++ short ∷ []) n None) (last ∙ sym are.same) ∙ get_or-append_seam shorts short [] None in
+        let f : clause_at (clauses ++ clause ∷ []) at ≡ clause =
+        ap (λ (n : ℕ). clause_at (clauses ++ clause ∷ []) n) last ∙ get_or-append_seam clauses clause [] [] in
+        told (slice_index_or (shorts ++ short ∷ []) at None) short (clause_at (clauses ++ clause ∷ []) at) clause s f is
+    | inr here ↦
+        let s : slice_index_or (shorts ++ short ∷ []) at None ≡ slice_index_or shorts at None =
+        get_or_append_left shorts (short ∷ []) None at (omega (arith, here, are.same)) in
+        let f : clause_at (clauses ++ clause ∷ []) at ≡ clause_at clauses at = get_or_append_left clauses (clause ∷ []) [] at here in
+        told (slice_index_or (shorts ++ short ∷ []) at None) (slice_index_or shorts at None) (clause_at (clauses ++ clause ∷ []) at) (clause_at clauses at) s f (are.each at here)
+  ];
+}
+
+-- a step by the shorter one is one by the clause
+pub by-short : (shorts : List (Option (List Literal))) (clauses : List (List Literal)) (at : ℕ) (short : List Literal) (d after : Derived) →
+    AreShorts shorts clauses → at < length clauses → slice_index_or shorts at None ≡ Some short →
+    after ≡ with_inference d (by_clause d.bounds short) → after ≡ with_inference d (by_clause d.bounds (clause_at clauses at))
+by-short shorts clauses at short d after are place is so =
+    let h : InfersAs short (clause_at clauses at) = subst (λ (o : Option (List Literal)). IfSome o (λ s. InfersAs s (clause_at clauses at))) is (are.each at place) in
+    so ∙ ap (with_inference d) (h.same d.bounds)

@@ -5,6 +5,4 @@ mod TellingBounds
 mod CostLeaving
 mod Inferring
 mod Halving
-mod Narrowing
 mod Idling
-mod Holding

@@ -35,11 +35,6 @@ stepped p terms clauses d (Earlier at) =
 abbrev pub supposed : Derived → Literal → Derived
 supposed d l = with_inference (with_literal d l) (negation l)
 
--- what holds so far: the derivation with which each one begins, and the clauses
-pub record Known : Type 0 where
-  pub base : Derived
-  pub clauses : List (List Literal)
-
 -- what was derived so far: the derivation with which each one begins, the present one, and the clauses
 pub record Checked : Type 0 where
   pub base : Derived

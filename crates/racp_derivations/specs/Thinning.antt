@@ -1,9 +1,8 @@
 -- Clauses from which the same follows.
-use Rattle.std.specs.Prelude.{◌≡◌, ℕ, ◌<◌, ◌≤◌, true, false, List, [], length, slice_index_or, Option, None, IfSome}
+use Rattle.std.specs.Prelude.{◌≡◌, ℕ, ◌<◌, ◌≤◌, true, false, List, length, slice_index_or, Option, None, IfSome}
 use Rattle.racp_model.specs.Window.{Bounds}
 use Rattle.racp_clauses.specs.Clauses.{Derived}
 use Rattle.racp_clauses.specs.Inferences.{by_clause, may_have, says_more, with_inference}
-use Rattle.racp_clauses.specs.Roots.{LieWithin}
 use Rattle.racp_clauses.specs.Tests.{clause_at}
 use Rattle.racp_clauses.specs.declared.literal.Literal.{Literal}
 use Rattle.racp_clauses.specs.declared.literal.Literal.TheVariants.{AtLeast, AtMost}
@@ -28,19 +27,10 @@ pub record AreTwoWeaker (kept : List Literal) (l : Literal) : Type 0 where
 pub record InfersAs (short clause : List Literal) : Type 0 where
   pub same : (bounds : Bounds) → by_clause bounds short ≡ by_clause bounds clause
 
--- from some literals the same follows as from others within all bounds that lie within these
-pub record InfersWithin (outer : Bounds) (short clause : List Literal) : Type 0 where
-  pub same : (bounds : Bounds) → LieWithin bounds outer → by_clause bounds short ≡ by_clause bounds clause
-
--- of some clauses, each with another one or none, the same follows so from each such other one as from its own
-pub record AreShorts (outer : Bounds) (shorts : List (Option (List Literal))) (clauses : List (List Literal)) : Type 0 where
+-- of some clauses, each with another one or none, the same follows from each such other one as from its own
+pub record AreShorts (shorts : List (Option (List Literal))) (clauses : List (List Literal)) : Type 0 where
   pub same : length shorts ≡ length clauses
-  pub each : (at : ℕ) → at < length clauses → IfSome (slice_index_or shorts at None) (λ short. InfersWithin outer short (clause_at clauses at))
-
--- each derivation begins without literals, and each short clause stands for its own from there on
-pub record AreHeld (base : Derived) (shorts : List (Option (List Literal))) (clauses : List (List Literal)) : Type 0 where
-  pub ground : base.clause ≡ []
-  pub are : AreShorts base.bounds shorts clauses
+  pub each : (at : ℕ) → at < length clauses → IfSome (slice_index_or shorts at None) (λ short. InfersAs short (clause_at clauses at))
 
 -- there is a literal at a place, and it may be true within bounds
 pub record MayBeAt (bounds : Bounds) (ls : List Literal) (place : ℕ) : Type 0 where

@@ -2,14 +2,15 @@
 
 ghost use Rattle.std.specs.Prelude.{◌≡◌, ◌++◌, ◌∷◌, [], true, false, IfOk, IfSome, MatchBool, Some, None};
 ghost use Rattle.racp_model.specs.Terms.{AreTermsOf};
-ghost use Rattle.racp_clauses.specs.Roots.{LieWithin};
 ghost use Rattle.racp_clauses.specs.Solutions.{HasPlaces};
 ghost use Rattle.racp_derivations.specs.Checking.{after, after_line, at_first};
+ghost use Rattle.racp_derivations.specs.Thinning.{InfersAs};
 
 use crate::held::Held;
 use crate::line::Line;
 use crate::lines::line_of;
 use crate::stepping::{Given, take_step};
+use crate::thinning::{MANY_LITERALS, thinned};
 use racp_clauses::{Clause, Derivation, Domain, OfProblem};
 use std::alloc::{AllocError, Global};
 use std::marker::Model;
@@ -18,19 +19,20 @@ use std::marker::Model;
 /// `Checked`.
 #[derive(Drop)]
 pub(crate) struct Checking<N: OfProblem> {
-    held: Held<N>,
+    base: Derivation<N>,
     present: Derivation<N>,
+    clauses: Held<N>,
 }
 
 impl<N: OfProblem> Model for Checking<N> {
-    ghost use Rattle.racp_clauses.specs.Roots.{LieWithin};
+    ghost use Rattle.std.specs.Prelude.{◌≡◌, []};
     ghost use Rattle.racp_derivations.specs.Checking.{Checked};
 
     ghost Value = { Checked };
 
-    ghost view = { λ c. record { base = c.held.base; now = c.present; clauses = c.held.clauses } };
+    ghost view = { λ c. record { base = c.base; now = c.present; clauses = c.clauses } };
 
-    ghost invariant = { λ c. LieWithin c.present.bounds c.held.base.bounds };
+    ghost invariant = { λ c. c.base.clause ≡ [] };
 }
 
 impl<N: OfProblem> Checking<N> {
@@ -40,16 +42,20 @@ impl<N: OfProblem> Checking<N> {
         requires places { HasPlaces N.problem.network root.now }
         ensures { IfOk result (λ c. c ≡ at_first root.now) }
     {
-        let held = Held::new(alloc, root)?;
+        let base = Derivation::new(alloc, root)?;
         let present = Derivation::new(alloc, root)?;
-        Ok(Checking { held, present })
+        Ok(Checking {
+            base,
+            present,
+            clauses: Held::new(alloc),
+        })
     }
 
     /// The clauses so far.
     pub(crate) fn clauses(&self) -> &[Clause<N>]
         ensures { result.now ≡ self.now.clauses }
     {
-        self.held.clauses()
+        self.clauses.clauses()
     }
 
     /// Does what a line says, and says true; false if it says nothing, or something that does not follow.
@@ -86,11 +92,9 @@ impl<N: OfProblem> Checking<N> {
                 self.present.suppose(literal)?;
                 Ok(true)
             }
-            Line::Take(step) => {
-                Ok(take_step(alloc, given, &mut self.held, &mut self.present, step))
-            }
-            Line::Holds => conclude(alloc, &mut self.held, &mut self.present),
-            Line::Keep => Ok(self.held.keep(&self.present)),
+            Line::Take(step) => Ok(take_step(given, &mut self.clauses, &mut self.present, step)),
+            Line::Holds => conclude(alloc, &self.base, &mut self.present, &mut self.clauses),
+            Line::Keep => Ok(self.base.begin(&self.present)),
         }
     }
 }
@@ -98,19 +102,35 @@ impl<N: OfProblem> Checking<N> {
 /// Adds the clause of a derivation, if nothing is left, begins anew and says true.
 fn conclude<N: OfProblem>(
     alloc: Global,
-    held: &mut Held<N>,
+    base: &Derivation<N>,
     present: &mut Derivation<N>,
+    clauses: &mut Held<N>,
 ) -> Result<bool, AllocError>
-    requires { LieWithin present.old.bounds held.old.base.bounds }
-    ensures concluded { IfOk result (λ yes. MatchBool yes
-        ((present.old.empty ≡ true) × (present.new ≡ held.old.base) ×
-        (held.new ≡ record { base = held.old.base; clauses = held.old.clauses ++ present.old.clause ∷ [] }))
-        ((present.old.empty ≡ false) × (present.new ≡ present.old) × (held.new ≡ held.old))) }
-    ensures within { LieWithin present.new.bounds held.new.base.bounds }
+    requires { base.now.clause ≡ [] }
+    ensures { IfOk result (λ yes. MatchBool yes
+        ((present.old.empty ≡ true) × (present.new ≡ base.now) × (clauses.new ≡ clauses.old ++ present.old.clause ∷ []))
+        (present.old.empty ≡ false)) }
 {
     let Some(clause) = present.finish(alloc)? else {
         return Ok(false);
     };
-    held.push(alloc, clause)?;
-    Ok(present.begin(held.base()))
+    let short = short_of(alloc, base, present, &clause)?;
+    clauses.push(clause, short)?;
+    Ok(present.begin(base))
+}
+
+/// A shorter clause from which the same follows, if one is long. The derivation that is at work may be any.
+fn short_of<N: OfProblem>(
+    alloc: Global,
+    base: &Derivation<N>,
+    work: &mut Derivation<N>,
+    clause: &Clause<N>,
+) -> Result<Option<Clause<N>>, AllocError>
+    requires { base.now.clause ≡ [] }
+    ensures { IfOk result (λ found. IfSome found (λ short. InfersAs short clause.now)) }
+{
+    if clause.literals().len() <= MANY_LITERALS {
+        return Ok(None);
+    }
+    thinned(alloc, base, work, clause)
 }

@@ -29,9 +29,9 @@
 //! is found by halving. Otherwise a line takes as long as its step, which is in proportion to the jobs, the resources
 //! or the literals of the clause that it names; no text takes longer than its bytes times that. Beside a clause of more than 256
 //! literals stands a shorter one, from which the same follows within all bounds, and whose literals are looked at in its place. Two
-//! of these that may be true are watched: as long as they may be, nothing follows, and a step by the clause looks at them alone. What
-//! is false wherever a derivation begins is left out of the shorter clause after some time. So however often a derivation names one
-//! such clause, it looks at no more literals than its own lines have made false, three times, and at a few more for each time.
+//! of these that may be true are watched: while they may be, nothing follows, and a step by the clause looks at them alone; nor at
+//! more than one that has to be true. Once nothing is left, a step by a clause looks at none. So a derivation that names one such clause
+//! again and again looks at all its literals only where watched ones have become false in between, and the next 64 too.
 //!
 //! Who makes a text (`certificate_by_clauses`) has what a search recorded. A search that learns (racp_learning) derives
 //! thousands of clauses, and the plan follows from a few of them: one for each variable that could be less. These were

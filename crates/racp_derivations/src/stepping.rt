@@ -2,7 +2,6 @@
 
 ghost use Rattle.std.specs.Prelude.{◌≡◌, MatchBool, Some, None};
 ghost use Rattle.racp_model.specs.Terms.{AreTermsOf};
-ghost use Rattle.racp_clauses.specs.Roots.{LieWithin};
 ghost use Rattle.racp_derivations.specs.Checking.{stepped};
 
 use crate::held::Held;
@@ -10,7 +9,6 @@ use crate::line::Step;
 use racp_clauses::{Derivation, OfProblem, Times};
 use racp_model::Network;
 use racp_prices::Order;
-use std::alloc::Global;
 
 /// A network and the terms of an order for it.
 #[derive(Clone, Copy)]
@@ -21,20 +19,18 @@ pub(crate) struct Given<'a> {
 
 /// Takes a step, and says true; false if it names a clause that is no earlier one.
 pub(crate) fn take_step<N: OfProblem>(
-    alloc: Global,
     given: &Given,
-    held: &mut Held<N>,
+    clauses: &mut Held<N>,
     derivation: &mut Derivation<N>,
     step: Step,
 ) -> bool
     requires named { given.now.net.now ≡ N.problem.network }
     requires terms { given.now.order.now ≡ N.problem.terms }
     requires fit { AreTermsOf given.now.net.now given.now.order.now }
-    requires within { LieWithin derivation.old.bounds held.old.base.bounds }
     ensures stepped { MatchBool result
-        (stepped given.now.net.now given.now.order.now held.old.clauses derivation.old step ≡ Some derivation.new)
-        ((stepped given.now.net.now given.now.order.now held.old.clauses derivation.old step ≡ None) × (derivation.new ≡ derivation.old)) }
-    ensures same { held.new ≡ held.old }
+        (stepped given.now.net.now given.now.order.now clauses.old derivation.old step ≡ Some derivation.new)
+        (stepped given.now.net.now given.now.order.now clauses.old derivation.old step ≡ None) }
+    ensures same { clauses.new ≡ clauses.old }
 {
     let Given { net, order } = *given;
     match step {
@@ -48,7 +44,7 @@ pub(crate) fn take_step<N: OfProblem>(
         Step::Request(job, resource) => derivation.request(net, job, resource),
         Step::Prices => derivation.cost(net, order),
         Step::Budget(resource) => derivation.units(net, order, resource),
-        Step::Earlier(at) => return held.take(alloc, net, derivation, at),
+        Step::Earlier(at) => return clauses.take(derivation, at),
     }
     true
 }

@@ -15,12 +15,10 @@
 //! Once more, from the last of these on, cost >= 7 is left out too. Two of a variable and side are kept, and not one: as long as two
 //! literals may be true, nothing follows from a clause.
 
-ghost use Rattle.std.specs.Prelude.{◌≡◌, ◌++◌, ◌∷◌, ◌⊎◌, [], IfOk, IfSome, IsTrue, length};
-ghost use Rattle.racp_clauses.specs.Inferences.{may_have, open_literals};
-ghost use Rattle.racp_derivations.specs.Thinning.{AreTwoWeaker, InfersAs, InfersWithin, IsWeaker};
+ghost use Rattle.std.specs.Prelude.{◌≡◌, ◌++◌, ◌∷◌, ◌⊎◌, [], IfOk, IfSome, IsTrue};
+ghost use Rattle.racp_derivations.specs.Thinning.{AreTwoWeaker, InfersAs, IsWeaker};
 
-use racp_clauses::{Clause, Derivation, Domain, Literal, OfProblem};
-use racp_model::Network;
+use racp_clauses::{Clause, Derivation, Literal, OfProblem};
 use racp_model::limits::{MOST_JOBS, MOST_RESOURCES};
 use std::alloc::{AllocError, Global};
 
@@ -60,56 +58,6 @@ pub(crate) fn thinned<N: OfProblem>(
     let once = needed(alloc, clause.literals())?;
     let twice = needed(alloc, &once)?;
     derived(alloc, base, work, &twice, clause)
-}
-
-/// The clause of the literals of another one that are not false wherever a derivation begins. From there on the same follows from
-/// it. The derivation that is at work may be any.
-pub(crate) fn shortened<N: OfProblem>(
-    alloc: Global,
-    net: &Network,
-    base: &Derivation<N>,
-    work: &mut Derivation<N>,
-    clause: &Clause<N>,
-) -> Result<Option<Clause<N>>, AllocError>
-    requires named { net.now ≡ N.problem.network }
-    requires ground { base.now.clause ≡ [] }
-    ensures { IfOk result (λ found. IfSome found (λ short. InfersWithin base.now.bounds short clause.now)) }
-{
-    let places = net.job_count() + net.resource_count() + 1;
-    let kept = open_of(alloc, base.bounds(), places, clause.literals())?;
-    derived(alloc, base, work, &kept, clause)
-}
-
-/// Those of some literals that are not false within bounds, of which there are so many.
-fn open_of(
-    alloc: Global,
-    bounds: &Domain,
-    places: usize,
-    literals: &[Literal],
-) -> Result<Vec<Literal>, AllocError>
-    requires { places ≡ length bounds.now.lower }
-    ensures { IfOk result (λ kept. kept.items ≡ open_literals bounds.now literals.now) }
-{
-    let mut kept = Vec::new(alloc);
-    for &literal in literals {
-        if is_open(bounds, places, literal) {
-            kept.push(literal)?;
-        }
-    }
-    Ok(kept)
-}
-
-/// Whether a literal is not false within bounds, of which there are so many.
-fn is_open(bounds: &Domain, places: usize, literal: Literal) -> bool
-    requires { places ≡ length bounds.now.lower }
-    ensures { result ≡ may_have bounds.now literal }
-{
-    match literal {
-        Literal::AtLeast(x, least) => {
-            places <= x as usize || least <= bounds.upper_at(x as usize)
-        }
-        Literal::AtMost(x, most) => places <= x as usize || bounds.lower_at(x as usize) <= most,
-    }
 }
 
 /// The clause of these literals, if it follows so from another one.

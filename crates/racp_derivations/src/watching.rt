@@ -5,9 +5,9 @@
 //! those from the first on. These are the watched literals of satisfiability solvers (Moskewicz, Madigan, Zhao, Zhang and Malik
 //! 2001), sought from where the last search ended (Gent 2013).
 //!
-//! A literal that is false stays so until a derivation ends. So in one derivation the search goes two or three times around the
-//! clause at most, and only past literals that are false by the lines of that derivation, or wherever one begins. Of the latter a
-//! clause is rid (`shortened`) as soon as the search has come past as many as it has literals.
+//! First others are sought among a few literals (`MOST_LOOKS`). If these do not show that nothing new follows, the step looks at all,
+//! and if something is left then, so does the search. So until a line makes watched literals false, or a derivation begins, the next
+//! steps by that clause take no longer than to look at two literals.
 
 ghost use Rattle.std.specs.Prelude.{◌≡◌, IsTrue, true, false};
 ghost use Rattle.racp_clauses.specs.Inferences.{by_clause, may_have, says_more, with_inference};
@@ -15,18 +15,20 @@ ghost use Rattle.racp_derivations.specs.Thinning.{AreIdle, HasToBeAt, MayBeAt};
 
 use racp_clauses::{Clause, Derivation, Domain, Literal, OfProblem};
 
-/// Where two literals of a clause stand that may be true, or one that has to be; where the search for others goes on; and how many
-/// it has come past that are false wherever a derivation begins. These are hints, which are looked at again.
+/// Where two literals of a clause stand that may be true, or one that has to be, and where the search for others goes on. These are
+/// hints, which are looked at again.
 #[derive(Clone, Copy)]
 pub(crate) struct Watched {
     first: usize,
     second: usize,
     next: usize,
-    passed: usize,
 }
 
 /// No place.
 const NOWHERE: usize = usize::MAX;
+
+/// At so many literals a search looks at most, before all are looked at.
+const MOST_LOOKS: usize = 64;
 
 impl Watched {
     /// Nothing was found yet.
@@ -34,13 +36,7 @@ impl Watched {
         first: NOWHERE,
         second: NOWHERE,
         next: 0,
-        passed: 0,
     };
-
-    /// Whether the search has come past as many literals that are false wherever a derivation begins as a clause has literals.
-    pub(crate) fn has_passed(self, count: usize) -> bool {
-        count <= self.passed
-    }
 
     /// Without the places of literals that are false within bounds.
     fn still(self, bounds: &Domain, literals: &[Literal]) -> Watched {
@@ -73,7 +69,6 @@ impl Watched {
 
 /// Goes on by a clause, and gives which of its literals are watched then.
 pub(crate) fn go_on<N: OfProblem>(
-    base: &Derivation<N>,
     clause: &Clause<N>,
     watched: Watched,
     derivation: &mut Derivation<N>,
@@ -83,16 +78,15 @@ pub(crate) fn go_on<N: OfProblem>(
     if is_idle(derivation, clause, watched) {
         return watched;
     }
-    let found = search(
-        base.bounds(),
-        derivation.bounds(),
-        clause.literals(),
-        watched,
-    );
-    if !is_idle(derivation, clause, found) {
-        derivation.clause(clause);
+    let found = search(derivation.bounds(), clause.literals(), watched, MOST_LOOKS);
+    if is_idle(derivation, clause, found) {
+        return found;
     }
-    found
+    derivation.clause(clause);
+    if derivation.is_empty() {
+        return found;
+    }
+    search(derivation.bounds(), clause.literals(), found, usize::MAX)
 }
 
 /// Whether the watched literals show that nothing new follows from a clause.
@@ -119,10 +113,10 @@ fn are_two_open(bounds: &Domain, literals: &[Literal], first: usize, second: usi
     first < second && may_be_at(bounds, literals, first) && may_be_at(bounds, literals, second)
 }
 
-/// The literals that are watched from now on: two that may be true, or one, or none, if there are no more.
-fn search(base: &Domain, bounds: &Domain, literals: &[Literal], watched: Watched) -> Watched {
+/// The literals that are watched from now on: two that may be true, or one, or none, if no others are found among so many.
+fn search(bounds: &Domain, literals: &[Literal], watched: Watched, most: usize) -> Watched {
     let mut found = watched.still(bounds, literals);
-    for _ in 0..literals.len() {
+    for _ in 0..literals.len().min(most) {
         if found.second != NOWHERE || has_to_be_at(bounds, literals, found.first) {
             break;
         }
@@ -132,12 +126,8 @@ fn search(base: &Domain, bounds: &Domain, literals: &[Literal], watched: Watched
             0
         };
         found.next = place.saturating_add(1);
-        if may_be_at(bounds, literals, place) {
-            if place != found.first {
-                found = found.with(place);
-            }
-        } else if !may_be_at(base, literals, place) {
-            found.passed = found.passed.saturating_add(1);
+        if place != found.first && may_be_at(bounds, literals, place) {
+            found = found.with(place);
         }
     }
     found
