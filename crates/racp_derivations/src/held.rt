@@ -11,8 +11,8 @@ use racp_clauses::{Clause, Derivation, OfProblem};
 use std::alloc::{AllocError, Global};
 use std::marker::Model;
 
-/// The clauses that hold so far, each with a shorter one from which the same follows, if there is one. Contracts see the list of
-/// the clauses.
+/// The clauses that hold so far, each with a shorter one from which the same follows, if there is one, and which literals of that
+/// are watched. Contracts see the list of the clauses.
 #[derive(Drop)]
 pub(crate) struct Held<N: OfProblem> {
     clauses: Vec<Clause<N>>,
