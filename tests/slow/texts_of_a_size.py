@@ -40,6 +40,44 @@ def long_clause(size):
     return texts_of(network, order, plan, begin + name * ((size - len(begin) - len(end)) // len(name)) + end)
 
 
+def on_many_starts(size, values, last, part):
+    """A certificate by clauses of this many bytes for 512 jobs of one time unit, each of which starts from time 1 to 49, so at least
+    eleven of them run at once. The literals of its first clause say that each start is at least each of these values, or before time
+    1, and these last ones. Then comes a part again and again. It is unproved, since that shows nothing of the plan."""
+    jobs, until = 512, 50
+    network = Network(1, [1] * jobs, [[1]] * jobs, set())
+    order = Order(until, [1], [0], None, [1] * jobs, [until] * jobs)
+    literals = "".join(f"start {job + 1} >= {value}\nstart {job + 1} <= 0\n" for value in values for job in range(jobs))
+    begin, end = f"proof 2\n{literals}{last}energy 1 1 {until}\nholds\n", "end\n"
+    text = begin + part * ((size - len(begin) - len(end)) // len(part)) + end
+    return texts_of(network, order, Plan(until, 2, jobs, [jobs], [1] * jobs), text)
+
+
+AT_LEAST_ELEVEN, EITHER = "units 1 >= 11\n", "units 1 >= 11\nunits 1 <= 20\n"
+
+
+def many_starts(size):
+    """A clause about both sides of 512 starts, of which all literals are false but the last two, is named again and again."""
+    return on_many_starts(size, [50, 51, 52, 53], EITHER, "clause 1\n")
+
+
+def closed_ones(size):
+    """It is named where all its literals are false, so that nothing is left."""
+    return on_many_starts(size, [50, 51, 52, 53], AT_LEAST_ELEVEN, AT_LEAST_ELEVEN + "clause 1\n" * 20_000)
+
+
+def short_derivations(size):
+    """Each derivation makes the last of its literals false, names it, and is at its end."""
+    return on_many_starts(size, [50, 51, 52, 53], AT_LEAST_ELEVEN, AT_LEAST_ELEVEN + "clause 1\nholds\n")
+
+
+def other_ones(size):
+    """Each line makes some of its literals false, now of the first ones and now of the last ones, and then it is named."""
+    places = [place for job in range(256) for place in (job + 1, 512 - job)]
+    lines = "".join(f"start {place} >= 9\nclause 1\n" for place in places)
+    return on_many_starts(size, [20, 21, 22, 23], EITHER, lines + "cost >= 0\nholds\n")
+
+
 def useless_blocks(chance, resources, most, count):
     """A certificate for a job that requests all units of each resource. Blocks with a unit less of one of them are enough, and
     before them stands this number of blocks of fewer units. It is verified."""

@@ -27,7 +27,7 @@ behind (a ∷ b ∷ r) (c ∷ []) l e = refl
 behind (a ∷ b ∷ r) (c ∷ d ∷ s) l e = refl
 
 -- of two literals nothing follows
-abbrev two : List Literal
+abbrev pub two : List Literal
 two = AtLeast 0 0 ∷ AtLeast 0 0 ∷ []
 
 -- nor from a further one beside two
@@ -37,10 +37,10 @@ beside (c ∷ []) l e = refl
 beside (c ∷ d ∷ s) l e = refl
 
 module _ (bounds : Bounds) where
-  open-head : (l : Literal) (ls : List Literal) → may_have bounds l ≡ true → open_literals bounds (l ∷ ls) ≡ l ∷ open_literals bounds ls
+  pub open-head : (l : Literal) (ls : List Literal) → may_have bounds l ≡ true → open_literals bounds (l ∷ ls) ≡ l ∷ open_literals bounds ls
   open-head l ls e = ap (λ b. cond b (l ∷ open_literals bounds ls) (open_literals bounds ls)) e
 
-  open-tail : (l : Literal) (ls : List Literal) → may_have bounds l ≡ false → open_literals bounds (l ∷ ls) ≡ open_literals bounds ls
+  pub open-tail : (l : Literal) (ls : List Literal) → may_have bounds l ≡ false → open_literals bounds (l ∷ ls) ≡ open_literals bounds ls
   open-tail l ls e = ap (λ b. cond b (l ∷ open_literals bounds ls) (open_literals bounds ls)) e
 
   weaker-may : (m l : Literal) → IsWeaker m l → may_have bounds l ≡ true → may_have bounds m ≡ true
@@ -49,7 +49,7 @@ module _ (bounds : Bounds) where
   weaker-may (AtLeast x v) (AtMost y w) h t = absurd h
   weaker-may (AtMost x v) (AtLeast y w) h t = absurd h
 
-  some-open : (ls : List Literal) (i : ℕ) → i < length ls → may_have bounds (slice_index_or ls i (AtLeast 0 0)) ≡ true →
+  pub some-open : (ls : List Literal) (i : ℕ) → i < length ls → may_have bounds (slice_index_or ls i (AtLeast 0 0)) ≡ true →
       (x : Literal) × (more : List Literal) × (open_literals bounds ls ≡ x ∷ more)
   some-open [] i l t = absurd (omega (arith, l))
   some-open (m ∷ ms) zero l t = (m, open_literals bounds ms, open-head m ms t)
@@ -66,7 +66,7 @@ module _ (bounds : Bounds) where
       let rest = some-open ms i l h in
       ap of_open (open-head m ms t ∙ ap (λ (xs : List Literal). m ∷ xs) rest.2)
 
-  two-open : (ls : List Literal) (i j : ℕ) → i < j → j < length ls → may_have bounds (slice_index_or ls i (AtLeast 0 0)) ≡ true →
+  pub two-open : (ls : List Literal) (i j : ℕ) → i < j → j < length ls → may_have bounds (slice_index_or ls i (AtLeast 0 0)) ≡ true →
       may_have bounds (slice_index_or ls j (AtLeast 0 0)) ≡ true → by_clause bounds ls ≡ of_open two
   two-open [] i j b l s t = absurd (omega (arith, l))
   two-open (m ∷ ms) i zero b l s t = absurd (omega (arith, b))

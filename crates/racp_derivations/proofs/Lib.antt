@@ -5,3 +5,4 @@ mod TellingBounds
 mod CostLeaving
 mod Inferring
 mod Halving
+mod Idling

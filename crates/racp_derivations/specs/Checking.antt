@@ -15,6 +15,10 @@ use Rattle.racp_derivations.specs.declared.line.Line.TheVariants.{Suppose, Take,
 use Rattle.racp_derivations.specs.declared.line.Step.{Step}
 use Rattle.racp_derivations.specs.declared.line.Step.TheVariants.{Pair, TimeTable, Energy, Request, Prices, Budget, Earlier}
 
+-- a derivation after a step by a clause: if nothing is left it stays as it is
+abbrev pub with_clause : Derived → List Literal → Derived
+with_clause d clause = if d.empty then d else with_inference d (by_clause d.bounds clause)
+
 -- a derivation after a step, if the clause that it names is an earlier one
 abbrev pub stepped : Project → Terms → List (List Literal) → Derived → Step → Option Derived
 stepped p terms clauses d (Pair at) = Some (along_pair p d at)
@@ -25,7 +29,7 @@ stepped p terms clauses d (Request j k) = Some (with_inference d (of_job p j (of
 stepped p terms clauses d Prices = Some (with_inference d (by_units p terms d.bounds))
 stepped p terms clauses d (Budget k) = Some (with_inference d (of_resource p k (by_cost p terms d.bounds k)))
 stepped p terms clauses d (Earlier at) =
-    if nat_lt at (length clauses) then Some (with_inference d (by_clause d.bounds (clause_at clauses at))) else None
+    if nat_lt at (length clauses) then Some (with_clause d (clause_at clauses at)) else None
 
 -- a derivation after a literal that its clause is to have
 abbrev pub supposed : Derived → Literal → Derived

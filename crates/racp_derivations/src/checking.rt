@@ -92,7 +92,7 @@ impl<N: OfProblem> Checking<N> {
                 self.present.suppose(literal)?;
                 Ok(true)
             }
-            Line::Take(step) => Ok(take_step(given, &self.clauses, &mut self.present, step)),
+            Line::Take(step) => Ok(take_step(given, &mut self.clauses, &mut self.present, step)),
             Line::Holds => conclude(alloc, &self.base, &mut self.present, &mut self.clauses),
             Line::Keep => Ok(self.base.begin(&self.present)),
         }

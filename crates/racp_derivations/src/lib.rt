@@ -28,7 +28,10 @@
 //! words are slices of the text; memory is taken for the literals of clauses alone. A pair of the precedence relation
 //! is found by halving. Otherwise a line takes as long as its step, which is in proportion to the jobs, the resources
 //! or the literals of the clause that it names; no text takes longer than its bytes times that. Beside a clause of more than 256
-//! literals stands a shorter one, from which the same follows within all bounds, and whose literals are looked at in its place.
+//! literals stands a shorter one, from which the same follows within all bounds, and whose literals are looked at in its place. Two
+//! of these that may be true are watched: while they may be, nothing follows, and a step by the clause looks at them alone; nor at
+//! more than one that has to be true. Once nothing is left, a step by a clause looks at none. So a derivation that names one such clause
+//! again and again looks at all its literals only where watched ones have become false in between, and the next 64 too.
 //!
 //! Who makes a text (`certificate_by_clauses`) has what a search recorded. A search that learns (racp_learning) derives
 //! thousands of clauses, and the plan follows from a few of them: one for each variable that could be less. These were
@@ -76,6 +79,7 @@ mod stepping;
 mod thinning;
 mod trimming;
 mod verdict;
+mod watching;
 mod words;
 
 pub use bound::{least_by_text, least_by_text_until};

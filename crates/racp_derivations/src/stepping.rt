@@ -3,7 +3,6 @@
 ghost use Rattle.std.specs.Prelude.{◌≡◌, MatchBool, Some, None};
 ghost use Rattle.racp_model.specs.Terms.{AreTermsOf};
 ghost use Rattle.racp_derivations.specs.Checking.{stepped};
-ghost use Rattle.racp_derivations.specs.declared.line.Step.TheVariants.{Earlier};
 
 use crate::held::Held;
 use crate::line::Step;
@@ -21,16 +20,17 @@ pub(crate) struct Given<'a> {
 /// Takes a step, and says true; false if it names a clause that is no earlier one.
 pub(crate) fn take_step<N: OfProblem>(
     given: &Given,
-    clauses: &Held<N>,
+    clauses: &mut Held<N>,
     derivation: &mut Derivation<N>,
     step: Step,
 ) -> bool
     requires named { given.now.net.now ≡ N.problem.network }
     requires terms { given.now.order.now ≡ N.problem.terms }
     requires fit { AreTermsOf given.now.net.now given.now.order.now }
-    ensures { MatchBool result
-        (stepped given.now.net.now given.now.order.now clauses.now derivation.old step ≡ Some derivation.new)
-        (stepped given.now.net.now given.now.order.now clauses.now derivation.old step ≡ None) }
+    ensures stepped { MatchBool result
+        (stepped given.now.net.now given.now.order.now clauses.old derivation.old step ≡ Some derivation.new)
+        (stepped given.now.net.now given.now.order.now clauses.old derivation.old step ≡ None) }
+    ensures same { clauses.new ≡ clauses.old }
 {
     let Given { net, order } = *given;
     match step {
@@ -44,22 +44,7 @@ pub(crate) fn take_step<N: OfProblem>(
         Step::Request(job, resource) => derivation.request(net, job, resource),
         Step::Prices => derivation.cost(net, order),
         Step::Budget(resource) => derivation.units(net, order, resource),
-        Step::Earlier(at) => return take_clause(net, order, clauses, derivation, at),
+        Step::Earlier(at) => return clauses.take(derivation, at),
     }
     true
-}
-
-/// Goes on by the clause at a place, and says true; false if there is none.
-fn take_clause<N: OfProblem>(
-    net: &Network,
-    order: &Order,
-    clauses: &Held<N>,
-    derivation: &mut Derivation<N>,
-    at: usize,
-) -> bool
-    ensures { MatchBool result
-        (stepped net.now order.now clauses.now derivation.old (Earlier at) ≡ Some derivation.new)
-        (stepped net.now order.now clauses.now derivation.old (Earlier at) ≡ None) }
-{
-    clauses.take(derivation, at)
 }

@@ -19,7 +19,7 @@ use std::marker::Brand;
 
 /// Whether a text of clauses with their derivations shows that the capacities and starts of a plan are the plan of an
 /// order. Its deadline, critical length and cost are not looked at. Takes time in proportion to the text, where a step
-/// takes time for each job or resource or for each literal of the clause that it names, and memory in proportion.
+/// takes time for each job or resource or, at most, for each literal of the clause that it names, and memory in proportion.
 ///
 /// # Errors
 ///
