@@ -13,7 +13,7 @@
 //!
 //! `read_table` makes of this text a `Table` of the jobs 4 (2 1), 6 (4 1), 4 (3 1) and 2 (0 0), which waits between the
 //! second and the third, and of the pairs 1 2, 2 4 and 4 3, with the names of four jobs and two resources; `Cost` is passed
-//! over, and the notes say so. `joined` makes one table of several. `network_text` makes of a table the text of a network as those
+//! over, and the notes say so. Earliest and due times may be dates of a calendar. `joined` makes one table of several. `network_text` makes of a table the text of a network as those
 //! of PSPLIB, `names_text` the lines of headings and names, and `understood` a line about what was understood. Earliest and due
 //! times become lists of the table, for an order.
 //!
