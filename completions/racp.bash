@@ -10,14 +10,14 @@ _racp() {
     fi
     case $command in
         cpm) options="--json --explain --quiet" ;;
-        plan) options="--workers --turns --stats --memory --time-limit --progress --best --json --explain --quiet" ;;
+        plan) options="--workers --turns --stats --memory --time-limit --progress --best --calendar --json --explain --quiet" ;;
         prove) options="--facts --time-limit --explain --quiet" ;;
         check) options="--json --explain --quiet" ;;
         verify) options="--time-limit --json --explain --quiet" ;;
         show) options="--names --width --ascii --svg --links --calendar --start-date --workdays --unit --json --csv --explain --quiet" ;;
         report) options="--names --curve --whatif --calendar --start-date --workdays --unit --explain --quiet" ;;
-        curve) options="--workers --turns --memory --time-limit --progress --best --svg --json --explain --quiet" ;;
-        whatif) options="--names --workers --turns --memory --time-limit --json --explain --quiet" ;;
+        curve) options="--workers --turns --memory --time-limit --progress --best --svg --calendar --json --explain --quiet" ;;
+        whatif) options="--names --workers --turns --memory --time-limit --calendar --json --explain --quiet" ;;
         order) options="--names --factor --deadline --prices --owned --ceiling --calendar --json --explain --quiet" ;;
         batch) options="--factors --price --time-limit --memory --jobs --out --quiet" ;;
         import) options="--out --from --prices --factor --deadline --owned --ceiling --resources --ignore --hours-a-day --unit --calendar

@@ -29,6 +29,7 @@ complete -c racp -n "__fish_seen_subcommand_from plan" -l stats -d "tell the wor
 complete -c racp -n "__fish_seen_subcommand_from plan" -l memory -x -d "mebibytes for records"
 complete -c racp -n "__fish_seen_subcommand_from plan" -l time-limit -x -d seconds
 complete -c racp -n "__fish_seen_subcommand_from plan" -l progress -d "tell how far it is"
+complete -c racp -n "__fish_seen_subcommand_from plan" -l calendar -r -d "working days and holidays"
 complete -c racp -n "__fish_seen_subcommand_from show" -l names -r -d "names of jobs and resources"
 complete -c racp -n "__fish_seen_subcommand_from show" -l width -x -d "columns of a line"
 complete -c racp -n "__fish_seen_subcommand_from show" -l ascii -d "plain characters"
@@ -53,11 +54,13 @@ complete -c racp -n "__fish_seen_subcommand_from curve" -l workers -x -d "how ma
 complete -c racp -n "__fish_seen_subcommand_from curve" -l turns -x -d "how many turns"
 complete -c racp -n "__fish_seen_subcommand_from curve" -l memory -x -d "mebibytes for records"
 complete -c racp -n "__fish_seen_subcommand_from curve" -l svg -d "a picture"
+complete -c racp -n "__fish_seen_subcommand_from curve" -l calendar -r -d "working days and holidays"
 complete -c racp -n "__fish_seen_subcommand_from whatif" -l names -r -d "names of jobs and resources"
 complete -c racp -n "__fish_seen_subcommand_from whatif" -l workers -x -d "how many workers"
 complete -c racp -n "__fish_seen_subcommand_from whatif" -l turns -x -d "how many turns"
 complete -c racp -n "__fish_seen_subcommand_from whatif" -l memory -x -d "mebibytes for records"
 complete -c racp -n "__fish_seen_subcommand_from whatif" -l time-limit -x -d seconds
+complete -c racp -n "__fish_seen_subcommand_from whatif" -l calendar -r -d "working days and holidays"
 complete -c racp -n "__fish_seen_subcommand_from whatif" -l json -d JSON
 complete -c racp -n "__fish_seen_subcommand_from whatif" -l explain -d "say what is wrong"
 complete -c racp -n "__fish_seen_subcommand_from whatif" -l quiet -d "say nothing of what is wrong"

@@ -3,6 +3,7 @@
 ghost use Rattle.std.specs.Prelude.{IfOk};
 ghost use Rattle.racp.specs.Statuses.{IsStatusOfAnswer};
 
+use racp_calendar::Calendar;
 use racp_cli::{StreamFault, verify_bound_over};
 use racp_explain::{Input as Text, bound_cause};
 use racp_host::alone_limit::AloneLimit;
@@ -76,6 +77,7 @@ fn verify_told<R: Machine>(
             proof: proof.name,
         },
         work: Work::unknown(),
+        calendar: Calendar::Numbers,
     };
     end(rt, manner, &told, cause)?;
     Ok(status)

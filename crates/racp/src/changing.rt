@@ -3,7 +3,9 @@
 ghost use Rattle.std.specs.Prelude.{IfOk};
 ghost use Rattle.racp.specs.Statuses.{IsStatusOfTool};
 
+use crate::dated::dated_findings;
 use crate::listener::{Kept, Listener};
+use racp_calendar::Calendar;
 use racp_cli::{StreamFault, WhatIfTexts, whatif_to};
 use racp_desk::Open;
 use racp_explain::{Input as Text, named_cause, shown_cause};
@@ -64,11 +66,11 @@ fn whatif_told<R: Crewed>(rt: &R, texts: Texts<'_>, making: Making<'_>) -> Resul
 {
     let mut text = Vec::new(rt.alloc());
     let status = written(rt, texts, making, &mut text)?;
-    tell_end(rt, texts, making.manner, status, &text)?;
+    tell_end(rt, texts, making, status, &text)?;
     Ok(status)
 }
 
-/// Writes what becomes of the order in these texts if one term is changed; to `text`, if it is to be JSON.
+/// Writes what becomes of the order in these texts if one term is changed; to `text`, if it is to be JSON or to have dates.
 fn written<R: Crewed>(
     rt: &R,
     texts: Texts<'_>,
@@ -78,7 +80,7 @@ fn written<R: Crewed>(
     ensures { IfOk result IsStatusOfTool }
 {
     let texts = bytes_of(texts, making.manner);
-    if making.manner.is_json {
+    if making.manner.is_json || making.calendar.has_dates() {
         written_to(rt, texts, making, text)
     } else {
         written_to(rt, texts, making, &mut io::writer(rt))
@@ -133,19 +135,20 @@ fn bytes_of<'a>(texts: Texts<'a>, manner: Manner) -> WhatIfTexts<'a> {
     }
 }
 
-/// Tells on standard error what is wrong, and writes what is to be JSON.
+/// Tells on standard error what is wrong, and writes what is to be JSON or to have dates.
 fn tell_end<R: Print + Eprint + AllocGlobal>(
     rt: &R,
     texts: Texts<'_>,
-    manner: Manner,
+    making: Making<'_>,
     status: u8,
     text: &[u8],
 ) -> Result<(), StreamFault> {
+    let manner = making.manner;
+    if text.starts_with(b"{") || !manner.is_json {
+        write_findings(rt, text, making.calendar)?;
+    }
     if text.starts_with(b"{") {
-        return match io::writer(rt).write_all(text) {
-            Ok(()) => Ok(()),
-            Err(_) => Err(StreamFault::Write),
-        };
+        return Ok(());
     }
     let cause = if manner.looks(status) {
         cause(rt.alloc(), texts)
@@ -153,6 +156,21 @@ fn tell_end<R: Print + Eprint + AllocGlobal>(
         Ok(String::new(rt.alloc()))
     };
     end(rt, manner, &told(texts, status, text), cause)
+}
+
+/// Writes what was found, with the days of a calendar.
+fn write_findings<R: Print + AllocGlobal>(
+    rt: &R,
+    text: &[u8],
+    calendar: Calendar<'_>,
+) -> Result<(), StreamFault> {
+    let Ok(dated) = dated_findings(rt.alloc(), text, calendar) else {
+        return Err(StreamFault::Memory);
+    };
+    match io::writer(rt).write_all(dated.as_bytes()) {
+        Ok(()) => Ok(()),
+        Err(_) => Err(StreamFault::Write),
+    }
 }
 
 /// What was written in place of findings.
@@ -175,6 +193,7 @@ fn told<'a>(texts: Texts<'a>, status: u8, text: &'a [u8]) -> Told<'a> {
             proof: "",
         },
         work: Work::unknown(),
+        calendar: Calendar::Numbers,
     }
 }
 

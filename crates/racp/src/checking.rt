@@ -3,6 +3,7 @@
 ghost use Rattle.std.specs.Prelude.{IfOk};
 ghost use Rattle.racp.specs.Statuses.{IsStatusOfAnswer};
 
+use racp_calendar::Calendar;
 use racp_cli::{StreamFault, check_over};
 use racp_explain::{Input as Text, plan_cause};
 use racp_host::failure::Failure;
@@ -61,6 +62,7 @@ fn check_told<R: Print + Eprint + AllocGlobal>(
             proof: "",
         },
         work: Work::unknown(),
+        calendar: Calendar::Numbers,
     };
     end(rt, manner, &told, cause)?;
     Ok(status)

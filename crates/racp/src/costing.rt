@@ -85,6 +85,7 @@ fn curve_told<R: Crewed>(
             seconds: begun.seconds(rt),
             ..Work::unknown()
         },
+        calendar: costing.making.calendar,
     };
     end(rt, manner, &told, cause)?;
     Ok(status)

@@ -3,6 +3,7 @@
 ghost use Rattle.std.specs.Prelude.{IfOk};
 ghost use Rattle.racp.specs.Statuses.{IsStatusOfAnswer};
 
+use racp_calendar::Calendar;
 use racp_cli::{StreamFault, cpm_over};
 use racp_explain::{Input as Text, network_cause};
 use racp_host::failure::Failure;
@@ -73,6 +74,7 @@ fn cpm_told<R: Print + Eprint + AllocGlobal>(
             proof: "",
         },
         work: Work::unknown(),
+        calendar: Calendar::Numbers,
     };
     end(rt, manner, &told, cause)?;
     Ok(status)

@@ -51,6 +51,7 @@ mod charting;
 mod checking;
 mod costing;
 mod crewing;
+mod dated;
 mod deadline;
 mod early;
 mod gathering;

@@ -86,6 +86,7 @@ fn order_told<R: Print + Eprint + AllocGlobal>(
             proof: "",
         },
         work: Work::unknown(),
+        calendar: Calendar::Numbers,
     };
     let cause = if status == DONE || status == REFUSED {
         asked_cause(rt.alloc(), net, numbers, status == REFUSED)

@@ -43,7 +43,7 @@ fn plan_told<'a, R: Crewed>(
 ) -> Result<u8, Failure>
     ensures { IfOk result IsStatusOfAnswer }
 {
-    let manner = making.manner;
+    let (manner, calendar) = (making.manner, making.calendar);
     let word = word_to_prove(making.crew);
     let made = plan_of(rt, net.bytes, order.bytes, making)?;
     let status = made.status;
@@ -69,6 +69,7 @@ fn plan_told<'a, R: Crewed>(
             proof: "",
         },
         work: made.work,
+        calendar,
     };
     end(rt, manner, &told, cause)?;
     Ok(status)

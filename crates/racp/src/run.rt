@@ -13,6 +13,7 @@ use crate::proving::{Proving, prove};
 use crate::tools::tool;
 use crate::verifying::{Verifying, verify};
 use racp_cli::StreamFault;
+use racp_host::dates::{calendar_for_json, calendar_of};
 use racp_host::failure::{Failure, report};
 use racp_host::inputs::told;
 use racp_host::machine::Crewed;
@@ -85,6 +86,7 @@ fn answer_to<R: Crewed + Input>(rt: &R, task: Task<'_>, terminals: Terminals) ->
         request,
         telling,
         is_json,
+        calendar,
     } = task;
     let on_terminal = terminals.errors;
     let manner = Manner {
@@ -95,7 +97,7 @@ fn answer_to<R: Crewed + Input>(rt: &R, task: Task<'_>, terminals: Terminals) ->
     if terminals.input && matches!(&request, Request::Cpm(Source::StandardInput)) {
         let _ = rt.eprintln(HINT);
     }
-    match answered(rt, request, manner) {
+    match answered(rt, request, manner, calendar) {
         Ok(status) => Ok(status),
         Err(failure) => Err(failure_told(rt.alloc(), failure, manner)),
     }
@@ -117,14 +119,21 @@ fn failure_told(alloc: Global, failure: Failure, manner: Manner) -> Failure {
     }
 }
 
-/// Writes the answer to a request. What is wrong with the inputs is told in this manner.
-fn answered<R: Crewed + Input>(rt: &R, request: Request<'_>, manner: Manner) -> Result<u8, Failure>
+/// Writes the answer to a request. What is wrong with the inputs is told in this manner. A path may name a calendar.
+fn answered<R: Crewed + Input>(
+    rt: &R,
+    request: Request<'_>,
+    manner: Manner,
+    calendar: Option<&str>,
+) -> Result<u8, Failure>
     ensures { IfOk result IsStatusOfAnswer }
 {
     match request {
         Request::Cpm(network) => cpm(rt, network, manner),
         Request::Plan(files, memory, crew) => {
-            plan(rt, files, Making::of(memory, crew, manner)?)
+            let workdays = calendar_for_json(rt, calendar, manner.is_json)?;
+            let days = calendar_of(&workdays);
+            plan(rt, files, Making::of(memory, crew, manner, days)?)
         },
         Request::Prove(files, by_clauses, word) => {
             prove(rt, Proving::of(files, by_clauses, word, manner)?)
@@ -148,15 +157,20 @@ fn answered<R: Crewed + Input>(rt: &R, request: Request<'_>, manner: Manner) -> 
             };
             verify_bound(rt, asked)
         }
-        Request::Tool(asked) => answer_of_tool(rt, asked, manner),
+        Request::Tool(asked) => answer_of_tool(rt, asked, manner, calendar),
     }
 }
 
 /// Writes the answer to what a command that goes with plans asks for.
-fn answer_of_tool<R: Crewed>(rt: &R, asked: Tool<'_>, manner: Manner) -> Result<u8, Failure>
+fn answer_of_tool<R: Crewed>(
+    rt: &R,
+    asked: Tool<'_>,
+    manner: Manner,
+    calendar: Option<&str>,
+) -> Result<u8, Failure>
     ensures { IfOk result IsStatusOfAnswer }
 {
-    tool(rt, asked, manner)
+    tool(rt, asked, manner, calendar)
 }
 
 /// The words of the command line, of which the first is the program's name.

@@ -12,6 +12,7 @@ use crate::ordering::order;
 use crate::reporting::report;
 use racp_cli::{DONE, StreamFault};
 use racp_explain::{explanation, subject_list};
+use racp_host::dates::{calendar_for_json, calendar_of, named_calendar};
 use racp_host::failure::{Failure, OptionFault};
 use racp_host::machine::Crewed;
 use racp_host::making::Making;
@@ -20,22 +21,30 @@ use racp_words::Tool;
 use std::alloc::Global;
 
 /// Writes the answer to what a command that goes with plans asks for. What is wrong with the inputs is told in this
-/// manner.
-pub(crate) fn tool<R: Crewed>(rt: &R, tool: Tool<'_>, manner: Manner) -> Result<u8, Failure>
+/// manner. A path may name a calendar.
+pub(crate) fn tool<R: Crewed>(
+    rt: &R,
+    tool: Tool<'_>,
+    manner: Manner,
+    calendar: Option<&str>,
+) -> Result<u8, Failure>
     ensures { IfOk result IsStatusOfTool }
 {
     match tool {
         Tool::Show(files, look) => show(rt, files, look, manner),
         Tool::Report(files, options) => report(rt, files, options, manner),
         Tool::Curve(files, memory, crew, is_drawn) => {
+            let workdays = calendar_for_json(rt, calendar, manner.is_json)?;
             let costing = Costing {
-                making: Making::of(memory, crew, manner)?,
+                making: Making::of(memory, crew, manner, calendar_of(&workdays))?,
                 is_drawn: is_drawn && !manner.is_json,
             };
             curve(rt, files, costing)
         }
         Tool::WhatIf(files, options, memory, crew) => {
-            whatif(rt, files, options, Making::of(memory, crew, manner)?)
+            let workdays = named_calendar(rt, calendar)?;
+            let days = calendar_of(&workdays);
+            whatif(rt, files, options, Making::of(memory, crew, manner, days)?)
         }
         Tool::Order(files, terms) => order(rt, files, &terms, manner),
         Tool::Batch(words, memory) => batch(rt, &words, memory, manner),

@@ -3,6 +3,7 @@
 ghost use Rattle.std.specs.Prelude.{IfOk};
 ghost use Rattle.racp.specs.Statuses.{IsStatusOfAnswer};
 
+use racp_calendar::Calendar;
 use racp_cli::{Certificate, StreamFault, verify_over_until};
 use racp_explain::{Input as Text, proof_cause};
 use racp_host::alone_limit::AloneLimit;
@@ -86,6 +87,7 @@ fn verify_told<R: Machine>(rt: &R, texts: &Texts<'_>, asked: &Verifying<'_>) -> 
             proof: texts.proof.name,
         },
         work: Work::unknown(),
+        calendar: Calendar::Numbers,
     };
     end(rt, manner, &told, cause)?;
     Ok(status)

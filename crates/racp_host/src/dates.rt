@@ -55,6 +55,22 @@ pub fn named_calendar<R: Files + AllocGlobal>(
     }
 }
 
+/// The calendar of working days of a file that may be named, for an answer that has dates as JSON alone.
+///
+/// # Errors
+///
+/// A file is named, and the answer is no JSON; the file cannot be read, or is no calendar.
+pub fn calendar_for_json<R: Files + AllocGlobal>(
+    rt: &R,
+    path: Option<&str>,
+    is_json: bool,
+) -> Result<Option<Workdays>, Failure> {
+    if path.is_some() && !is_json {
+        return Err(Failure::Option(OptionFault::NoJson));
+    }
+    named_calendar(rt, path)
+}
+
 /// The calendar of working days of the file with this path.
 fn calendar_in<R: Files + AllocGlobal>(rt: &R, path: &str) -> Result<Workdays, Failure> {
     let text = read_file(rt, path)?;

@@ -42,6 +42,9 @@ pub enum OptionFault {
     /// It is told in no way that is known how dates are written.
     #[error("--date-format has to be a form such as D.M.YYYY, DD.MM.YYYY, M/D/YYYY, MM/DD/YYYY or YYYY-MM-DD")]
     NoDateFormat,
+    /// A calendar is named for an answer without dates.
+    #[error("--calendar goes with --json here: a plan and the lines of a curve have no dates")]
+    NoJson,
     /// A table counts other time units than its calendar.
     #[error("a table counts days: no --unit half-day beside --calendar, and unit = \"day\" in it")]
     OtherUnit,

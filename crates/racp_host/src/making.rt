@@ -7,6 +7,7 @@ use crate::failure::OptionFault;
 use crate::progress::{Pace, Progress};
 use crate::seconds::time_limit;
 use crate::telling::Manner;
+use racp_calendar::Calendar;
 use racp_words::{CrewOptions, Memory};
 use std::alloc::{AllocError, Global};
 use std::rt::Env;
@@ -31,10 +32,12 @@ pub struct Making<'a> {
     pub limit: Option<Duration>,
     /// How it is told.
     pub manner: Manner,
+    /// How times are told beside their numbers.
+    pub calendar: Calendar<'a>,
 }
 
 impl<'a> Making<'a> {
-    /// With so much memory, and by these workers, if there are some.
+    /// With so much memory, and by these workers, if there are some; told in this manner, and with the days of a calendar.
     ///
     /// # Errors
     ///
@@ -43,6 +46,7 @@ impl<'a> Making<'a> {
         memory: Memory,
         crew: Option<CrewOptions<'a>>,
         manner: Manner,
+        calendar: Calendar<'a>,
     ) -> Result<Self, OptionFault> {
         let word = match crew {
             Some(crew) => crew.time_limit,
@@ -53,6 +57,7 @@ impl<'a> Making<'a> {
             crew,
             limit: time_limit(word)?,
             manner,
+            calendar,
         })
     }
 }

@@ -6,7 +6,7 @@ use Rattle.racp_sm.specs.Reading.{IsReading}
 use Rattle.racp_prices.specs.Orders.{IsOrder}
 use Rattle.racp_plan.specs.PlanReading.{IsPlanReading}
 use Rattle.racp_plan.specs.declared.plan.Plan.{Plan}
-use Rattle.racp_calendar.specs.declared.calendar.Calendar.TheVariants.{Numbers}
+use Rattle.racp_calendar.specs.declared.calendar.Calendar.{Calendar}
 use Rattle.racp_show.specs.Sheets.{IsSheet}
 use Rattle.racp_show.specs.declared.sheet.Sheet.{Sheet}
 use Rattle.racp_json.specs.declared.order.Terms as told
@@ -16,14 +16,14 @@ pub record AreTermsIn (net order : List ℕ) (network : Project) (terms : Terms)
   pub is_network : IsReading net (Ok network)
   pub is_order : IsOrder network.resources (length network.jobs) order (Ok terms)
 
--- the sheet of the plan that a text is read as, with these names
-pub record IsSheetIn (net order text : List ℕ) (names : List (List ℕ)) (sheet : Sheet) : Type 0 where
+-- the sheet of the plan that a text is read as, with these names and the days of a calendar
+pub record IsSheetIn (net order text : List ℕ) (names : List (List ℕ)) (calendar : Calendar) (sheet : Sheet) : Type 0 where
   pub network : Project
   pub terms : Terms
   pub plan : Plan
   pub are_terms : AreTermsIn net order network terms
   pub is_plan : IsPlanReading network text (Ok plan)
-  pub is_sheet : IsSheet Numbers network terms plan names sheet
+  pub is_sheet : IsSheet calendar network terms plan names sheet
 
 -- what these capacities cost
 abbrev pub IsBoundIn : List ℕ → List ℕ → List ℕ → ℕ → Type 0

@@ -9,6 +9,7 @@ use crate::sheet::sheet_of_plan;
 use crate::stop::stop_of;
 use crate::told::{Command, Told, Words};
 use crate::work::Work;
+use racp_calendar::{Calendar, last_word};
 use racp_lexfix::status::{CHECK_FAILED, DONE, IMPOSSIBLE, REFUSED, STOPPED};
 use racp_show::{Names, Sheet};
 use serde::Serialize;
@@ -45,11 +46,21 @@ struct PlanAnswer<'a> {
     work: Work,
 }
 
+/// A step of a curve.
+#[derive(Drop, Serialize)]
+struct DatedStep {
+    #[serde(flatten)]
+    step: Step,
+    /// The day in the evening of which the deadline is, if times are told by dates.
+    #[serde(skip_serializing_if = "Option::is_none")]
+    last_day: Option<String>,
+}
+
 /// A curve, or the end of one.
 #[derive(Drop, Serialize)]
 struct CurveAnswer {
     status: &'static str,
-    steps: Vec<Step>,
+    steps: Vec<DatedStep>,
     #[serde(skip_serializing_if = "Option::is_none")]
     not_before: Option<Vec<u64>>,
     #[serde(flatten)]
@@ -152,7 +163,14 @@ fn early(alloc: Global, text: &str) -> Result<String, AllocError> {
 /// The object of a plan.
 fn plan(alloc: Global, told: &Told<'_>) -> Result<String, AllocError> {
     let names = Names::none(alloc);
-    match sheet_of_plan(alloc, told.net, told.order, told.text, &names)? {
+    match sheet_of_plan(
+        alloc,
+        told.net,
+        told.order,
+        told.text,
+        &names,
+        told.calendar,
+    )? {
         Some(plan) => {
             let answer = PlanAnswer {
                 status: "optimal",
@@ -187,11 +205,25 @@ fn curve(
 ) -> Result<String, AllocError> {
     let answer = CurveAnswer {
         status,
-        steps: steps_of(alloc, text)?,
+        steps: dated(alloc, steps_of(alloc, text)?, told.calendar)?,
         not_before,
         work: told.work,
     };
     written(alloc, &answer)
+}
+
+/// Steps with the days of their deadlines.
+fn dated(
+    alloc: Global,
+    steps: Vec<Step>,
+    calendar: Calendar<'_>,
+) -> Result<Vec<DatedStep>, AllocError> {
+    let mut dated = Vec::new(alloc);
+    for step in steps {
+        let last_day = last_word(alloc, calendar, step.deadline as u128)?;
+        dated.push(DatedStep { step, last_day })?;
+    }
+    Ok(dated)
 }
 
 /// The object of an order.

@@ -14,8 +14,8 @@ use racp_show::{Names, Sheet, sheet_of};
 use racp_sm::read_sm;
 use std::alloc::{AllocError, Global};
 
-/// The sheet of the plan in a text, for the texts of a network and an order, with these names; `None` if a text is refused,
-/// the plan has a fault, or memory ran out while they were read.
+/// The sheet of the plan in a text, for the texts of a network and an order, with these names and the days of a calendar; `None` if a
+/// text is refused, the plan has a fault, or memory ran out while they were read.
 ///
 /// # Errors
 ///
@@ -26,8 +26,9 @@ pub fn sheet_of_plan<'a>(
     order: &[u8],
     plan: &[u8],
     names: &'a Names,
+    calendar: Calendar<'_>,
 ) -> Result<Option<Sheet<'a>>, AllocError>
-    ensures { IfOk result (λ sheet. IfSome sheet (IsSheetIn net.now order.now plan.now names.now)) }
+    ensures { IfOk result (λ sheet. IfSome sheet (IsSheetIn net.now order.now plan.now names.now calendar.entry)) }
 {
     let Ok(net) = read_sm(alloc, net) else {
         return Ok(None);
@@ -38,7 +39,7 @@ pub fn sheet_of_plan<'a>(
     let Ok(plan) = read_plan(alloc, plan, &net) else {
         return Ok(None);
     };
-    fitting_sheet(alloc, &net, &order, &plan, names)
+    fitting_sheet(alloc, &net, &order, &plan, names, calendar)
 }
 
 /// The sheet of a plan with these names; `None` if it has a fault.
@@ -48,14 +49,15 @@ fn fitting_sheet<'a>(
     order: &Order,
     plan: &Plan,
     names: &'a Names,
+    calendar: Calendar<'_>,
 ) -> Result<Option<Sheet<'a>>, AllocError>
     requires terms { AreTermsOf net.now order.now }
     requires capacities { length plan.now.capacities ≡ net.now.resources }
     requires starts { length plan.now.starts ≡ length net.now.jobs }
-    ensures { IfOk result (λ sheet. IfSome sheet (IsSheet Calendar.Numbers net.now order.now plan.now names.now)) }
+    ensures { IfOk result (λ sheet. IfSome sheet (IsSheet calendar.entry net.now order.now plan.now names.now)) }
 {
     if check_plan(net, order, plan).is_err() {
         return Ok(None);
     }
-    Ok(Some(sheet_of(alloc, net, order, plan, names, Calendar::Numbers)?))
+    Ok(Some(sheet_of(alloc, net, order, plan, names, calendar)?))
 }

@@ -29,13 +29,13 @@ pub(crate) fn stop_of<'a>(
     not_before: Vec<u64>,
     names: &'a Names,
 ) -> Result<StopAnswer<'a>, AllocError>
-    ensures { IfOk result (IsStopOf told.now.net.now told.now.order.now told.now.best.now not_before.items names.now) }
+    ensures { IfOk result (IsStopOf told.now.net.now told.now.order.now told.now.best.now not_before.items names.now told.now.calendar) }
 {
     Ok(StopAnswer {
         status: "stopped",
         bound: bound_of(alloc, told.net, told.order, &not_before)?,
         not_before,
-        best: sheet_of_plan(alloc, told.net, told.order, told.best, names)?,
+        best: sheet_of_plan(alloc, told.net, told.order, told.best, names, told.calendar)?,
         work: told.work,
     })
 }

@@ -1,6 +1,7 @@
 //! What an object is made of.
 
 use crate::work::Work;
+use racp_calendar::Calendar;
 
 /// A command whose answer is told.
 #[derive(Clone, Copy)]
@@ -64,4 +65,6 @@ pub struct Told<'a> {
     pub files: FileNames<'a>,
     /// How much work was done.
     pub work: Work,
+    /// How times are told beside their numbers.
+    pub calendar: Calendar<'a>,
 }

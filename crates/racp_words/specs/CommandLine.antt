@@ -32,9 +32,9 @@ abbrev pub plan_timed : App
 plan_timed = with_rule (with_rule plan_within (text_rule (codes "time-limit"))) (flag_rule (codes "progress"))
 
 -- `plan NET ORDER [-j N | --workers N] [--turns N] [--stats] [--memory MIB] [--time-limit S] [--progress] [--best FILE]
--- [--json] [--explain] [--quiet]`
+-- [--calendar FILE] [--json] [--explain] [--quiet]`
 abbrev pub plan : App
-plan = answering (with_rule plan_timed (text_rule (codes "best")))
+plan = answering (with_rule (with_rule plan_timed (text_rule (codes "best"))) (text_rule (codes "calendar")))
 
 -- `prove NET ORDER [--facts] [--time-limit S] [--explain] [--quiet]`
 abbrev pub prove : App
@@ -121,11 +121,17 @@ abbrev pub is_json_of : Option (Text × List Row) → Bool
 is_json_of None = false
 is_json_of (Some command) = is_set (codes "json") command.1
 
+-- the path of the calendar that the command names, if it names one
+abbrev pub calendar_of : Option (Text × List Row) → Option Text
+calendar_of None = None
+calendar_of (Some command) = first_of (codes "calendar") command.1
+
 -- the command that is named asks for this
 pub record IsTask (command : Option (Text × List Row)) (task : Task) : Type 0 where
   pub request : IsRequested command task.request
   pub telling : task.telling ≡ telling_of command
   pub json : task.is_json ≡ is_json_of command
+  pub calendar : option_map (λ word. word.now) task.calendar ≡ calendar_of command
 
 -- the words ask for this
 abbrev pub AskFor : List Text → Task → Type 0

@@ -52,10 +52,10 @@ curve_timed = with_rule (with_rule (of_workers (codes "curve")) (number_rule (co
 abbrev pub curve_kept : App
 curve_kept = with_rule (with_rule curve_timed (flag_rule (codes "progress"))) (text_rule (codes "best"))
 
--- `curve NET ORDER [-j N | --workers N] [--turns N] [--memory MIB] [--time-limit S] [--progress] [--best FILE] [--svg] [--json]
--- [--explain] [--quiet]`
+-- `curve NET ORDER [-j N | --workers N] [--turns N] [--memory MIB] [--time-limit S] [--progress] [--best FILE] [--svg]
+-- [--calendar FILE] [--json] [--explain] [--quiet]`
 abbrev pub curve : App
-curve = answering (with_rule curve_kept (flag_rule (codes "svg")))
+curve = answering (with_rule (with_rule curve_kept (flag_rule (codes "svg"))) (text_rule (codes "calendar")))
 
 -- `whatif NET ORDER [PLAN] [--names FILE]`
 abbrev pub whatif_named : App
@@ -65,11 +65,11 @@ whatif_named = with_rule (with_rule (of_order (codes "whatif")) (new_rule (codes
 abbrev pub whatif_of_workers : App
 whatif_of_workers = by_workers whatif_named
 
--- `whatif NET ORDER [PLAN] [--names FILE] [-j N | --workers N] [--turns N] [--memory MIB] [--time-limit S] [--json]
--- [--explain] [--quiet]`
+-- `whatif NET ORDER [PLAN] [--names FILE] [-j N | --workers N] [--turns N] [--memory MIB] [--time-limit S] [--calendar FILE]
+-- [--json] [--explain] [--quiet]`
 abbrev pub whatif : App
-whatif = answering (with_rule (with_rule whatif_of_workers (number_rule (codes "memory") 1048576))
-    (text_rule (codes "time-limit")))
+whatif = answering (with_rule (with_rule (with_rule whatif_of_workers (number_rule (codes "memory") 1048576))
+    (text_rule (codes "time-limit"))) (text_rule (codes "calendar")))
 
 -- `order NET [--names FILE]`
 abbrev pub order_named : App

@@ -3,7 +3,7 @@
 ghost use Rattle.std.specs.Prelude.{◌≡◌, ◌≢◌, ℕ, List, Option, Some, IfNone, IfOk, IfSome, MatchResult, map, option_map, string_bytes, codes};
 ghost use Rattle.clap.specs.Words.{FailsBy, fault_of, first_value, found_of, kind_of, rows_of, subcommand_rows_of};
 ghost use Rattle.clap.specs.declared.error.kind.ErrorKind.TheVariants.{OutOfMemory};
-ghost use Rattle.racp_words.specs.CommandLine.{AskFor, IsTask, IsCheckLine, AsksForCheck, IsProveLine, AsksForProve, IsVerifyLine, AsksForVerify, IsVerifyBoundLine, AsksForVerifyBound, IsCpmLine, AsksForCpm, IsPlanLine, AsksForPlan, IsWorkersLine, AsksForWorkers, IsRequested, IsSource, is_json_of, racp, telling_by, telling_of};
+ghost use Rattle.racp_words.specs.CommandLine.{AskFor, IsTask, IsCheckLine, AsksForCheck, IsProveLine, AsksForProve, IsVerifyLine, AsksForVerify, IsVerifyBoundLine, AsksForVerifyBound, IsCpmLine, AsksForCpm, IsPlanLine, AsksForPlan, IsWorkersLine, AsksForWorkers, IsRequested, IsSource, calendar_of, is_json_of, racp, telling_by, telling_of};
 ghost use Rattle.racp_words.specs.Rules.{AreOrderFiles, ArePlanFiles, number_in};
 ghost use Rattle.racp_words.specs.Tools.{IsNoTool, IsToolOf};
 
@@ -64,6 +64,7 @@ fn task_of<'a>(alloc: Global, matches: &ArgMatches<'a>) -> Result<Task<'a>, Allo
         request,
         telling: telling_of(matches),
         is_json: is_json_of(matches),
+        calendar: calendar_of(matches),
     })
 }
 
@@ -97,6 +98,16 @@ fn is_json_of(matches: &ArgMatches<'_>) -> bool
     match entered(matches) {
         Some((_, words)) => is_set(words, "json"),
         None => false,
+    }
+}
+
+/// The path of the calendar that is named.
+fn calendar_of<'a>(matches: &ArgMatches<'a>) -> Option<&'a str>
+    ensures { option_map (λ word. word.now) result ≡ calendar_of (subcommand_rows_of matches.now) }
+{
+    match entered(matches) {
+        Some((_, words)) => text_of(words, "calendar"),
+        None => None,
     }
 }
 

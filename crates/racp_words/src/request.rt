@@ -14,6 +14,8 @@ pub struct Task<'a> {
     pub telling: Telling,
     /// Whether the answer is written as JSON.
     pub is_json: bool,
+    /// The path of the calendar that is named, if one is.
+    pub calendar: Option<&'a str>,
 }
 
 /// How much is told of what is wrong.

@@ -71,6 +71,13 @@ pub(crate) const TIME_LIMIT: Word = Word::Text(
     "After how many seconds it stops, up to 1,000,000,000: 60 or 0.5",
 );
 
+/// The option for a calendar of working days, whose days stand beside times in JSON.
+pub(crate) const JSON_DAYS: Word = Word::Text(
+    "calendar",
+    "FILE",
+    "With --json, tells days of times too; FILE has the first day, the working days and the holidays",
+);
+
 /// Whether it is told how far planning has come.
 pub(crate) const PROGRESS: Word = Word::Flag(
     "progress",
@@ -133,6 +140,7 @@ pub(crate) const COMMANDS: &[Line] = &[
                 "FILE",
                 "Keeps in FILE the cheapest plan that is known, while the plan is made",
             ),
+            JSON_DAYS,
             JSON,
             EXPLAIN,
             QUIET,

@@ -3,7 +3,8 @@
 use crate::batch_words::BATCH;
 use crate::most::{MOST_WIDTH, MOST_WORKERS};
 use crate::table::{
-    EXPLAIN, JSON, Line, MEMORY, NET, ORDER, PLAN, PROGRESS, QUIET, TIME_LIMIT, TURNS, Word,
+    EXPLAIN, JSON, JSON_DAYS, Line, MEMORY, NET, ORDER, PLAN, PROGRESS, QUIET, TIME_LIMIT, TURNS,
+    Word,
 };
 use crate::table_words::{CALENDAR, CEILING, IMPORT, OWNED, START_DATE, TIMES, UNIT, WORKDAYS};
 
@@ -97,6 +98,7 @@ pub(crate) const TOOLS: &[Line] = &[
                 "Keeps in FILE the cheapest plan that is known for the deadline of the order",
             ),
             SVG,
+            JSON_DAYS,
             JSON,
             EXPLAIN,
             QUIET,
@@ -114,6 +116,7 @@ pub(crate) const TOOLS: &[Line] = &[
             TURNS,
             MEMORY,
             TIME_LIMIT,
+            CALENDAR,
             JSON,
             EXPLAIN,
             QUIET,
