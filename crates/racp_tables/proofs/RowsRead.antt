@@ -1,11 +1,34 @@
 -- Rows that are read one after another.
-use Rattle.std.proofs.Common.{◌≡◌, refl, sym, ◌∙◌, ap, subst, ℕ, ◌+◌, List, [], ◌∷◌, ◌++◌, length, append_assoc, arith}
-use Rattle.std.proofs.lemmas.List.{length_push}
-use Rattle.racp_tables.specs.CellRows.{AreRowsOf, IsRowAdded, IsRowOf}
+use Rattle.std.proofs.Common.{◌≡◌, refl, sym, ◌∙◌, ap, subst, ℕ, ◌+◌, ◌<◌, Bool, true, false, not, cond, List, [], ◌∷◌, ◌++◌, drop, get_or, length, map, append_assoc}
+use Rattle.std.proofs.lemmas.List.{at_drop_more, length_push}
+use Rattle.csv.specs.Records.{Row as Record, fields_of}
+use Rattle.racp_tables.specs.Cells.{is_blank_from}
+use Rattle.racp_tables.specs.CellRows.{AreRowsOf, IsRowAdded}
+use Rattle.racp_tables.specs.Records.{with_text}
 use Rattle.racp_tables.specs.declared.columns.Columns.{Columns}
 use Rattle.racp_tables.specs.declared.reading.Dating.{Dating}
 use Rattle.racp_tables.specs.declared.reading.Scale.{Scale}
 use Rattle.racp_tables.specs.declared.row.Row.{Row}
+
+-- what is left from a record on, by whether it is blank
+left_from : (records : List Record) (i : ℕ) (next : Record) (blank : Bool) → i < length records → next ≡ get_or records i next → is_blank_from 0 (fields_of next) ≡ blank →
+    with_text (map fields_of (drop i records))
+    ≡ cond (not blank) (fields_of next ∷ with_text (map fields_of (drop (i + 1) records))) (with_text (map fields_of (drop (i + 1) records)))
+left_from records i next blank within is so =
+    let rest : List (List (List ℕ)) = with_text (map fields_of (drop (i + 1) records)) in
+    at_drop_more (λ (xs : List Record). with_text (map fields_of xs)) records i next within
+    ∙ ap (λ (first : Record). with_text (fields_of first ∷ map fields_of (drop (i + 1) records))) (sym is)
+    ∙ ap (λ (b : Bool). cond (not b) (fields_of next ∷ rest) rest) so
+
+-- a record with text comes first of them
+pub text_first : (records : List Record) (i : ℕ) (next : Record) → i < length records → next ≡ get_or records i next → is_blank_from 0 (fields_of next) ≡ false →
+    with_text (map fields_of (drop i records)) ≡ fields_of next ∷ with_text (map fields_of (drop (i + 1) records))
+text_first records i next within is so = left_from records i next false within is so
+
+-- one without text is none of them
+pub blank_passed : (records : List Record) (i : ℕ) (next : Record) → i < length records → next ≡ get_or records i next → is_blank_from 0 (fields_of next) ≡ true →
+    with_text (map fields_of (drop i records)) ≡ with_text (map fields_of (drop (i + 1) records))
+blank_passed records i next within is so = left_from records i next true within is so
 
 -- rows behind which whatever is right for the cells that are left makes all right
 pub record IsReadingRows (columns : Columns) (roster : List (List ℕ)) (parents : List ℕ) (scale : Scale) (dating : Dating) (all left : List (List (List ℕ))) (rows : List Row) : Type 0 where

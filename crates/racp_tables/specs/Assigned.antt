@@ -1,5 +1,5 @@
 -- What cells say of resources by their names, as `Masons[3];Crane`.
-use Rattle.std.specs.Prelude.{ℕ, ◌+◌, ◌-◌, ◌==◌, Bool, true, false, if◌then◌else◌, nat_lt, List, [], ◌∷◌, length, map, take, drop, codes, flat_map, slice_index, sum_by, bytes_eq, string_bytes, Option, Some, None, unwrap_or, is_some}
+use Rattle.std.specs.Prelude.{ℕ, ◌==◌, Bool, if◌then◌else◌, List, [], ◌∷◌, length, map, codes, flat_map, sum_by, bytes_eq, string_bytes, Option, Some, None, unwrap_or, is_some}
 use Rattle.std.specs.List.{list_all}
 use Rattle.std.specs.Str.{trim}
 use Rattle.racp_tables.specs.Amounts.{amount_said, units_of}

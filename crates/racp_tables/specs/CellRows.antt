@@ -1,5 +1,5 @@
 -- What rows are of the cells that were read.
-use Rattle.std.specs.Prelude.{◌≡◌, ◌≢◌, ℕ, ◌+◌, ◌==◌, ◌⊎◌, Bool, false, not, ◌&&◌, if◌then◌else◌, nat_lt, List, [], ◌∷◌, ◌++◌, length, map, All, Contains, string_bytes, Option, Some, None, IsSome, ⊤}
+use Rattle.std.specs.Prelude.{◌≡◌, ℕ, ◌+◌, ◌==◌, ◌⊎◌, Bool, not, ◌&&◌, if◌then◌else◌, nat_lt, List, [], ◌∷◌, ◌++◌, length, map, string_bytes, Option, Some, ⊤}
 use Rattle.std.specs.List.{list_any}
 use Rattle.jiff_core.specs.declared.civil.date.Date.{Date}
 use Rattle.racp_calendar.specs.Times.{IsTimeBy, IsTimeFrom}

@@ -1,5 +1,5 @@
 -- The ties that the cells of rows say.
-use Rattle.std.specs.Prelude.{◌≡◌, ℕ, ◌+◌, ◌==◌, Bool, not, if◌then◌else◌, List, [], ◌∷◌, ◌++◌, map, filter, flat_map, length, chars, encode_utf8_all, string_bytes, option_map, Option, Some, None}
+use Rattle.std.specs.Prelude.{◌≡◌, ℕ, ◌+◌, ◌==◌, Bool, not, if◌then◌else◌, List, [], ◌∷◌, ◌++◌, map, filter, length, chars, encode_utf8_all, string_bytes, option_map, Option, Some, None}
 use Rattle.std.specs.Char.{is_whitespace}
 use Rattle.std.specs.Str.{trim}
 use Rattle.racp_links.specs.declared.link.LinkKind.TheVariants.{FinishToStart}

@@ -1,5 +1,5 @@
 -- Pieces of texts.
-use Rattle.std.specs.Prelude.{ℕ, ◌-◌, ◌<◌, ◌==◌, Bool, not, cond, nat_lt, List, length, take, drop, slice_index, Option, Some, None}
+use Rattle.std.specs.Prelude.{ℕ, ◌-◌, ◌==◌, Bool, not, cond, nat_lt, List, length, take, drop, slice_index, Option, Some, None}
 use Rattle.std.specs.List.{before_first, after_first, position_or_len, slice_split, suffix_len}
 
 -- the parts of a text before and behind the first of these letters, if it has one

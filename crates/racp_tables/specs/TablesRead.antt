@@ -1,5 +1,5 @@
 -- What a table has of the cells that it was read from.
-use Rattle.std.specs.Prelude.{◌≡◌, ℕ, List, ◌∷◌}
+use Rattle.std.specs.Prelude.{ℕ, List, ◌∷◌}
 use Rattle.racp_tables.specs.CellRows.{AreRowsOf}
 use Rattle.racp_tables.specs.Records.{AreRecordsOf, with_text}
 use Rattle.racp_tables.specs.Rosters.{roster_said}

@@ -1,4 +1,4 @@
-use Rattle.std.proofs.Common.{◌≡◌, ◌∙◌, sym, ap, true, rules, string_bytes}
+use Rattle.std.proofs.Common.{◌≡◌, ◌∙◌, sym, ap, true, rules}
 use Rattle.racp_tables.specs.Amounts.{one_marked}
 use Rattle.racp_tables.specs.Pieces.{between}
 use Rattle.racp_tables.proofs.Groups.{grouped_is}

@@ -1,4 +1,4 @@
-use Rattle.std.proofs.Common.{◌≡◌, ◌∙◌, ap, sym, List, map, string_bytes}
+use Rattle.std.proofs.Common.{◌∙◌, ap, sym, List, map, string_bytes}
 use Rattle.std.proofs.lemmas.Result.{IfOk-weaker}
 use Rattle.racp_tables.proofs.csv_rows.table_below.Goals as goal
 

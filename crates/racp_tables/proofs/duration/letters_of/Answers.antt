@@ -1,4 +1,4 @@
-use Rattle.std.proofs.Common.{◌≡◌, ◌∙◌, ap, ℕ, List}
+use Rattle.std.proofs.Common.{◌≡◌, ◌∙◌, ap}
 use Rattle.std.specs.Str.{trim}
 use Rattle.std.proofs.lemmas.Iterator.{YieldsList-from_chars, items_from_collect}
 use Rattle.racp_tables.specs.Pieces.{without_end}

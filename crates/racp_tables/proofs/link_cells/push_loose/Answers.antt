@@ -1,4 +1,4 @@
-use Rattle.std.proofs.Common.{◌≡◌, ◌∙◌, sym, ap, ℕ, List, Bor, Bool, true, false, map, not, arith, rules}
+use Rattle.std.proofs.Common.{◌≡◌, ◌∙◌, sym, ap, ℕ, List, Bor, true, false, map, not, arith, rules}
 use Rattle.std.specs.Prelude.{filter}
 use Rattle.racp_tables.specs.CellTies.{all_ties, behind, is_some_text, one_blank, single_tie}
 use Rattle.racp_tables.specs.Pieces.{between}

@@ -1,4 +1,4 @@
-use Rattle.std.proofs.Common.{◌≡◌, ◌∙◌, sym, ap, true, false, eqb, length, get_or, arith, rules, string_bytes}
+use Rattle.std.proofs.Common.{◌≡◌, ◌∙◌, sym, ap, true, rules}
 use Rattle.racp_tables.specs.Called.{has_name}
 use Rattle.racp_tables.proofs.Places.{position_found, position_none}
 use Rattle.racp_tables.proofs.named.place_of_name.Goals as goal

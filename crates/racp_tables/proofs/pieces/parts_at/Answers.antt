@@ -1,4 +1,3 @@
-use Rattle.std.proofs.Common.{eqb}
 use Rattle.std.proofs.lemmas.Str.Pattern.{split_once_first}
 use Rattle.racp_tables.proofs.Cuts.{parts_are}
 use Rattle.racp_tables.proofs.pieces.parts_at.Goals as goal

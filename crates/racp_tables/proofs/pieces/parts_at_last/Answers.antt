@@ -1,4 +1,4 @@
-use Rattle.std.proofs.Common.{◌≡◌, ◌∙◌, ◌<◌, ◌+◌, ◌-◌, ℕ, List, Bool, eqb, false, true, not, subst, sym, ap, get_or, length, arith}
+use Rattle.std.proofs.Common.{◌≡◌, ◌<◌, ◌+◌, ◌-◌, ℕ, List, eqb, false, not, ap, get_or, length, arith}
 use Rattle.std.specs.Str.{IsCharBoundary}
 use Rattle.std.specs.List.{suffix_len}
 use Rattle.std.proofs.lemmas.Str.{IsCharBoundary-after_ascii}

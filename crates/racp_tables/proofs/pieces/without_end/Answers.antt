@@ -1,4 +1,4 @@
-use Rattle.std.proofs.Common.{◌≡◌, ◌∙◌, ◌<◌, ◌-◌, ℕ, List, eqb, false, get_or, length, arith}
+use Rattle.std.proofs.Common.{◌≡◌, ◌∙◌, ◌<◌, ◌-◌, ℕ, List, eqb, false, get_or, arith}
 use borrow.Author.Tests.{ne_eqb}
 use Rattle.racp_tables.proofs.Cuts.{end_is, front_is}
 use Rattle.racp_tables.proofs.pieces.without_end.Goals as goal

@@ -1,4 +1,4 @@
-use Rattle.std.proofs.Common.{◌≡◌, ◌∙◌, sym, ap, ℕ, List, map, string_bytes, Some}
+use Rattle.std.proofs.Common.{◌∙◌, sym, ap, ℕ, List, map, string_bytes}
 use Rattle.csv.specs.Records.{fields_of}
 use Rattle.racp_tables.specs.Assigned.{assigned_said}
 use Rattle.racp_tables.specs.Cells.{cell_of, need_at}
