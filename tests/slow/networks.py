@@ -1,6 +1,6 @@
 """Networks, their texts, and starts in them, pair by pair and time unit by time unit.
 
-Made from 'The network text' in docs/FORMATS.md, and from 'Schedules' and 'Early and late starts, chains' in docs/PROBLEM.md."""
+Made from 'The network text' in docs/FORMATS.md, and from 'Schedules' and 'Early and late starts, chains' in docs/DEFINITIONS.md."""
 
 import collections
 
