@@ -7,7 +7,7 @@ use racp_calendar::Calendar;
 use racp_cli::{Look, StreamFault, show_over};
 use racp_explain::{Input as Text, shown_cause};
 use racp_host::dates::{calendar_of, workdays_of};
-use racp_host::failure::Failure;
+use racp_host::failure::{Failure, OptionFault};
 use racp_host::inputs::Inputs;
 use racp_host::machine::Machine;
 use racp_host::telling::{Manner, tell};
@@ -63,6 +63,7 @@ pub(crate) fn show<R: Machine>(
 ) -> Result<u8, Failure>
     ensures { IfOk result IsStatusOfTool }
 {
+    test_idle(&look)?;
     let workdays = workdays_of(rt, look.dates)?;
     let calendar = calendar_of(&workdays);
     let paths = [
@@ -83,6 +84,17 @@ pub(crate) fn show<R: Machine>(
         tell(rt, manner, cause(rt.alloc(), texts));
     }
     Ok(status)
+}
+
+/// Refuses options that would do nothing in this form.
+fn test_idle(look: &racp_words::Look<'_>) -> Result<(), OptionFault> {
+    match look.form {
+        Form::Text | Form::Ascii | Form::Json | Form::Csv if look.has_links => {
+            Err(OptionFault::Links)
+        }
+        Form::Svg | Form::Json | Form::Csv if look.width.is_some() => Err(OptionFault::Width),
+        _ => Ok(()),
+    }
 }
 
 /// The texts of a picture, of its files in the order in which they are opened.

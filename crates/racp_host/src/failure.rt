@@ -51,6 +51,12 @@ pub enum OptionFault {
     /// The limit of time is no number of seconds, or out of its range.
     #[error("--time-limit has to be a number of seconds such as 60 or 0.5, above 0 and up to 1,000,000,000")]
     TimeLimit,
+    /// Arrows are asked for, and no picture.
+    #[error("--links goes with --svg: only a picture has arrows")]
+    Links,
+    /// A width is asked for, and no chart.
+    #[error("--width goes with a chart: no --svg, --json or --csv beside it")]
+    Width,
     /// The date of the time 0 is no date.
     #[error("--start-date has to be a date such as 2026-01-05")]
     StartDate,
