@@ -1,5 +1,5 @@
 """A slow check of certificates: line by line over the text, set by set over the alternatives of a conflict, and vector by vector
-over the capacities before the plan's. Made from 'The certificate' and 'What `verify` writes' in docs/FORMATS.md."""
+over the capacities before the plan's. Made from 'The certificate' and 'racp verify' in docs/FORMATS.md."""
 
 import collections
 import itertools

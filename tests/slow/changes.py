@@ -1,4 +1,4 @@
-"""What becomes of an order if one term is changed, by a plan for each changed order. Made from 'What `whatif` writes' in
+"""What becomes of an order if one term is changed, by a plan for each changed order. Made from 'racp whatif' in
 docs/FORMATS.md."""
 
 from shared import Run

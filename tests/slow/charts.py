@@ -1,4 +1,4 @@
-"""A slow drawing of a plan as a chart: column by column and time unit by time unit. Made from 'What `show` writes' in
+"""A slow drawing of a plan as a chart: column by column and time unit by time unit. Made from 'racp show' in
 docs/FORMATS.md. That page leaves open how much of a line names take: `most_label` and `room_of` say it."""
 
 import unicodedata

@@ -1,4 +1,4 @@
-"""A slow check of plans: fault by fault, and time unit by time unit over a schedule. Made from 'What `check` writes' in
+"""A slow check of plans: fault by fault, and time unit by time unit over a schedule. Made from 'racp check' in
 docs/FORMATS.md."""
 
 from shared import Run, Written

@@ -1,5 +1,5 @@
 """A slow curve: a plan for each deadline up to the order's; and what is wrong with a curve's picture, or with one that was
-stopped. Made from 'What `curve` writes' in docs/FORMATS.md."""
+stopped. Made from 'racp curve' in docs/FORMATS.md."""
 
 import re
 

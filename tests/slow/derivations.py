@@ -1,5 +1,5 @@
 """A slow check of certificates by clauses: line by line over the text, with a table of bounds by name. Made from 'The certificate
-by clauses' and 'What `verify` writes' in docs/FORMATS.md."""
+by clauses' and 'racp verify' in docs/FORMATS.md."""
 
 import collections
 import re

@@ -1,5 +1,5 @@
-"""A slow drawing of a plan as SVG: a row for each task, a stair for each resource and their axes, all in one scale. Made from 'What
-`show` writes' and 'What `report` writes' in docs/FORMATS.md."""
+"""A slow drawing of a plan as SVG: a row for each task, a stair for each resource and their axes, all in one scale. Made from
+'racp show' and 'racp report' in docs/FORMATS.md."""
 
 import re
 

@@ -1,5 +1,5 @@
 """What has to be explained: the faults and lines that docs/FORMATS.md tells, the words that name them, and texts that have faults,
-with the words that are told of them. Made from the tables of 'Faults', 'What `explain` writes' and 'What `--explain` tells' in
+with the words that are told of them. Made from the tables of 'Faults', 'racp explain' and 'What standard error tells' in
 docs/FORMATS.md."""
 
 import re

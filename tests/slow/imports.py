@@ -1,4 +1,5 @@
-"""A slow reader of tables of tasks, sign by sign, and random tables. Made from 'The table of tasks' in docs/FORMATS.md.
+"""A slow reader of tables of tasks, sign by sign, and random tables. Made from 'The table of tasks' and 'racp import' in
+docs/FORMATS.md.
 
 That page does not say what a quote within a cell means, or a carriage return within a line; `Open` says that a text has one."""
 

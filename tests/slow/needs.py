@@ -1,4 +1,4 @@
-"""Needs above a ceiling, by each way in which the jobs of a need can start. Made from 'What `whatif` writes' in
+"""Needs above a ceiling, by each way in which the jobs of a need can start. Made from 'racp whatif' in
 docs/FORMATS.md."""
 
 import itertools

@@ -1,5 +1,5 @@
-"""What pictures are read with: the elements of an SVG, straight lines, and the round numbers of an axis. Made from 'What `show`
-writes' and 'What `curve` writes' in docs/FORMATS.md."""
+"""What pictures are read with: the elements of an SVG, straight lines, and the round numbers of an axis. Made from 'racp show'
+and 'racp curve' in docs/FORMATS.md."""
 
 import re
 import xml.etree.ElementTree

@@ -1,5 +1,5 @@
 """A slow planner: of every schedule there is it takes the least capacities that the schedule fits, of these the first, and then
-the first schedule that fits them. Made from 'What `plan` writes' in docs/FORMATS.md."""
+the first schedule that fits them. Made from 'racp plan' and 'Lines and statuses' in docs/FORMATS.md."""
 
 from shared import Run, Written
 from slow.networks import critical_length, early_starts, usage

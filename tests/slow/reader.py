@@ -1,5 +1,5 @@
 """A slow reader of network texts: lists of lines and of words, and starts that are put off until each job starts after the jobs
-that it succeeds. Made from 'The network text', its 'Faults' and 'What `cpm` writes' in docs/FORMATS.md, sentence by sentence."""
+that it succeeds. Made from 'The network text', its 'Faults' and 'racp cpm' in docs/FORMATS.md, sentence by sentence."""
 
 from shared import Run
 from slow.networks import Network

@@ -1,4 +1,4 @@
-"""What is wrong with a plan as JSON or as CSV, with the usage counted at each time. Made from 'What `show` writes' in
+"""What is wrong with a plan as JSON or as CSV, with the usage counted at each time. Made from 'racp show' in
 docs/FORMATS.md."""
 
 import csv
