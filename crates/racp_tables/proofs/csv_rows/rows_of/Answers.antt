@@ -18,7 +18,7 @@ loop-record-preserved c =
       | then-not-is_empty_from+in_ok-push_row w ↦
           let first = text_first c.args.records.now c.loop-record.record-index c.record-item.result c.loop-record-test.true c.record-item.is (sym c.is_empty_from.ensures ∙ w.if-not-is_empty_from.true) in
           rw w.rows-is (reading_more columns roster parents c.args.taken.scale c.args.taken.dating all left (fields_of c.record-item.result) before w.push_row.new.rows.items
-            (rw first at c.loop-record.invariant) w.in_ok-push_row.ensures)
+          (rw first at c.loop-record.invariant) w.in_ok-push_row.ensures)
       | else-not-is_empty_from w ↦
           let passed = blank_passed c.args.records.now c.loop-record.record-index c.record-item.result c.loop-record-test.true c.record-item.is (sym c.is_empty_from.ensures ∙ w.if-not-is_empty_from.false) in
           rw w.rows-is (rw passed at c.loop-record.invariant)
