@@ -3,7 +3,7 @@
 ghost use Rattle.std.specs.Prelude.{IfOk};
 ghost use Rattle.racp.specs.Statuses.{IsStatusOfAnswer};
 
-use racp_calendar::Calendar;
+use crate::undated::{Sources, undated};
 use racp_cli::{StreamFault, verify_bound_over};
 use racp_explain::{Input as Text, bound_cause};
 use racp_host::alone_limit::AloneLimit;
@@ -12,7 +12,7 @@ use racp_host::failure::Failure;
 use racp_host::inputs::Inputs;
 use racp_host::machine::Machine;
 use racp_host::telling::{Manner, end};
-use racp_json::{Command, FileNames, Told, Work};
+use racp_json::Command;
 use racp_words::BoundFiles;
 use std::io;
 use std::io::{Read, Write};
@@ -46,11 +46,11 @@ pub(crate) fn verify_bound<R: Machine>(rt: &R, asked: Bounding<'_>) -> Result<u8
 }
 
 /// The same of these texts; it stops after so much time, if that is asked, or when the user asks for it.
-fn verify_told<R: Machine>(
+fn verify_told<'a, R: Machine>(
     rt: &R,
-    net: &Text<'_>,
-    order: &Text<'_>,
-    proof: &Text<'_>,
+    net: &Text<'a>,
+    order: &Text<'a>,
+    proof: &Text<'a>,
     asked: &Bounding<'_>,
 ) -> Result<u8, Failure>
     ensures { IfOk result IsStatusOfAnswer }
@@ -63,22 +63,13 @@ fn verify_told<R: Machine>(
     } else {
         Ok(String::new(rt.alloc()))
     };
-    let told = Told {
-        command: Command::Bound,
-        status,
-        text: &text,
-        net: net.bytes,
-        order: order.bytes,
-        best: &[],
-        files: FileNames {
-            net: net.name,
-            order: order.name,
-            plan: "",
-            proof: proof.name,
-        },
-        work: Work::unknown(),
-        calendar: Calendar::Numbers,
+    let sources = Sources {
+        net: *net,
+        order: *order,
+        plan: "",
+        proof: proof.name,
     };
+    let told = undated(Command::Bound, status, &text, sources);
     end(rt, manner, &told, cause)?;
     Ok(status)
 }

@@ -5,6 +5,7 @@ ghost use Rattle.racp.specs.Statuses.{IsStatusOfTool};
 
 use crate::dated::dated_findings;
 use crate::listener::{Kept, Listener};
+use crate::undated::{Sources, undated};
 use racp_calendar::Calendar;
 use racp_cli::{StreamFault, WhatIfTexts, whatif_to};
 use racp_desk::Open;
@@ -16,7 +17,7 @@ use racp_host::limit::Limit;
 use racp_host::machine::Crewed;
 use racp_host::making::{Making, memory_of, one_worker, worker_count};
 use racp_host::telling::{Manner, end};
-use racp_json::{Command, FileNames, Told, Work};
+use racp_json::{Command, Told};
 use racp_lexfix::Crew;
 use racp_words::{OrderFiles, WhatIfWords};
 use std::alloc::{AllocError, Global};
@@ -179,22 +180,13 @@ fn told<'a>(texts: Texts<'a>, status: u8, text: &'a [u8]) -> Told<'a> {
         Some(plan) => (Command::Check, plan.name),
         None => (Command::Plan, ""),
     };
-    Told {
-        command,
-        status,
-        text,
-        net: texts.net.bytes,
-        order: texts.order.bytes,
-        best: &[],
-        files: FileNames {
-            net: texts.net.name,
-            order: texts.order.name,
-            plan,
-            proof: "",
-        },
-        work: Work::unknown(),
-        calendar: Calendar::Numbers,
-    }
+    let sources = Sources {
+        net: texts.net,
+        order: texts.order,
+        plan,
+        proof: "",
+    };
+    undated(command, status, text, sources)
 }
 
 /// What is wrong with the texts.

@@ -3,14 +3,14 @@
 ghost use Rattle.std.specs.Prelude.{IfOk};
 ghost use Rattle.racp.specs.Statuses.{IsStatusOfAnswer};
 
-use racp_calendar::Calendar;
+use crate::undated::{Sources, undated};
 use racp_cli::{StreamFault, check_over};
 use racp_explain::{Input as Text, plan_cause};
 use racp_host::failure::Failure;
 use racp_host::inputs::Inputs;
 use racp_host::machine::Machine;
 use racp_host::telling::{Manner, end};
-use racp_json::{Command, FileNames, Told, Work};
+use racp_json::Command;
 use racp_words::PlanFiles;
 use std::alloc::Global;
 use std::io;
@@ -32,11 +32,11 @@ pub(crate) fn check<R: Machine>(rt: &R, files: PlanFiles<'_>, manner: Manner) ->
 }
 
 /// Whether the plan in these texts is right.
-fn check_told<R: Print + Eprint + AllocGlobal>(
+fn check_told<'a, R: Print + Eprint + AllocGlobal>(
     rt: &R,
-    net: &Text<'_>,
-    order: &Text<'_>,
-    plan: &Text<'_>,
+    net: &Text<'a>,
+    order: &Text<'a>,
+    plan: &Text<'a>,
     manner: Manner,
 ) -> Result<u8, Failure>
     ensures { IfOk result IsStatusOfAnswer }
@@ -48,22 +48,13 @@ fn check_told<R: Print + Eprint + AllocGlobal>(
     } else {
         Ok(String::new(rt.alloc()))
     };
-    let told = Told {
-        command: Command::Check,
-        status,
-        text: &text,
-        net: net.bytes,
-        order: order.bytes,
-        best: &[],
-        files: FileNames {
-            net: net.name,
-            order: order.name,
-            plan: plan.name,
-            proof: "",
-        },
-        work: Work::unknown(),
-        calendar: Calendar::Numbers,
+    let sources = Sources {
+        net: *net,
+        order: *order,
+        plan: plan.name,
+        proof: "",
     };
+    let told = undated(Command::Check, status, &text, sources);
     end(rt, manner, &told, cause)?;
     Ok(status)
 }

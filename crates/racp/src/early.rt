@@ -3,14 +3,14 @@
 ghost use Rattle.std.specs.Prelude.{IfOk};
 ghost use Rattle.racp.specs.Statuses.{IsStatusOfAnswer};
 
-use racp_calendar::Calendar;
+use crate::undated::{Sources, undated};
 use racp_cli::{StreamFault, cpm_over};
 use racp_explain::{Input as Text, network_cause};
 use racp_host::failure::Failure;
 use racp_host::inputs::{STANDARD_INPUT, read_file, text, whole};
 use racp_host::machine::Machine;
 use racp_host::telling::{Manner, end};
-use racp_json::{Command, FileNames, Told, Work};
+use racp_json::Command;
 use racp_words::Source;
 use std::alloc::Global;
 use std::io;
@@ -60,22 +60,7 @@ fn cpm_told<R: Print + Eprint + AllocGlobal>(
     } else {
         Ok(String::new(rt.alloc()))
     };
-    let told = Told {
-        command: Command::Cpm,
-        status,
-        text: &text,
-        net: net.bytes,
-        order: &[],
-        best: &[],
-        files: FileNames {
-            net: net.name,
-            order: "",
-            plan: "",
-            proof: "",
-        },
-        work: Work::unknown(),
-        calendar: Calendar::Numbers,
-    };
+    let told = undated(Command::Cpm, status, &text, Sources::network(*net));
     end(rt, manner, &told, cause)?;
     Ok(status)
 }

@@ -4,7 +4,7 @@ ghost use Rattle.std.specs.Prelude.{IfOk};
 ghost use Rattle.racp.specs.Statuses.{IsStatusOfTool};
 
 use crate::parts::taken_of;
-use crate::reading::{project_of, reading_of};
+use crate::reading::{Titles, project_of, reading_of};
 use crate::replacing::{outputs_of, test_earlier};
 use crate::texts::{Texts, texts_of};
 use crate::warned::Told;
@@ -31,7 +31,11 @@ pub(crate) fn import<R: Files + Print + Eprint + AllocGlobal>(
 {
     let workdays = named_calendar(rt, words.calendar)?;
     let calendar = calendar_of(&workdays);
-    let reading = reading_of(words, calendar)?;
+    let titles = Titles {
+        resources: words.resources,
+        ignored: words.ignored,
+    };
+    let reading = reading_of(words, titles, calendar)?;
     let out = project_of(words.out)?;
     let taken = taken_of(rt, &words.files, out, &reading)?;
     let mut texts = texts_of(rt.alloc(), words, calendar, taken)?;

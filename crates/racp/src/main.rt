@@ -71,6 +71,7 @@ mod run;
 mod terms;
 mod texts;
 mod tools;
+mod undated;
 mod verifying;
 mod warned;
 

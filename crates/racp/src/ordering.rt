@@ -4,6 +4,7 @@ ghost use Rattle.std.specs.Prelude.{IfOk};
 ghost use Rattle.racp.specs.Statuses.{IsStatusOfTool};
 
 use crate::terms::{Times, asked_order};
+use crate::undated::{Sources, undated};
 use racp_calendar::Calendar;
 use racp_cli::{Asked, DONE, REFUSED, StreamFault, Time, order_over};
 use racp_explain::{Input as Text, Listed, Numbers, asked_cause};
@@ -13,7 +14,7 @@ use racp_host::inputs::Inputs;
 use racp_host::machine::Machine;
 use racp_host::resources::{refused_names, resource_names};
 use racp_host::telling::{Manner, end, tell};
-use racp_json::{Command, FileNames, Told, Work};
+use racp_json::Command;
 use racp_words::{NamedNet, Terms};
 use std::alloc::Global;
 use std::io;
@@ -72,22 +73,7 @@ fn order_told<R: Print + Eprint + AllocGlobal>(
     let numbers = numbers_of(&asked);
     let mut text = Vec::new(rt.alloc());
     let status = order_written(rt, net, asked, manner.is_json, &mut text)?;
-    let told = Told {
-        command: Command::Order,
-        status,
-        text: &text,
-        net: net.bytes,
-        order: &[],
-        best: &[],
-        files: FileNames {
-            net: net.name,
-            order: "",
-            plan: "",
-            proof: "",
-        },
-        work: Work::unknown(),
-        calendar: Calendar::Numbers,
-    };
+    let told = undated(Command::Order, status, &text, Sources::network(*net));
     let cause = if status == DONE || status == REFUSED {
         asked_cause(rt.alloc(), net, numbers, status == REFUSED)
     } else {

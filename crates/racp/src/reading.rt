@@ -5,9 +5,19 @@ use racp_host::failure::OptionFault;
 use racp_tables::{Dating, Format, Reading, Scale};
 use racp_words::TableWords;
 
-/// How the words say that a table is read, whose dates are those of a calendar.
+/// Titles of columns, between commas, if they are told.
+#[derive(Clone, Copy)]
+pub(crate) struct Titles<'a> {
+    /// Those of resources.
+    pub(crate) resources: Option<&'a str>,
+    /// Those of columns that are passed over.
+    pub(crate) ignored: Option<&'a str>,
+}
+
+/// How the words say that a table is read that has columns of these titles, and whose dates are those of a calendar.
 pub(crate) fn reading_of<'a>(
-    words: &TableWords<'a>,
+    words: &TableWords<'_>,
+    titles: Titles<'a>,
     calendar: Calendar<'a>,
 ) -> Result<Reading<'a>, OptionFault> {
     let hours_a_day = match words.hours_a_day {
@@ -16,8 +26,8 @@ pub(crate) fn reading_of<'a>(
     };
     Ok(Reading {
         format: format_of(words.from)?,
-        resources: words.resources,
-        ignored: words.ignored,
+        resources: titles.resources,
+        ignored: titles.ignored,
         scale: Scale {
             hours_a_day,
             is_half_day: is_half_day(words.unit)?,

@@ -3,7 +3,7 @@
 ghost use Rattle.std.specs.Prelude.{IfOk};
 ghost use Rattle.racp.specs.Statuses.{IsStatusOfAnswer};
 
-use racp_calendar::Calendar;
+use crate::undated::{Sources, undated};
 use racp_cli::{Certificate, StreamFault, verify_over_until};
 use racp_explain::{Input as Text, proof_cause};
 use racp_host::alone_limit::AloneLimit;
@@ -12,7 +12,7 @@ use racp_host::failure::Failure;
 use racp_host::inputs::Inputs;
 use racp_host::machine::Machine;
 use racp_host::telling::{Manner, end};
-use racp_json::{Command, FileNames, Told, Work};
+use racp_json::Command;
 use racp_words::ProofFiles;
 use std::alloc::{AllocError, Global};
 use std::io;
@@ -73,22 +73,13 @@ fn verify_told<R: Machine>(rt: &R, texts: &Texts<'_>, asked: &Verifying<'_>) -> 
     } else {
         Ok(String::new(rt.alloc()))
     };
-    let told = Told {
-        command: Command::Verify,
-        status,
-        text: &text,
-        net: texts.net.bytes,
-        order: texts.order.bytes,
-        best: &[],
-        files: FileNames {
-            net: texts.net.name,
-            order: texts.order.name,
-            plan: texts.plan.name,
-            proof: texts.proof.name,
-        },
-        work: Work::unknown(),
-        calendar: Calendar::Numbers,
+    let sources = Sources {
+        net: texts.net,
+        order: texts.order,
+        plan: texts.plan.name,
+        proof: texts.proof.name,
     };
+    let told = undated(Command::Verify, status, &text, sources);
     end(rt, manner, &told, cause)?;
     Ok(status)
 }
