@@ -64,7 +64,7 @@ fn last_time(calendar: &Workdays, day: u32) -> u32
 }
 
 /// The least time of which the first day is not before a day, which is counted from the first one.
-fn first_time(calendar: &Workdays, day: u32) -> u32
+pub(crate) fn first_time(calendar: &Workdays, day: u32) -> u32
     requires few { day < most_days }
     ensures time { IsFrom (work_of calendar.now) (unit_days calendar.now.unit) most_days day result }
     ensures small { result ≤ most_days }

@@ -95,11 +95,11 @@ fn joined(
 fn two_digits(alloc: Global, number: u8, zeros: bool) -> Result<String, AllocError>
     ensures { IfOk result (λ text. string_bytes text ≡ two_digits zeros number) }
 {
-    with_front(alloc, zero_before(number, zeros), number as u16)
+    with_front(alloc, zero_before(number as u16, zeros), number as u16)
 }
 
 /// What stands before the digits of a day or a month.
-fn zero_before(number: u8, zeros: bool) -> &'static str
+pub(crate) fn zero_before(number: u16, zeros: bool) -> &'static str
     ensures { result.now ≡ zero_before zeros number }
 {
     if !zeros {
@@ -117,7 +117,7 @@ fn year_text(alloc: Global, year: i16) -> Result<String, AllocError>
 }
 
 /// What stands before the digits of a year.
-fn zeros_before(year: u16) -> &'static str
+pub(crate) fn zeros_before(year: u16) -> &'static str
     ensures { result.now ≡ zeros_before year }
 {
     if year < 10 {
