@@ -1,17 +1,17 @@
-"""The commands. Each asks the program, which runs beside this one, and returns values under your keys. Limits of time are in
-seconds. All raise `Refused` for what is no network, order or plan, `OutOfMemory`, and `ProgramError` if no program answers."""
+"""The commands. Each asks the program, which runs beside this one, and returns values under your keys. All raise `Refused` for
+what is no network, order or plan, `OutOfMemory`, and `ProgramError` if no program answers. Limits of time are in seconds."""
 
 from __future__ import annotations
 
 import csv
 import json
-from collections.abc import Hashable, Iterable, Mapping, Sequence
+from collections.abc import Hashable, Iterable, Mapping
 from dataclasses import replace
 from itertools import product
 from pathlib import Path
 from typing import Any
 
-from ._network import MOST, Network, Order, Values, in_order, plan_text
+from ._network import MOST, Network, Order, Values, keyed, plan_text
 from ._plans import Batch, Change, Changes, Curve, Plan, Step
 from ._program import Progress, Stopped, run
 
@@ -27,15 +27,13 @@ def critical(network: Network) -> tuple[int, dict[Hashable, int]]:
 
 def plan(network: Network, order: Order | None = None, *, time_limit: float | None = None, workers: int | None = None,
          memory: int | None = None, progress: Progress = None, **terms: Any) -> Plan:
-    """The cheapest plan of an order, or of its terms as words, which take the place of those of an order (see `Order`). Raises
-    `Impossible` if there is no plan, and `Stopped` if none was known in time.
-
-    If the limit of time was reached, it is the best plan that is known, and not `optimal`. `workers` are threads of the
+    """The cheapest plan of an order, or of its terms as words, which take the place of those of an order (see `Order`). If the
+    limit of time, in seconds, was reached, it is the best plan that is known, and not `optimal`. `workers` are threads of the
     program, 0 for each processor one, and `memory` is how many MiB its records may take. About every two seconds `progress`
     is called with a dictionary of "seconds", "best", "bound" and what else docs/FORMATS.md names; an error in it ends all.
+    Raises `Impossible` if there is no plan, and `Stopped` if none was known in time.
 
-    >>> house = Network.from_lists([4, 6, 5], needs=[[0, 1], [3, 1], [2, 0]], after=[[], [0], [0]])
-    >>> plan(house, deadline=12, prices=[9, 30])
+    >>> plan(Network.from_lists([4, 6, 5], needs=[[0, 1], [3, 1], [2, 0]], after=[[], [0], [0]]), deadline=12, prices=[9, 30])
     <Plan with cost 75, capacity {0: 5, 1: 1}>"""
     network = Network(network.resources, network.jobs)
     order = replace(order, **terms) if order else Order(**terms)
@@ -50,12 +48,11 @@ def curve(network: Network, order: Order | None = None, *, time_limit: float | N
           memory: int | None = None, progress: Progress = None, **terms: Any) -> Curve:
     """What each deadline up to that of the order costs; words as with `plan`. Raises `Impossible` if there is no plan.
 
-    >>> house = Network.from_lists([4, 6, 5], needs=[[0, 1], [3, 1], [2, 0]], after=[[], [0], [0]])
-    >>> [(step.deadline, step.cost) for step in curve(house, deadline=20, prices=[9, 30])]
-    [(10, 75), (15, 57)]"""
+    >>> [step.cost for step in curve(Network.from_lists([4, 6], needs=[[1], [1]], after=[[], []]), deadline=20, prices=[9])]
+    [18, 9]"""
     order = replace(order, **terms) if order else Order(**terms)
     answer = _ask(network, "curve", order, time_limit=time_limit, workers=workers, memory=memory, progress=progress)
-    steps = [Step(step["deadline"], step["cost"], dict(zip(network.resources, step["capacities"]))) for step in answer["steps"]]
+    steps = (Step(step["deadline"], step["cost"], dict(zip(network.resources, step["capacities"]))) for step in answer["steps"])
     return Curve(tuple(steps), answer["status"] == "done")
 
 
@@ -69,25 +66,24 @@ def soonest(network: Network, team: Values, *, release: Values | None = None, du
     10"""
     # One job more comes after all others, and needs the whole team for a time unit. So only these units come into question, and
     # the first line of the curve is known soon.
-    team, free = in_order(network.resources, team, "team"), [0] * len(network.resources)
+    team = keyed(network.resources, team, "team")
     longer = Network(network.resources, network.jobs)
-    longer.add(object(), 1, needs=dict(zip(network.resources, (min(units, 10_000) for units in team))), after=network.jobs)
-    order = Order(MOST, free, ceiling=team, release=[*in_order(network.jobs, release or {}, "release", 0), 0],
-                  due=[*in_order(network.jobs, due or {}, "due", MOST), MOST])
+    longer.add(object(), 1, needs={key: min(units, 10_000) for key, units in team.items()}, after=network.jobs)
+    order = Order(MOST, dict.fromkeys(team, 0), ceiling=team, release=keyed(network.jobs, release, "release", 0),
+                  due=keyed(network.jobs, due, "due", MOST))
     steps = curve(longer, order, time_limit=time_limit, workers=workers)
     if not steps.steps:
         raise Stopped({"status": "stopped", "says": "no time is known by which the team can end"})
     found = plan(longer, order, deadline=steps.steps[0].deadline, time_limit=time_limit, workers=workers)
-    order = Order(found.order.deadline - 1, free, ceiling=team, release=release, due=due)
+    order = replace(order, deadline=found.order.deadline - 1, release=release, due=due)
     return replace(check(network, order, [*found.starts.values()][:-1]), optimal=steps.complete)
 
 
 def whatif(plan: Plan, *, time_limit: float | None = None, workers: int | None = None) -> Changes:
     """What becomes of the plan if a resource has a unit fewer, or an owned unit more, or the deadline is a time unit off.
 
-    >>> house = Network.from_lists([4, 6, 5], needs=[[0, 1], [3, 1], [2, 0]], after=[[], [0], [0]])
-    >>> [(str(change), change.cost) for change in whatif(plan(house, deadline=15, prices=[9, 30]))][-2:]
-    [('deadline 14', 75), ('deadline 16', 57)]"""
+    >>> [change.cost for change in whatif(plan(Network.from_lists([4, 6], [[1], [2]], [[], [0]]), deadline=12, prices=[9]))]
+    [None, 9, 18, 18]"""
     answer = _ask(plan.network, "whatif", None, plan.texts(), time_limit=time_limit, workers=workers)
     jobs, resources = dict(enumerate(plan.network.jobs, 1)), dict(enumerate(plan.network.resources, 1))
     return Changes(Change(told["change"], resources.get(told["resource"]), told["value"], told["outcome"], told["cost"],
@@ -100,22 +96,17 @@ def check(network: Network, order: Order, starts: Values) -> Plan:
     """A plan from starts of anyone: of each resource it has as many units as they use at once. It is not known to be `optimal`,
     its bound is 0. Raises `Fault` if a term of the order or a pair of the network is broken, ValueError if starts are missing.
 
-    >>> house = Network.from_lists([4, 6], needs=[[1], [2]], after=[[], [0]])
-    >>> check(house, Order(20, [9]), starts=[0, 4])
-    <Plan with cost 18, at least 0, capacity {0: 2}>
-    >>> check(house, Order(20, [9]), starts=[0, 3])
-    Traceback (most recent call last):
-    racp._program.Fault: plan: fault order: a job of a plan does not wait for another; ..."""
-    network, begun = Network(network.resources, network.jobs), in_order(network.jobs, starts, "starts")
-    jobs, times = list(zip(begun, network.jobs.values())), {*begun, 0}
+    >>> check(Network.from_lists([4, 6], needs=[[1], [2]], after=[[], [0]]), Order(20, [9]), starts=[0, 4])
+    <Plan with cost 18, at least 0, capacity {0: 2}>"""
+    network, begun = Network(network.resources, network.jobs), keyed(network.jobs, starts, "starts")
+    jobs, times = [(begun[key], job) for key, job in network.jobs.items()], {*begun.values(), 0}
     running = [[job for start, job in jobs if start <= time < start + job.duration] for time in times]
-    capacity = [max(sum(job.needs.get(key, 0) for job in together) for together in running) for key in network.resources]
-    prices = in_order(network.resources, order.prices, "prices")
-    owned = in_order(network.resources, {} if order.owned is None else order.owned, "owned", 0)
-    cost = sum(price * max(0, units - own) for price, units, own in zip(prices, capacity, owned))
+    capacity = {key: max(sum(job.needs.get(key, 0) for job in together) for together in running) for key in network.resources}
+    prices, owned = keyed(capacity, order.prices, "prices"), keyed(capacity, order.owned, "owned", 0)
+    cost = sum(price * max(0, capacity[key] - owned[key]) for key, price in prices.items())
     # The critical length from release times on is what an order with the deadline 0 is refused with, if it has no plan.
-    at_once = _ask(network, "plan", Order(0, [0] * len(capacity), release=order.release), accept=(0, 3))
-    text = plan_text(order.deadline, at_once.get("numbers", [0])[0], cost, capacity, begun)
+    at_once = _ask(network, "plan", Order(0, dict.fromkeys(capacity, 0), release=order.release), accept=(0, 3))
+    text = plan_text(order.deadline, at_once.get("numbers", [0])[0], cost, capacity.values(), begun.values())
     _ask(network, "check", order, {"plan": text})
     return _plan(network, order, {**_ask(network, "show", order, {"plan": text}), "bound": 0})
 
@@ -126,7 +117,7 @@ def prove(plan: Plan, *, facts: bool = False, time_limit: float | None = None) -
 
     >>> prove(plan(Network.from_lists([4, 6], [[1], [2]], [[], [0]]), deadline=12, prices=[9]), facts=True)[:7]
     'proof 2'"""
-    return run(plan.texts(), "prove", "net", "order", facts=facts, time_limit=time_limit)
+    return run(plan.texts(), "prove", "net", "order", accept=(0,), facts=facts, time_limit=time_limit)
 
 
 def verify(plan: Plan, certificate: str, *, time_limit: float | None = None) -> None:
@@ -148,25 +139,24 @@ def batch(paths: Iterable[str | Path], factors: Iterable[float], *, price: int =
     ['refused', 'refused']"""
     given, times = list(paths), list(factors)
     table = run({}, "batch", *(str(Path(path).absolute()) for path in given), factors=",".join(map(str, times)), price=price,
-                time_limit=time_limit, jobs=jobs, memory=memory, quiet=True)
+                time_limit=time_limit, jobs=jobs, memory=memory)
     rows = [{name: json.loads(word) if word.replace(".", "", 1).isdecimal() else word or None for name, word in row.items()}
-            for row in csv.DictReader(table.splitlines())]
+            for row in csv.DictReader(table.split("\n"))]
     return Batch({**row, "file": str(path), "factor": time} for row, (path, time) in zip(rows, product(given, times)))
 
 
-def _ask(network: Network, command: str, order: Order | None = None, files: Mapping[str, str] = {},
-         accept: Sequence[int] = (0, 4), **words: Any) -> Any:
+def _ask(network: Network, command: str, order: Order | None = None, files: Mapping[str, str] = {}, **words: Any) -> Any:
     """The object that a command answers which reads the network, an order and then these files; words as with `run`."""
-    texts, jobs = {"net": network.text(), **({"order": order.text(network)} if order else {}), **files}, tuple(network.jobs)
-    keys = {"job": jobs, "before": jobs, "resource": network.resources}
-    return json.loads(run(texts, command, *texts, accept=accept, keys=keys, json=True, **words))
+    texts = {"net": network.text(), **({"order": order.text(network)} if order else {}), **files}
+    keys = {"job": [*network.jobs], "before": [*network.jobs], "resource": network.resources}
+    return json.loads(run(texts, command, *texts, keys=keys, json=True, **words))
 
 
 def _plan(network: Network, order: Order, shown: Mapping[str, Any]) -> Plan:
     """A plan of what the program tells of one."""
     jobs, resources = dict(zip(network.jobs, shown["jobs"])), dict(zip(network.resources, shown["resources"]))
+    starts, ends, slack = ({key: job[name] for key, job in jobs.items()} for name in ("start", "end", "slack"))
+    usage = {key: [(step["from"], step["units"]) for step in told["usage"]] for key, told in resources.items()}
     return Plan(network, order, shown["critical"], shown["cost"], shown["bound"], shown.get("status") == "optimal",
-                capacity={key: resource["capacity"] for key, resource in resources.items()},
-                starts={key: job["start"] for key, job in jobs.items()}, slack={key: job["slack"] for key, job in jobs.items()},
-                usage={key: [(step["from"], step["units"]) for step in told["usage"]] for key, told in resources.items()},
-                work={name: shown[name] for name in ("pieces", "nodes", "conflicts", "seconds") if name in shown})
+                {key: told["capacity"] for key, told in resources.items()}, starts, ends, slack, usage,
+                {name: shown[name] for name in ("pieces", "nodes", "conflicts", "seconds") if name in shown})

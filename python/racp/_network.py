@@ -1,11 +1,13 @@
-"""Networks: jobs, what they need, and which of them come before others; and orders."""
+"""What the program is given: networks of jobs, orders, and calendars."""
 
 from __future__ import annotations
 
 import csv
 import json
-from collections.abc import Collection, Hashable, Iterable, Mapping, Sequence
+from collections.abc import Collection, Hashable, Iterable, Iterator, Mapping, Sequence
 from dataclasses import dataclass, field
+from datetime import date, timedelta
+from itertools import count, islice
 from operator import index
 from pathlib import Path
 from typing import Any, Union
@@ -18,8 +20,7 @@ MOST = 10_000_000  #: the greatest time, and the greatest number of units
 
 @dataclass(frozen=True)
 class Job:
-    """A job takes `duration` time units, 0 to 10,000. While it runs it needs so many units of each resource that `needs`
-    names, and it starts when the jobs of `after` have ended."""
+    """A job takes `duration` time units, 0 to 10,000, needs the units `needs` meanwhile, and comes after the jobs `after`."""
 
     duration: int
     needs: Mapping[Hashable, int] = field(default_factory=dict)
@@ -29,15 +30,8 @@ class Job:
 class Network:
     """A project: up to 512 jobs and 16 resources, each under a key of your choice, which is a name or anything hashable.
 
-    >>> house = Network(["mason", "crane"])
-    >>> house.add("dig", 4, needs={"crane": 1})
-    >>> house.add("walls", 6, after=["dig"], needs={"mason": 3, "crane": 1})
-    >>> house
-    <Network of 2 jobs and 2 resources>
-    >>> Network.from_lists([4, 6], needs=[[0, 1], [3, 1]], after=[[], [0]]).jobs[1]
-    Job(duration=6, needs={0: 3, 1: 1}, after=(0,))
-    >>> Network.read("examples/a.sm")
-    <Network of 5 jobs and 1 resources>"""
+    >>> Network.from_lists([4, 6], needs=[[0, 1], [3, 1]], after=[[], [0]]).jobs[1], Network.read("examples/a.sm")
+    (Job(duration=6, needs={0: 3, 1: 1}, after=(0,)), <Network of 5 jobs and 1 resources>)"""
 
     def __init__(self, resources: Iterable[Hashable], jobs: Mapping[Any, Job] | None = None) -> None:
         self.resources: tuple[Hashable, ...] = tuple(dict.fromkeys(resources))
@@ -76,14 +70,14 @@ class Network:
         Raises `Refused` if the program takes the text for no network, and FileNotFoundError."""
         file = str(Path(path).resolve(strict=True))
         early = json.loads(run({}, "cpm", file, json=True))
-        [row] = csv.DictReader(run({}, "batch", file, factors=1, price=0, time_limit=1e-9).splitlines())
-        count, length = int(row["resources"]), early["critical"]
-        texts = {"order": f"deadline = {length}\nprices = {[0] * count}\n",
-                 "plan": plan_text(length, length, 0, [MOST] * count, early["starts"])}
+        [row] = csv.DictReader(run({}, "batch", file, factors=1, time_limit=1e-9).split("\n"))
+        resources, length = range(1, 1 + int(row["resources"])), early["critical"]
+        texts = {"order": f"deadline = {length}\nprices = {[0 for _ in resources]}\n",
+                 "plan": plan_text(length, length, 0, [MOST for _ in resources], early["starts"])}
         jobs = {job["job"]: Job(job["duration"], {key: units for key, units in enumerate(job["requests"], 1) if units},
                                 tuple(job["predecessors"]))
-                for job in json.loads(run(texts, "show", file, "order", "plan", json=True))["jobs"]}
-        return cls(range(1, count + 1), jobs)
+                for job in json.loads(run(texts, "show", file, *texts, json=True))["jobs"]}
+        return cls(resources, jobs)
 
     def text(self) -> str:
         """What `racp` reads: jobs by their numbers, as PSPLIB has them. Raises ValueError if one comes after what is no job."""
@@ -105,17 +99,14 @@ class Network:
 
 @dataclass(frozen=True)
 class Order:
-    """What a plan has to keep. Values are mappings from your keys, or lists in the order of the network.
+    """What a plan has to keep: the project ends by the `deadline`, and a unit of each resource has a price of `prices`. Values
+    are mappings from your keys, or lists in the order of the network. A mapping of the others may leave keys out: units that
+    are `owned` cost nothing (else 0); of a resource there are at most `ceiling` units, owned ones among them (else any number);
+    a job starts at its time of `release` or later (else 0), and ends by its `due` time (else by the deadline). Times and units
+    are whole numbers up to 10,000,000, prices up to 1,000,000.
 
-    The project ends by the `deadline`, and a unit of each resource has a price of `prices`. A mapping of the others may leave
-    keys out: units that are `owned` cost nothing (else 0); of a resource there are at most `ceiling` units, owned ones
-    among them (else any number); a job starts at its time of `release` or later (else 0), and ends by its `due` time (else by
-    the deadline). Times and units are whole numbers up to 10,000,000, prices up to 1,000,000.
-
-    >>> pit = Network(["crane"], {"dig": Job(4, {"crane": 2})})
-    >>> print(Order(deadline=9, prices={"crane": 30}).text(pit), end="")
-    deadline = 9
-    prices = [30]"""
+    >>> Order(deadline=9, prices={"crane": 30}).text(Network(["crane"], {"dig": Job(4, {"crane": 2})})).splitlines()
+    ['deadline = 9', 'prices = [30]']"""
 
     deadline: int
     prices: Values
@@ -128,30 +119,84 @@ class Order:
         """What `racp` reads, in TOML. Raises ValueError for keys that the network has not, and prices left out."""
         terms = (("prices", network.resources, None), ("owned", network.resources, 0), ("ceiling", network.resources, MOST),
                  ("release", network.jobs, 0), ("due", network.jobs, MOST))
-        rows = [(f"{name} =", in_order(keys, values, name, default)) for name, keys, default in terms
+        rows = [(f"{name} =", [*keyed(keys, values, name, default).values()]) for name, keys, default in terms
                 if (values := getattr(self, name)) is not None]
         return _lines([*[("version =", 2)] * (len(rows) > 1), ("deadline =", self.deadline), *rows])
 
 
-def in_order(keys: Collection[Hashable], values: Values, what: str, default: int | None = None) -> list[int]:
-    """As many values as keys, as a list. What a mapping leaves out is the default. Raises ValueError if there is none, and for
-    other keys or another number of values; TypeError for what is no whole number."""
+def keyed(keys: Collection[Hashable], values: Values | None, what: str, default: int | None = None) -> dict[Hashable, int]:
+    """A value for each key, the default where a mapping has none. Raises ValueError, or TypeError for no whole number."""
+    values = {} if values is None else values
     given = values if isinstance(values, Mapping) else dict(zip(keys, values))
     wrong = [f"{len(values)} values, and not {len(keys)}"] if given is not values and len(values) != len(keys) else []
     wrong += [f"a value for {key!r}, which the network has not" for key in given if key not in keys]
     wrong += [f"no value for {key!r}" for key in keys if key not in given and default is None]
     if wrong:
         raise ValueError(f"{what} has {wrong[0]}")
-    return [index(given.get(key, default or 0)) for key in keys]
+    return {key: index(given.get(key, default or 0)) for key in keys}
 
 
 def plan_text(deadline: int, critical: int, cost: int, capacity: Iterable[int], starts: Iterable[int]) -> str:
     """The text of a plan, as docs/FORMATS.md says."""
-    return _lines([("deadline", deadline), ("critical", critical), ("cost", cost),
-                   *(("capacity", *row) for row in enumerate(capacity, 1)),
-                   *(("start", *row) for row in enumerate(starts, 1)), ("end",)])
+    units, begun = (("capacity", *row) for row in enumerate(capacity, 1)), (("start", *row) for row in enumerate(starts, 1))
+    return _lines([("deadline", deadline), ("critical", critical), ("cost", cost), *units, *begun, ("end",)])
 
 
 def _lines(rows: Iterable[Iterable[object]]) -> str:
     """A line for each row, with a blank between two of its words."""
     return "".join(" ".join(map(str, row)) + "\n" for row in rows)
+
+
+@dataclass(frozen=True)
+class Calendar:
+    """Which days the time units of a plan are. Units are a "day" or a "week" long, counted from `start`, and those without a
+    working day do not count. No work is done on the days of the week `free`, 0 for Monday to 6 for Sunday, and on `holidays`.
+    Raises ValueError for another unit, or if each day of the week is free; OverflowError after the year 9999.
+
+    >>> work = Calendar(date(2026, 4, 2), free=[5, 6], holidays=[date(2026, 4, 3), date(2026, 4, 6)])
+    >>> work.first_day(1), work.last_day(1), work.deadline(date(2026, 4, 12))
+    (datetime.date(2026, 4, 7), datetime.date(2026, 4, 2), 5)"""
+
+    start: date
+    unit: str = "day"
+    free: Collection[int] = ()
+    holidays: Collection[date] = ()
+
+    def __post_init__(self) -> None:
+        if self.unit not in ("day", "week") or set(range(7)) <= set(self.free):
+            raise ValueError("a calendar has the unit 'day' or 'week', and a day of the week that is not free")
+
+    def first_day(self, time: int) -> date:
+        """The day on which a job begins that starts at this time."""
+        return self.days([(time, time + 1)])[0][0]
+
+    def last_day(self, time: int) -> date:
+        """The day by whose evening all is done that ends at this time; at the time 0 the first day of all."""
+        return self.days([(time, time)])[0][1]
+
+    def days(self, times: Collection[tuple[int, int]]) -> list[tuple[date, date]]:
+        """The first and the last day of jobs with these starts and ends. For one without duration both are the last day."""
+        units = list(islice(self._units(), 1 + max((end for _, end in times), default=0)))
+        lasts = [units[0][0], *(days[-1] for days in units)]
+        return [(units[start][0] if end > start else lasts[end], lasts[end]) for start, end in times]
+
+    def deadline(self, day: date) -> int:
+        """The latest time that is told by this last day or an earlier one: for deadlines and due times. 0 if there is none."""
+        return next(time for time, days in enumerate(self._units()) if days[-1] > day)
+
+    def release(self, day: date) -> int:
+        """The earliest time that is told by this first day or a later one: for release times."""
+        return next(time for time, days in enumerate(self._units()) if days[0] >= day)
+
+    def text(self) -> str:
+        """The file that `racp show` and `racp report` read with `--calendar`."""
+        worked = ",".join(name for day, name in enumerate("mon tue wed thu fri sat sun".split()) if day not in self.free)
+        holidays = ", ".join(map(str, sorted(self.holidays)))
+        return f'start = {self.start}\nworkdays = "{worked}"\nunit = "{self.unit}"\nholidays = [{holidays}]\n'
+
+    def _units(self) -> Iterator[list[date]]:
+        """The working days of each time unit."""
+        length = 7 if self.unit == "week" else 1
+        units = ([self.start + timedelta(first + day) for day in range(length)] for first in count(0, length))
+        worked = ([day for day in unit if day.weekday() not in self.free and day not in self.holidays] for unit in units)
+        return filter(None, worked)

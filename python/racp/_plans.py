@@ -1,4 +1,4 @@
-"""Plans, curves, and changes of an order."""
+"""Plans, curves, changes and tables: what the commands give."""
 
 from __future__ import annotations
 
@@ -7,10 +7,9 @@ from collections.abc import Hashable, Iterator, Mapping, Sequence
 from dataclasses import dataclass
 from datetime import date
 from pathlib import Path
-from typing import Any
+from typing import Any, NamedTuple
 
-from ._calendar import Calendar
-from ._network import Network, Order, plan_text
+from ._network import Calendar, Network, Order, plan_text
 from ._program import run
 
 
@@ -35,17 +34,15 @@ class Table:
 
 @dataclass(frozen=True)
 class Plan(Table):
-    """How many units of each resource to have, and when each job starts. `capacity` has units, `starts` times, and `slack` by
-    how many time units each job could start later if only what comes after it counted. `usage` has, for each resource, pairs of
-    a time and the units in use from then on. `critical` is the length of the project with enough of everything. No plan of the
-    order costs less than `bound`; one that is proved cheapest is `optimal`. `work` tells what planning took, such as "seconds".
+    """How many units of each resource to have, `capacity`, and at which times jobs start and end. By `slack` time units a job
+    could start later if only what comes after it counted. `usage` has for each resource pairs of a time and the units in use
+    from then on. The project takes `critical` time units with enough of everything. No plan of the order costs less than
+    `bound`; one that is proved cheapest is `optimal`. `work` tells what planning took, such as "seconds". The rows of the table
+    are the jobs, with their units of each resource.
 
-    >>> import racp
-    >>> plan = racp.plan(racp.Network(["crane"], {"dig": racp.Job(4, {"crane": 2})}), deadline=9, prices=[30])
-    >>> plan.cost, plan.gap, plan.ends, plan.days(racp.Calendar(date(2026, 3, 5), free=[5, 6]))
-    (60, 0.0, {'dig': 4}, {'dig': (datetime.date(2026, 3, 5), datetime.date(2026, 3, 10))})
-    >>> plan.report(curve=True)[:15]
-    '<!DOCTYPE html>'"""
+    >>> found = plan(Network(["crane"], {"dig": Job(4, {"crane": 2})}), deadline=9, prices=[30])
+    >>> found.cost, found.gap, found.ends, found.report(curve=True)[:15]
+    (60, 0.0, {'dig': 4}, '<!DOCTYPE html>')"""
 
     network: Network
     order: Order
@@ -55,6 +52,7 @@ class Plan(Table):
     optimal: bool
     capacity: Mapping[Hashable, int]
     starts: Mapping[Hashable, int]
+    ends: Mapping[Hashable, int]
     slack: Mapping[Hashable, int]
     usage: Mapping[Hashable, Sequence[tuple[int, int]]]
     work: Mapping[str, float]
@@ -63,11 +61,6 @@ class Plan(Table):
     def gap(self) -> float:
         """The cost above the bound, as a part of the bound: 0.25 is 25 percent. A bound of 0 counts as 1."""
         return (self.cost - self.bound) / max(self.bound, 1)
-
-    @property
-    def ends(self) -> dict[Hashable, int]:
-        """Under each job the time at which it is over."""
-        return {key: start + self.network.jobs[key].duration for key, start in self.starts.items()}
 
     def days(self, calendar: Calendar) -> dict[Hashable, tuple[date, date]]:
         """The first and the last day of each job, both days on which it runs."""
@@ -81,23 +74,24 @@ class Plan(Table):
     def report(self, path: str | Path | None = None, *, curve: bool = False, whatif: bool = False,
                calendar: Calendar | None = None, time_limit: float | None = None) -> str:
         """A page in HTML to read and print, also written to the path. With `curve` and `whatif` it tells what other deadlines
-        and changes cost, planned in up to `time_limit` seconds each; with a calendar the first and last day of each job."""
-        names = "".join(" ".join(str(key).split()) + "\n" for key in (*self.network.jobs, *self.network.resources))
-        texts = {**self.texts(), "names": names, "calendar": calendar.text() if calendar else ""}
-        if curve:
-            texts["curve"] = run(texts, "curve", "net", "order", accept=(0, 4), time_limit=time_limit)
+        and changes cost, as far as known in `time_limit` seconds each; with a calendar the first and last day of each job."""
+        texts = self.texts()
+        names = [" ".join(str(key).split()) for key in (*self.starts, *self.capacity)]
+        more = {"names": "".join(f" {name}\n" if name.startswith("#") else f"{name}\n" for name in names)}
+        if curve and (steps := run(texts, "curve", "net", "order", time_limit=time_limit)).startswith("deadline"):
+            more["curve"] = steps
         if whatif:
-            texts["whatif"] = run(texts, "whatif", "net", "order", "plan", names="names", accept=(0, 4), time_limit=time_limit)
-        page = run(texts, "report", "net", "order", "plan", names="names", curve=curve and "curve", whatif=whatif and "whatif",
-                   calendar=calendar and "calendar")
+            more["whatif"] = run({**texts, **more}, "whatif", *texts, names="names", time_limit=time_limit)
+        if calendar:
+            more["calendar"] = calendar.text()
+        page = run({**texts, **more}, "report", *texts, *(f"--{name}={name}" for name in more))
         if path is not None:
             Path(path).write_text(page, encoding="utf-8")
         return page
 
     def table(self) -> list[list[Any]]:
-        """A row for each job: its key, start, end and slack, and its units of each resource."""
-        needs = {key: [job.needs.get(resource, 0) for resource in self.capacity] for key, job in self.network.jobs.items()}
-        rows = [[key, self.starts[key], end, self.slack[key], *needs[key]] for key, end in self.ends.items()]
+        columns = zip(self.network.jobs.values(), self.starts.items(), self.ends.values(), self.slack.values())
+        rows = [[*start, end, slack, *(job.needs.get(key, 0) for key in self.capacity)] for job, start, end, slack in columns]
         return [["job", "start", "end", "slack", *self.capacity], *rows]
 
     def to_pandas(self, calendar: Calendar | None = None) -> Any:
@@ -132,8 +126,7 @@ class Plan(Table):
         return f"<Plan with cost {self.cost}{'' if self.optimal else f', at least {self.bound}'}, capacity {self.capacity}>"
 
 
-@dataclass(frozen=True)
-class Step:
+class Step(NamedTuple):
     """What the cheapest plan costs and has for this deadline, and for all later ones up to the next step."""
 
     deadline: int
@@ -143,13 +136,11 @@ class Step:
 
 @dataclass(frozen=True)
 class Curve(Table):
-    """What each deadline costs: `steps` in rising order. If it is not `complete`, the limit of time ended it, and earlier
-    deadlines than that of the first step are not known.
+    """What each deadline costs: `steps` in rising order, each of them a row. If it is not `complete`, the limit of time ended
+    it, and earlier deadlines than that of the first step are not known.
 
-    >>> import racp
-    >>> pit = racp.Network(["digger"], {job: racp.Job(4, {"digger": 1}) for job in ("north", "south")})
-    >>> curve = racp.curve(pit, deadline=9, prices=[30])
-    >>> [(step.deadline, step.cost) for step in curve], curve.at(7).cost, curve.cheapest(each_time_unit=5).deadline
+    >>> found = curve(Network.from_lists([4, 4], needs=[[1], [1]], after=[[], []]), deadline=9, prices=[30])
+    >>> [(step.deadline, step.cost) for step in found], found.at(7).cost, found.cheapest(each_time_unit=5).deadline
     ([(4, 60), (8, 30)], 60, 8)"""
 
     steps: tuple[Step, ...]
@@ -167,13 +158,11 @@ class Curve(Table):
         return min(self.steps, key=lambda step: step.cost + each_time_unit * step.deadline)
 
     def table(self) -> list[list[Any]]:
-        """A row for each step: deadline, cost and units."""
-        resources = [resource for step in self.steps[:1] for resource in step.capacity]
-        return [["deadline", "cost", *resources], *([step.deadline, step.cost, *step.capacity.values()] for step in self.steps)]
+        resources = self.steps[0].capacity if self.steps else ()
+        return [["deadline", "cost", *resources], *([*step[:2], *step.capacity.values()] for step in self.steps)]
 
 
-@dataclass(frozen=True)
-class Change:
+class Change(NamedTuple):
     """An order in which one `term`, "ceiling", "owned" or "deadline", has another `value`. The `outcome` is "plan" with its
     cost, how much `more` that is, and its units; "impossible", perhaps with the jobs by which more units are `needed`; or
     "open" if the time was up."""
@@ -193,14 +182,13 @@ class Change:
 
 
 class Changes(Table, tuple[Change, ...]):
-    """What becomes of the order of a plan if one term is changed."""
+    """What becomes of the order of a plan if one term is changed. Each change is a row."""
 
     def table(self) -> list[list[Any]]:
-        """A row for each change: what it is and what comes of it, its cost, how much more that is, the units, and why not."""
-        resources: list[Hashable] = next((list(change.capacity) for change in self if change.capacity), [])
-        rows = [[str(change), change.outcome, change.cost, change.more, *(change.capacity or dict.fromkeys(resources)).values(),
-                 ", ".join(map(str, change.needed))] for change in self]
-        return [["change", "outcome", "cost", "more", *resources, "needed by"], *rows]
+        units: Mapping[Hashable, Any] = dict.fromkeys(next((change.capacity for change in self if change.capacity), ()))
+        rows = [[str(change), *change[3:6], *(change.capacity or units).values(), ", ".join(map(str, change.needed))]
+                for change in self]
+        return [["change", "outcome", "cost", "more", *units, "needed by"], *rows]
 
 
 class Batch(Table, tuple[Mapping[str, Any], ...]):

@@ -1,7 +1,5 @@
 """Runs the program: texts go in as files of a folder of their own, and a text or an error comes out."""
 
-from __future__ import annotations
-
 import json
 import os
 import shutil
@@ -17,17 +15,15 @@ _MEANINGS = {"critical": ("critical", "deadline"), "order": ("before", "job"), "
 
 
 class RacpError(Exception):
-    """The program gave no answer of the kind that was asked for. `answer` is its whole answer, as docs/FORMATS.md says.
+    """The program gave no answer of the kind that was asked for. `answer` is its whole answer, as docs/FORMATS.md says, and
+    `name` the name of the fault, such as "Count" or "over". `numbers` are those of its line, and `where` has them by what they
+    mean, with jobs and resources under your own keys: {"resource": "crane", "time": 14}.
 
-    `name` is the name of the fault, such as "Count" or "over". `numbers` are those of its line, and `where` has them by what
-    they mean, with jobs and resources under your own keys: {"resource": "crane", "time": 14}.
-
-    >>> import racp
     >>> try:
-    ...     racp.plan(racp.Network(["crane"], {"dig": racp.Job(4)}), deadline=3, prices=[30])
-    ... except racp.RacpError as error:
+    ...     check(Network(["crane"], {"dig": Job(4)}), Order(3, prices=[30]), starts=[0])
+    ... except RacpError as error:
     ...     error.name, error.numbers, error.where
-    ('critical', [4, 3], {'critical': 4, 'deadline': 3})"""
+    ('late', [1], {'job': 'dig'})"""
 
     def __init__(self, answer: Mapping[str, Any], where: Mapping[str, Hashable] = {}) -> None:
         self.answer, self.where = dict(answer), dict(where)
@@ -76,13 +72,13 @@ def program() -> str:
     this package, `racp` in PATH, and the one in dist/ of the clone of the package. Raises `ProgramError` if there is none."""
     here, path = Path(__file__).resolve().parent, os.environ.get("RACP")
     clone = Path(noted.read_text(encoding="utf-8")) if (noted := here / "clone.txt").exists() else here.parents[1]
-    places = [str(here / "program" / "racp"), shutil.which("racp") or "", str(clone / "dist" / "racp-x86_64-linux")]
-    if found := [place for place in ([path] if path else places) if os.access(place, os.X_OK)]:
+    places = [str(here / "program" / "racp"), "racp", str(clone / "dist" / "racp-x86_64-linux")]
+    if found := [there for place in ([os.path.abspath(path)] if path else places) if (there := shutil.which(place))]:
         return os.path.abspath(found[0])
     raise ProgramError({"status": "no program", "says": f"there is no program {path or 'racp'}; the variable RACP can name it"})
 
 
-def run(texts: Mapping[str, str], *words: str, accept: Sequence[int] = (0,), keys: Mapping[str, Sequence[Hashable]] = {},
+def run(texts: Mapping[str, str], *words: str, accept: Sequence[int] = (0, 4), keys: Mapping[str, Sequence[Hashable]] = {},
         progress: Progress = None, **options: object) -> str:
     """What the program writes beside files of these texts, with options as words: time_limit=2.5 is --time-limit=2.500000000.
     Raises its error, under these keys, if its status is not in `accept`. Lines of progress are told meanwhile, on this thread.
@@ -91,10 +87,10 @@ def run(texts: Mapping[str, str], *words: str, accept: Sequence[int] = (0,), key
     given = {f"--{key.replace('_', '-')}": value for key, value in options.items() if value is not None and value is not False}
     told = [name if value is True else f"{name}={value:.9f}" if isinstance(value, float) else f"{name}={value}"
             for name, value in given.items()]
+    said = []
     with tempfile.TemporaryDirectory(prefix="racp-") as folder, open(Path(folder, "answer"), "wb") as answer:
         for name, text in texts.items():
             Path(folder, name).write_bytes(text.encode())
-        said = []
         with subprocess.Popen([program(), *words, *told], cwd=folder, stdin=subprocess.DEVNULL, stdout=answer,
                               stderr=subprocess.PIPE, encoding="utf-8", errors="replace") as child:
             try:

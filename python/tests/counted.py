@@ -56,7 +56,9 @@ def of_docstrings():
     import racp
 
     names = [f"racp.{module.name}" for module in pkgutil.iter_modules(racp.__path__)]
-    results = [doctest.testmod(importlib.import_module(name), optionflags=doctest.ELLIPSIS) for name in ["racp", *names]]
+    given = {name: getattr(racp, name) for name in racp.__all__}
+    results = [doctest.testmod(importlib.import_module(name), extraglobs=given, optionflags=doctest.ELLIPSIS)
+               for name in ["racp", *names]]
     failed = sum(result.failed for result in results)
     return sum(result.attempted for result in results) - failed, failed
 

@@ -41,7 +41,7 @@ class Networks(unittest.TestCase):
 
     def test_read_of_a_path_with_umlauts(self):
         with own_folder() as folder:
-            path = folder / "-ein Häuschen.sm"
+            path = folder / "-ein\u2028Häuschen.sm"
             path.write_text(house().text())
             self.assertEqual(racp.Network.read(path).jobs[2].needs, {1: 3, 2: 1})
 
@@ -59,7 +59,7 @@ class Networks(unittest.TestCase):
             network.add("dig", 1)
         with self.assertRaisesRegex(ValueError, "needs 'smith', and there is no such resource"):
             network.add("gate", 1, needs={"smith": 1})
-        network.add("late", 1, after="roof")
+        network.add("late", 1, needs=None, after="roof")
         with self.assertRaisesRegex(ValueError, "'late' comes after 'roof', and there is no such job"):
             network.text()
 

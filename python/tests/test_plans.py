@@ -1,7 +1,10 @@
 """Plans, curves, changes, teams, checks, certificates and tables of networks."""
 
+import dataclasses
 import pickle
+import random
 import unittest
+import unittest.mock
 
 import racp
 
@@ -41,8 +44,9 @@ class Plans(unittest.TestCase):
         self.assertGreaterEqual(heard[0]["seconds"], 2)
         self.assertLessEqual(heard[0]["bound"], plan.bound)
         self.assertEqual(racp.check(network, order, plan.starts).cost, plan.cost)
-        with self.assertRaises(racp.Unproved):
-            racp.prove(plan, time_limit=0.1)
+        for facts in (False, True):
+            with self.assertRaises(racp.Unproved):
+                racp.prove(plan, facts=facts, time_limit=0.2)
 
     def test_stopped_before_all(self):
         with self.assertRaisesRegex(racp.Stopped, "each costs at least 75") as caught:
@@ -89,6 +93,22 @@ class Curves(unittest.TestCase):
                 curve = racp.curve(network, deadline=far, prices=[1] * len(team), ceiling=ceiling)
                 self.assertEqual(racp.soonest(network, ceiling).order.deadline, curve.steps[0].deadline)
 
+    def test_large_teams_and_projects(self):
+        self.assertEqual(racp.soonest(house(), [20_000, 10_000_000]).order.deadline, 10)
+        draw = random.Random(3)
+        network = racp.Network(range(3))
+        for key in range(100):
+            before = {draw.randrange(max(0, key - 4), key) for _ in range(2)} if key else ()
+            network.add(key, draw.randint(1, 5), needs={resource: draw.randint(0, 4) for resource in range(3)}, after=before)
+        self.assertTrue(racp.soonest(network, [14, 14, 14], time_limit=4).optimal)
+
+    def test_team_that_may_end_sooner(self):
+        def cut(*words, **terms):
+            return dataclasses.replace(racp.curve(*words, **terms), complete=False)
+
+        with unittest.mock.patch("racp._commands.curve", cut):
+            self.assertFalse(racp.soonest(house(), [5, 1]).optimal)
+
     def test_teams_that_cannot(self):
         with self.assertRaises(racp.Impossible) as caught:
             racp.soonest(house(), [2, 1])
@@ -106,7 +126,8 @@ class Checks(unittest.TestCase):
         plan = racp.check(house(), order, {"dig": 0, "walls": 4, "wiring": 10, "done": 15})
         self.assertEqual((plan.cost, plan.capacity, plan.optimal, plan.bound), (57, {"mason": 3, "crane": 1}, False, 0))
         self.assertEqual(racp.check(house(), racp.Order(20, PRICES, release={"dig": 2}), [2, 6, 6, 12]).critical, 12)
-        self.assertEqual(racp.check(house(), racp.Order(15, PRICES, owned=[1, 1]), [0, 4, 10, 15]).cost, 18)
+        for owned, cost in (([1, 1], 18), ({"crane": 2}, 27), ([9, 9], 0)):
+            self.assertEqual(racp.check(house(), racp.Order(15, PRICES, owned=owned), [0, 4, 10, 15]).cost, cost)
 
     def test_faults(self):
         released, limited = racp.Order(20, PRICES, release=[1, 0, 0, 0]), racp.Order(20, PRICES, ceiling=[4, 1])
@@ -123,6 +144,8 @@ class Checks(unittest.TestCase):
         for starts, error in (([0, 4], ValueError), ([0, 4.5, 10, 15], TypeError), ([0, -4, 10, 15], racp.Refused)):
             with self.subTest(starts), self.assertRaises(error):
                 racp.check(house(), racp.Order(15, PRICES), starts)
+        with self.assertRaises(racp.Refused):
+            racp.check(racp.Network(["mason"]), racp.Order(15, [9]), [])
 
     def test_certificates(self):
         plan = racp.plan(house(), deadline=15, prices=PRICES)
@@ -147,11 +170,11 @@ class Offices(unittest.TestCase):
 
     def test_batch(self):
         with own_folder() as folder:
-            (folder / "ä b.sm").write_bytes((EXAMPLES / "a.sm").read_bytes())
-            rows = racp.batch([EXAMPLES / "b.sm", folder / "ä b.sm", EXAMPLES / "a4.toml"], [1, 1.5], jobs=2)
+            (other := folder / "ä\u2028b.sm").write_bytes((EXAMPLES / "a.sm").read_bytes())
+            rows = racp.batch([EXAMPLES / "b.sm", other, EXAMPLES / "a4.toml"], [1, 1.5], jobs=2)
         self.assertEqual([row["cost"] for row in rows], [4, 3, 4, 3, None, None])
         self.assertEqual([row["factor"] for row in rows], [1, 1.5] * 3)
-        self.assertEqual((rows[2]["file"], rows[0]["status"], rows[0]["fault"]), (str(folder / "ä b.sm"), "optimal", None))
+        self.assertEqual((rows[2]["file"], rows[0]["status"], rows[0]["fault"]), (str(other), "optimal", None))
         self.assertEqual((rows[4]["status"], rows[4]["jobs"]), ("refused", None))
         with self.assertRaises(racp.ProgramError):
             racp.batch([EXAMPLES / "b.sm"], ["x"])

@@ -3,6 +3,7 @@
 import contextlib
 import os
 import pathlib
+import shutil
 import signal
 import stat
 import subprocess
@@ -59,9 +60,20 @@ class Found(unittest.TestCase):
     def test_in_path(self):
         with own_folder() as folder:
             (folder / "racp").symlink_to(racp.program())
-            with environment(RACP=None, PATH=f"{folder}:/usr/bin:/bin"):
-                self.assertEqual(racp.program(), str(folder / "racp"))
-                self.assertEqual(racp.plan(house(), deadline=12, prices=PRICES).cost, 75)
+            for path in (folder, os.path.relpath(folder)):
+                with environment(RACP=None, PATH=f"{path}:/usr/bin:/bin"):
+                    self.assertEqual(racp.program(), str(folder / "racp"))
+                    self.assertEqual(racp.plan(house(), deadline=12, prices=PRICES).cost, 75)
+
+    def test_in_the_package_before_path(self):
+        with own_folder() as folder:
+            package = shutil.copytree(HERE.parent / "racp", folder / "copy" / "racp")
+            (package / "program").mkdir()
+            for path in (package / "program" / "racp", folder / "racp"):
+                path.symlink_to(racp.program())
+            done = subprocess.run([sys.executable, "-c", "import racp; print(racp.program())"], capture_output=True, text=True,
+                                  cwd=folder, env={"PATH": str(folder), "PYTHONPATH": str(folder / "copy"), "PYTHONUTF8": "1"})
+            self.assertEqual((done.stdout, done.stderr), (f"{package / 'program' / 'racp'}\n", ""))
 
     def test_that_answers_nothing(self):
         with own_folder() as folder:
@@ -115,8 +127,10 @@ class Ended(unittest.TestCase):
             raise ZeroDivisionError(line["seconds"])
 
         with own_folder() as folder:
+            begin = time.monotonic()
             with self.assertRaises(ZeroDivisionError):
                 racp.plan(network, order, time_limit=60, progress=progress)
+            self.assertLess(time.monotonic() - begin, 40)
             self.assertEqual((list(folder.iterdir()), children(os.getpid())), ([], []))
 
     def test_interrupted(self):

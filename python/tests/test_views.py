@@ -59,6 +59,21 @@ class Views(unittest.TestCase):
         plan = racp.plan(racp.Network(["a"], network.jobs), deadline=1, prices=[1])
         self.assertIn("<td>&lt;b&gt;</td>", plan._repr_html_())
 
+    def test_rows(self):
+        self.assertEqual(self.plan.table(), [["job", "start", "end", "slack", "mason", "crane"], ["dig", 0, 4, 2, 0, 1],
+                                             ["walls", 4, 10, 2, 3, 1], ["wiring", 4, 9, 3, 2, 0], ["done", 10, 10, 2, 0, 0]])
+        self.assertEqual(racp.curve(house(), deadline=20, prices=PRICES).table(),
+                         [["deadline", "cost", "mason", "crane"], [10, 75, 5, 1], [15, 57, 3, 1]])
+        self.assertEqual(racp.whatif(self.plan).table(),
+                         [["change", "outcome", "cost", "more", "mason", "crane", "needed by"],
+                          ["one fewer of mason", "impossible", None, None, None, None, "walls, wiring"],
+                          ["one fewer of crane", "impossible", None, None, None, None, "dig"],
+                          ["one more owned of mason", "plan", 66, -9, 5, 1, ""],
+                          ["one more owned of crane", "plan", 45, -30, 5, 1, ""],
+                          ["deadline 11", "plan", 75, 0, 5, 1, ""], ["deadline 13", "plan", 75, 0, 5, 1, ""]])
+        self.assertEqual([racp.Curve((), False).table(), racp.Changes().table(), racp.Batch().table()],
+                         [[["deadline", "cost"]], [["change", "outcome", "cost", "more", "needed by"]], []])
+
     def test_frames(self):
         module("pandas")
         frame = self.plan.to_pandas(WORK)
@@ -85,7 +100,20 @@ class Views(unittest.TestCase):
             self.assertEqual([path.name for path in folder.iterdir()], ["plan.html"])
         for words in ("<html", "wiring", "mason", "2026-01-09", "one more owned of crane"):
             self.assertIn(words, page)
-        self.assertNotIn("one more owned", self.plan.report())
+        for words in ({}, {"curve": True}, {"whatif": True}):
+            page = self.plan.report(**words)
+            self.assertEqual({"curve": "From deadline" in page, "whatif": "one more owned" in page},
+                             {"curve": False, "whatif": False, **words})
+        page = self.plan.report(curve=True, whatif=True, time_limit=1e-9)
+        self.assertEqual(("From deadline" in page, "not known" in page), (False, True))
+
+    def test_names_that_could_be_read_as_lines_of_another_kind(self):
+        network = racp.Network(["#wait"])
+        for key in ("# dig", "two\nlines", "", "ends"):
+            network.add(key, 1, needs={"#wait": 1})
+        page = racp.plan(network, deadline=4, prices=[1]).report(whatif=True)
+        for words in ("# dig", "two lines", "#wait", "task 3", "ends"):
+            self.assertIn(words, page)
         dated = self.plan.report(calendar=WORK)
         for words in ("First day", "Last day", "2026-03-09"):
             self.assertIn(words, dated)
