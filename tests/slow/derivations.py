@@ -28,6 +28,24 @@ def units(resource):
 COST = "cost", 0
 
 
+# Lines that begin so have a number where they are spelled out.
+WITH_NUMBERS = {"start", "units", "cost", "pair", "times", "energy", "request", "prices", "budget"}
+
+
+def has_number(line):
+    return line.split(" ")[0] in WITH_NUMBERS
+
+
+def spelled_out(text):
+    """The lines of a text that is right, with words in the place of numbers."""
+    numbered = []
+    for line in text.split("\n")[:-1]:
+        words = numbered[int(line) - 1] if line.isdecimal() else line
+        if words is line and has_number(line):
+            numbered.append(line)
+        yield words
+
+
 class Derivation:
     """Bounds, literals, and whether it is closed."""
 
@@ -70,6 +88,7 @@ class Checker:
         upper[COST] = cost_of(order, most)
         self.root = Derivation(lower, upper)
         self.first, self.present, self.clauses = self.root.copy(), self.root.copy(), []
+        self.numbered = []
 
     def number(self, word):
         need(re.fullmatch(r"0|[1-9][0-9]*", word, re.ASCII))
@@ -83,6 +102,15 @@ class Checker:
         return number - 1
 
     def line(self, line):
+        if re.fullmatch(r"[0-9]+", line, re.ASCII):
+            self.words(self.numbered[self.named(line, self.numbered)])
+        else:
+            self.words(line)
+            if has_number(line):
+                self.numbered.append(line)
+
+    def words(self, line):
+        """Takes a line that is spelled out."""
         words = line.split(" ")
         if words[0] in ("start", "units", "cost") and len(words) > 1:
             self.suppose(self.literal(words))

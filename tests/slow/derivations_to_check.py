@@ -1,11 +1,11 @@
 """Certificates by clauses to check: of each variable in turn that no solution is less by it, by rules and, where they do not
-suffice, by halving; and then something may be changed. Made from 'The certificate by clauses' in docs/FORMATS.md."""
+suffice, by halving; lines may be named by their numbers; and then something may be changed. Made from 'The certificate by clauses' in docs/FORMATS.md."""
 
 import random
 
 from slow.certificates import root_window
 from slow.certificates_to_check import random_order
-from slow.derivations import COST, Case, Checker, Literal, start, units
+from slow.derivations import COST, Case, Checker, Literal, has_number, start, units
 from slow.networks import critical_length, random_network
 from slow.orders import cost_of
 from slow.planner import peaks, schedules
@@ -130,6 +130,21 @@ def random_case(chance, text_by):
             continue
 
 
+def with_numbers(chance, text):
+    """A text with numbers in the place of lines that were spelled out before: of all, or of about half."""
+    share = chance.choice([0.5, 1])
+    count, numbers, lines = 0, {}, []
+    for line in text.split("\n")[:-1]:
+        if line in numbers and chance.random() < share:
+            lines.append(str(chance.choice(numbers[line])))
+        else:
+            lines.append(line)
+            if has_number(line):
+                count += 1
+                numbers.setdefault(line, []).append(count)
+    return "".join(line + "\n" for line in lines)
+
+
 def changed(chance, text):
     """A text with a line left out, doubled, exchanged with the next one, or with another number or word, or cut."""
     lines = text.split("\n")[:-1]
@@ -150,7 +165,7 @@ def changed(chance, text):
             words[place] = chance.choice(["start", "units", "cost", ">=", "<=", "pair", "times", "energy", "clause", "holds", "keep", "at", "least", ""])
         lines[at] = " ".join(words)
     elif kind == 4:
-        lines.insert(at, chance.choice(["keep", "holds", "prices", "clause 1", "cost >= 0", ""]))
+        lines.insert(at, chance.choice(["keep", "holds", "prices", "clause 1", "cost >= 0", "", "0", "1", "2", "02", "9"]))
     else:
         return text[:chance.randrange(len(text))]
     return "".join(line + "\n" for line in lines)

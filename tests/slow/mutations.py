@@ -19,7 +19,7 @@ WORDS = {
     PLAN: [b"deadline ", b"critical ", b"cost ", b"capacity ", b"start ", b"end", b"end\n", b"\r", b" "],
     PROOF: [b"proof\n", b"vector ", b"D ", b"L ", b"C ", b"end\n", b"D 0\n", b"L 1\n", b"C 1\n", b"\r", b" ",
             b"proof 2\n", b"units 1 >= ", b"start 2 <= ", b"cost >= ", b"pair 1 2\n", b"times 2 1 0 1\n", b"energy 1 0 1\n",
-            b"request 2 1\n", b"prices\n", b"budget 1\n", b"clause 1\n", b"holds\n", b"keep\n"],
+            b"request 2 1\n", b"prices\n", b"budget 1\n", b"clause 1\n", b"holds\n", b"keep\n", b"1\n", b"2\n"],
 }
 NUMBERS = [0, 1, 2, 3, 15, 16, 17, 511, 512, 513, 10_000, 10_001, 1_000_000, 1_000_001, 10_000_000, 10_000_001,
            10 ** 15, 10 ** 15 + 1, 2 ** 31 - 1, 2 ** 31, 2 ** 32 - 1, 2 ** 32, 2 ** 63 - 1, 2 ** 63, 2 ** 64, 10 ** 40]

@@ -7,7 +7,7 @@ import itertools
 import random
 
 from slow.certificates import most_units
-from slow.derivations import COST, Literal, start, units
+from slow.derivations import COST, Literal, spelled_out, start, units
 from slow.derivations_to_check import Maker, TooLong, random_derivation
 from slow.orders import cost_of
 from slow.planner import peaks, schedules
@@ -40,7 +40,7 @@ def literal_of(words):
 def clauses_of(text):
     """The clauses of a certificate that is right."""
     clauses, literals = [], []
-    for line in text.split("\n"):
+    for line in spelled_out(text):
         words = line.split(" ")
         if words[0] in ("start", "units", "cost"):
             literals.append(literal_of(words))

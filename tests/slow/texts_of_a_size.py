@@ -40,6 +40,18 @@ def long_clause(size):
     return texts_of(network, order, plan, begin + name * ((size - len(begin) - len(end)) // len(name)) + end)
 
 
+def short_lines(size):
+    """A certificate by clauses of this many bytes. Three quarters of it are lines that have numbers, as short as may be, and behind them
+    stand the numbers of the last ones. It is unproved, since that shows nothing of the plan."""
+    network = Network(1, [1], [[1]], set())
+    order, plan = Order(1, [1], [0], None, [0], [1]), Plan(1, 1, 1, [1], [0])
+    begin, line, end = "proof 2\n", "prices\n", "end\n"
+    count = size * 3 // 4 // len(line)
+    number = f"{count}\n"
+    numbers = number * ((size - len(begin) - len(line) * count - len(end)) // len(number))
+    return texts_of(network, order, plan, begin + line * count + numbers + end)
+
+
 def on_many_starts(size, values, last, part):
     """A certificate by clauses of this many bytes for 512 jobs of one time unit, each of which starts from time 1 to 49, so at least
     eleven of them run at once. The literals of its first clause say that each start is at least each of these values, or before time

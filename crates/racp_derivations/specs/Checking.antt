@@ -8,8 +8,8 @@ use Rattle.racp_clauses.specs.Inferences.{with_inference, with_literal, negation
 use Rattle.racp_clauses.specs.Rules.{along_pair, of_job, of_resource, by_time_table, by_energy, by_request, by_units, by_cost}
 use Rattle.racp_clauses.specs.declared.literal.Literal.{Literal}
 use Rattle.racp_clauses.specs.Tests.{clause_at}
-use Rattle.racp_derivations.specs.Words.{◌>>=◌}
-use Rattle.racp_derivations.specs.Lines.{line_of}
+use Rattle.racp_derivations.specs.Words.{◌>>=◌, number_of}
+use Rattle.racp_derivations.specs.Lines.{line_of, line_at, with_line}
 use Rattle.racp_derivations.specs.declared.line.Line.{Line}
 use Rattle.racp_derivations.specs.declared.line.Line.TheVariants.{Suppose, Take, Holds, Keep}
 use Rattle.racp_derivations.specs.declared.line.Step.{Step}
@@ -35,11 +35,13 @@ stepped p terms clauses d (Earlier at) =
 abbrev pub supposed : Derived → Literal → Derived
 supposed d l = with_inference (with_literal d l) (negation l)
 
--- what was derived so far: the derivation with which each one begins, the present one, and the clauses
+-- what was derived so far: the derivation with which each one begins, the present one, the clauses, and the lines that have
+-- numbers
 pub record Checked : Type 0 where
   pub base : Derived
   pub now : Derived
   pub clauses : List (List Literal)
+  pub numbered : List Line
 
 -- after a line: with a literal or by a step the present derivation goes on; if nothing is left its clause holds, and the
 -- next one begins; without literals it is that with which each one begins from then on
@@ -47,11 +49,24 @@ abbrev pub after : Project → Terms → Checked → Line → Option Checked
 after p terms c (Suppose l) = Some (record c { now = supposed c.now l })
 after p terms c (Take s) = stepped p terms c.clauses c.now s >>= (λ d. Some (record c { now = d }))
 after p terms c Holds =
-    if c.now.empty then Some (record { base = c.base; now = c.base; clauses = c.clauses ++ c.now.clause ∷ [] }) else None
+    if c.now.empty then Some (record c { now = c.base; clauses = c.clauses ++ c.now.clause ∷ [] }) else None
 after p terms c Keep = if length c.now.clause == 0 then Some (record c { base = c.now }) else None
 
+-- after a number alone: it says what the line with that number says
+abbrev pub after_number : Project → Terms → Checked → ℕ → Option Checked
+after_number p terms c n = line_at c.numbered n >>= after p terms c
+
+-- after a line that is spelled out, which has the next number if it has one
+abbrev pub after_spelled : Project → Terms → Checked → List ℕ → Option Checked
+after_spelled p terms c line = line_of p line >>= (λ l. after p terms (record c { numbered = with_line c.numbered l }) l)
+
+-- a line is a number alone, or spelled out
+abbrev pub after_either : Project → Terms → Checked → List ℕ → Option ℕ → Option Checked
+after_either p terms c line (Some n) = after_number p terms c n
+after_either p terms c line None = after_spelled p terms c line
+
 abbrev pub after_line : Project → Terms → Checked → List ℕ → Option Checked
-after_line p terms c line = line_of p line >>= after p terms c
+after_line p terms c line = after_either p terms c line (number_of line)
 
 -- what stands behind the last line feed of a text is nothing
 abbrev pub is_end : List (List ℕ) → Bool
@@ -71,4 +86,4 @@ abbrev pub begun : Bounds → Derived
 begun root = record { bounds = root; empty = false; clause = [] }
 
 abbrev pub at_first : Bounds → Checked
-at_first root = record { base = begun root; now = begun root; clauses = [] }
+at_first root = record { base = begun root; now = begun root; clauses = []; numbered = [] }

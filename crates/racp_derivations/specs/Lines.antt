@@ -1,6 +1,6 @@
 -- What a line of a derivation text says.
-use Rattle.std.specs.Prelude.{ℕ, ◌==◌, ◌&&◌, Bool, if◌then◌else◌, List, length, bytes_eq, codes, position, Option, Some, None}
-use Rattle.racp_model.specs.Project.{Project, number}
+use Rattle.std.specs.Prelude.{ℕ, ◌==◌, ◌&&◌, Bool, true, false, not, nat_le, if◌then◌else◌, List, [], ◌∷◌, ◌++◌, length, slice_get, bytes_eq, codes, position, Option, Some, None}
+use Rattle.racp_model.specs.Project.{Project, number, place}
 use Rattle.racp_clauses.specs.Solutions.{units_place, cost_place}
 use Rattle.racp_clauses.specs.declared.literal.Literal.{Literal}
 use Rattle.racp_clauses.specs.declared.literal.Literal.TheVariants.{AtLeast, AtMost}
@@ -119,3 +119,28 @@ line_of p line =
     else if bytes_eq line (codes "keep") then Some Keep
     else if bytes_eq line (codes "prices") then Some (Take Prices)
     else literal_or_step (literal_of p (first_word line) (behind_word line)) (step_of p (first_word line) (behind_word line))
+
+-- whether a step is by an earlier clause
+abbrev pub is_by_clause : Step → Bool
+is_by_clause (Pair at) = false
+is_by_clause (TimeTable j k a b) = false
+is_by_clause (Energy k a b) = false
+is_by_clause (Request j k) = false
+is_by_clause Prices = false
+is_by_clause (Budget k) = false
+is_by_clause (Earlier at) = true
+
+-- a line that is spelled out has a number if it says a literal, or a step that is by no clause
+abbrev pub has_number : Line → Bool
+has_number (Suppose l) = true
+has_number (Take s) = not (is_by_clause s)
+has_number Holds = false
+has_number Keep = false
+
+-- the lines that have numbers, after one that is spelled out
+abbrev pub with_line : List Line → Line → List Line
+with_line lines line = if has_number line then lines ++ line ∷ [] else lines
+
+-- the line that has a number, from 1 on
+abbrev pub line_at : List Line → ℕ → Option Line
+line_at lines n = if nat_le 1 n then slice_get lines (place n) else None

@@ -3,25 +3,29 @@
 ghost use Rattle.std.specs.Prelude.{◌≡◌, ◌++◌, ◌∷◌, [], true, false, IfOk, IfSome, MatchBool, Some, None};
 ghost use Rattle.racp_model.specs.Terms.{AreTermsOf};
 ghost use Rattle.racp_clauses.specs.Solutions.{HasPlaces};
-ghost use Rattle.racp_derivations.specs.Checking.{after, after_line, at_first};
+ghost use Rattle.racp_derivations.specs.Checking.{after, after_line, after_number, after_spelled, at_first};
+ghost use Rattle.racp_derivations.specs.Lines.{with_line};
 ghost use Rattle.racp_derivations.specs.Thinning.{InfersAs};
 
 use crate::held::Held;
 use crate::line::Line;
 use crate::lines::line_of;
+use crate::numbered::{line_at, push_numbered};
 use crate::stepping::{Given, take_step};
 use crate::thinning::{MANY_LITERALS, thinned};
+use crate::words::number_of;
 use racp_clauses::{Clause, Derivation, Domain, OfProblem};
 use std::alloc::{AllocError, Global};
 use std::marker::Model;
 
-/// What was derived so far: the derivation with which each one begins, the present one, and the clauses. Contracts see
-/// `Checked`.
+/// What was derived so far: the derivation with which each one begins, the present one, the clauses, and the lines that have
+/// numbers. Contracts see `Checked`.
 #[derive(Drop)]
 pub(crate) struct Checking<N: OfProblem> {
     base: Derivation<N>,
     present: Derivation<N>,
     clauses: Held<N>,
+    numbered: Vec<Line>,
 }
 
 impl<N: OfProblem> Model for Checking<N> {
@@ -30,7 +34,7 @@ impl<N: OfProblem> Model for Checking<N> {
 
     ghost Value = { Checked };
 
-    ghost view = { λ c. record { base = c.base; now = c.present; clauses = c.clauses } };
+    ghost view = { λ c. record { base = c.base; now = c.present; clauses = c.clauses; numbered = c.numbered.items } };
 
     ghost invariant = { λ c. c.base.clause ≡ [] };
 }
@@ -48,6 +52,7 @@ impl<N: OfProblem> Checking<N> {
             base,
             present,
             clauses: Held::new(alloc),
+            numbered: Vec::new(alloc),
         })
     }
 
@@ -72,10 +77,60 @@ impl<N: OfProblem> Checking<N> {
             (after_line given.now.net.now given.now.order.now self.old line.now ≡ Some self.new)
             (after_line given.now.net.now given.now.order.now self.old line.now ≡ None)) }
     {
-        match line_of(given.net, line) {
+        match number_of(line) {
+            Some(number) => self.take_numbered(alloc, given, number),
+            None => self.take_spelled(alloc, given, line),
+        }
+    }
+
+    /// Does what the line with a number says.
+    fn take_numbered(
+        &mut self,
+        alloc: Global,
+        given: &Given,
+        number: u64,
+    ) -> Result<bool, AllocError>
+        requires named { given.now.net.now ≡ N.problem.network }
+        requires terms { given.now.order.now ≡ N.problem.terms }
+        requires fit { AreTermsOf given.now.net.now given.now.order.now }
+        ensures { IfOk result (λ yes. MatchBool yes
+            (after_number given.now.net.now given.now.order.now self.old number ≡ Some self.new)
+            (after_number given.now.net.now given.now.order.now self.old number ≡ None)) }
+    {
+        match line_at(&self.numbered, number) {
             Some(line) => self.take(alloc, given, line),
             None => Ok(false),
         }
+    }
+
+    /// Does what a line that is spelled out says.
+    fn take_spelled(
+        &mut self,
+        alloc: Global,
+        given: &Given,
+        line: &[u8],
+    ) -> Result<bool, AllocError>
+        requires named { given.now.net.now ≡ N.problem.network }
+        requires terms { given.now.order.now ≡ N.problem.terms }
+        requires fit { AreTermsOf given.now.net.now given.now.order.now }
+        ensures { IfOk result (λ yes. MatchBool yes
+            (after_spelled given.now.net.now given.now.order.now self.old line.now ≡ Some self.new)
+            (after_spelled given.now.net.now given.now.order.now self.old line.now ≡ None)) }
+    {
+        match line_of(given.net, line) {
+            Some(line) => {
+                self.number(line)?;
+                self.take(alloc, given, line)
+            }
+            None => Ok(false),
+        }
+    }
+
+    /// Gives a line the next number, if it has one.
+    fn number(&mut self, line: Line) -> Result<(), AllocError>
+        ensures { IfOk result (λ _. self.new ≡ record self.old { numbered = with_line self.old.numbered line }) }
+    {
+        push_numbered(&mut self.numbered, line)
     }
 
     /// Does what it says.

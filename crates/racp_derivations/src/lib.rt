@@ -24,9 +24,12 @@
 //! ..
 //! ```
 //!
+//! Most lines of a long text stood in it before. So each that spells out a literal, or a step other than by a clause, has a number,
+//! and a number alone says what the line with that number says. In the text above, 2 alone would be `energy 1 0 4` again.
+//!
 //! There are two derivations, `base` with which each one begins, and the present one, and the clauses so far. Lines and
-//! words are slices of the text; memory is taken for the literals of clauses alone. A pair of the precedence relation
-//! is found by halving. Otherwise a line takes as long as its step, which is in proportion to the jobs, the resources
+//! words are slices of the text; memory is taken for the literals of clauses, and for what the lines with numbers say. A pair of the
+//! precedence relation is found by halving. Otherwise a line takes as long as its step, which is in proportion to the jobs, the resources
 //! or the literals of the clause that it names; no text takes longer than its bytes times that. Beside a clause of more than 256
 //! literals stands a shorter one, from which the same follows within all bounds, and whose literals are looked at in its place. Two
 //! of these that may be true are watched: while they may be, nothing follows, and a step by the clause looks at them alone; nor at
@@ -37,7 +40,7 @@
 //! thousands of clauses, and the plan follows from a few of them: one for each variable that could be less. These were
 //! derived from others, and those from others again. So the clauses that are needed are found backwards, as proofs of
 //! satisfiability solvers are trimmed (Goldberg and Novikov 2003; Heule, Hunt and Wetzler 2013), and written forwards
-//! with numbers from 1 on.
+//! with numbers from 1 on. A line is spelled out once, and is its number from then on.
 //!
 //! Of five derivations, of which the last shows the plan:
 //!
@@ -72,6 +75,7 @@ mod checking;
 mod held;
 mod line;
 mod lines;
+mod numbered;
 mod pairs;
 mod reading;
 mod root;

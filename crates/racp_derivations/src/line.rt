@@ -15,21 +15,21 @@ pub(crate) enum Line {
     Keep,
 }
 
-/// A step of a derivation.
+/// A step of a derivation. It is small, since a text may have millions.
 #[derive(Clone, Copy)]
 pub(crate) enum Step {
     /// Along the pair at this place of the precedence relation.
     Pair(usize),
     /// Time table: of a job on a resource, from a time until another.
-    TimeTable(usize, usize, u64, u64),
+    TimeTable(u16, u16, u64, u64),
     /// Energy: on a resource, from a time until another.
-    Energy(usize, u64, u64),
+    Energy(u16, u64, u64),
     /// What a job requests of a resource.
-    Request(usize, usize),
+    Request(u16, u16),
     /// What the least units cost.
     Prices,
     /// The units of a resource that the greatest cost pays for.
-    Budget(usize),
+    Budget(u16),
     /// An earlier clause.
     Earlier(usize),
 }

@@ -152,7 +152,7 @@ fn times_on(net: &Network, rest: &[u8]) -> Option<Step>
     let rest = behind_word(rest);
     let from = number_of(first_word(rest))?;
     let until = number_of(behind_word(rest))?;
-    Some(Step::TimeTable(job, resource, from, until))
+    Some(Step::TimeTable(job as u16, resource as u16, from, until))
 }
 
 /// Energy.
@@ -164,7 +164,7 @@ fn energy_on(net: &Network, rest: &[u8]) -> Option<Step>
     let rest = behind_word(rest);
     let from = number_of(first_word(rest))?;
     let until = number_of(behind_word(rest))?;
-    Some(Step::Energy(resource, from, until))
+    Some(Step::Energy(resource as u16, from, until))
 }
 
 /// What a job requests of a resource.
@@ -174,7 +174,7 @@ fn request_on(net: &Network, rest: &[u8]) -> Option<Step>
 {
     let job = place_of(net.job_count(), first_word(rest))?;
     let resource = place_of(net.resource_count(), behind_word(rest))?;
-    Some(Step::Request(job, resource))
+    Some(Step::Request(job as u16, resource as u16))
 }
 
 /// What the greatest cost pays for.
@@ -183,7 +183,7 @@ fn budget_on(net: &Network, rest: &[u8]) -> Option<Step>
     ensures { result ≡ budget_on net.now rest.now }
 {
     let resource = place_of(net.resource_count(), rest)?;
-    Some(Step::Budget(resource))
+    Some(Step::Budget(resource as u16))
 }
 
 /// An earlier clause.

@@ -36,14 +36,16 @@ pub(crate) fn take_step<N: OfProblem>(
     match step {
         Step::Pair(at) => derivation.precedence(net, at),
         Step::TimeTable(job, resource, from, until) => {
-            derivation.time_table(net, job, resource, Times { from, until });
+            derivation.time_table(net, job as usize, resource as usize, Times { from, until });
         }
         Step::Energy(resource, from, until) => {
-            derivation.energy(net, resource, Times { from, until });
+            derivation.energy(net, resource as usize, Times { from, until });
         }
-        Step::Request(job, resource) => derivation.request(net, job, resource),
+        Step::Request(job, resource) => {
+            derivation.request(net, job as usize, resource as usize);
+        }
         Step::Prices => derivation.cost(net, order),
-        Step::Budget(resource) => derivation.units(net, order, resource),
+        Step::Budget(resource) => derivation.units(net, order, resource as usize),
         Step::Earlier(at) => return clauses.take(derivation, at),
     }
     true

@@ -4,6 +4,7 @@ mod certificate;
 mod closing;
 mod least;
 mod needed;
+mod text;
 mod writer;
 
 pub use certificate::certificate_by_clauses;

@@ -1,6 +1,6 @@
 //! The lines of a certificate by clauses.
 
-use itoa::Buffer;
+use crate::trimming::text::Text;
 use racp_clauses::Literal;
 use racp_learning::{Derivations, Step};
 use racp_model::Network;
@@ -11,7 +11,7 @@ use std::alloc::{AllocError, Global};
 #[derive(Drop)]
 pub(crate) struct Writer<'a> {
     net: &'a Network,
-    text: Vec<u8>,
+    text: Text,
     numbers: Vec<u32>,
     count: u32,
 }
@@ -19,7 +19,7 @@ pub(crate) struct Writer<'a> {
 impl<'a> Writer<'a> {
     /// A text with its first line.
     fn begun(alloc: Global, net: &'a Network, needed: &[bool]) -> Result<Self, AllocError> {
-        let text = b"proof 2\n".to_vec(alloc)?;
+        let text = Text::begun(alloc, b"proof 2\n")?;
         let numbers = Vec::from_elem(alloc, 0, needed.len())?;
         Ok(Writer {
             net,
@@ -43,10 +43,11 @@ impl<'a> Writer<'a> {
                 return Ok(None);
             }
         }
-        self.push(b"end\n")?;
+        self.text.push(b"end\n")?;
         let Writer { text, .. } = self;
-        if text.len() <= MOST_TEXT_BYTES {
-            Ok(Some(text))
+        let bytes = text.into_bytes();
+        if bytes.len() <= MOST_TEXT_BYTES {
+            Ok(Some(bytes))
         } else {
             Ok(None)
         }
@@ -71,31 +72,51 @@ impl<'a> Writer<'a> {
         least: u64,
     ) -> Result<Option<Vec<u8>>, AllocError> {
         let mut writer = Writer::begun(alloc, net, needed)?;
-        writer.push(b"at least ")?;
-        writer.push_number(least)?;
-        writer.push(b"\n")?;
+        writer.text.push(b"at least ")?;
+        writer.text.push_number(least)?;
+        writer.text.push(b"\n")?;
         writer.into_text(derivations, needed)
     }
 
     /// Adds the lines of a derivation.
     fn push_derivation(&mut self, derivations: &Derivations, at: usize) -> Result<(), AllocError> {
         for &literal in derivations.literals(at) {
+            let begin = self.text.len();
             self.push_literal(literal)?;
+            self.text.end_line(begin)?;
         }
         for &step in derivations.steps(at) {
-            self.push_step(step)?;
+            self.push_line_of(step)?;
         }
         if derivations.is_ground(at) {
-            return self.text.extend_from_slice(b"keep\n");
+            return self.text.push(b"keep\n");
         }
         self.count = self.count.saturating_add(1);
         if let Some(number) = self.numbers.get_mut(at) {
             *number = self.count;
         }
-        self.text.extend_from_slice(b"holds\n")
+        self.text.push(b"holds\n")
     }
 
-    /// Adds the line of a literal.
+    /// Adds the line of a step.
+    fn push_line_of(&mut self, step: Step) -> Result<(), AllocError> {
+        if let Step::Clause(of) = step {
+            return self.push_clause(of as usize);
+        }
+        let begin = self.text.len();
+        self.push_step(step)?;
+        self.text.end_line(begin)
+    }
+
+    /// Adds the line of the clause of a derivation.
+    fn push_clause(&mut self, of: usize) -> Result<(), AllocError> {
+        let number = self.numbers.get(of).copied().unwrap_or(0);
+        self.text.push(b"clause ")?;
+        self.text.push_number(number as u64)?;
+        self.text.push(b"\n")
+    }
+
+    /// Adds the words of a literal.
     fn push_literal(&mut self, literal: Literal) -> Result<(), AllocError> {
         match literal {
             Literal::AtLeast(x, least) => {
@@ -113,97 +134,72 @@ impl<'a> Writer<'a> {
     fn push_variable(&mut self, x: usize) -> Result<(), AllocError> {
         let (jobs, resources) = (self.net.job_count(), self.net.resource_count());
         if x < jobs {
-            self.push(b"start ")?;
+            self.text.push(b"start ")?;
             self.push_place(x)
         } else if x < jobs + resources {
-            self.push(b"units ")?;
+            self.text.push(b"units ")?;
             self.push_place(x - jobs)
         } else {
-            self.push(b"cost")
+            self.text.push(b"cost")
         }
     }
 
-    /// Adds a sign and a number, and ends the line.
+    /// Adds a sign and a number.
     fn push_bound(&mut self, sign: &[u8], value: u64) -> Result<(), AllocError> {
-        self.push(sign)?;
-        self.push_number(value)?;
-        self.push(b"\n")
+        self.text.push(sign)?;
+        self.text.push_number(value)
     }
 
-    /// Adds the line of a step.
+    /// Adds the words of a step, unless it is by a clause.
     fn push_step(&mut self, step: Step) -> Result<(), AllocError> {
         match step {
             Step::Pair(pair) => self.push_pair(pair as usize),
             Step::TimeTable(job, k, from, until) => {
-                self.push(b"times ")?;
+                self.text.push(b"times ")?;
                 self.push_place(job as usize)?;
-                self.push(b" ")?;
+                self.text.push(b" ")?;
                 self.push_place(k as usize)?;
                 self.push_times(from, until)
             }
             Step::Energy(k, from, until) => {
-                self.push(b"energy ")?;
+                self.text.push(b"energy ")?;
                 self.push_place(k as usize)?;
                 self.push_times(from, until)
             }
             Step::Request(job, k) => {
-                self.push(b"request ")?;
+                self.text.push(b"request ")?;
                 self.push_place(job as usize)?;
-                self.push(b" ")?;
-                self.push_last(k)
+                self.text.push(b" ")?;
+                self.push_place(k as usize)
             }
-            Step::Prices => self.push(b"prices\n"),
+            Step::Prices => self.text.push(b"prices"),
             Step::Budget(k) => {
-                self.push(b"budget ")?;
-                self.push_last(k)
+                self.text.push(b"budget ")?;
+                self.push_place(k as usize)
             }
-            Step::Clause(of) => {
-                let number = self.numbers.get(of as usize).copied().unwrap_or(0);
-                self.push(b"clause ")?;
-                self.push_number(number as u64)?;
-                self.push(b"\n")
-            }
+            Step::Clause(_) => Ok(()),
         }
     }
 
-    /// Adds the line of a pair of the precedence relation.
+    /// Adds the words of a pair of the precedence relation.
     fn push_pair(&mut self, pair: usize) -> Result<(), AllocError> {
         let (before, after) = self.net.arcs().get(pair).copied().unwrap_or((0, 0));
-        self.push(b"pair ")?;
-        self.push_number(before as u64)?;
-        self.push(b" ")?;
-        self.push_number(after as u64)?;
-        self.push(b"\n")
+        self.text.push(b"pair ")?;
+        self.text.push_number(before as u64)?;
+        self.text.push(b" ")?;
+        self.text.push_number(after as u64)
     }
 
-    /// Adds two times, and ends the line.
+    /// Adds two times.
     fn push_times(&mut self, from: u32, until: u32) -> Result<(), AllocError> {
-        self.push(b" ")?;
-        self.push_number(from as u64)?;
-        self.push(b" ")?;
-        self.push_number(until as u64)?;
-        self.push(b"\n")
-    }
-
-    /// Adds the number of what stands at a place, and ends the line.
-    fn push_last(&mut self, place: u32) -> Result<(), AllocError> {
-        self.push_place(place as usize)?;
-        self.push(b"\n")
+        self.text.push(b" ")?;
+        self.text.push_number(from as u64)?;
+        self.text.push(b" ")?;
+        self.text.push_number(until as u64)
     }
 
     /// Adds the number of what stands at a place.
     fn push_place(&mut self, place: usize) -> Result<(), AllocError> {
-        self.push_number((place as u64).saturating_add(1))
-    }
-
-    /// Adds a number.
-    fn push_number(&mut self, number: u64) -> Result<(), AllocError> {
-        let mut buffer = Buffer::new();
-        self.push(buffer.format(number).as_bytes())
-    }
-
-    /// Adds bytes.
-    fn push(&mut self, bytes: &[u8]) -> Result<(), AllocError> {
-        self.text.extend_from_slice(bytes)
+        self.text.push_number((place as u64).saturating_add(1))
     }
 }
