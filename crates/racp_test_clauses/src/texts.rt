@@ -13,6 +13,14 @@ use std::alloc::Global;
 const TEXT: &[u8] =
     b"proof 2\ncost >= 30\nbudget 1\ntimes 3 1 1 3\nholds\nunits 1 >= 3\ntimes 3 1 1 3\nholds\nunits 1 >= 4\nstart 2 >= 1\nstart 3 >= 1\nstart 4 >= 2\ntimes 4 1 0 2\nholds\nunits 1 >= 4\nstart 2 >= 1\nstart 3 >= 1\nstart 5 >= 4\nclause 3\npair 4 5\nholds\nend\n";
 
+/// The same with numbers in the place of lines that were spelled out before.
+const NUMBERED: &[u8] =
+    b"proof 2\ncost >= 30\nbudget 1\ntimes 3 1 1 3\nholds\nunits 1 >= 3\n3\nholds\nunits 1 >= 4\nstart 2 >= 1\nstart 3 >= 1\nstart 4 >= 2\ntimes 4 1 0 2\nholds\n5\n6\n7\nstart 5 >= 4\nclause 3\npair 4 5\nholds\nend\n";
+
+/// The same with a number that no line has yet.
+const MISNUMBERED: &[u8] =
+    b"proof 2\ncost >= 30\nbudget 1\ntimes 3 1 1 3\nholds\nunits 1 >= 3\n3\nholds\nunits 1 >= 4\nstart 2 >= 1\nstart 3 >= 1\nstart 4 >= 2\ntimes 4 1 0 2\nholds\n5\n6\n10\nstart 5 >= 4\nclause 3\npair 4 5\nholds\nend\n";
+
 /// That each plan costs at least 30: the lines of examples/a4.bound.
 const BOUND: &[u8] = b"proof 2\nat least 30\ncost >= 30\nbudget 1\ntimes 3 1 1 3\nholds\nend\n";
 
@@ -36,13 +44,19 @@ fn least_told_by(alloc: Global, most: u32) -> Option<u64> {
     least_told(alloc, &net, &order, most)
 }
 
-/// Whether the first text is read to its end by so many questions whether to stop; none if memory is refused or the order is of
-/// another network.
-fn is_told(alloc: Global, net: &Network, order: &Order, plan: &Plan, most: u32) -> Option<bool> {
+/// Whether a text shows a plan, by so many questions whether to stop; none if memory is refused or the order is of another network.
+fn is_told(
+    alloc: Global,
+    net: &Network,
+    order: &Order,
+    plan: &Plan,
+    text: &[u8],
+    most: u32,
+) -> Option<bool> {
     if !order.is_for(net) {
         return None;
     }
-    match establishes_by_text_until(alloc, net, order, plan, TEXT, &Steps::new(most)) {
+    match establishes_by_text_until(alloc, net, order, plan, text, &Steps::new(most)) {
         Ok(shown) => Some(shown),
         Err(Unfound::Stopped) => Some(false),
         Err(Unfound::Memory) => None,
@@ -50,18 +64,25 @@ fn is_told(alloc: Global, net: &Network, order: &Order, plan: &Plan, most: u32) 
 }
 
 /// The same of the order and the plan of the five jobs.
-fn is_told_by(alloc: Global, most: u32) -> Option<bool> {
+fn is_told_by(alloc: Global, text: &[u8], most: u32) -> Option<bool> {
     let net = parallel(alloc).ok()?;
     let order = read_order(alloc, ORDER.as_bytes(), 1, 5).ok()?;
     let plan = read_plan(alloc, PLAN.as_bytes(), &net).ok()?;
-    is_told(alloc, &net, &order, &plan, most)
+    is_told(alloc, &net, &order, &plan, text, most)
 }
 
 #[test]
 fn the_stop_is_asked_at_each_line(rt: HostRuntime) {
     let alloc = rt.alloc();
-    assert!(rt; is_told_by(alloc, 21) == Some(true));
-    assert!(rt; is_told_by(alloc, 20) == Some(false));
+    assert!(rt; is_told_by(alloc, TEXT, 21) == Some(true));
+    assert!(rt; is_told_by(alloc, TEXT, 20) == Some(false));
+}
+
+#[test]
+fn a_number_says_what_its_line_says(rt: HostRuntime) {
+    let alloc = rt.alloc();
+    assert!(rt; is_told_by(alloc, NUMBERED, 21) == Some(true));
+    assert!(rt; is_told_by(alloc, MISNUMBERED, 21) == Some(false));
 }
 
 #[test]
