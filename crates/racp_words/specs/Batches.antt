@@ -22,7 +22,7 @@ batch_timed = with_rule (with_rule (with_rule (with_rule (new_app (codes "batch"
 -- `batch NET.. --factors F,.. [--price N] [--time-limit S] [--memory MIB] [-j N | --jobs N] [--out DIR] [--quiet]`
 abbrev pub batch : App
 batch = with_rule (with_rule (with_rule (with_rule batch_timed (number_rule (codes "memory") 1048576))
-    (lettered 106 (ranged_rule (codes "jobs") 0 64))) (text_rule (codes "out"))) (flag_rule (codes "quiet"))
+    (lettered 106 (ranged_rule (codes "jobs") 0 64))) (text_rule (codes "out"))) (lettered 113 (flag_rule (codes "quiet")))
 
 -- the words with this name, in their order
 abbrev pub words_at : Text → List Row → List Text

@@ -7,7 +7,7 @@ use Rattle.racp_words.specs.Batches.{files_rule}
 use Rattle.racp_words.specs.Rules.{file_rule, flag_rule, lettered, number_rule, ranged_rule, text_rule}
 use Rattle.racp_words.specs.declared.table.Line.{Line}
 use Rattle.racp_words.specs.declared.table.Word.{Word}
-use Rattle.racp_words.specs.declared.table.Word.TheVariants.{File, Files, Optional, Number, Lettered, Text, Needed, Flag}
+use Rattle.racp_words.specs.declared.table.Word.TheVariants.{File, Files, Optional, Number, Lettered, Text, Needed, Flag, Switch}
 
 -- the command is as said, and none of its words is one of all commands
 pub record IsCommandOf (app : App) (command : Command) : Type 0 where
@@ -24,6 +24,7 @@ rule_of_word (Lettered letter id name most help) = lettered letter (ranged_rule 
 rule_of_word (Text id name help) = text_rule id.now
 rule_of_word (Needed id name help) = record (text_rule id.now) { required = true }
 rule_of_word (Flag id help) = flag_rule id.now
+rule_of_word (Switch letter id help) = lettered letter (flag_rule id.now)
 
 -- a command with these words after its own, in this order
 abbrev pub with_words : App → List Word → App

@@ -50,9 +50,9 @@ by_workers app = with_rule (with_rule app (lettered 106 (ranged_rule (codes "wor
 abbrev pub of_workers : Text → App
 of_workers name = by_workers (of_order name)
 
--- a command that reads files, `.. [--explain] [--quiet]`
+-- a command that reads files, `.. [-v | --explain] [-q | --quiet]`
 abbrev pub telling : App → App
-telling app = with_rule (with_rule app (flag_rule (codes "explain"))) (flag_rule (codes "quiet"))
+telling app = with_rule (with_rule app (lettered 118 (flag_rule (codes "explain")))) (lettered 113 (flag_rule (codes "quiet")))
 
 -- a command whose answer may be written as JSON, `.. [--json] [--explain] [--quiet]`
 abbrev pub answering : App → App

@@ -1,7 +1,7 @@
 -- What the commands `show`, `report`, `curve`, `whatif`, `order`, `batch`, `import` and `explain` ask for.
-use Rattle.std.specs.Prelude.{◌≡◌, ◌≢◌, ℕ, List, Option, None, codes, false, map, option_map, true, Some}
+use Rattle.std.specs.Prelude.{◌≡◌, ◌≢◌, ◌&&◌, ◌||◌, Bool, ℕ, List, Option, None, codes, false, map, option_map, true, Some}
 use Rattle.clap.specs.Words.{App, IsUnsignedIn, Row, Text, first_of, new_app, new_rule, with_rule}
-use Rattle.racp_words.specs.Rules.{AreOrderFiles, ArePlanFiles, IsCrew, IsNumberOf, answering, by_workers, file_rule, flag_rule, is_set, number_in, number_rule, of_order, of_plan, of_workers, path_at, telling, text_rule}
+use Rattle.racp_words.specs.Rules.{AreOrderFiles, ArePlanFiles, IsCrew, IsNumberOf, answering, by_workers, file_rule, flag_rule, is_set, lettered, number_in, number_rule, of_order, of_plan, of_workers, path_at, telling, text_rule}
 use Rattle.racp_show.specs.declared.form.Form.{Form}
 use Rattle.racp_show.specs.declared.form.Form.TheVariants.{Text as Blocks, Ascii, Svg, Json, Csv}
 use Rattle.racp_words.specs.Batches.{AreBatchWords, files_rule, words_at}
@@ -111,10 +111,10 @@ abbrev pub import_dated : App
 import_dated = with_rule (with_rule (with_rule (with_rule import_chosen (number_rule (codes "hours-a-day") 24))
     (text_rule (codes "unit"))) (text_rule (codes "calendar"))) (text_rule (codes "date-format"))
 
--- the same, and `[--strict] [--force] [--quiet]`
+-- the same, and `[--strict] [--force] [-q | --quiet]`
 abbrev pub import_table : App
 import_table = with_rule (with_rule (with_rule import_dated (flag_rule (codes "strict"))) (flag_rule (codes "force")))
-    (flag_rule (codes "quiet"))
+    (lettered 113 (flag_rule (codes "quiet")))
 
 -- `explain [FORMAT] [FAULT]`
 abbrev pub explain : App
@@ -133,6 +133,13 @@ IsForm words Blocks =
     (is_set (codes "svg") words ≡ false) × (is_set (codes "json") words ≡ false) × (is_set (codes "csv") words ≡ false) ×
     (is_set (codes "ascii") words ≡ false)
 
+-- more than one of the flags that say what is written
+abbrev pub are_several : List Row → Bool
+are_several words =
+    (is_set (codes "svg") words && (is_set (codes "json") words || (is_set (codes "csv") words || is_set (codes "ascii") words))) ||
+    ((is_set (codes "json") words && (is_set (codes "csv") words || is_set (codes "ascii") words)) ||
+    (is_set (codes "csv") words && is_set (codes "ascii") words))
+
 -- no number of columns without a word, and else that of the word
 abbrev pub IsWidth : Option Text → Option ℕ → Type 0
 IsWidth None width = width ≡ None
@@ -150,6 +157,7 @@ pub record IsLook (words : List Row) (look : Look) : Type 0 where
   pub names : option_map (λ word. word.now) look.names ≡ first_of (codes "names") words
   pub width : IsWidth (first_of (codes "width") words) look.width
   pub form : IsForm words look.form
+  pub several : look.are_several ≡ are_several words
   pub links : look.has_links ≡ is_set (codes "links") words
   pub dates : AreDates words look.dates
 

@@ -22,7 +22,7 @@ pub(crate) const BATCH: &[Word] = &[
     Word::Text(
         "price",
         "N",
-        "What a unit of each resource costs, 0 to 1,000,000; else 1",
+        "What a unit of each resource costs, 0 to 1,000,000 [default: 1]",
     ),
     Word::Text(
         "time-limit",
@@ -35,7 +35,7 @@ pub(crate) const BATCH: &[Word] = &[
         "jobs",
         "N",
         MOST_WORKERS,
-        "How many rows are planned at a time, 1 to 64, or 0 for one for each processor; else 1",
+        "How many rows are planned at a time, 1 to 64, or 0 for one for each processor [default: 1]",
     ),
     Word::Text(
         "out",

@@ -55,6 +55,28 @@ pub(crate) fn command<'a>(alloc: Global) -> Result<Command<'a>, AllocError>
     with_commands(alloc, charting, MAKERS)
 }
 
+/// A line for each command: its name, and what help says of it.
+///
+/// # Errors
+///
+/// Memory was refused.
+pub fn command_list(alloc: Global) -> Result<String, AllocError> {
+    let mut list = String::new(alloc);
+    push_lines(&mut list, COMMANDS)?;
+    push_lines(&mut list, TOOLS)?;
+    push_lines(&mut list, MAKERS)?;
+    Ok(list)
+}
+
+/// Adds the lines of these commands.
+fn push_lines(list: &mut String, lines: &[Line<'_>]) -> Result<(), AllocError> {
+    for line in lines {
+        let (name, about) = (line.name, line.about);
+        write!(list, "  {name:<7}  {about}\n")?;
+    }
+    Ok(())
+}
+
 /// The program with a command for each line of a table.
 fn with_commands<'a>(
     alloc: Global,
@@ -86,7 +108,11 @@ fn program<'a>(alloc: Global) -> Command<'a>
 fn command_of<'a>(alloc: Global, line: &Line<'a>) -> Result<Command<'a>, AllocError>
     ensures { IfOk result (IsCommandOf (app_of_line line.now)) }
 {
-    let mut command = Ok(Command::new(alloc, line.name).about(line.about));
+    let mut command = Ok(
+        Command::new(alloc, line.name)
+            .about(line.about)
+            .after_help(line.example),
+    );
     for word in line.words {
         command = with_argument(command, argument_of(alloc, word));
     }
@@ -128,13 +154,42 @@ fn argument_of<'a>(alloc: Global, word: &Word<'a>) -> Arg<'a>
             .action(ArgAction::Append)
             .help(help),
         Word::Optional(id, help) => Arg::new(alloc, id).help(help),
-        Word::Number(id, name, most, help) => number_option(alloc, id, name, 1, most).help(help),
-        Word::Lettered(letter, id, name, most, help) => number_option(alloc, id, name, 0, most)
-            .short(letter)
-            .help(help),
-        Word::Text(id, name, help) => text_option(alloc, id, name).help(help),
+        Word::Number(id, name, most, help) => {
+            grouped(number_option(alloc, id, name, 1, most).help(help), id)
+        },
+        Word::Lettered(letter, id, name, most, help) => {
+            grouped(
+                number_option(alloc, id, name, 0, most)
+                    .short(letter)
+                    .help(help),
+                id,
+            )
+        },
+        Word::Text(id, name, help) => grouped(text_option(alloc, id, name).help(help), id),
         Word::Needed(id, name, help) => text_option(alloc, id, name).required(true).help(help),
-        Word::Flag(id, help) => flag(alloc, id).help(help),
+        Word::Flag(id, help) => grouped(flag(alloc, id).help(help), id),
+        Word::Switch(letter, id, help) => grouped(flag(alloc, id).short(letter).help(help), id),
+    }
+}
+
+/// An option of this name, in the group of options among which help shows it.
+fn grouped<'a>(option: Arg<'a>, id: &str) -> Arg<'a>
+    ensures rule { rule_of result ≡ rule_of option.entry }
+    ensures own { result.global ≡ option.entry.global }
+{
+    match group_of(id) {
+        Some(group) => option.help_heading(group),
+        None => option,
+    }
+}
+
+/// The group of options among which help shows the one of this name; `None` if that is the first.
+fn group_of(id: &str) -> Option<&'static str> {
+    match id {
+        "workers" | "turns" | "memory" | "time-limit" | "jobs" | "facts" => Some("Search"),
+        "svg" | "json" | "csv" | "ascii" | "width" | "links" => Some("Answer"),
+        "stats" | "progress" | "explain" | "quiet" => Some("Standard error"),
+        _ => None,
     }
 }
 

@@ -74,6 +74,7 @@ mod tools;
 mod verify_words;
 
 pub use command_line::asked;
+pub use commands::command_list;
 pub use request::{
     BoundFiles, CrewOptions, Dates, Look, Memory, NamedNet, OrderFiles, PlanFiles, ProofFiles,
     ReportWords, Request, Source, Task, Telling, Terms, Tool, WhatIfWords,

@@ -81,6 +81,8 @@ pub struct Look<'a> {
     pub width: Option<u64>,
     /// What is written.
     pub form: Form,
+    /// Whether more than one flag says what is written.
+    pub are_several: bool,
     /// Whether a picture has an arrow from each job to each that waits for it.
     pub has_links: bool,
     /// How times are told.

@@ -21,13 +21,16 @@ pub(crate) enum Word<'a> {
     Needed(&'a str, &'a str, &'a str),
     /// An option without a word.
     Flag(&'a str, &'a str),
+    /// An option without a word, which a letter names too.
+    Switch(char, &'a str, &'a str),
 }
 
-/// A command: its name, what help says of it, and its words.
+/// A command: its name, what help says of it, its words, and an example of it.
 pub(crate) struct Line<'a> {
     pub(crate) name: &'a str,
     pub(crate) about: &'a str,
     pub(crate) words: &'a [Word<'a>],
+    pub(crate) example: &'a str,
 }
 
 /// The word for a network.
@@ -45,7 +48,7 @@ const WORKERS: Word = Word::Lettered(
     "workers",
     "N",
     MOST_WORKERS,
-    "How many workers make the plan, 1 to 64, or 0 for one for each processor; else 1",
+    "How many workers make the plan, 1 to 64, or 0 for one for each processor [default: 1]",
 );
 
 /// How many turns workers take.
@@ -61,7 +64,7 @@ pub(crate) const MEMORY: Word = Word::Number(
     "memory",
     "MIB",
     MOST_MEBIBYTES,
-    "How many mebibytes records take at most, about, 1 to 1,048,576; else 1,024",
+    "How many mebibytes records take at most, about, 1 to 1,048,576 [default: 1,024]",
 );
 
 /// After how long a command stops.
@@ -94,13 +97,15 @@ const FACTS: Word = Word::Flag(
 pub(crate) const JSON: Word = Word::Flag("json", "Writes the answer as one object of JSON");
 
 /// Whether faults are explained.
-pub(crate) const EXPLAIN: Word = Word::Flag(
+pub(crate) const EXPLAIN: Word = Word::Switch(
+    'v',
     "explain",
     "Says on standard error which file is at fault, what was wanted and what is there",
 );
 
 /// Whether nothing is told of faults.
-pub(crate) const QUIET: Word = Word::Flag(
+pub(crate) const QUIET: Word = Word::Switch(
+    'q',
     "quiet",
     "Says nothing on standard error of what is wrong with the files",
 );
@@ -119,6 +124,7 @@ pub(crate) const COMMANDS: &[Line] = &[
             EXPLAIN,
             QUIET,
         ],
+        example: "Example: racp cpm net.sm",
     },
     Line {
         name: "plan",
@@ -145,16 +151,19 @@ pub(crate) const COMMANDS: &[Line] = &[
             EXPLAIN,
             QUIET,
         ],
+        example: "Example: racp plan net.sm order.toml --best net.best --time-limit 60 > net.plan",
     },
     Line {
         name: "prove",
         about: "Prints a certificate that no capacities before those of the plan are enough",
         words: &[NET, ORDER, FACTS, TIME_LIMIT, EXPLAIN, QUIET],
+        example: "Example: racp prove net.sm order.toml --facts > net.proof",
     },
     Line {
         name: "check",
         about: "Checks a plan against a network and an order",
         words: &[NET, ORDER, PLAN, JSON, EXPLAIN, QUIET],
+        example: "Example: racp check net.sm order.toml net.plan",
     },
     Line {
         name: "verify",
@@ -169,5 +178,6 @@ pub(crate) const COMMANDS: &[Line] = &[
             EXPLAIN,
             QUIET,
         ],
+        example: "Example: racp verify net.sm order.toml net.plan net.proof",
     },
 ];

@@ -1,8 +1,8 @@
 //! What the words of `show` and `order` say.
 
-ghost use Rattle.std.specs.Prelude.{◌≤◌, IfSome, codes};
+ghost use Rattle.std.specs.Prelude.{◌≡◌, ◌≤◌, IfSome, codes};
 ghost use Rattle.clap.specs.Words.{first_of, found_of, rows_of};
-ghost use Rattle.racp_words.specs.Tools.{AreTerms, IsForm, IsLook, IsNamedNet, IsWidth};
+ghost use Rattle.racp_words.specs.Tools.{are_several, AreTerms, IsForm, IsLook, IsNamedNet, IsWidth};
 
 use crate::most::MOST_WIDTH;
 use crate::options::{dates_of, is_set, number_of, path_of, text_of};
@@ -19,6 +19,7 @@ pub(crate) fn look_of<'a>(words: &ArgMatches<'a>) -> Look<'a>
         names: text_of(words, "names"),
         width,
         form: form_of(words),
+        are_several: are_several(words),
         has_links: is_set(words, "links"),
         dates: dates_of(words),
     }
@@ -48,6 +49,15 @@ fn form_of(words: &ArgMatches<'_>) -> Form
     } else {
         Form::Text
     }
+}
+
+/// Whether more than one flag says what is to be written of a plan that is shown.
+fn are_several(words: &ArgMatches<'_>) -> bool
+    ensures { result ≡ are_several (rows_of (found_of words.now)) }
+{
+    let (svg, json) = (is_set(words, "svg"), is_set(words, "json"));
+    let (csv, ascii) = (is_set(words, "csv"), is_set(words, "ascii"));
+    (svg && (json || csv || ascii)) || (json && (csv || ascii)) || (csv && ascii)
 }
 
 /// The files of a network and of names.

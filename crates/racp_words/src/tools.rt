@@ -14,7 +14,7 @@ const CREW: Word = Word::Lettered(
     "workers",
     "N",
     MOST_WORKERS,
-    "How many workers make the plans, 1 to 64, or 0 for one for each processor; else 1",
+    "How many workers make the plans, 1 to 64, or 0 for one for each processor [default: 1]",
 );
 
 /// The names of jobs and resources.
@@ -41,7 +41,7 @@ pub(crate) const TOOLS: &[Line] = &[
                 "width",
                 "N",
                 MOST_WIDTH,
-                "How many columns a line has at most, 1 to 1,000; else as COLUMNS says, or 80",
+                "How many columns a line has at most, 1 to 1,000 [default: as COLUMNS says, or 80]",
             ),
             Word::Flag("ascii", "Draws with the characters that every terminal has"),
             SVG,
@@ -58,6 +58,7 @@ pub(crate) const TOOLS: &[Line] = &[
             EXPLAIN,
             QUIET,
         ],
+        example: "Example: racp show net.sm order.toml net.plan --names net.names --svg > plan.svg",
     },
     Line {
         name: "report",
@@ -80,6 +81,7 @@ pub(crate) const TOOLS: &[Line] = &[
             EXPLAIN,
             QUIET,
         ],
+        example: "Example: racp report net.sm order.toml net.plan --names net.names > plan.html",
     },
     Line {
         name: "curve",
@@ -103,6 +105,7 @@ pub(crate) const TOOLS: &[Line] = &[
             EXPLAIN,
             QUIET,
         ],
+        example: "Example: racp curve net.sm order.toml > net.curve",
     },
     Line {
         name: "whatif",
@@ -121,6 +124,7 @@ pub(crate) const TOOLS: &[Line] = &[
             EXPLAIN,
             QUIET,
         ],
+        example: "Example: racp whatif net.sm order.toml net.plan --names net.names",
     },
 ];
 
@@ -155,16 +159,19 @@ pub(crate) const MAKERS: &[Line] = &[
             EXPLAIN,
             QUIET,
         ],
+        example: "Example: racp order net.sm --factor 1.2 --prices 3,5 > order.toml",
     },
     Line {
         name: "batch",
         about: "Writes a table of what each network costs with each deadline, as CSV",
         words: BATCH,
+        example: "Example: racp batch *.sm --factors 1.0,1.2 --time-limit 60 > table.csv",
     },
     Line {
         name: "import",
         about: "Makes a network of a table of tasks, or of several, and an order if there are prices",
         words: IMPORT,
+        example: "Example: racp import tasks.csv --out net --prices 3,5 --factor 1.2",
     },
     Line {
         name: "explain",
@@ -179,5 +186,6 @@ pub(crate) const MAKERS: &[Line] = &[
                 "The number or the name of a fault of that kind: 12, TooFew, critical",
             ),
         ],
+        example: "Example: racp explain sm 12",
     },
 ];
