@@ -25,7 +25,10 @@ FAULT = "|".join(f"fault {words}\n" for words in
                   f"early {NUMBER}"])
 CERTIFICATE = rf"proof\n(?:vector(?: {NUMBER})+\n(?:[DLC] {NUMBER}\n)+)*end\n"
 LITERAL = rf"(?:(?:start|units) {NUMBER}|cost) [<>]= {NUMBER}\n"
-HINT = rf"prices\n|(?:budget|clause) {NUMBER}\n|(?:pair|request) {NUMBER} {NUMBER}\n|(?:times {NUMBER}|energy)(?: {NUMBER}){{3}}\n"
+HINT = (
+    rf"prices\n|{NUMBER}\n|(?:budget|clause) {NUMBER}\n|(?:pair|request) {NUMBER} {NUMBER}\n"
+    rf"|(?:times {NUMBER}|energy)(?: {NUMBER}){{3}}\n"
+)
 CLAUSES = rf"proof 2\n(?:{LITERAL}|{HINT}|holds\n|keep\n)*end\n"
 BOUND = rf"proof 2\nat least {NUMBER}\n(?:{LITERAL}|{HINT}|holds\n|keep\n)*end\n"
 STEP = rf"deadline {NUMBER} cost {NUMBER} capacity(?: {NUMBER})+\n"
