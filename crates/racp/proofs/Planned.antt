@@ -1,5 +1,5 @@
 -- The status of a plan, and that of a certificate, is that of an answer.
-use Rattle.std.proofs.Common.{ℕ, Bool, true, false, List, [], ◌∷◌, Option, Ok, Err, IfOk, inl, inr}
+use Rattle.std.proofs.Common.{◌≡◌, ℕ, Bool, true, false, List, [], ◌∷◌, Option, Ok, Err, IfOk, inl, inr, subst}
 use Rattle.std.specs.Prelude.{Result}
 use Rattle.racp_by_questions.specs.declared.crowd.Effort.{Effort}
 use Rattle.racp_cli.specs.Crowds.{IsCrowdAnswer, IsCrowdRun}
@@ -12,14 +12,22 @@ use Rattle.racp_streams.specs.Streams.{IsAnswerWritten, Reader, ToOne, ToTwo, To
 use Rattle.racp_cli.specs.Runs.{IsPlanRun, IsVerifyRunUntil}
 use Rattle.racp_streams.specs.declared.fault.StreamFault.{StreamFault}
 use Rattle.racp_cli.specs.CurveAnswers.{IsCurveAnswer, IsCurveCrowdAnswer, IsCurveCrowdRun, IsCurveRun}
+use Rattle.racp_cli.specs.ExportAnswers.{IsExportAnswer, IsExportRun}
 use Rattle.racp_cli.specs.OrderAnswers.{IsOrderAnswer, IsOrderRun}
 use Rattle.racp_cli.specs.ReportAnswers.{IsReportAnswer, IsReportRun}
 use Rattle.racp_cli.specs.ShowAnswers.{IsShowAnswer, IsShowRun}
 use Rattle.racp_cli.specs.WhatIfAnswers.{IsWhatIfAnswer}
+use Rattle.racp_cli.specs.declared.curve.CurveForm.{CurveForm}
+use Rattle.racp_cli.specs.declared.export.Target.{Target}
 use Rattle.racp_cli.specs.declared.order.Asked.{Asked}
 use Rattle.racp_cli.specs.declared.report.Page.{Page}
 use Rattle.racp_cli.specs.declared.show.Look.{Look}
 use Rattle.racp.specs.Statuses.{IsStatusOfAnswer, IsStatusOfTool}
+
+-- what a command came to is what it ended with, if its answer was written
+pub ended_as : (T E F : Type 0) (P : T → Type 0) (was : Result T E) (now : Result T F) → IfOk now (λ value. was ≡ Ok value) → IfOk was P → IfOk now P
+ended_as T E F P was (Ok value) same right = subst (λ (result : Result T E). IfOk result P) same right
+ended_as T E F P was (Err fault) same right = tt
 
 -- what one thread answers
 on_one_thread : (inputs : List (List ℕ)) (status : ℕ) (text : List ℕ) → ToTwo IsPlanAnswer inputs status text → IsStatusOfAnswer status
@@ -94,12 +102,24 @@ of_picture : (look : Look) (inputs : List (List ℕ)) (status : ℕ) (text : Lis
 of_picture look [] status text answer = absurd answer
 of_picture look (net ∷ []) status text answer = absurd answer
 of_picture look (net ∷ (order ∷ [])) status text answer = absurd answer
-of_picture look (net ∷ (order ∷ (plan ∷ []))) status text answer = inl (net, order, plan, look, text, answer)
+of_picture look (net ∷ (order ∷ (plan ∷ []))) status text answer = inl (net, order, plan, text, inl (look, answer))
 of_picture look (net ∷ (order ∷ (plan ∷ (other ∷ inputs)))) status text answer = absurd answer
 
 pub shown : (look : Look) (net order plan : Reader) (old new : Option (List ℕ)) (result : Result ℕ StreamFault) → IsShowRun look net order plan old new result → IfOk result IsStatusOfTool
 shown look net order plan old new (Ok status) run = of_picture look run.0 status run.2.0 run.2.1
 shown look net order plan old new (Err fault) run = tt
+
+-- what is written of a plan for other programs
+of_export : (target : Target) (inputs : List (List ℕ)) (status : ℕ) (text : List ℕ) → ToThree (IsExportAnswer target) inputs status text → IsStatusOfTool status
+of_export target [] status text answer = absurd answer
+of_export target (net ∷ []) status text answer = absurd answer
+of_export target (net ∷ (order ∷ [])) status text answer = absurd answer
+of_export target (net ∷ (order ∷ (plan ∷ []))) status text answer = inl (net, order, plan, text, inr (target, answer))
+of_export target (net ∷ (order ∷ (plan ∷ (other ∷ inputs)))) status text answer = absurd answer
+
+pub exported : (target : Target) (net order plan : Reader) (old new : Option (List ℕ)) (result : Result ℕ StreamFault) → IsExportRun target net order plan old new result → IfOk result IsStatusOfTool
+exported target net order plan old new (Ok status) run = of_export target run.0 status run.2.0 run.2.1
+exported target net order plan old new (Err fault) run = tt
 
 -- what is reported of a plan
 of_report : (page : Page) (inputs : List (List ℕ)) (status : ℕ) (text : List ℕ) → ToThree (IsReportAnswer page) inputs status text → IsStatusOfTool status
@@ -114,30 +134,30 @@ reported page net order plan old new (Ok status) run = of_report page run.0 stat
 reported page net order plan old new (Err fault) run = tt
 
 -- what one thread tells of deadlines is what workers may tell
-told_alone : (turns : ℕ) (quiet is_drawn : Bool) (net order : List ℕ) (status : ℕ) (text : List ℕ) → IsCurveAnswer is_drawn net order status text → IsCurveCrowdAnswer turns quiet is_drawn net order status text
-told_alone turns quiet is_drawn net order status text (inl (network, terms, are, told)) = inl (network, terms, are, inl told)
-told_alone turns quiet is_drawn net order status text (inr other) = inr other
+told_alone : (turns : ℕ) (quiet : Bool) (form : CurveForm) (net order : List ℕ) (status : ℕ) (text : List ℕ) → IsCurveAnswer form net order status text → IsCurveCrowdAnswer turns quiet form net order status text
+told_alone turns quiet form net order status text (inl (network, terms, are, told)) = inl (network, terms, are, inl told)
+told_alone turns quiet form net order status text (inr other) = inr other
 
 -- what is told of deadlines
-of_curve : (turns : ℕ) (quiet is_drawn : Bool) (inputs : List (List ℕ)) (status : ℕ) (text : List ℕ) → ToTwo (IsCurveCrowdAnswer turns quiet is_drawn) inputs status text → IsStatusOfTool status
-of_curve turns quiet is_drawn [] status text answer = absurd answer
-of_curve turns quiet is_drawn (net ∷ []) status text answer = absurd answer
-of_curve turns quiet is_drawn (net ∷ (order ∷ [])) status text answer = inr (inl (turns, quiet, is_drawn, net, order, text, answer))
-of_curve turns quiet is_drawn (net ∷ (order ∷ (other ∷ inputs))) status text answer = absurd answer
+of_curve : (turns : ℕ) (quiet : Bool) (form : CurveForm) (inputs : List (List ℕ)) (status : ℕ) (text : List ℕ) → ToTwo (IsCurveCrowdAnswer turns quiet form) inputs status text → IsStatusOfTool status
+of_curve turns quiet form [] status text answer = absurd answer
+of_curve turns quiet form (net ∷ []) status text answer = absurd answer
+of_curve turns quiet form (net ∷ (order ∷ [])) status text answer = inr (inl (turns, quiet, form, net, order, text, answer))
+of_curve turns quiet form (net ∷ (order ∷ (other ∷ inputs))) status text answer = absurd answer
 
-alone : (turns : ℕ) (quiet is_drawn : Bool) (inputs : List (List ℕ)) (status : ℕ) (text : List ℕ) → ToTwo (IsCurveAnswer is_drawn) inputs status text → ToTwo (IsCurveCrowdAnswer turns quiet is_drawn) inputs status text
-alone turns quiet is_drawn [] status text answer = absurd answer
-alone turns quiet is_drawn (net ∷ []) status text answer = absurd answer
-alone turns quiet is_drawn (net ∷ (order ∷ [])) status text answer = told_alone turns quiet is_drawn net order status text answer
-alone turns quiet is_drawn (net ∷ (order ∷ (other ∷ inputs))) status text answer = absurd answer
+alone : (turns : ℕ) (quiet : Bool) (form : CurveForm) (inputs : List (List ℕ)) (status : ℕ) (text : List ℕ) → ToTwo (IsCurveAnswer form) inputs status text → ToTwo (IsCurveCrowdAnswer turns quiet form) inputs status text
+alone turns quiet form [] status text answer = absurd answer
+alone turns quiet form (net ∷ []) status text answer = absurd answer
+alone turns quiet form (net ∷ (order ∷ [])) status text answer = told_alone turns quiet form net order status text answer
+alone turns quiet form (net ∷ (order ∷ (other ∷ inputs))) status text answer = absurd answer
 
-pub curved : (is_drawn : Bool) (net order : Reader) (old new : Option (List ℕ)) (result : Result ℕ StreamFault) → IsCurveRun is_drawn net order old new result → IfOk result IsStatusOfTool
-curved is_drawn net order old new (Ok status) run = of_curve 0 true is_drawn run.0 status run.2.0 (alone 0 true is_drawn run.0 status run.2.0 run.2.1)
-curved is_drawn net order old new (Err fault) run = tt
+pub curved : (form : CurveForm) (net order : Reader) (old new : Option (List ℕ)) (result : Result ℕ StreamFault) → IsCurveRun form net order old new result → IfOk result IsStatusOfTool
+curved form net order old new (Ok status) run = of_curve 0 true form run.0 status run.2.0 (alone 0 true form run.0 status run.2.0 run.2.1)
+curved form net order old new (Err fault) run = tt
 
-pub curved_by : (turns : ℕ) (quiet is_drawn : Bool) (net order : Reader) (old new : Option (List ℕ)) (result : Result ℕ StreamFault) → IsCurveCrowdRun turns quiet is_drawn net order old new result → IfOk result IsStatusOfTool
-curved_by turns quiet is_drawn net order old new (Ok status) run = of_curve turns quiet is_drawn run.0 status run.2.0 run.2.1
-curved_by turns quiet is_drawn net order old new (Err fault) run = tt
+pub curved_by : (turns : ℕ) (quiet : Bool) (form : CurveForm) (net order : Reader) (old new : Option (List ℕ)) (result : Result ℕ StreamFault) → IsCurveCrowdRun turns quiet form net order old new result → IfOk result IsStatusOfTool
+curved_by turns quiet form net order old new (Ok status) run = of_curve turns quiet form run.0 status run.2.0 run.2.1
+curved_by turns quiet form net order old new (Err fault) run = tt
 
 -- what is written as an order
 of_order : (asked : Asked) (inputs : List (List ℕ)) (status : ℕ) (text : List ℕ) → ToOne (IsOrderAnswer asked) inputs status text → IsStatusOfTool status

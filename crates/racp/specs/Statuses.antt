@@ -4,10 +4,13 @@ use Rattle.racp_cli.specs.Answers.{IsCpmAnswer}
 use Rattle.racp_cli.specs.Crowds.{IsCrowdAnswer}
 use Rattle.racp_cli.specs.Checks.{IsCheckAnswer}
 use Rattle.racp_cli.specs.CurveAnswers.{IsCurveCrowdAnswer}
+use Rattle.racp_cli.specs.ExportAnswers.{IsExportAnswer}
 use Rattle.racp_cli.specs.OrderAnswers.{IsOrderAnswer}
 use Rattle.racp_cli.specs.ReportAnswers.{IsReportAnswer}
 use Rattle.racp_cli.specs.ShowAnswers.{IsShowAnswer}
 use Rattle.racp_cli.specs.WhatIfAnswers.{IsWhatIfAnswer}
+use Rattle.racp_cli.specs.declared.curve.CurveForm.{CurveForm}
+use Rattle.racp_cli.specs.declared.export.Target.{Target}
 use Rattle.racp_cli.specs.declared.order.Asked.{Asked}
 use Rattle.racp_cli.specs.declared.report.Page.{Page}
 use Rattle.racp_cli.specs.declared.show.Look.{Look}
@@ -38,9 +41,10 @@ IsStatusOfTable (Err fault) lack status = ⊥
 -- some answer of a command that goes with plans has this status
 abbrev pub IsStatusOfTool : ℕ → Type 0
 IsStatusOfTool status =
-    ((net order plan : List ℕ) × (look : Look) × (text : List ℕ) × IsShowAnswer look net order plan status text) ⊎
-    ((turns : ℕ) × (quiet is_drawn : Bool) × (net order : List ℕ) × (text : List ℕ) ×
-    IsCurveCrowdAnswer turns quiet is_drawn net order status text) ⊎
+    ((net order plan : List ℕ) × (text : List ℕ) × (((look : Look) × IsShowAnswer look net order plan status text) ⊎
+    ((target : Target) × IsExportAnswer target net order plan status text))) ⊎
+    ((turns : ℕ) × (quiet : Bool) × (form : CurveForm) × (net order : List ℕ) × (text : List ℕ) ×
+    IsCurveCrowdAnswer turns quiet form net order status text) ⊎
     ((asked : Asked) × (net : List ℕ) × (text : List ℕ) × IsOrderAnswer asked net status text) ⊎
     ((page : Page) × (net order plan : List ℕ) × (text : List ℕ) × IsReportAnswer page net order plan status text) ⊎
     ((turns : ℕ) × (quiet is_json : Bool) × (net order : List ℕ) × (plan : Option (List ℕ)) × (names text : List ℕ) ×

@@ -6,8 +6,11 @@ ghost use Rattle.racp.specs.Statuses.{IsStatusBy, IsStatusOfTable, IsStatusOfToo
 use crate::gathering::gathered;
 use crate::keeping::{Keeping, Lack, name_of};
 use racp_batch::{Batch, BatchFault, Case, Ending, File, Multiple, Planning, cases, table_over};
+use racp_calendar::Calendar;
 use racp_cli::{DONE, OUT_OF_MEMORY, STOPPED, STREAM_FAILED, StreamFault};
+use racp_host::answer::Answer;
 use racp_host::asks::Asks;
+use racp_host::bar::Bar;
 use racp_host::failure::{Failure, OptionFault};
 use racp_host::inputs::told;
 use racp_host::machine::Crewed;
@@ -18,11 +21,11 @@ use racp_model::limits::MOST_PRICE;
 use racp_prices::Factor;
 use racp_words::{BatchWords, Memory};
 use std::alloc::{AllocError, Global};
+use std::fs;
 use std::rt::Files;
-use std::time::Duration;
-use std::{fs, io};
+use std::time::{Clock, Duration};
 
-/// How the rows of a table are made, and where their plans are kept.
+/// How the rows of a table are made and told, and where their plans are kept.
 #[derive(Clone, Copy)]
 struct Manufacture<'a> {
     /// The price of a unit of each resource.
@@ -35,16 +38,19 @@ struct Manufacture<'a> {
     jobs: usize,
     /// The folder in which plans are kept, if they are.
     folder: Option<&'a str>,
+    /// How deadlines are told.
+    calendar: Calendar<'a>,
     ghost price_few: { price ≤ 1000000 },
     ghost jobs_few: { jobs ≤ 64 },
 }
 
-/// Writes the table that the words ask for.
+/// Writes the table that the words ask for, with the days of a calendar.
 pub(crate) fn batch<R: Crewed>(
     rt: &R,
     words: &BatchWords<'_>,
     memory: Memory,
     manner: Manner,
+    calendar: Calendar<'_>,
 ) -> Result<u8, Failure>
     ensures { IfOk result IsStatusOfTool }
 {
@@ -54,11 +60,12 @@ pub(crate) fn batch<R: Crewed>(
         memory,
         jobs: words.jobs,
         folder: words.out,
+        calendar,
     };
     let multiples = multiples_of(rt.alloc(), words.factors)?;
     prepare(rt, making.folder, &words.nets)?;
     let files = gathered(rt, &words.nets, manner)?;
-    table_of(rt, &files, &multiples, making)
+    table_of(rt, &files, &multiples, making, manner)
 }
 
 /// The price that a word writes; 1 without a word.
@@ -130,24 +137,36 @@ fn table_of<R: Crewed>(
     files: &[File<'_>],
     multiples: &[Multiple<'_>],
     making: Manufacture<'_>,
+    manner: Manner,
 ) -> Result<u8, Failure>
     ensures { IfOk result IsStatusOfTool }
 {
     let cases = cases(rt.alloc(), files, multiples, making.price)?;
-    table_written(rt, &cases, making)
+    table_written(rt, &cases, making, bar_of(rt, manner, cases.len()))
 }
 
-/// Writes the table of these cases.
+/// What shows how many of so many rows are done: on a terminal that shows no rows, if something is to be told there.
+fn bar_of<C: Clock>(clock: &C, manner: Manner, rows: usize) -> Option<Bar> {
+    if manner.on_terminal && !manner.shows_answer && !manner.is_quiet() {
+        Some(Bar::of(clock, rows))
+    } else {
+        None
+    }
+}
+
+/// Writes the table of these cases, and shows there how far it is, or nowhere.
 fn table_written<R: Crewed>(
     rt: &R,
     cases: &[Case<'_>],
     making: Manufacture<'_>,
+    bar: Option<Bar>,
 ) -> Result<u8, Failure>
     ensures { IfOk result IsStatusOfTool }
 {
     let batch = Batch {
         alloc: rt.alloc(),
         cases,
+        calendar: making.calendar,
         jobs: worker_count(rt, making.jobs),
     };
     let planning = Planning {
@@ -155,21 +174,25 @@ fn table_written<R: Crewed>(
         memory: making.memory.mebibytes,
         limit: making.limit,
     };
-    let keeping = Keeping::of(rt, making.folder, Asks::of(rt));
-    let (_, ending) = table_over(rt, &batch, &planning, &keeping, io::writer(rt));
+    let keeping = Keeping::of(rt, making.folder, Asks::of(rt), bar);
+    let (out, ending) = table_over(rt, &batch, &planning, &keeping, Answer::to(rt));
     let lack = keeping.lack();
     // Dropped here once, not at each way out.
     drop(keeping);
-    status_of(ending, lack)
+    status_of(&out, ending, lack)
 }
 
-/// The status of a table that ended so, of which rows may have lacked something.
-fn status_of(ending: Result<Ending, BatchFault>, lack: Option<Lack>) -> Result<u8, Failure>
+/// The status of a table that was written there and ended so, of which rows may have lacked something.
+fn status_of<R: Print>(
+    out: &Answer<'_, R>,
+    ending: Result<Ending, BatchFault>,
+    lack: Option<Lack>,
+) -> Result<u8, Failure>
     ensures { IfOk result (IsStatusOfTable ending lack) }
 {
     match ending {
         Ok(ending) => status_by(ending.is_whole, lack),
-        Err(BatchFault::Write) => Err(Failure::Stream(StreamFault::Write)),
+        Err(BatchFault::Write) => Err(out.failure(StreamFault::Write)),
         Err(BatchFault::Memory) => Err(Failure::Stream(StreamFault::Memory)),
     }
 }

@@ -7,6 +7,7 @@ use crate::undated::{Sources, undated};
 use racp_cli::{StreamFault, verify_bound_over};
 use racp_explain::{Input as Text, bound_cause};
 use racp_host::alone_limit::AloneLimit;
+use racp_host::answer::Answer;
 use racp_host::asks::Asks;
 use racp_host::failure::Failure;
 use racp_host::inputs::Inputs;
@@ -14,7 +15,6 @@ use racp_host::machine::Machine;
 use racp_host::telling::{Manner, end};
 use racp_json::Command;
 use racp_words::BoundFiles;
-use std::io;
 use std::io::{Read, Write};
 use std::time::Duration;
 
@@ -82,28 +82,30 @@ fn verify_written<R: Machine>(
     proof: &Text<'_>,
     asked: &Bounding<'_>,
     text: &mut Vec<u8>,
-) -> Result<u8, StreamFault>
+) -> Result<u8, Failure>
     ensures { IfOk result IsStatusOfAnswer }
 {
     let (mut network, mut terms, mut certificate) = (net.bytes, order.bytes, proof.bytes);
     if asked.manner.is_json {
-        verify_of(
+        Ok(verify_of(
             rt,
             &mut network,
             &mut terms,
             &mut certificate,
             asked.limit,
             text,
-        )
+        )?)
     } else {
-        verify_of(
+        let mut out = Answer::to(rt);
+        let status = verify_of(
             rt,
             &mut network,
             &mut terms,
             &mut certificate,
             asked.limit,
-            &mut io::writer(rt),
-        )
+            &mut out,
+        );
+        out.ended(status)
     }
 }
 

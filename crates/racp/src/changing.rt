@@ -4,25 +4,24 @@ ghost use Rattle.std.specs.Prelude.{IfOk};
 ghost use Rattle.racp.specs.Statuses.{IsStatusOfTool};
 
 use crate::dated::dated_findings;
-use crate::listener::{Kept, Listener};
+use crate::listener::{Best, Kept, Listener};
 use crate::undated::{Sources, undated};
 use racp_calendar::Calendar;
 use racp_cli::{StreamFault, WhatIfTexts, whatif_to};
 use racp_desk::Open;
 use racp_explain::{Input as Text, named_cause, shown_cause};
+use racp_host::answer::{Answer, print};
 use racp_host::asks::Asks;
 use racp_host::failure::Failure;
 use racp_host::inputs::Inputs;
 use racp_host::limit::Limit;
 use racp_host::machine::Crewed;
-use racp_host::making::{Making, memory_of, one_worker, worker_count};
+use racp_host::making::{Making, memory_of, one_worker, time_of, worker_count};
 use racp_host::telling::{Manner, end};
 use racp_json::{Command, Told};
 use racp_lexfix::Crew;
 use racp_words::{OrderFiles, WhatIfWords};
 use std::alloc::{AllocError, Global};
-use std::cell::Cell;
-use std::io;
 use std::io::Write;
 
 /// The texts of what is asked.
@@ -77,14 +76,16 @@ fn written<R: Crewed>(
     texts: Texts<'_>,
     making: Making<'_>,
     text: &mut Vec<u8>,
-) -> Result<u8, StreamFault>
+) -> Result<u8, Failure>
     ensures { IfOk result IsStatusOfTool }
 {
     let texts = bytes_of(texts, making.manner);
     if making.manner.is_json || making.calendar.has_dates() {
-        written_to(rt, texts, making, text)
+        Ok(written_to(rt, texts, making, text)?)
     } else {
-        written_to(rt, texts, making, &mut io::writer(rt))
+        let mut out = Answer::to(rt);
+        let status = written_to(rt, texts, making, &mut out);
+        out.ended(status)
     }
 }
 
@@ -98,8 +99,11 @@ fn written_to<'a, R: Crewed, W: Write>(
     ensures { IfOk result IsStatusOfTool }
 {
     let crew = making.crew.unwrap_or(one_worker());
-    let best = Cell::new(Vec::new(rt.alloc()));
-    let limit = Limit::of(rt, making.limit, None, Asks::of(rt));
+    let best = Best::of(Vec::new(rt.alloc()));
+    let Ok(time) = time_of(rt.alloc(), making.manner) else {
+        return Err(StreamFault::Memory);
+    };
+    let limit = Limit::of(rt, making.limit, time, Asks::of(rt));
     let kept = Kept {
         net: texts.net,
         order: texts.order,
@@ -143,7 +147,7 @@ fn tell_end<R: Print + Eprint + AllocGlobal>(
     making: Making<'_>,
     status: u8,
     text: &[u8],
-) -> Result<(), StreamFault> {
+) -> Result<(), Failure> {
     let manner = making.manner;
     if text.starts_with(b"{") || !manner.is_json {
         write_findings(rt, text, making.calendar)?;
@@ -164,14 +168,9 @@ fn write_findings<R: Print + AllocGlobal>(
     rt: &R,
     text: &[u8],
     calendar: Calendar<'_>,
-) -> Result<(), StreamFault> {
-    let Ok(dated) = dated_findings(rt.alloc(), text, calendar) else {
-        return Err(StreamFault::Memory);
-    };
-    match io::writer(rt).write_all(dated.as_bytes()) {
-        Ok(()) => Ok(()),
-        Err(_) => Err(StreamFault::Write),
-    }
+) -> Result<(), Failure> {
+    let dated = dated_findings(rt.alloc(), text, calendar)?;
+    print(rt, &dated)
 }
 
 /// What was written in place of findings.

@@ -4,8 +4,9 @@ ghost use Rattle.std.specs.Prelude.{IfOk};
 ghost use Rattle.racp.specs.Statuses.{IsStatusOfTool};
 
 use racp_calendar::Calendar;
-use racp_cli::{Look, StreamFault, show_over};
+use racp_cli::{Look, show_over};
 use racp_explain::{Input as Text, shown_cause};
+use racp_host::answer::Answer;
 use racp_host::dates::{calendar_of, workdays_of};
 use racp_host::failure::{Failure, OptionFault};
 use racp_host::inputs::Inputs;
@@ -14,8 +15,8 @@ use racp_host::telling::{Manner, tell};
 use racp_show::Form;
 use racp_words::PlanFiles;
 use std::alloc::{AllocError, Global};
+use std::env;
 use std::rt::Env;
-use std::{env, io};
 
 /// The variable of the environment that says how wide the terminal is.
 const VARIABLE: &str = "COLUMNS";
@@ -88,6 +89,9 @@ pub(crate) fn show<R: Machine>(
 
 /// Refuses options that would do nothing in this form.
 fn test_idle(look: &racp_words::Look<'_>) -> Result<(), OptionFault> {
+    if look.are_several {
+        return Err(OptionFault::Forms);
+    }
     match look.form {
         Form::Text | Form::Ascii | Form::Json | Form::Csv if look.has_links => {
             Err(OptionFault::Links)
@@ -113,7 +117,7 @@ fn show_of<R: Print + AllocGlobal>(
     texts: Texts<'_>,
     shape: Shape,
     calendar: Calendar<'_>,
-) -> Result<u8, StreamFault>
+) -> Result<u8, Failure>
     ensures { IfOk result IsStatusOfTool }
 {
     let (mut net, mut order) = (texts.net.bytes, texts.order.bytes);
@@ -125,14 +129,9 @@ fn show_of<R: Print + AllocGlobal>(
         calendar,
         names: texts.names.bytes,
     };
-    show_over(
-        rt.alloc(),
-        &mut net,
-        &mut order,
-        &mut plan,
-        look,
-        &mut io::writer(rt),
-    )
+    let mut out = Answer::to(rt);
+    let status = show_over(rt.alloc(), &mut net, &mut order, &mut plan, look, &mut out);
+    out.ended(status)
 }
 
 /// What is wrong with the texts.

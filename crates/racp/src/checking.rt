@@ -6,6 +6,7 @@ ghost use Rattle.racp.specs.Statuses.{IsStatusOfAnswer};
 use crate::undated::{Sources, undated};
 use racp_cli::{StreamFault, check_over};
 use racp_explain::{Input as Text, plan_cause};
+use racp_host::answer::Answer;
 use racp_host::failure::Failure;
 use racp_host::inputs::Inputs;
 use racp_host::machine::Machine;
@@ -13,7 +14,6 @@ use racp_host::telling::{Manner, end};
 use racp_json::Command;
 use racp_words::PlanFiles;
 use std::alloc::Global;
-use std::io;
 use std::io::{Read, Write};
 
 /// Whether the plan in these files is right.
@@ -67,20 +67,16 @@ fn check_written<R: Print + AllocGlobal>(
     plan: &Text<'_>,
     is_json: bool,
     text: &mut Vec<u8>,
-) -> Result<u8, StreamFault>
+) -> Result<u8, Failure>
     ensures { IfOk result IsStatusOfAnswer }
 {
     let (mut network, mut terms, mut planned) = (net.bytes, order.bytes, plan.bytes);
     if is_json {
-        check_of(rt.alloc(), &mut network, &mut terms, &mut planned, text)
+        Ok(check_of(rt.alloc(), &mut network, &mut terms, &mut planned, text)?)
     } else {
-        check_of(
-            rt.alloc(),
-            &mut network,
-            &mut terms,
-            &mut planned,
-            &mut io::writer(rt),
-        )
+        let mut out = Answer::to(rt);
+        let status = check_of(rt.alloc(), &mut network, &mut terms, &mut planned, &mut out);
+        out.ended(status)
     }
 }
 

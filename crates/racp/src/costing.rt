@@ -3,13 +3,16 @@
 ghost use Rattle.std.specs.Prelude.{IfOk};
 ghost use Rattle.racp.specs.Statuses.{IsStatusOfTool};
 
-use crate::listener::{Kept, Listener};
-use racp_cli::{StreamFault, curve_crowd_over, curve_over};
+use crate::earlier::{earlier_plan, note_earlier};
+use crate::listener::{Best, Kept, Listener};
+use crate::needed::cause_of;
+use racp_cli::{CurveForm, StreamFault, curve_crowd_over, curve_over};
 use racp_desk::Open;
-use racp_explain::{Input as Text, order_cause};
+use racp_explain::Input as Text;
+use racp_host::answer::Answer;
 use racp_host::asks::Asks;
 use racp_host::begun::Begun;
-use racp_host::best::test_best;
+use racp_host::best::begin_best;
 use racp_host::failure::Failure;
 use racp_host::inputs::Inputs;
 use racp_host::limit::Limit;
@@ -21,8 +24,6 @@ use racp_json::{Command, FileNames, Told, Work};
 use racp_lexfix::Crew;
 use racp_words::{CrewOptions, OrderFiles};
 use std::alloc::{AllocError, Global};
-use std::cell::Cell;
-use std::io;
 use std::io::{Read, Write};
 
 /// How a curve is made.
@@ -32,6 +33,17 @@ pub(crate) struct Costing<'a> {
     pub(crate) making: Making<'a>,
     /// Whether it is written as a picture.
     pub(crate) is_drawn: bool,
+}
+
+impl<'a> Costing<'a> {
+    /// What the curve is written as.
+    fn form(self) -> CurveForm<'a> {
+        if self.is_drawn {
+            CurveForm::Picture(self.making.calendar)
+        } else {
+            CurveForm::Lines
+        }
+    }
 }
 
 /// Writes what each deadline up to that of the order in these files costs.
@@ -44,10 +56,14 @@ pub(crate) fn curve<R: Crewed>(
 {
     let paths = [Some(files.net), Some(files.order)];
     let inputs = Inputs::read(rt, &paths)?;
-    if let Some(crew) = costing.making.crew {
-        test_best(rt, crew.best)?;
-    }
-    curve_told(rt, &inputs.text(0), &inputs.text(1), costing)
+    let (net, order) = (inputs.text(0), inputs.text(1));
+    let before = begin_best(rt, costing.making.best(), &[files.net, files.order])?;
+    let earlier = earlier_plan(rt.alloc(), net.bytes, order.bytes, &before);
+    let making = Making {
+        earlier,
+        ..costing.making
+    };
+    curve_told(rt, &net, &order, Costing { making, ..costing })
 }
 
 /// Writes the curve of these texts, and what is wrong with them.
@@ -64,7 +80,7 @@ fn curve_told<R: Crewed>(
     let mut text = Vec::new(rt.alloc());
     let status = curve_written(rt, net.bytes, order.bytes, costing, &mut text)?;
     let cause = if manner.looks(status) {
-        order_cause(rt.alloc(), net, order)
+        cause_of(rt, net, order)
     } else {
         Ok(String::new(rt.alloc()))
     };
@@ -98,13 +114,15 @@ fn curve_written<R: Crewed>(
     order: &[u8],
     costing: Costing<'_>,
     text: &mut Vec<u8>,
-) -> Result<u8, StreamFault>
+) -> Result<u8, Failure>
     ensures { IfOk result IsStatusOfTool }
 {
     if costing.making.manner.is_json {
-        curve_of(rt, net, order, costing, text)
+        Ok(curve_of(rt, net, order, costing, text)?)
     } else {
-        curve_of(rt, net, order, costing, &mut io::writer(rt))
+        let mut out = Answer::to(rt);
+        let status = curve_of(rt, net, order, costing, &mut out);
+        out.ended(status)
     }
 }
 
@@ -143,7 +161,7 @@ fn curve_alone<N: Read, O: Read, W: Write>(
         net,
         order,
         costing.making.memory.mebibytes,
-        costing.is_drawn,
+        costing.form(),
         out,
     )
 }
@@ -165,8 +183,9 @@ fn curve_by<R: Crewed, W: Write>(
     let Ok(progress) = told_progress(rt.alloc(), crew.progress, making.manner) else {
         return Err(StreamFault::Memory);
     };
-    let best = Cell::new(Vec::new(rt.alloc()));
+    let best = Best::of(Vec::new(rt.alloc()));
     let limit = Limit::of(rt, making.limit, progress, Asks::of(rt));
+    note_earlier(limit.known(), making.earlier);
     let kept = Kept {
         net,
         order,
@@ -184,7 +203,8 @@ fn curve_by<R: Crewed, W: Write>(
         observer: &listener,
     };
     let (mut network, mut terms) = (net, order);
-    let status = curve_crowd_over(rt, workers, &mut network, &mut terms, costing.is_drawn, out);
+    let status = curve_crowd_over(rt, workers, &mut network, &mut terms, costing.form(), out);
+    best.tell_end(rt, crew.best);
     // Dropped here once, not at each way out.
     drop(limit);
     status

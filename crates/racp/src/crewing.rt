@@ -3,20 +3,22 @@
 ghost use Rattle.std.specs.Prelude.{◌≡◌, IfOk};
 ghost use Rattle.racp.specs.Statuses.{IsStatusOfAnswer};
 
-use crate::listener::{Kept, Listener};
+use crate::earlier::note_earlier;
+use crate::listener::{Best, Kept, Listener};
 use racp_by_questions::Effort;
 use racp_cli::{DONE, STOPPED, StreamFault, crowd_over_by};
 use racp_desk::Open;
+use racp_host::answer::Answer;
 use racp_host::asks::Asks;
-use racp_host::best::keep;
+use racp_host::best::{Earlier, keep};
+use racp_host::failure::Failure;
 use racp_host::limit::Limit;
 use racp_host::machine::Crewed;
 use racp_host::making::{Making, memory_of, progress_of, worker_count};
 use racp_json::Work;
+use racp_streams::write_whole;
 use racp_words::CrewOptions;
-use std::alloc::Global;
-use std::cell::Cell;
-use std::io;
+use std::alloc::{AllocError, Global};
 use std::io::Write;
 
 /// What planning came to.
@@ -54,11 +56,13 @@ pub(crate) fn plan_kept<'a, R: Crewed>(
     order: &'a [u8],
     crew: CrewOptions<'a>,
     making: Making<'_>,
-) -> Result<Made, StreamFault>
+) -> Result<Made, Failure>
     ensures { IfOk result (λ made. IsStatusOfAnswer made.status) }
 {
     if crew.best.is_none() && !making.manner.is_json {
-        return plan_by(rt, net, order, crew, making, &mut io::writer(rt));
+        let mut out = Answer::to(rt);
+        let made = plan_by(rt, net, order, crew, making, &mut out);
+        return out.ended(made);
     }
     let mut text = Vec::new(rt.alloc());
     let made = plan_by(rt, net, order, crew, making, &mut text)?;
@@ -71,21 +75,16 @@ pub(crate) fn plan_kept<'a, R: Crewed>(
 }
 
 /// What planning came to with this text, which is written now unless it is to be JSON.
-fn with_text<R: Print>(
-    rt: &R,
-    made: Made,
-    text: Vec<u8>,
-    is_json: bool,
-) -> Result<Made, StreamFault>
+fn with_text<R: Print>(rt: &R, made: Made, text: Vec<u8>, is_json: bool) -> Result<Made, Failure>
     ensures { IfOk result (λ done. done.status ≡ made.status) }
 {
     if is_json {
         return Ok(Made { text, ..made });
     }
-    match io::writer(rt).write_all(&text) {
-        Ok(()) => Ok(made),
-        Err(_) => Err(StreamFault::Write),
-    }
+    let mut out = Answer::to(rt);
+    let written = write_whole(&mut out, &text);
+    out.ended(written)?;
+    Ok(made)
 }
 
 /// Writes the plan for the texts of a network and an order to `out`, or why there is none, made by the workers of a crew.
@@ -106,8 +105,12 @@ fn plan_by<'a, R: Crewed, W: Write>(
         Ok(progress) => progress,
         Err(_) => return Err(StreamFault::Memory),
     };
-    let best = Cell::new(Vec::new(rt.alloc()));
+    let Ok(best) = text_before(rt.alloc(), making.earlier) else {
+        return Err(StreamFault::Memory);
+    };
+    let best = Best::of(best);
     let limit = Limit::of(rt, making.limit, progress, Asks::of(rt));
+    note_earlier(limit.known(), making.earlier);
     let kept = Kept {
         net,
         order,
@@ -126,8 +129,11 @@ fn plan_by<'a, R: Crewed, W: Write>(
     };
     let (mut network, mut terms) = (net, order);
     let made = crowd_over_by(rt, rt.alloc(), workers, &mut network, &mut terms, out);
-    if is_stopped(&made) && !manner.is_quiet() {
-        limit.known().tell(rt);
+    if is_stopped(&made) {
+        best.tell_end(rt, crew.best);
+        if !manner.is_quiet() {
+            limit.known().tell(rt);
+        }
     }
     let work = limit.work();
     // Dropped here once, not at each way out.
@@ -139,9 +145,17 @@ fn plan_by<'a, R: Crewed, W: Write>(
     Ok(Made {
         status,
         text: Vec::new(rt.alloc()),
-        best: best.into_inner(),
+        best: best.into_text(),
         work: with_effort(work, effort),
     })
+}
+
+/// The text of a plan that was known before; it is empty if none was.
+fn text_before(alloc: Global, earlier: Option<Earlier<'_>>) -> Result<Vec<u8>, AllocError> {
+    match earlier {
+        Some(earlier) => Vec::from_slice(alloc, earlier.text),
+        None => Ok(Vec::new(alloc)),
+    }
 }
 
 /// Whether planning was stopped.

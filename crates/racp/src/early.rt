@@ -6,6 +6,7 @@ ghost use Rattle.racp.specs.Statuses.{IsStatusOfAnswer};
 use crate::undated::{Sources, undated};
 use racp_cli::{StreamFault, cpm_over};
 use racp_explain::{Input as Text, network_cause};
+use racp_host::answer::Answer;
 use racp_host::failure::Failure;
 use racp_host::inputs::{STANDARD_INPUT, read_file, text, whole};
 use racp_host::machine::Machine;
@@ -13,7 +14,6 @@ use racp_host::telling::{Manner, end};
 use racp_json::Command;
 use racp_words::Source;
 use std::alloc::Global;
-use std::io;
 use std::io::{Read, Write};
 use std::rt::Files;
 
@@ -71,14 +71,16 @@ fn cpm_written<R: Print + AllocGlobal>(
     net: &Text<'_>,
     is_json: bool,
     text: &mut Vec<u8>,
-) -> Result<u8, StreamFault>
+) -> Result<u8, Failure>
     ensures { IfOk result IsStatusOfAnswer }
 {
     let mut bytes = net.bytes;
     if is_json {
-        cpm_of(rt.alloc(), &mut bytes, text)
+        Ok(cpm_of(rt.alloc(), &mut bytes, text)?)
     } else {
-        cpm_of(rt.alloc(), &mut bytes, &mut io::writer(rt))
+        let mut out = Answer::to(rt);
+        let status = cpm_of(rt.alloc(), &mut bytes, &mut out);
+        out.ended(status)
     }
 }
 

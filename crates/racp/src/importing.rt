@@ -8,7 +8,8 @@ use crate::reading::{Titles, project_of, reading_of};
 use crate::replacing::{outputs_of, test_earlier};
 use crate::texts::{Texts, texts_of};
 use crate::warned::Told;
-use racp_cli::{DONE, StreamFault};
+use racp_cli::DONE;
+use racp_host::answer::print;
 use racp_host::dates::{calendar_of, named_calendar};
 use racp_host::failure::Failure;
 use racp_host::files::write_files;
@@ -17,8 +18,6 @@ use racp_host::telling::Manner;
 use racp_tables::counted;
 use racp_words::TableWords;
 use std::alloc::{AllocError, Global};
-use std::io;
-use std::io::Write;
 use std::rt::Files;
 
 /// Writes the files of the tables in files, and tells which they are.
@@ -73,10 +72,7 @@ fn write_texts<R: Files + Print + AllocGlobal>(
     let lines = lines_of(rt.alloc(), out, &texts)?;
     let outputs = outputs_of(rt.alloc(), out, texts)?;
     write_files(rt, &outputs)?;
-    match io::writer(rt).write_all(lines.as_bytes()) {
-        Ok(()) => Ok(()),
-        Err(_) => Err(Failure::Stream(StreamFault::Write)),
-    }
+    print(rt, &lines)
 }
 
 /// What is told of the files.

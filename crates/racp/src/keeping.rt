@@ -2,12 +2,14 @@
 
 use racp_batch::{Case, Host, Row};
 use racp_host::asks::Asks;
+use racp_host::bar::Bar;
 use racp_host::best::keep;
 use racp_plan::{Plan, write_plan};
 use racp_whatif::Outcome;
 use std::alloc::{AllocError, Global};
 use std::cell::Cell;
 use std::rt::Files;
+use std::time::Clock;
 
 /// What the name of a network's file ends with, and that of a plan's.
 const NETWORK: &str = ".sm";
@@ -25,23 +27,31 @@ pub(crate) enum Lack {
     Write,
 }
 
-/// Keeps the plans of rows in a folder, if that is wanted, hears whether the user wants a stop, and notes what a row or a plan
-/// lacked.
+/// Keeps the plans of rows in a folder, if that is wanted, hears whether the user wants a stop, shows how many rows are done, and
+/// notes what a row or a plan lacked.
 #[derive(Drop)]
-pub(crate) struct Keeping<'a, R: Files + Eprint + AllocGlobal + Drop> {
+pub(crate) struct Keeping<'a, R: Clock + Files + Eprint + AllocGlobal + Drop> {
     host: R,
     folder: Option<&'a str>,
     asks: Option<Asks>,
+    bar: Option<Bar>,
     lack: Cell<Option<Lack>>,
 }
 
-impl<'a, R: Files + Eprint + AllocGlobal + Drop> Keeping<'a, R> {
-    /// Keeps plans in the folder with this path, if there is one, and hears the user so, or does not.
-    pub(crate) fn of(host: R, folder: Option<&'a str>, asks: Option<Asks>) -> Self {
+impl<'a, R: Clock + Files + Eprint + AllocGlobal + Drop> Keeping<'a, R> {
+    /// Keeps plans in the folder with this path, if there is one, hears the user so, or does not, and shows there how many rows
+    /// are done, or nowhere.
+    pub(crate) fn of(
+        host: R,
+        folder: Option<&'a str>,
+        asks: Option<Asks>,
+        bar: Option<Bar>,
+    ) -> Self {
         Keeping {
             host,
             folder,
             asks,
+            bar,
             lack: Cell::new(None),
         }
     }
@@ -64,20 +74,43 @@ impl<'a, R: Files + Eprint + AllocGlobal + Drop> Keeping<'a, R> {
         match (path_of(alloc, folder, case), write_plan(alloc, plan)) {
             (Ok(path), Ok(text)) => {
                 if !keep(&self.host, &path, &text) {
+                    self.leave_bar();
                     self.note(Lack::Write);
                 }
             }
             _ => self.note(Lack::Memory),
         }
     }
+
+    /// Leaves the last line of the bar where it is.
+    fn leave_bar(&self) {
+        if let Some(bar) = &self.bar {
+            bar.leave();
+        }
+    }
+
+    /// Shows how many rows are done, if that is due.
+    fn look(&self) {
+        if let Some(bar) = &self.bar {
+            bar.look(&self.host);
+        }
+    }
+
+    /// Counts a row for the bar.
+    fn step(&self) {
+        if let Some(bar) = &self.bar {
+            bar.step();
+        }
+    }
 }
 
-impl<'a, R: Files + Eprint + AllocGlobal + Drop> Host for Keeping<'a, R> {
+impl<'a, R: Clock + Files + Eprint + AllocGlobal + Drop> Host for Keeping<'a, R> {
     ghost use Rattle.std.specs.Prelude.{is_none};
 
     ghost is_quiet = { λ keeping. is_none keeping.asks };
 
     fn hear(&self, case: &Case<'_>, row: &Row) {
+        self.step();
         match row {
             Row::Answered(answered) => {
                 if let (Some(folder), Outcome::Plan(plan)) = (self.folder, &answered.outcome) {
@@ -92,6 +125,7 @@ impl<'a, R: Files + Eprint + AllocGlobal + Drop> Host for Keeping<'a, R> {
     }
 
     fn is_asked(&self) -> bool {
+        self.look();
         match &self.asks {
             Some(asks) => asks.are_made(&self.host),
             None => false,

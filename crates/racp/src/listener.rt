@@ -2,7 +2,7 @@
 
 use racp_cli::known_text;
 use racp_found::{News, Observer};
-use racp_host::best::keep;
+use racp_host::best::{keep_told, tell_unkept};
 use racp_host::known::Known;
 use racp_host::memory::mebibytes_used;
 use racp_host::progress::Progress;
@@ -22,6 +22,39 @@ pub(crate) struct Kept<'a> {
     pub(crate) in_memory: bool,
 }
 
+/// The best plan that is known.
+#[derive(Drop)]
+pub(crate) struct Best {
+    /// Its text; empty if none is known, or if it is not kept in memory.
+    text: Cell<Vec<u8>>,
+    /// Whether the last plan could not be kept in its file.
+    has_failed: Cell<bool>,
+}
+
+impl Best {
+    /// One with this text.
+    pub(crate) fn of(text: Vec<u8>) -> Self {
+        Best {
+            text: Cell::new(text),
+            has_failed: Cell::new(false),
+        }
+    }
+
+    /// Its text.
+    pub(crate) fn into_text(self) -> Vec<u8> {
+        self.text.into_inner()
+    }
+
+    /// Tells at the end that the file of this path, if there is one, has not the best plan, if it could not be written.
+    pub(crate) fn tell_end<R: Eprint + AllocGlobal>(&self, rt: &R, path: Option<&str>) {
+        if let Some(path) = path {
+            if self.has_failed.get() {
+                tell_unkept(rt, path);
+            }
+        }
+    }
+}
+
 /// Hears how far planning has come, and notes it; the best plan that is known for the longest deadline, that of the order,
 /// it keeps in a file, if that is wanted.
 #[derive(Drop)]
@@ -30,7 +63,7 @@ pub(crate) struct Listener<'a, 'b, 'k, R: Files + Eprint + AllocGlobal + Drop> {
     known: &'a Known,
     progress: Option<&'a Progress>,
     kept: Kept<'k>,
-    best: &'b Cell<Vec<u8>>,
+    best: &'b Best,
 }
 
 impl<'a, 'b, 'k, R: Files + Eprint + AllocGlobal + Drop> Listener<'a, 'b, 'k, R> {
@@ -40,7 +73,7 @@ impl<'a, 'b, 'k, R: Files + Eprint + AllocGlobal + Drop> Listener<'a, 'b, 'k, R>
         known: &'a Known,
         progress: Option<&'a Progress>,
         kept: Kept<'k>,
-        best: &'b Cell<Vec<u8>>,
+        best: &'b Best,
     ) -> Self {
         Listener {
             host,
@@ -51,13 +84,15 @@ impl<'a, 'b, 'k, R: Files + Eprint + AllocGlobal + Drop> Listener<'a, 'b, 'k, R>
         }
     }
 
-    /// Keeps the text of a plan.
+    /// Keeps the text of a plan. Why its file cannot be written is told once, and again if it could be written meanwhile.
     fn keep_text(&self, text: Vec<u8>) {
         if let Some(path) = self.kept.path {
-            keep(&self.host, path, &text);
+            let is_told = !self.best.has_failed.get();
+            let is_kept = keep_told(&self.host, path, &text, is_told);
+            self.best.has_failed.set(!is_kept);
         }
         if self.kept.in_memory {
-            drop(self.best.replace(text));
+            drop(self.best.text.replace(text));
         }
     }
 

@@ -9,6 +9,7 @@
 //!   `racp verify NET ORDER PROOF` what each plan costs at least, as a text shows.
 //! - `racp show NET ORDER PLAN` draws a plan.
 //! - `racp report NET ORDER PLAN` writes a page about a plan.
+//! - `racp export NET ORDER PLAN --to FORMAT --calendar FILE` writes a plan for other programs.
 //! - `racp curve NET ORDER` says what each deadline costs.
 //! - `racp whatif NET ORDER` says what becomes of an order if one term is changed.
 //! - `racp order NET` writes an order.
@@ -53,11 +54,14 @@ mod costing;
 mod crewing;
 mod dated;
 mod deadline;
+mod earlier;
 mod early;
+mod exporting;
 mod gathering;
 mod importing;
 mod keeping;
 mod listener;
+mod needed;
 mod ordering;
 mod parts;
 mod planning;
@@ -81,6 +85,7 @@ use std::process::ExitCode;
 fn main(rt: HostRuntime) -> ExitCode {
     let terminals = run::Terminals {
         input: rt.stdin().is_terminal(),
+        output: rt.stdout().is_terminal(),
         errors: rt.stderr().is_terminal(),
     };
     ExitCode::from(run::status(&rt, terminals))

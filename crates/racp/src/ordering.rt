@@ -8,6 +8,7 @@ use crate::undated::{Sources, undated};
 use racp_calendar::Calendar;
 use racp_cli::{Asked, DONE, REFUSED, StreamFault, Time, order_over};
 use racp_explain::{Input as Text, Listed, Numbers, asked_cause};
+use racp_host::answer::Answer;
 use racp_host::dates::{calendar_of, named_calendar};
 use racp_host::failure::Failure;
 use racp_host::inputs::Inputs;
@@ -17,7 +18,6 @@ use racp_host::telling::{Manner, end, tell};
 use racp_json::Command;
 use racp_words::{NamedNet, Terms};
 use std::alloc::Global;
-use std::io;
 use std::io::{Read, Write};
 
 /// Writes the order that the words for its terms ask for, for the network in a file.
@@ -90,14 +90,16 @@ fn order_written<R: Print + AllocGlobal>(
     asked: Asked,
     is_json: bool,
     text: &mut Vec<u8>,
-) -> Result<u8, StreamFault>
+) -> Result<u8, Failure>
     ensures { IfOk result IsStatusOfTool }
 {
     let mut network = net.bytes;
     if is_json {
-        order_of(rt.alloc(), &mut network, asked, text)
+        Ok(order_of(rt.alloc(), &mut network, asked, text)?)
     } else {
-        order_of(rt.alloc(), &mut network, asked, &mut io::writer(rt))
+        let mut out = Answer::to(rt);
+        let status = order_of(rt.alloc(), &mut network, asked, &mut out);
+        out.ended(status)
     }
 }
 

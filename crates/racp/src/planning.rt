@@ -4,9 +4,12 @@ ghost use Rattle.std.specs.Prelude.{IfOk};
 ghost use Rattle.racp.specs.Statuses.{IsStatusOfAnswer};
 
 use crate::crewing::{Made, plan_kept};
-use racp_cli::{STOPPED, StreamFault, run_over_within};
-use racp_explain::{Input as Text, order_cause};
-use racp_host::best::test_best;
+use crate::earlier::earlier_plan;
+use crate::needed::cause_of;
+use racp_cli::{STOPPED, run_over_within};
+use racp_explain::Input as Text;
+use racp_host::answer::Answer;
+use racp_host::best::begin_best;
 use racp_host::failure::Failure;
 use racp_host::inputs::{Inputs, STANDARD_INPUT};
 use racp_host::machine::Crewed;
@@ -15,7 +18,6 @@ use racp_host::shown::Shown;
 use racp_host::telling::end;
 use racp_json::{Command, FileNames, Told};
 use racp_words::{CrewOptions, Memory, OrderFiles};
-use std::io;
 use std::io::Read;
 
 /// The plan of these files.
@@ -28,10 +30,10 @@ pub(crate) fn plan<R: Crewed>(
 {
     let paths = [Some(files.net), Some(files.order)];
     let inputs = Inputs::read(rt, &paths)?;
-    if let Some(crew) = making.crew {
-        test_best(rt, crew.best)?;
-    }
-    plan_told(rt, &inputs.text(0), &inputs.text(1), making)
+    let (net, order) = (inputs.text(0), inputs.text(1));
+    let before = begin_best(rt, making.best(), &[files.net, files.order])?;
+    let earlier = earlier_plan(rt.alloc(), net.bytes, order.bytes, &before);
+    plan_told(rt, &net, &order, Making { earlier, ..making })
 }
 
 /// The plan of these texts: made by workers if there is a crew, and else on one thread.
@@ -51,7 +53,7 @@ fn plan_told<'a, R: Crewed>(
         tell_command(rt, net.name, order.name, word);
     }
     let cause = if manner.looks(status) {
-        order_cause(rt.alloc(), net, order)
+        cause_of(rt, net, order)
     } else {
         Ok(String::new(rt.alloc()))
     };
@@ -112,7 +114,7 @@ fn plan_of<'a, R: Crewed>(
     net: &'a [u8],
     order: &'a [u8],
     making: Making<'a>,
-) -> Result<Made, StreamFault>
+) -> Result<Made, Failure>
     ensures { IfOk result (λ made. IsStatusOfAnswer made.status) }
 {
     match crew_of(rt, making.crew, making.manner.is_json) {
@@ -131,14 +133,10 @@ fn plan_alone<R: Print + AllocGlobal, N: Read, O: Read>(
     net: &mut N,
     order: &mut O,
     memory: Memory,
-) -> Result<u8, StreamFault>
+) -> Result<u8, Failure>
     ensures { IfOk result IsStatusOfAnswer }
 {
-    run_over_within(
-        rt.alloc(),
-        net,
-        order,
-        &mut io::writer(rt),
-        memory.mebibytes,
-    )
+    let mut out = Answer::to(rt);
+    let status = run_over_within(rt.alloc(), net, order, &mut out, memory.mebibytes);
+    out.ended(status)
 }

@@ -3,9 +3,10 @@
 ghost use Rattle.std.specs.Prelude.{IfOk};
 ghost use Rattle.racp.specs.Statuses.{IsStatusOfAnswer};
 
-use racp_cli::{CHECK_FAILED, STOPPED, StreamFault, prove_by_clauses_over, prove_over_until};
+use racp_cli::{CHECK_FAILED, STOPPED, prove_by_clauses_over, prove_over_until};
 use racp_explain::{Input as Text, order_cause};
 use racp_host::alone_limit::AloneLimit;
+use racp_host::answer::Answer;
 use racp_host::asks::Asks;
 use racp_host::failure::{Failure, OptionFault};
 use racp_host::inputs::Inputs;
@@ -14,7 +15,6 @@ use racp_host::seconds::time_limit;
 use racp_host::telling::{Manner, tell};
 use racp_model::Stop;
 use racp_words::OrderFiles;
-use std::io;
 use std::io::Read;
 use std::time::Duration;
 
@@ -84,7 +84,7 @@ fn prove_of<R: Machine, N: Read, O: Read>(
     asked: &Proving<'_>,
     net: &mut N,
     order: &mut O,
-) -> Result<u8, StreamFault>
+) -> Result<u8, Failure>
     ensures { IfOk result IsStatusOfAnswer }
 {
     let until = AloneLimit::of(rt, asked.limit, Asks::of(rt));
@@ -107,10 +107,12 @@ fn prove_by_clauses<R: Print + AllocGlobal, N: Read, O: Read, S: Stop>(
     net: &mut N,
     order: &mut O,
     stop: &S,
-) -> Result<u8, StreamFault>
+) -> Result<u8, Failure>
     ensures { IfOk result IsStatusOfAnswer }
 {
-    prove_by_clauses_over(rt.alloc(), net, order, &mut io::writer(rt), stop)
+    let mut out = Answer::to(rt);
+    let status = prove_by_clauses_over(rt.alloc(), net, order, &mut out, stop);
+    out.ended(status)
 }
 
 /// Writes one by trees, until a stop that may ask at any time asks for an end.
@@ -119,14 +121,16 @@ fn prove_by_trees<R: Print + AllocGlobal, N: Read, O: Read, S: Stop>(
     net: &mut N,
     order: &mut O,
     stop: &S,
-) -> Result<u8, StreamFault>
+) -> Result<u8, Failure>
     ensures { IfOk result IsStatusOfAnswer }
 {
-    prove_over_until(rt.alloc(), net, order, &mut io::writer(rt), stop)
+    let mut out = Answer::to(rt);
+    let status = prove_over_until(rt.alloc(), net, order, &mut out, stop);
+    out.ended(status)
 }
 
 /// What was made by a run that was stopped, if it was no certificate of the plan.
-fn made(status: &Result<u8, StreamFault>) -> Option<&'static str> {
+fn made(status: &Result<u8, Failure>) -> Option<&'static str> {
     match status {
         Ok(CHECK_FAILED) => Some("no certificate was made"),
         Ok(STOPPED) => Some("the certificate is one of a bound"),
@@ -135,12 +139,7 @@ fn made(status: &Result<u8, StreamFault>) -> Option<&'static str> {
 }
 
 /// Tells on standard error what was made since the user asked for a stop, or the time of this word was over.
-fn tell_stop<R: Eprint>(
-    rt: &R,
-    status: &Result<u8, StreamFault>,
-    word: Option<&str>,
-    is_asked: bool,
-) {
+fn tell_stop<R: Eprint>(rt: &R, status: &Result<u8, Failure>, word: Option<&str>, is_asked: bool) {
     let Some(made) = made(status) else {
         return;
     };

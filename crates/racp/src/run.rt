@@ -14,13 +14,13 @@ use crate::tools::tool;
 use crate::verifying::{Verifying, verify};
 use racp_cli::StreamFault;
 use racp_host::dates::{calendar_for_json, calendar_of};
-use racp_host::failure::{Failure, report};
+use racp_host::failure::{Failure, refused_words, report};
 use racp_host::inputs::told;
 use racp_host::machine::Crewed;
 use racp_host::making::Making;
 use racp_host::seconds::time_limit;
 use racp_host::telling::Manner;
-use racp_words::{Request, Source, Task, Tool, asked};
+use racp_words::{Request, Source, Task, Tool, asked, command_list};
 use std::alloc::Global;
 use std::env;
 use std::io::ErrorKind;
@@ -31,13 +31,15 @@ const HINT: &str = "racp: reading a network from the terminal; racp --help lists
 
 /// What is told of words that ask `plan` for what an order says.
 const OF_AN_ORDER: &str =
-    "racp: plan takes the deadline and the prices from an order; racp order NET --deadline 47 --prices 3,5 writes one";
+    "plan takes the deadline and the prices from an order; racp order NET --deadline 47 --prices 3,5 writes one";
 
 /// Which standard streams are terminals.
 #[derive(Clone, Copy)]
 pub(crate) struct Terminals {
     /// Whether standard input is one.
     pub(crate) input: bool,
+    /// Whether standard output is one.
+    pub(crate) output: bool,
     /// Whether standard error is one.
     pub(crate) errors: bool,
 }
@@ -57,11 +59,33 @@ fn answer<R: Crewed + Input>(rt: &R, terminals: Terminals) -> Result<u8, Failure
     ensures { IfOk result IsStatusOfAnswer }
 {
     let words = words(rt)?;
-    if are_of_an_order(&words) {
-        let _ = rt.eprintln(OF_AN_ORDER);
+    let task = task_of(rt.alloc(), &words)?;
+    if terminals.input && words.len() < 2 {
+        list_commands(rt);
     }
-    let task = asked(rt.alloc(), words.as_slice())?;
     answer_to(rt, task, terminals)
+}
+
+/// What words ask for.
+fn task_of<'a>(alloc: Global, words: &'a [String]) -> Result<Task<'a>, Failure> {
+    match asked(alloc, words) {
+        Ok(task) => Ok(task),
+        Err(error) => {
+            let hint = if are_of_an_order(words) {
+                Some(OF_AN_ORDER)
+            } else {
+                None
+            };
+            Err(refused_words(alloc, error, hint))
+        }
+    }
+}
+
+/// Tells on standard error which commands there are; nothing if memory is refused for that.
+fn list_commands<R: Eprint + AllocGlobal>(rt: &R) {
+    if let Ok(list) = command_list(rt.alloc()) {
+        let _ = rt.eprint(format_args!("Commands:\n{list}"));
+    }
 }
 
 /// Whether words ask `plan` for what an order says.
@@ -88,10 +112,10 @@ fn answer_to<R: Crewed + Input>(rt: &R, task: Task<'_>, terminals: Terminals) ->
         is_json,
         calendar,
     } = task;
-    let on_terminal = terminals.errors;
     let manner = Manner {
         telling,
-        on_terminal,
+        on_terminal: terminals.errors,
+        shows_answer: terminals.output,
         is_json,
     };
     if terminals.input && matches!(&request, Request::Cpm(Source::StandardInput)) {
@@ -113,7 +137,7 @@ fn failure_told(alloc: Global, failure: Failure, manner: Manner) -> Failure {
             alloc,
             StreamFault::Write,
             "standard output",
-            &"it takes no more: it is closed or full, or nobody reads the pipe",
+            &"it takes no more: it is closed or full",
         ),
         failure => failure,
     }

@@ -7,11 +7,13 @@ use crate::batching::batch;
 use crate::changing::whatif;
 use crate::charting::show;
 use crate::costing::{Costing, curve};
+use crate::exporting::export;
 use crate::importing::import;
 use crate::ordering::order;
 use crate::reporting::report;
-use racp_cli::{DONE, StreamFault};
+use racp_cli::DONE;
 use racp_explain::{explanation, subject_list};
+use racp_host::answer::print;
 use racp_host::dates::{calendar_for_json, calendar_of, named_calendar};
 use racp_host::failure::{Failure, OptionFault};
 use racp_host::machine::Crewed;
@@ -33,11 +35,19 @@ pub(crate) fn tool<R: Crewed>(
     match tool {
         Tool::Show(files, look) => show(rt, files, look, manner),
         Tool::Report(files, options) => report(rt, files, options, manner),
+        Tool::Export(files, options) => export(rt, files, options, manner),
+        Tool::Curve(_, _, _, true) if manner.is_json => {
+            Err(Failure::Option(OptionFault::CurveForms))
+        },
         Tool::Curve(files, memory, crew, is_drawn) => {
-            let workdays = calendar_for_json(rt, calendar, manner.is_json)?;
+            let workdays = if is_drawn {
+                named_calendar(rt, calendar)?
+            } else {
+                calendar_for_json(rt, calendar, manner.is_json)?
+            };
             let costing = Costing {
                 making: Making::of(memory, crew, manner, calendar_of(&workdays))?,
-                is_drawn: is_drawn && !manner.is_json,
+                is_drawn,
             };
             curve(rt, files, costing)
         }
@@ -47,7 +57,10 @@ pub(crate) fn tool<R: Crewed>(
             whatif(rt, files, options, Making::of(memory, crew, manner, days)?)
         }
         Tool::Order(files, terms) => order(rt, files, &terms, manner),
-        Tool::Batch(words, memory) => batch(rt, &words, memory, manner),
+        Tool::Batch(words, memory) => {
+            let workdays = named_calendar(rt, calendar)?;
+            batch(rt, &words, memory, manner, calendar_of(&workdays))
+        }
         Tool::Import(words) => import(rt, &words, manner),
         Tool::Explain(format, fault) => explain(rt, format, fault),
     }
@@ -68,10 +81,8 @@ fn explain<R: Print + AllocGlobal>(
     let Some(text) = text else {
         return Err(Failure::Option(OptionFault::Topic));
     };
-    match rt.print(&text) {
-        Ok(()) => Ok(DONE),
-        Err(_) => Err(Failure::Stream(StreamFault::Write)),
-    }
+    print(rt, &text)?;
+    Ok(DONE)
 }
 
 /// What is said of the faults that these words name, if any. A word with blanks in it is taken for words, as for a line

@@ -7,6 +7,7 @@ use crate::undated::{Sources, undated};
 use racp_cli::{Certificate, StreamFault, verify_over_until};
 use racp_explain::{Input as Text, proof_cause};
 use racp_host::alone_limit::AloneLimit;
+use racp_host::answer::Answer;
 use racp_host::asks::Asks;
 use racp_host::failure::Failure;
 use racp_host::inputs::Inputs;
@@ -15,7 +16,6 @@ use racp_host::telling::{Manner, end};
 use racp_json::Command;
 use racp_words::ProofFiles;
 use std::alloc::{AllocError, Global};
-use std::io;
 use std::io::Write;
 use std::time::Duration;
 
@@ -96,13 +96,15 @@ fn verify_written<R: Machine>(
     texts: &Texts<'_>,
     asked: &Verifying<'_>,
     text: &mut Vec<u8>,
-) -> Result<u8, StreamFault>
+) -> Result<u8, Failure>
     ensures { IfOk result IsStatusOfAnswer }
 {
     if asked.manner.is_json {
-        verify_of(rt, texts, asked.limit, text)
+        Ok(verify_of(rt, texts, asked.limit, text)?)
     } else {
-        verify_of(rt, texts, asked.limit, &mut io::writer(rt))
+        let mut out = Answer::to(rt);
+        let status = verify_of(rt, texts, asked.limit, &mut out);
+        out.ended(status)
     }
 }
 

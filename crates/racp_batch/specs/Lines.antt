@@ -1,7 +1,9 @@
 -- The rows of the table, as comma-separated values.
-use Rattle.std.specs.Prelude.{ℕ, ◌-◌, ◌*◌, ◌/◌, ◌%◌, ◌++◌, ◌∷◌, [], List, Option, Some, None, codes, if◌then◌else◌, max, nat_lt, option_map, string_bytes}
+use Rattle.std.specs.Prelude.{ℕ, ◌-◌, ◌*◌, ◌/◌, ◌%◌, ◌++◌, ◌∷◌, [], List, Bool, Option, Some, None, codes, if◌then◌else◌, max, nat_lt, option_map, string_bytes, unwrap_or}
 use Rattle.std.specs.Fmt.{decimal}
 use Rattle.csv.specs.Writing.{default_writer, row_text}
+use Rattle.racp_calendar.specs.Dates.{has_dates, last_word}
+use Rattle.racp_calendar.specs.declared.calendar.Calendar.{Calendar}
 use Rattle.racp_whatif.specs.declared.outcome.Outcome.{Outcome}
 use Rattle.racp_whatif.specs.declared.outcome.Outcome.TheVariants.{Plan as ThePlan, TooLong, TooLate, NoneEnough, Open}
 use Rattle.racp_batch.specs.Cases.{Matter}
@@ -117,29 +119,47 @@ fault_of input Refused = words_of input
 fault_of input Memory = []
 fault_of input NoThread = []
 
+-- the last day of a deadline, if that is known and the day has a date: by its evening the project ends
+abbrev pub last_day : Calendar → Option ℕ → Option (List ℕ)
+last_day calendar None = None
+last_day calendar (Some deadline) = last_word calendar deadline
+
+-- the field of that day, if times are told by dates: nothing if there is none
+abbrev pub day_fields : Calendar → Option ℕ → List (List ℕ)
+day_fields calendar deadline = if has_dates calendar then unwrap_or (last_day calendar deadline) [] ∷ [] else []
+
 -- the numbers that tell of a plan
 abbrev pub number_fields : Cells → List (List ℕ)
 number_fields cells = known cells.cost ∷ (known cells.bound ∷ (known cells.best ∷ (known cells.gap ∷ (known cells.nodes ∷
     (known cells.conflicts ∷ [])))))
 
 -- the fields of a row with these cells
-abbrev pub fields_with : Matter → Cells → List ℕ → List (List ℕ)
-fields_with matter cells fault = matter.name ∷ (known cells.jobs ∷ (known cells.resources ∷ (matter.word ∷
-    (known cells.deadline ∷ (status_word cells.status ∷ (number_fields cells ++ (seconds_by cells.milliseconds ∷
-    (fault ∷ []))))))))
+abbrev pub fields_with : Calendar → Matter → Cells → List ℕ → List (List ℕ)
+fields_with calendar matter cells fault = matter.name ∷ (known cells.jobs ∷ (known cells.resources ∷ (matter.word ∷
+    (known cells.deadline ∷ (day_fields calendar cells.deadline ++ (status_word cells.status ∷ (number_fields cells ++
+    (seconds_by cells.milliseconds ∷ (fault ∷ [])))))))))
 
-abbrev pub fields_by : Matter → Row → List (List ℕ)
-fields_by matter row = fields_with matter (cells_of row) (fault_of matter.input row)
+abbrev pub fields_by : Calendar → Matter → Row → List (List ℕ)
+fields_by calendar matter row = fields_with calendar matter (cells_of row) (fault_of matter.input row)
 
-abbrev pub titles : List (List ℕ)
-titles = codes "file" ∷ (codes "jobs" ∷ (codes "resources" ∷ (codes "factor" ∷ (codes "deadline" ∷ (codes "status" ∷
-    (codes "cost" ∷ (codes "bound" ∷ (codes "best" ∷ (codes "gap" ∷ (codes "nodes" ∷ (codes "conflicts" ∷
-    (codes "seconds" ∷ (codes "fault" ∷ [])))))))))))))
+-- the titles up to the deadline, that of the day if times are told by dates, and those behind
+abbrev pub begin_titles : List (List ℕ)
+begin_titles = codes "file" ∷ (codes "jobs" ∷ (codes "resources" ∷ (codes "factor" ∷ (codes "deadline" ∷ []))))
+
+abbrev pub day_titles : Bool → List (List ℕ)
+day_titles dates = if dates then codes "last day" ∷ [] else []
+
+abbrev pub rest_titles : List (List ℕ)
+rest_titles = codes "status" ∷ (codes "cost" ∷ (codes "bound" ∷ (codes "best" ∷ (codes "gap" ∷ (codes "nodes" ∷
+    (codes "conflicts" ∷ (codes "seconds" ∷ (codes "fault" ∷ []))))))))
+
+abbrev pub titles : Bool → List (List ℕ)
+titles dates = begin_titles ++ (day_titles dates ++ rest_titles)
 
 -- the first row
-abbrev pub head_line : List ℕ
-head_line = row_text default_writer titles
+abbrev pub head_line : Calendar → List ℕ
+head_line calendar = row_text default_writer (titles (has_dates calendar))
 
 -- the row of a case
-abbrev pub row_line : Matter → Row → List ℕ
-row_line matter row = row_text default_writer (fields_by matter row)
+abbrev pub row_line : Calendar → Matter → Row → List ℕ
+row_line calendar matter row = row_text default_writer (fields_by calendar matter row)

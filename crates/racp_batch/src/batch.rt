@@ -1,6 +1,7 @@
 //! What a table is made of, and how it ends.
 
 use crate::case::Case;
+use racp_calendar::Calendar;
 use std::alloc::{AllocError, Global};
 use thiserror::Error;
 
@@ -11,6 +12,8 @@ pub struct Batch<'a> {
     pub alloc: Global,
     /// The cases, in the order of the table.
     pub cases: &'a [Case<'a>],
+    /// How the deadlines are told: by their numbers alone, or by dates too.
+    pub calendar: Calendar<'a>,
     /// How many are planned at a time, each on a thread.
     pub jobs: usize,
 }

@@ -4,7 +4,9 @@
 //! critical length of the network, rounded down, as its deadline, and one price for all resources; nothing is owned, there are no
 //! ceilings, and no job has a release or due time. What planning it came to is a `Row`, which is written as one row of
 //! comma-separated values. With examples/a.sm, whose critical length is 3, the factor 1.5 and the price 1 the order has the
-//! deadline 4, and its plan 3 units of the one resource. The row is `a.sm,5,1,1.5,4,optimal,3,3,3,0,..`.
+//! deadline 4, and its plan 3 units of the one resource. The row is `a.sm,5,1,1.5,4,optimal,3,3,3,0,..`. If a calendar tells times by
+//! dates, the last day of the deadline stands behind it: with the first day 2026-03-05, a Thursday, and working days from Monday to
+//! Friday the row is `a.sm,5,1,1.5,4,2026-03-10,optimal,3,3,3,0,..`.
 //!
 //! `table_over(rt, &batch, &planning, &host, out)` has each case planned, and writes a first row with titles and the row of each
 //! case to `out`, in the order of the cases. Workers on threads of their own take the next case that no other has
@@ -41,6 +43,7 @@ mod row;
 mod row_stop;
 mod running;
 mod telling;
+mod titles;
 
 pub use batch::{Batch, BatchFault, Ending};
 pub use case::{Case, File, Input, Multiple, cases};

@@ -1,14 +1,16 @@
 //! Rows of the table as comma-separated values.
 
-ghost use Rattle.std.specs.Prelude.{◌≡◌, ◌++◌, ◌∷◌, [], IfOk, OnOk, string_bytes};
+ghost use Rattle.std.specs.Prelude.{◌≡◌, ◌++◌, ◌∷◌, [], IfOk, OnOk, option_map, string_bytes, unwrap_or};
 ghost use Rattle.csv.specs.Records.{fields_of};
 ghost use Rattle.csv.specs.Writing.{default_writer, row_text};
-ghost use Rattle.racp_batch.specs.Lines.{fault_of, fields_by, head_line, known, number_fields, row_line, seconds_by, thousandths_zeros, time_text, titles, words_of};
+ghost use Rattle.racp_batch.specs.Lines.{day_fields, fault_of, fields_by, head_line, known, last_day, number_fields, row_line, seconds_by, thousandths_zeros, time_text, words_of};
 
 use crate::case::{Case, Input};
 use crate::cells::{Cells, cells_of};
 use crate::row::Row;
+use crate::titles::title_record;
 use csv::{StringRecord, WriterBuilder};
+use racp_calendar::{Calendar, last_word};
 use std::alloc::{AllocError, Global};
 
 /// The first row, with the titles of the columns.
@@ -16,10 +18,10 @@ use std::alloc::{AllocError, Global};
 /// # Errors
 ///
 /// Memory was refused.
-pub(crate) fn head_line(alloc: Global) -> Result<Vec<u8>, AllocError>
-    ensures { IfOk result (λ text. text.items ≡ head_line) }
+pub(crate) fn head_line(alloc: Global, calendar: Calendar<'_>) -> Result<Vec<u8>, AllocError>
+    ensures { IfOk result (λ text. text.items ≡ head_line calendar.entry) }
 {
-    let titles = title_record(alloc)?;
+    let titles = title_record(alloc, calendar.has_dates())?;
     line_of(alloc, &titles)
 }
 
@@ -28,38 +30,26 @@ pub(crate) fn head_line(alloc: Global) -> Result<Vec<u8>, AllocError>
 /// # Errors
 ///
 /// Memory was refused.
-pub(crate) fn row_line(alloc: Global, case: &Case<'_>, row: &Row) -> Result<Vec<u8>, AllocError>
-    ensures { IfOk result (λ text. text.items ≡ row_line case.now row.now) }
+pub(crate) fn row_line(
+    alloc: Global,
+    calendar: Calendar<'_>,
+    case: &Case<'_>,
+    row: &Row,
+) -> Result<Vec<u8>, AllocError>
+    ensures { IfOk result (λ text. text.items ≡ row_line calendar.entry case.now row.now) }
 {
-    let fields = record_of(alloc, case, row)?;
+    let fields = record_of(alloc, calendar, case, row)?;
     line_of(alloc, &fields)
 }
 
-/// The titles of the columns.
-fn title_record(alloc: Global) -> Result<StringRecord, AllocError>
-    ensures { IfOk result (λ fields. fields_of fields ≡ titles) }
-{
-    let mut fields = StringRecord::new(alloc);
-    fields.push_field("file")?;
-    fields.push_field("jobs")?;
-    fields.push_field("resources")?;
-    fields.push_field("factor")?;
-    fields.push_field("deadline")?;
-    fields.push_field("status")?;
-    fields.push_field("cost")?;
-    fields.push_field("bound")?;
-    fields.push_field("best")?;
-    fields.push_field("gap")?;
-    fields.push_field("nodes")?;
-    fields.push_field("conflicts")?;
-    fields.push_field("seconds")?;
-    fields.push_field("fault")?;
-    Ok(fields)
-}
-
 /// The fields of a case's row.
-fn record_of(alloc: Global, case: &Case<'_>, row: &Row) -> Result<StringRecord, AllocError>
-    ensures { IfOk result (λ fields. fields_of fields ≡ fields_by case.now row.now) }
+fn record_of(
+    alloc: Global,
+    calendar: Calendar<'_>,
+    case: &Case<'_>,
+    row: &Row,
+) -> Result<StringRecord, AllocError>
+    ensures { IfOk result (λ fields. fields_of fields ≡ fields_by calendar.entry case.now row.now) }
 {
     let cells = cells_of(row);
     let mut fields = StringRecord::new(alloc);
@@ -68,11 +58,52 @@ fn record_of(alloc: Global, case: &Case<'_>, row: &Row) -> Result<StringRecord, 
     push_known(alloc, &mut fields, cells.resources)?;
     fields.push_field(case.multiple.word)?;
     push_known(alloc, &mut fields, cells.deadline)?;
+    push_day(alloc, &mut fields, calendar, cells.deadline)?;
     fields.push_field(cells.status.word())?;
     push_numbers(alloc, &mut fields, &cells)?;
     push_time(alloc, &mut fields, cells.milliseconds)?;
     fields.push_field(fault_of(&case.file.input, row))?;
     Ok(fields)
+}
+
+/// Adds the last day of a deadline, if times are told by dates; an empty field if it is not known, or has no date.
+fn push_day(
+    alloc: Global,
+    fields: &mut StringRecord,
+    calendar: Calendar<'_>,
+    deadline: Option<u128>,
+) -> Result<(), AllocError>
+    ensures { OnOk result (fields_of fields.new ≡ fields_of fields.old ++ day_fields calendar.entry deadline) }
+{
+    if !calendar.has_dates() {
+        return Ok(());
+    }
+    let day = last_day(alloc, calendar, deadline)?;
+    fields.push_field(word_or_empty(&day))
+}
+
+/// The last day of a deadline, by the evening of which the project ends, if it is known and has a date.
+fn last_day(
+    alloc: Global,
+    calendar: Calendar<'_>,
+    deadline: Option<u128>,
+) -> Result<Option<String>, AllocError>
+    ensures { IfOk result (λ day. option_map string_bytes day ≡ last_day calendar.entry deadline) }
+{
+    match deadline {
+        Some(deadline) => last_word(alloc, calendar, deadline),
+        None => Ok(None),
+    }
+}
+
+/// A word; empty if there is none.
+fn word_or_empty(word: &Option<String>) -> &str
+    ensures { result.now ≡ unwrap_or (option_map string_bytes word.now) [] }
+{
+    match word {
+        Some(word) => word.as_str(),
+        None => "",
+    }
 }
 
 /// Adds the numbers that tell of a plan.

@@ -32,7 +32,7 @@ pub fn table_over<H: Host, W: Write + Drop, R: Clock + Threads + Wait + Sync>(
     host: &H,
     out: W,
 ) -> (W, Result<Ending, BatchFault>)
-    ensures { IsTableRun (is_none planner.now.limit) (H.is_quiet host.now) batch.now.cases.now (W.contents out) (W.contents result.0) result.1 }
+    ensures { IsTableRun batch.now.calendar (is_none planner.now.limit) (H.is_quiet host.now) batch.now.cases.now (W.contents out) (W.contents result.0) result.1 }
 {
     table_of::<Brand, H, W, R>(rt, batch, planner, host, out)
 }
@@ -48,10 +48,10 @@ fn table_of<T: OfCases + Send + Sync, H: Host, W: Write + Drop, R: Clock + Threa
     requires cases { batch.now.cases.now ≡ T.cases }
     requires limited { is_none planner.now.limit ≡ T.unlimited }
     requires quiet { H.is_quiet host.now ≡ T.quiet }
-    ensures { IsTableRun T.unlimited T.quiet T.cases (W.contents out) (W.contents result.0) result.1 }
+    ensures { IsTableRun batch.now.calendar T.unlimited T.quiet T.cases (W.contents out) (W.contents result.0) result.1 }
 {
     let mut out = out;
-    match write_head(batch.alloc, &mut out) {
+    match write_head(batch, &mut out) {
         Ok(()) => with_rows::<T, H, W, R>(rt, batch, planner, host, out),
         Err(fault) => (out, Err(fault)),
     }
@@ -68,8 +68,8 @@ fn with_rows<T: OfCases + Send + Sync, H: Host, W: Write + Drop, R: Clock + Thre
     requires cases { batch.now.cases.now ≡ T.cases }
     requires limited { is_none planner.now.limit ≡ T.unlimited }
     requires quiet { H.is_quiet host.now ≡ T.quiet }
-    ensures { (old : Option (List ℕ)) → Appends old (W.contents out) head_line →
-        IsTableRun T.unlimited T.quiet T.cases old (W.contents result.0) result.1 }
+    ensures { (old : Option (List ℕ)) → Appends old (W.contents out) (head_line batch.now.calendar) →
+        IsTableRun batch.now.calendar T.unlimited T.quiet T.cases old (W.contents result.0) result.1 }
 {
     match Shared::<T>::new(batch, planner) {
         Ok(shared) => {
@@ -111,14 +111,14 @@ fn in_scope<
 >(rt: &'a R, shared: &'a Shared<'a, T>, host: &'a H, out: W) -> (W, Result<usize, BatchFault>)
     requires cases { shared.now.batch.now.cases.now ≡ T.cases }
     requires quiet { H.is_quiet host.now ≡ T.quiet }
-    ensures { IfOk result.1 (IsTold (MayBeOpen T.unlimited T.quiet) T.cases (W.contents out) (W.contents result.0)) }
+    ensures { IfOk result.1 (IsTold shared.now.batch.now.calendar (MayBeOpen T.unlimited T.quiet) T.cases (W.contents out) (W.contents result.0)) }
 {
     thread::scope(
         thread::scope_env(),
         rt,
         move |scope| -> (W, Result<usize, BatchFault>)
             requires { (shared.now.batch.now.cases.now ≡ T.cases) × (H.is_quiet host.now ≡ T.quiet) }
-            ensures { IfOk result.1 (IsTold (MayBeOpen T.unlimited T.quiet) T.cases (W.contents out) (W.contents result.0)) }
+            ensures { IfOk result.1 (IsTold shared.entry.now.batch.now.calendar (MayBeOpen T.unlimited T.quiet) T.cases (W.contents out) (W.contents result.0)) }
         {
             let handles = start(scope, rt, shared);
             beside(rt, shared, host, handles, out)
@@ -160,7 +160,7 @@ fn beside<T: OfCases, H: Host, W: Write, R: Clock + Threads + Wait + Sync>(
 ) -> (W, Result<usize, BatchFault>)
     requires cases { shared.now.batch.now.cases.now ≡ T.cases }
     requires quiet { H.is_quiet host.now ≡ T.quiet }
-    ensures { IfOk result.1 (IsTold (MayBeOpen T.unlimited T.quiet) T.cases (W.contents out) (W.contents result.0)) }
+    ensures { IfOk result.1 (IsTold shared.now.batch.now.calendar (MayBeOpen T.unlimited T.quiet) T.cases (W.contents out) (W.contents result.0)) }
 {
     let mut out = out;
     if handles.is_empty() {

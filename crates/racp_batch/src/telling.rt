@@ -6,14 +6,13 @@ ghost use Rattle.racp_batch.specs.Lines.{head_line, row_line};
 ghost use Rattle.racp_batch.specs.Rows.{MayBeOpen};
 ghost use Rattle.racp_batch.specs.Tables.{IsTold};
 
-use crate::batch::BatchFault;
+use crate::batch::{Batch, BatchFault};
 use crate::board::Shared;
 use crate::case::Case;
 use crate::host::Host;
 use crate::line::{head_line, row_line};
 use crate::named::{OfCases, UserAsked};
 use crate::row::Row;
-use std::alloc::Global;
 use std::io::Write;
 use std::marker::PhantomData;
 use std::sync::Wait;
@@ -26,23 +25,23 @@ const SHORTEST: u64 = 1;
 const LONGEST: u64 = 50;
 
 /// Writes the first row.
-pub(crate) fn write_head<W: Write>(alloc: Global, out: &mut W) -> Result<(), BatchFault>
-    ensures { OnOk result (Appends (W.contents out.old) (W.contents out.new) head_line) }
+pub(crate) fn write_head<W: Write>(batch: &Batch<'_>, out: &mut W) -> Result<(), BatchFault>
+    ensures { OnOk result (Appends (W.contents out.old) (W.contents out.new) (head_line batch.now.calendar)) }
 {
-    let line = head_line(alloc)?;
+    let line = head_line(batch.alloc, batch.calendar)?;
     write_line(out, &line)
 }
 
 /// Writes the row of a case.
 fn write_row<W: Write>(
-    alloc: Global,
+    batch: &Batch<'_>,
     case: &Case<'_>,
     row: &Row,
     out: &mut W,
 ) -> Result<(), BatchFault>
-    ensures { OnOk result (Appends (W.contents out.old) (W.contents out.new) (row_line case.now row.now)) }
+    ensures { OnOk result (Appends (W.contents out.old) (W.contents out.new) (row_line batch.now.calendar case.now row.now)) }
 {
-    let line = row_line(alloc, case, row)?;
+    let line = row_line(batch.alloc, batch.calendar, case, row)?;
     write_line(out, &line)
 }
 
@@ -64,8 +63,8 @@ fn write_done<T: OfCases, H: Host, W: Write>(
     out: &mut W,
 ) -> Result<usize, BatchFault>
     requires { shared.now.batch.now.cases.now ≡ T.cases }
-    ensures { (base : Option (List ℕ)) → IsTold (MayBeOpen T.unlimited T.quiet) T.cases base (W.contents out.old) from →
-        IfOk result (IsTold (MayBeOpen T.unlimited T.quiet) T.cases base (W.contents out.new)) }
+    ensures { (base : Option (List ℕ)) → IsTold shared.now.batch.now.calendar (MayBeOpen T.unlimited T.quiet) T.cases base (W.contents out.old) from →
+        IfOk result (IsTold shared.now.batch.now.calendar (MayBeOpen T.unlimited T.quiet) T.cases base (W.contents out.new)) }
 {
     let mut told = from;
     for place in from..shared.batch.cases.len() {
@@ -75,7 +74,7 @@ fn write_done<T: OfCases, H: Host, W: Write>(
         let Some(case) = shared.batch.cases.get(place) else {
             return Ok(told);
         };
-        write_row(shared.batch.alloc, case, done.row(), out)?;
+        write_row(shared.batch, case, done.row(), out)?;
         host.hear(case, done.row());
         told = place + 1;
     }
@@ -92,7 +91,7 @@ pub(crate) fn write_rows<T: OfCases, H: Host, W: Write, R: Clock + Wait>(
 ) -> Result<usize, BatchFault>
     requires cases { shared.now.batch.now.cases.now ≡ T.cases }
     requires quiet { H.is_quiet host.now ≡ T.quiet }
-    ensures { IfOk result (IsTold (MayBeOpen T.unlimited T.quiet) T.cases (W.contents out.old) (W.contents out.new)) }
+    ensures { IfOk result (IsTold shared.now.batch.now.calendar (MayBeOpen T.unlimited T.quiet) T.cases (W.contents out.old) (W.contents out.new)) }
 {
     let mut told = 0;
     let mut pause = SHORTEST;

@@ -8,6 +8,10 @@ pub in_two : (old a b : List ℕ) {t1 t2 : List ℕ} → t1 ≡ old ++ a → t2 
 in_two old a b p1 p2 =
     p2 ∙ ap (λ (t : List ℕ). t ++ b) p1 ∙ two old a b
 
+pub in_two_as : (old a b other : List ℕ) {t1 t2 : List ℕ} → other ≡ b → t1 ≡ old ++ a → t2 ≡ t1 ++ other → t2 ≡ old ++ (a ++ b)
+in_two_as old a b other same p1 p2 =
+    in_two old a other p1 p2 ∙ ap (λ (t : List ℕ). old ++ (a ++ t)) same
+
 three : (old a b c : List ℕ) → ((old ++ a) ++ b) ++ c ≡ old ++ (a ++ (b ++ c))
 three old a b c = simp append_assoc
 

@@ -3,8 +3,10 @@ use Rattle.std.specs.Prelude.{true, ℕ, ◌+◌, ◌-◌, ◌*◌, ◌/◌, ◌
 use Rattle.std.specs.Fmt.{decimal}
 use Rattle.racp_calendar.specs.Dates.{last_text}
 use Rattle.racp_calendar.specs.declared.calendar.Calendar.{Calendar}
+use Rattle.racp_calendar.specs.declared.calendar.Calendar.TheVariants.{Numbers, Dates}
 use Rattle.racp_charts.specs.Texts.{◌⋅◌, mark_of, texts_before}
-use Rattle.racp_charts.specs.Drawings.{across, axis, place_text, step_text}
+use Rattle.racp_charts.specs.Axes.{across}
+use Rattle.racp_charts.specs.Drawings.{axis, place_text, step_text}
 use Rattle.racp_charts.specs.declared.axis.Span.{Span}
 use Rattle.racp_charts.specs.declared.costs.Corner.{Corner}
 
@@ -32,13 +34,17 @@ cost_mark most place =
     let cost = mark_of most * place in
     if nat_le cost most then cost_element cost (cost_down most cost) else []
 
--- what the axes are called
-abbrev pub axis_names : List ℕ
-axis_names = codes "<text class=\"end\" x=\"264\" y=\"20\">cost</text><text class=\"end\" x=\"994\" y=\"283\">deadline</text>\n"
+-- what the axis of deadlines is called: dates are their last days
+abbrev pub deadline_name : Calendar → List ℕ
+deadline_name Numbers = codes "deadline"
+deadline_name (Dates calendar) = codes "last day"
 
--- the axis of costs
-unfoldable pub cost_axis : ℕ → List ℕ
-cost_axis most = texts_before (cost_mark most) 13 ⋅ axis_names
+-- the axis of costs, and what both axes are called
+unfoldable pub cost_axis : Calendar → ℕ → List ℕ
+cost_axis calendar most =
+    texts_before (cost_mark most) 13
+    ⋅ codes "<text class=\"end\" x=\"264\" y=\"20\">cost</text><text class=\"end\" x=\"994\" y=\"283\">"
+    ⋅ deadline_name calendar ⋅ codes "</text>\n"
 
 -- the steps of the stair
 abbrev pub cost_steps : Span → ℕ → List Corner → List ℕ
@@ -50,16 +56,20 @@ unfoldable pub cost_stair : Span → ℕ → List Corner → List ℕ
 cost_stair span most corners =
     codes "<path class=\"used\" d=\"" ⋅ place_text 270 250 ⋅ cost_steps span most corners ⋅ codes "H994V250Z\"/>\n"
 
--- a corner of it, whose tooltip has its deadline and its cost
+-- a corner of it, whose tooltip has its deadline and its cost: by dates it is kept by the evening of a day
 unfoldable pub corner_begin : ℕ → ℕ → List ℕ
 corner_begin x y = codes "<circle class=\"critical\" cx=\"" ⋅ decimal x ⋅ codes "\" cy=\"" ⋅ decimal y
-    ⋅ codes "\" r=\"4\"><title>from "
+    ⋅ codes "\" r=\"4\"><title>"
+
+abbrev pub corner_words : Calendar → List ℕ
+corner_words Numbers = codes "from "
+corner_words (Dates calendar) = codes "by the evening of "
 
 unfoldable pub corner_end : ℕ → List ℕ
 corner_end cost = codes ": " ⋅ decimal cost ⋅ codes "</title></circle>\n"
 
 unfoldable pub corner_element : Calendar → ℕ → ℕ → Corner → List ℕ
-corner_element calendar x y corner = corner_begin x y ⋅ last_text calendar corner.deadline ⋅ corner_end corner.cost
+corner_element calendar x y corner = corner_begin x y ⋅ corner_words calendar ⋅ last_text calendar corner.deadline ⋅ corner_end corner.cost
 
 -- its corners
 abbrev pub cost_corners : Span → ℕ → List Corner → List ℕ
@@ -93,7 +103,7 @@ cost_labels span most x y (corner ∷ corners) =
 -- what is drawn of costs in a span, up to the greatest
 unfoldable pub costs_in : Span → ℕ → List Corner → List ℕ
 costs_in span most corners =
-    cost_axis most ⋅ axis span 30 250 ⋅ cost_stair span most corners ⋅ cost_corners span most corners
+    cost_axis span.calendar most ⋅ axis span 30 250 ⋅ cost_stair span most corners ⋅ cost_corners span most corners
     ⋅ cost_labels span most 0 0 corners
 
 -- from the first deadline up to a last one

@@ -1,12 +1,13 @@
 -- The drawings of a plan. Places are from the left and from above; a drawing is 1,000 wide.
-use Rattle.std.specs.Prelude.{ℕ, ◌+◌, ◌-◌, ◌*◌, ◌/◌, ◌%◌, ◌==◌, ◌&&◌, max, min, nat_le, List, [], ◌∷◌, codes, flat_map, option_map, if◌then◌else◌}
+use Rattle.std.specs.Prelude.{ℕ, ◌+◌, ◌-◌, ◌*◌, ◌/◌, ◌%◌, ◌==◌, ◌&&◌, max, min, List, [], ◌∷◌, codes, flat_map, option_map, if◌then◌else◌}
 use Rattle.std.specs.Fmt.{decimal}
-use Rattle.std.specs.Int.{div_ceil}
 use Rattle.racp_show.specs.declared.usage.Step.{Step}
 use Rattle.racp_calendar.specs.Dates.{first_text, has_dates, last_text}
 use Rattle.racp_calendar.specs.declared.calendar.Calendar.{Calendar}
 use Rattle.racp_calendar.specs.declared.calendar.Calendar.TheVariants.{Numbers, Dates}
-use Rattle.racp_charts.specs.Texts.{◌⋅◌, escaped, mark_of, texts_before}
+use Rattle.racp_charts.specs.Axes.{across, number_axis, numbers_above}
+use Rattle.racp_charts.specs.Bands.{date_axis, dates_above, has_bands}
+use Rattle.racp_charts.specs.Texts.{◌⋅◌, escaped}
 use Rattle.racp_charts.specs.declared.axis.Span.{Span}
 use Rattle.racp_charts.specs.declared.choice.Choice.{Choice}
 use Rattle.racp_show.specs.declared.predecessor.Predecessor.{Predecessor}
@@ -15,63 +16,23 @@ use Rattle.racp_show.specs.declared.row.Row.TheVariants.{Heading, Bar}
 use Rattle.racp_show.specs.declared.task.Task.{Task}
 use Rattle.racp_charts.specs.Elements.{name_text, predecessor_list, shape_class, short_text, text_within}
 
--- where a time is drawn: the first at 270 and the last at 970, and times before and after them there too
-abbrev pub across : Span → ℕ → ℕ
-across span time = if (span.last - span.first) == 0 then 270
-    else 270 + min (time - span.first) (span.last - span.first) * 700 / (span.last - span.first)
+-- the axis of times below a chart from `top` to `bottom`: of dates, if there are some up to the last time and it is not the only one
+abbrev pub axis_by : Calendar → Span → ℕ → ℕ → List ℕ
+axis_by Numbers span top bottom = number_axis span top bottom
+axis_by (Dates calendar) span top bottom =
+    if has_bands calendar.now span then date_axis calendar.now span top bottom else number_axis span top bottom
 
--- how much later each number of an axis is than the one before; dates, which are wider, have twice the room
-abbrev pub mark_in : Calendar → ℕ → ℕ
-mark_in Numbers times = mark_of times
-mark_in (Dates calendar) times = mark_of (times * 2)
-
-abbrev pub axis_mark : Span → ℕ
-axis_mark span = mark_in span.calendar (span.last - span.first)
-
--- the time of the number at a place of an axis
-abbrev pub axis_time : Span → ℕ → ℕ
-axis_time span place = (div_ceil span.first (axis_mark span) + place) * axis_mark span
-
--- a line from `top` to `bottom`
-unfoldable pub mark_line : ℕ → ℕ → ℕ → List ℕ
-mark_line x top bottom = codes "<path class=\"line\" d=\"M" ⋅ decimal x ⋅ codes " " ⋅ decimal top ⋅ codes "V"
-    ⋅ decimal bottom ⋅ codes "\"/>"
-
--- the beginning of a number at a place
-unfoldable pub mark_begin : ℕ → ℕ → List ℕ
-mark_begin x y = codes "<text class=\"mark\" x=\"" ⋅ decimal x ⋅ codes "\" y=\"" ⋅ decimal y ⋅ codes "\">"
-
--- a time as an axis tells it: by the first day of what starts then, or by the last day of what ends
-abbrev pub told_time : Span → ℕ → List ℕ
-told_time span time = if span.of_ends then last_text span.calendar time else first_text span.calendar time 1
-
--- a time at its place
-unfoldable pub mark_number : Span → ℕ → ℕ → List ℕ
-mark_number span time y = mark_begin (across span time) y ⋅ told_time span time ⋅ codes "</text>\n"
-
--- the line of a time from `top` to `bottom`, and the time below
-unfoldable pub mark_element : Span → ℕ → ℕ → ℕ → List ℕ
-mark_element span time top bottom = mark_line (across span time) top bottom ⋅ mark_number span time (bottom + 15)
-
--- a number of the axis below, and its line, if it is no later than the last time
-abbrev pub time_below : Span → ℕ → ℕ → ℕ → List ℕ
-time_below span top bottom place =
-    let time = axis_time span place in
-    if nat_le time span.last then mark_element span time top bottom else []
-
--- the axis of times below a chart from `top` to `bottom`
 abbrev pub axis : Span → ℕ → ℕ → List ℕ
-axis span top bottom = texts_before (time_below span top bottom) 13
+axis span top bottom = axis_by span.calendar span top bottom
 
--- a number of the axis above
-abbrev pub time_above : Span → ℕ → ℕ → List ℕ
-time_above span y place =
-    let time = axis_time span place in
-    if nat_le time span.last then mark_number span time y else []
+-- what stands at this height above a chart
+abbrev pub above_by : Calendar → Span → ℕ → List ℕ
+above_by Numbers span y = numbers_above span y
+above_by (Dates calendar) span y =
+    if has_bands calendar.now span then dates_above calendar.now span y else numbers_above span y
 
--- the numbers of the axis above a chart
-abbrev pub numbers_above : Span → ℕ → List ℕ
-numbers_above span y = texts_before (time_above span y) 13
+abbrev pub axis_above : Span → ℕ → List ℕ
+axis_above span y = above_by span.calendar span y
 
 -- the line of the deadline
 unfoldable pub deadline_line : ℕ → ℕ → List ℕ
@@ -192,7 +153,7 @@ row_element span (Bar depth task) top = task_element span depth task top
 -- what stands around the rows of tasks that go down to `bottom`: both axes, and the line of the deadline
 unfoldable pub frame_element : Span → ℕ → List ℕ
 frame_element span bottom =
-    numbers_above span 34 ⋅ axis span 40 bottom ⋅ deadline_label span ⋅ deadline_line 40 bottom
+    axis_above span 34 ⋅ axis span 40 bottom ⋅ deadline_label span ⋅ deadline_line 40 bottom
 
 -- how high a usage is drawn: all units are 60 high
 abbrev pub height_of : ℕ → ℕ → ℕ

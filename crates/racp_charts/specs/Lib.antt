@@ -1,4 +1,6 @@
 pub mod Texts
+pub mod Axes
+pub mod Bands
 pub mod Elements
 pub mod Choices
 pub mod Drawings

@@ -2,7 +2,7 @@
 use Rattle.std.specs.Prelude.{ℕ, ◌+◌, ◌-◌, ◌*◌, ◌==◌, Bool, List, [], ◌∷◌, ◌++◌, Option, Some, None, codes, flat_map, if◌then◌else◌}
 use Rattle.std.specs.Fmt.{decimal}
 use Rattle.racp_charts.specs.Texts.{◌⋅◌}
-use Rattle.racp_charts.specs.Drawings.{across}
+use Rattle.racp_charts.specs.Axes.{across}
 use Rattle.racp_charts.specs.declared.axis.Span.{Span}
 use Rattle.racp_show.specs.declared.predecessor.Predecessor.{Predecessor}
 use Rattle.racp_show.specs.declared.row.Row.{Row}

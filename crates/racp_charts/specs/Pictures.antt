@@ -105,16 +105,22 @@ abbrev pub IsPlanPicture : Bool → Drawing → List ℕ → Type 0
 IsPlanPicture has_links drawing text =
     (style : List ℕ) × (text ≡ plan_begin drawing ⋅ style ⋅ plan_body has_links drawing)
 
--- the beginning of the picture of what deadlines cost
-unfoldable pub costs_begin : List ℕ
-costs_begin = picture_begin 190 810 334 ⋅ codes "<title>What each deadline costs</title>\n"
+-- what the picture of what deadlines cost is called: dates are their last days
+abbrev pub costs_title : Calendar → List ℕ
+costs_title Numbers = codes "What each deadline costs"
+costs_title (Dates calendar) = codes "What each deadline costs, by its last day"
+
+-- the beginning of that picture
+unfoldable pub costs_begin : Calendar → List ℕ
+costs_begin calendar = picture_begin 190 810 334 ⋅ codes "<title>" ⋅ costs_title calendar ⋅ codes "</title>\n"
 
 -- all of it that stands behind its style
-unfoldable pub costs_body : List Corner → ℕ → List ℕ
-costs_body corners last =
-    page_element 334 ⋅ codes "<text class=\"title\" x=\"204\" y=\"26\">What each deadline costs</text>\n"
-    ⋅ group_begin 40 ⋅ costs_element Numbers corners last ⋅ codes "</g>\n</svg>\n"
+unfoldable pub costs_body : Calendar → List Corner → ℕ → List ℕ
+costs_body calendar corners last =
+    page_element 334 ⋅ codes "<text class=\"title\" x=\"204\" y=\"26\">" ⋅ costs_title calendar ⋅ codes "</text>\n"
+    ⋅ group_begin 40 ⋅ costs_element calendar corners last ⋅ codes "</g>\n</svg>\n"
 
--- a picture of what deadlines cost
-abbrev pub IsCostPicture : List Corner → ℕ → List ℕ → Type 0
-IsCostPicture corners last text = (style : List ℕ) × (text ≡ costs_begin ⋅ style ⋅ costs_body corners last)
+-- a picture of what deadlines cost, as a calendar tells them
+abbrev pub IsCostPicture : Calendar → List Corner → ℕ → List ℕ → Type 0
+IsCostPicture calendar corners last text =
+    (style : List ℕ) × (text ≡ costs_begin calendar ⋅ style ⋅ costs_body calendar corners last)

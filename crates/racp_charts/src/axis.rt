@@ -2,8 +2,10 @@
 //! above, and have 128 bits, so that no sum and no product is too great for them.
 
 ghost use Rattle.std.specs.Prelude.{◌≡◌, ◌<◌, ◌≤◌, ◌^◌, ◌++◌, OnOk, string_bytes};
-ghost use Rattle.racp_charts.specs.Drawings.{across, axis, axis_mark, axis_time, deadline_label, deadline_line, mark_begin, mark_element, mark_line, mark_number, numbers_above, place_text, scale_element, step_text, time_above, time_below, told_time};
+ghost use Rattle.racp_charts.specs.Axes.{across, axis_mark, axis_time, mark_begin, mark_element, mark_line, mark_number, number_axis, numbers_above, time_above, time_below, told_time};
+ghost use Rattle.racp_charts.specs.Drawings.{axis, axis_above, deadline_label, deadline_line, place_text, scale_element, step_text};
 
+use crate::dates::{has_bands, push_date_axis, push_dates_above};
 use crate::mark::{MOST_MARKS, mark_of};
 use racp_calendar::{Calendar, push_first, push_last};
 use std::alloc::AllocError;
@@ -59,7 +61,8 @@ impl Span<'_> {
     }
 }
 
-/// Adds the axis of times below a chart that goes from `top` to `bottom`: numbers, and a line up at each.
+/// Adds the axis of times below a chart that goes from `top` to `bottom`: numbers, or weeks, months and years, and a line up at
+/// each.
 pub(crate) fn push_axis(
     text: &mut String,
     span: Span<'_>,
@@ -68,6 +71,28 @@ pub(crate) fn push_axis(
 ) -> Result<(), AllocError>
     requires { bottom < 2 ^ 72 }
     ensures { OnOk result (string_bytes text.new ≡ string_bytes text.old ++ axis span.entry top bottom) }
+{
+    match span.calendar {
+        Calendar::Numbers => push_number_axis(text, span, top, bottom),
+        Calendar::Dates(workdays) => {
+            if has_bands(workdays, span) {
+                push_date_axis(text, workdays, span, top, bottom)
+            } else {
+                push_number_axis(text, span, top, bottom)
+            }
+        }
+    }
+}
+
+/// Adds an axis of times one by one.
+fn push_number_axis(
+    text: &mut String,
+    span: Span<'_>,
+    top: u128,
+    bottom: u128,
+) -> Result<(), AllocError>
+    requires { bottom < 2 ^ 72 }
+    ensures { OnOk result (string_bytes text.new ≡ string_bytes text.old ++ number_axis span.entry top bottom) }
 {
     for place in 0..MOST_MARKS + 1 {
         push_below(text, span, top, bottom, place)?;
@@ -111,8 +136,24 @@ fn push_mark(
     Ok(())
 }
 
-/// Adds the numbers of the axis of times at this height above a chart.
+/// Adds the axis of times at this height above a chart.
 pub(crate) fn push_above(text: &mut String, span: Span<'_>, y: u128) -> Result<(), AllocError>
+    ensures { OnOk result (string_bytes text.new ≡ string_bytes text.old ++ axis_above span.entry y) }
+{
+    match span.calendar {
+        Calendar::Numbers => push_numbers_above(text, span, y),
+        Calendar::Dates(workdays) => {
+            if has_bands(workdays, span) {
+                push_dates_above(text, workdays, span, y)
+            } else {
+                push_numbers_above(text, span, y)
+            }
+        }
+    }
+}
+
+/// Adds the times of an axis one by one at this height above a chart.
+fn push_numbers_above(text: &mut String, span: Span<'_>, y: u128) -> Result<(), AllocError>
     ensures { OnOk result (string_bytes text.new ≡ string_bytes text.old ++ numbers_above span.entry y) }
 {
     for place in 0..MOST_MARKS + 1 {
@@ -135,8 +176,13 @@ fn push_time_above(text: &mut String, span: Span<'_>, y: u128, place: u64) -> Re
 }
 
 /// Adds the line at `x` from `top` to `bottom`.
-#[tactic(auto, unfolding(crate::specs::Drawings::mark_line))]
-fn push_line(text: &mut String, x: u128, top: u128, bottom: u128) -> Result<(), AllocError>
+#[tactic(auto, unfolding(crate::specs::Axes::mark_line))]
+pub(crate) fn push_line(
+    text: &mut String,
+    x: u128,
+    top: u128,
+    bottom: u128,
+) -> Result<(), AllocError>
     ensures { OnOk result (string_bytes text.new ≡ string_bytes text.old ++ mark_line x top bottom) }
 {
     write!(text, "<path class=\"line\" d=\"M{x} {top}V{bottom}\"/>")
@@ -164,8 +210,8 @@ fn push_told(text: &mut String, span: Span<'_>, time: u128) -> Result<(), AllocE
 }
 
 /// Adds the beginning of a number at a place.
-#[tactic(auto, unfolding(crate::specs::Drawings::mark_begin))]
-fn push_begin(text: &mut String, x: u128, y: u128) -> Result<(), AllocError>
+#[tactic(auto, unfolding(crate::specs::Axes::mark_begin))]
+pub(crate) fn push_begin(text: &mut String, x: u128, y: u128) -> Result<(), AllocError>
     ensures { OnOk result (string_bytes text.new ≡ string_bytes text.old ++ mark_begin x y) }
 {
     write!(text, "<text class=\"mark\" x=\"{x}\" y=\"{y}\">")

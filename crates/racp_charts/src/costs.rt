@@ -2,7 +2,7 @@
 
 ghost use Rattle.std.specs.Prelude.{◌≡◌, ◌<◌, ◌^◌, ◌++◌, ◌≤◌, OnOk, string_bytes};
 ghost use Rattle.racp_charts.specs.Texts.{texts_before};
-ghost use Rattle.racp_charts.specs.CostDrawings.{cost_axis, cost_corners, cost_down, cost_element, cost_mark, cost_stair, cost_steps, costs_element, costs_in, corner_begin, corner_element, corner_end, first_deadline, most_cost};
+ghost use Rattle.racp_charts.specs.CostDrawings.{cost_axis, cost_corners, cost_down, cost_element, cost_mark, cost_stair, cost_steps, costs_element, costs_in, corner_begin, corner_element, corner_end, corner_words, deadline_name, first_deadline, most_cost};
 
 use crate::axis::{Span, push_axis, push_place, push_step};
 use crate::labels::push_labels;
@@ -54,7 +54,7 @@ fn push_in(
     requires { 1 ≤ most }
     ensures { OnOk result (string_bytes text.new ≡ string_bytes text.old ++ costs_in span.entry most corners.now) }
 {
-    push_cost_axis(text, most)?;
+    push_cost_axis(text, span.calendar, most)?;
     push_axis(text, span, 30, 250)?;
     push_stair(text, corners, span, most)?;
     push_corners(text, corners, span, most)?;
@@ -93,17 +93,29 @@ pub(crate) fn down(cost: u64, most: u64) -> u128
     250u128.saturating_sub(cost as u128 * 200 / most as u128)
 }
 
-/// Adds the axis of costs.
-fn push_cost_axis(text: &mut String, most: u64) -> Result<(), AllocError>
+/// Adds the axis of costs, and what both axes are called.
+fn push_cost_axis(text: &mut String, calendar: Calendar<'_>, most: u64) -> Result<(), AllocError>
     requires { 1 ≤ most }
-    ensures { OnOk result (string_bytes text.new ≡ string_bytes text.old ++ cost_axis most) }
+    ensures { OnOk result (string_bytes text.new ≡ string_bytes text.old ++ cost_axis calendar.entry most) }
 {
     push_cost_marks(text, most)?;
     text.push_str(
         "<text class=\"end\" x=\"264\" y=\"20\">cost</text>\
-         <text class=\"end\" x=\"994\" y=\"283\">deadline</text>\n",
+         <text class=\"end\" x=\"994\" y=\"283\">",
     )?;
+    text.push_str(deadline_name(calendar))?;
+    text.push_str("</text>\n")?;
     Ok(())
+}
+
+/// What the axis of deadlines is called: dates are their last days.
+fn deadline_name(calendar: Calendar<'_>) -> &'static str
+    ensures { result.now ≡ deadline_name calendar.entry }
+{
+    match calendar {
+        Calendar::Numbers => "deadline",
+        Calendar::Dates(_) => "last day",
+    }
 }
 
 /// Adds the numbers of the axis of costs.
@@ -206,9 +218,20 @@ fn push_corner(
     ensures { OnOk result (string_bytes text.new ≡ string_bytes text.old ++ corner_element calendar.entry x y corner.now) }
 {
     push_corner_begin(text, x, y)?;
+    text.push_str(corner_words(calendar))?;
     push_last(text, calendar, corner.deadline as u128)?;
     push_corner_end(text, corner.cost)?;
     Ok(())
+}
+
+/// What stands before the deadline of a corner: a day is one by whose evening it is kept.
+fn corner_words(calendar: Calendar<'_>) -> &'static str
+    ensures { result.now ≡ corner_words calendar.entry }
+{
+    match calendar {
+        Calendar::Numbers => "from ",
+        Calendar::Dates(_) => "by the evening of ",
+    }
 }
 
 /// Adds the beginning of a corner at a place.
@@ -218,7 +241,7 @@ fn push_corner_begin(text: &mut String, x: u128, y: u128) -> Result<(), AllocErr
 {
     write!(
         text,
-        "<circle class=\"critical\" cx=\"{x}\" cy=\"{y}\" r=\"4\"><title>from "
+        "<circle class=\"critical\" cx=\"{x}\" cy=\"{y}\" r=\"4\"><title>"
     )
 }
 

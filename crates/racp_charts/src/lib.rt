@@ -21,6 +21,11 @@
 //! its share of these 700, rounded down. Numbers of an axis are round: multiples of 1, 2 or 5 times a power of ten, of
 //! which there are 13 at most. Neither texts nor work grow with the deadline.
 //!
+//! An axis of dates has months, quarters or years in their place, up to 26 of them, and weeks too if it has no more than 150 days. Each
+//! begins at the first time that starts in it or later, and has its name in the middle where there is room. Free days take no room:
+//! on an axis with weeks a thick line stands at each time before which days are free. From 2026-03-02 on, with work from Monday to
+//! Friday, `W10` goes from the time 0 to 5, and the line of the weekend stands at 5.
+//!
 //! Proved: each number and each name of a drawing is that of the network, the order, the plan or the names; the late
 //! starts, the critical chain and what tasks wait for are those of the network; and each function that writes gives
 //! exactly what its definition says: each bar, diamond, line and stair, and each name with no character that means
@@ -29,9 +34,11 @@
 #![tactic(auto)]
 
 mod axis;
+mod bands;
 mod choice;
 mod cost_picture;
 mod costs;
+mod dates;
 mod drawing;
 mod escape;
 mod frame;

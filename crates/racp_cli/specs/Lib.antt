@@ -14,4 +14,5 @@ pub mod OrderAnswers
 pub mod CurveAnswers
 pub mod ReportAnswers
 pub mod ShowAnswers
+pub mod ExportAnswers
 pub mod WhatIfAnswers

@@ -1,6 +1,6 @@
 -- Contracts of private functions: faults of texts as those of `check` or as answers, and answers that were made or for which
 -- memory was refused.
-use Rattle.std.specs.Prelude.{◌≡◌, ◌≢◌, ◌⊎◌, ℕ, Bool, List, Result, Ok, Err, Vec}
+use Rattle.std.specs.Prelude.{◌≡◌, ◌≢◌, ◌⊎◌, ℕ, List, Result, Ok, Err, Vec}
 use Rattle.std.specs.declared.alloc.AllocError.{AllocError}
 use Rattle.std.specs.declared.alloc.Global.{Global}
 use Rattle.racp_sm.specs.Faults.{SmFault}
@@ -19,6 +19,7 @@ use Rattle.racp_cli.specs.Plans.{IsNetworkLine, IsOrderLine}
 use Rattle.racp_cli.specs.Texts.{refusal_line, order_refusal_line, memory_line, stopped_line, no_thread_line}
 use Rattle.racp_cli.specs.declared.check_fault.CheckFault.{CheckFault}
 use Rattle.racp_cli.specs.declared.check_fault.CheckFault.TheVariants.{Network, Order, PlanText, OutOfMemory}
+use Rattle.racp_cli.specs.declared.curve.CurveForm.{CurveForm}
 
 -- the fault of a text, or that memory ran out while it was read
 abbrev pub IsOfNetwork : SmFault → CheckFault → Type 0
@@ -53,10 +54,10 @@ abbrev pub IsRefusedText : List ℕ → List ℕ → ℕ → List ℕ → Type 0
 IsRefusedText net order status text = IsNetworkLine net status text ⊎ IsOrderLine net order status text
 
 -- the status and the text if following a curve ended early with these steps, but not if memory ran out
-abbrev pub IsEndedText : Bool → List Step → PlanStop → ℕ → List ℕ → Type 0
-IsEndedText is_drawn steps (Stopped not_before) status text = (4 ≡ status) × (stopped_text is_drawn steps not_before ≡ text)
-IsEndedText is_drawn steps MemoryIs status text = ⊥
-IsEndedText is_drawn steps NoThread status text = (7 ≡ status) × (no_thread_line ≡ text)
+abbrev pub IsEndedText : CurveForm → List Step → PlanStop → ℕ → List ℕ → Type 0
+IsEndedText form steps (Stopped not_before) status text = (4 ≡ status) × (stopped_text form steps not_before ≡ text)
+IsEndedText form steps MemoryIs status text = ⊥
+IsEndedText form steps NoThread status text = (7 ≡ status) × (no_thread_line ≡ text)
 
 -- the status and the line if the plan of an order was not made, but not if memory ran out
 abbrev pub IsStopTold : PlanStop → ℕ → List ℕ → Type 0

@@ -10,6 +10,7 @@ ghost use Rattle.racp_charts.specs.Pictures.{IsCostPicture};
 use crate::respond::respond;
 use crate::status::{DONE, IMPOSSIBLE};
 use crate::texts::read_texts;
+use racp_calendar::Calendar;
 use racp_charts::{Corner, costs_svg};
 use racp_curve::{CurveAnswer, Step, curve_alone, curve_text};
 use racp_lexfix::answer_lines;
@@ -18,6 +19,15 @@ use racp_prices::Order;
 use racp_streams::{StreamFault, read_whole};
 use std::alloc::{AllocError, Global};
 use std::io::{Read, Write};
+
+/// What a curve is written as.
+#[derive(Clone, Copy)]
+pub enum CurveForm<'a> {
+    /// A line for each step.
+    Lines,
+    /// A picture in SVG, whose deadlines are told by a calendar.
+    Picture(Calendar<'a>),
+}
 
 /// Reads a network text and an order text, all of each before the next, and writes to `out` what each deadline up to
 /// the order's costs, or a line that says why there is no plan. The plans are made on the calling thread, with records
@@ -35,17 +45,17 @@ pub fn curve_over<N: Read, O: Read, W: Write>(
     net: &mut N,
     order: &mut O,
     mebibytes: usize,
-    is_drawn: bool,
+    form: CurveForm<'_>,
     out: &mut W,
 ) -> Result<u8, StreamFault>
     requires { mebibytes ≤ 1048576 }
-    ensures { IsCurveRun is_drawn (record { unread = N.remaining net.old; left = N.remaining net.new })
+    ensures { IsCurveRun form.entry (record { unread = N.remaining net.old; left = N.remaining net.new })
         (record { unread = O.remaining order.old; left = O.remaining order.new })
         (W.contents out.old) (W.contents out.new) result }
 {
     let net = read_whole(alloc, net)?;
     let order = read_whole(alloc, order)?;
-    respond(answer(alloc, &net, &order, mebibytes, is_drawn), out)
+    respond(answer(alloc, &net, &order, mebibytes, form), out)
 }
 
 /// The status and the text of the answer to the texts of a network and an order.
@@ -54,13 +64,13 @@ fn answer(
     net: &[u8],
     order: &[u8],
     mebibytes: usize,
-    is_drawn: bool,
+    form: CurveForm<'_>,
 ) -> Result<(u8, Vec<u8>), AllocError>
     requires { mebibytes ≤ 1048576 }
-    ensures { IfOk result (λ answer. IsCurveAnswer is_drawn net.now order.now answer.0 answer.1.items) }
+    ensures { IfOk result (λ answer. IsCurveAnswer form.entry net.now order.now answer.0 answer.1.items) }
 {
     match read_texts(alloc, net, order) {
-        Ok((net, order)) => told(alloc, &net, &order, mebibytes, is_drawn),
+        Ok((net, order)) => told(alloc, &net, &order, mebibytes, form),
         Err(refused) => refused,
     }
 }
@@ -71,14 +81,14 @@ fn told(
     net: &Network,
     order: &Order,
     mebibytes: usize,
-    is_drawn: bool,
+    form: CurveForm<'_>,
 ) -> Result<(u8, Vec<u8>), AllocError>
     requires memory { mebibytes ≤ 1048576 }
     requires terms { AreTermsOf net.now order.now }
-    ensures { IfOk result (λ answer. IsToldCurve is_drawn net.now order.now answer.0 answer.1.items) }
+    ensures { IfOk result (λ answer. IsToldCurve form.entry net.now order.now answer.0 answer.1.items) }
 {
     match curve_alone(alloc, net, order, mebibytes) {
-        Ok(answer) => curve_answer(alloc, order, answer, is_drawn),
+        Ok(answer) => curve_answer(alloc, order, answer, form),
         // On one thread this ends early only if memory runs out.
         Err(_) => Err(AllocError),
     }
@@ -89,14 +99,14 @@ pub(crate) fn curve_answer(
     alloc: Global,
     order: &Order,
     answer: CurveAnswer,
-    is_drawn: bool,
+    form: CurveForm<'_>,
 ) -> Result<(u8, Vec<u8>), AllocError>
     ensures { (network : Project) → IsAnswerOfCurve network order.now answer →
-        IfOk result (λ answer. IsToldCurve is_drawn network order.now answer.0 answer.1.items) }
+        IfOk result (λ answer. IsToldCurve form.entry network order.now answer.0 answer.1.items) }
 {
     match answer {
         CurveAnswer::Steps(steps) => {
-            let text = text_of(alloc, &steps, order.deadline, is_drawn)?;
+            let text = text_of(alloc, &steps, order.deadline, form)?;
             Ok((DONE, text))
         }
         CurveAnswer::NoPlan(reason) => {
@@ -106,22 +116,31 @@ pub(crate) fn curve_answer(
 }
 
 /// The steps of a curve up to a last deadline as lines, or as a picture.
-fn text_of(alloc: Global, steps: &[Step], last: u32, is_drawn: bool) -> Result<Vec<u8>, AllocError>
-    ensures { IfOk result (λ text. IsCurveText is_drawn last steps.now text.items) }
+fn text_of(
+    alloc: Global,
+    steps: &[Step],
+    last: u32,
+    form: CurveForm<'_>,
+) -> Result<Vec<u8>, AllocError>
+    ensures { IfOk result (λ text. IsCurveText form.entry last steps.now text.items) }
 {
-    if is_drawn {
-        picture(alloc, steps, last)
-    } else {
-        curve_text(alloc, steps)
+    match form {
+        CurveForm::Lines => curve_text(alloc, steps),
+        CurveForm::Picture(calendar) => picture(alloc, steps, last, calendar),
     }
 }
 
 /// The picture of a curve up to a last deadline.
-fn picture(alloc: Global, steps: &[Step], last: u32) -> Result<Vec<u8>, AllocError>
-    ensures { IfOk result (λ text. IsCostPicture (map corner_of steps.now) last text.items) }
+fn picture(
+    alloc: Global,
+    steps: &[Step],
+    last: u32,
+    calendar: Calendar<'_>,
+) -> Result<Vec<u8>, AllocError>
+    ensures { IfOk result (λ text. IsCostPicture calendar.entry (map corner_of steps.now) last text.items) }
 {
     let corners = corners_of(alloc, steps)?;
-    let picture = costs_svg(alloc, &corners, last)?;
+    let picture = costs_svg(alloc, &corners, last, calendar)?;
     Ok(picture.into_bytes())
 }
 

@@ -8,7 +8,7 @@ ghost use Rattle.racp_curve.specs.Curves.{IsCurveAnswer as IsAnswerOfCurve, IsCu
 ghost use Rattle.racp_cli.specs.CurveAnswers.{IsCurveCrowdAnswer, IsCurveCrowdRun, IsToldByCrowd, stopped_text};
 ghost use Rattle.racp_cli.specs.Responses.{IsEndedText};
 
-use crate::curve::curve_answer;
+use crate::curve::{CurveForm, curve_answer};
 use crate::lines::stopped_line;
 use crate::respond::respond;
 use crate::status::{STOPPED, STREAM_FAILED};
@@ -49,21 +49,21 @@ pub fn curve_crowd_over<
     crew: Crew<'_, G, P, B>,
     net: &mut N,
     order: &mut O,
-    is_drawn: bool,
+    form: CurveForm<'_>,
     out: &mut W,
 ) -> Result<u8, StreamFault>
     requires workers { crew.workers ≤ 64 }
     requires turns { crew.turns ≤ 1000000000000 }
     requires memory { crew.memory ≤ 1048576 }
     requires heard { HearsAll B.may_hear }
-    ensures { IsCurveCrowdRun crew.entry.turns (P.is_quiet crew.entry.stop.now) is_drawn (record { unread = N.remaining net.old; left = N.remaining net.new })
+    ensures { IsCurveCrowdRun crew.entry.turns (P.is_quiet crew.entry.stop.now) form.entry (record { unread = N.remaining net.old; left = N.remaining net.new })
         (record { unread = O.remaining order.old; left = O.remaining order.new })
         (W.contents out.old) (W.contents out.new) result }
 {
     let alloc = rt.alloc();
     let net = read_whole(alloc, net)?;
     let order = read_whole(alloc, order)?;
-    respond(answer(rt, alloc, &net, &order, is_drawn, crew), out)
+    respond(answer(rt, alloc, &net, &order, form, crew), out)
 }
 
 /// The status and the text of the answer to the texts of a network and an order.
@@ -72,20 +72,20 @@ fn answer<G: Gate + Sync, P: Stop + Sync, B: Observer, R: Threads + Wait + Sync>
     alloc: Global,
     net: &[u8],
     order: &[u8],
-    is_drawn: bool,
+    form: CurveForm<'_>,
     crew: Crew<'_, G, P, B>,
 ) -> Result<(u8, Vec<u8>), AllocError>
     requires workers { crew.workers ≤ 64 }
     requires turns { crew.turns ≤ 1000000000000 }
     requires memory { crew.memory ≤ 1048576 }
     requires heard { HearsAll B.may_hear }
-    ensures { IfOk result (λ answer. IsCurveCrowdAnswer crew.entry.turns (P.is_quiet crew.entry.stop.now) is_drawn net.now
+    ensures { IfOk result (λ answer. IsCurveCrowdAnswer crew.entry.turns (P.is_quiet crew.entry.stop.now) form.entry net.now
         order.now answer.0 answer.1.items) }
 {
     match read_texts(alloc, net, order) {
         Ok((net, order)) => {
             let curve = curve_crowd(rt, alloc, &net, &order, crew);
-            told(alloc, &order, curve, is_drawn)
+            told(alloc, &order, curve, form)
         }
         Err(refused) => refused,
     }
@@ -97,15 +97,15 @@ fn told(
     alloc: Global,
     order: &Order,
     curve: Result<CurveAnswer, CurveStop>,
-    is_drawn: bool,
+    form: CurveForm<'_>,
 ) -> Result<(u8, Vec<u8>), AllocError>
     ensures { (network : Project) (turns : ℕ) (quiet : Bool) → IfOk curve (IsAnswerOfCurve network order.now) →
         IfErr curve (λ end. IsCurveStop network order.now (MayStop network quiet turns) ⊤ end.steps.items end.stop) →
-        IfOk result (λ answer. IsToldByCrowd turns quiet is_drawn network order.now answer.0 answer.1.items) }
+        IfOk result (λ answer. IsToldByCrowd turns quiet form.entry network order.now answer.0 answer.1.items) }
 {
     match curve {
-        Ok(answer) => curve_answer(alloc, order, answer, is_drawn),
-        Err(CurveStop { steps, stop }) => ended_answer(alloc, &steps, stop, is_drawn),
+        Ok(answer) => curve_answer(alloc, order, answer, form),
+        Err(CurveStop { steps, stop }) => ended_answer(alloc, &steps, stop, form),
     }
 }
 
@@ -114,13 +114,13 @@ fn ended_answer(
     alloc: Global,
     steps: &[Step],
     stop: PlanStop,
-    is_drawn: bool,
+    form: CurveForm<'_>,
 ) -> Result<(u8, Vec<u8>), AllocError>
-    ensures { IfOk result (λ answer. IsEndedText is_drawn steps.now stop answer.0 answer.1.items) }
+    ensures { IfOk result (λ answer. IsEndedText form.entry steps.now stop answer.0 answer.1.items) }
 {
     match stop {
         PlanStop::Stopped { not_before } => {
-            let text = stopped_text(alloc, steps, not_before.as_slice(), is_drawn)?;
+            let text = stopped_text(alloc, steps, not_before.as_slice(), form)?;
             Ok((STOPPED, text))
         }
         PlanStop::Memory => Err(AllocError),
@@ -133,15 +133,17 @@ fn stopped_text(
     alloc: Global,
     steps: &[Step],
     not_before: &[u32],
-    is_drawn: bool,
+    form: CurveForm<'_>,
 ) -> Result<Vec<u8>, AllocError>
-    ensures { IfOk result (λ text. text.items ≡ stopped_text is_drawn steps.now not_before.now) }
+    ensures { IfOk result (λ text. text.items ≡ stopped_text form.entry steps.now not_before.now) }
 {
     let line = stopped_line(alloc, not_before)?;
-    if is_drawn {
-        return Ok(line);
+    match form {
+        CurveForm::Lines => {
+            let mut text = step_lines(alloc, steps)?;
+            text.extend_from_slice(&line)?;
+            Ok(text)
+        }
+        CurveForm::Picture(_) => Ok(line),
     }
-    let mut text = step_lines(alloc, steps)?;
-    text.extend_from_slice(&line)?;
-    Ok(text)
 }

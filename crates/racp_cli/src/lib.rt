@@ -15,7 +15,7 @@
 //!   it is one by clauses, that the plan is the plan of the order. `verify_bound_over` reads a network, an order and a
 //!   certificate of a bound, and writes what each plan costs at least.
 //! - `show_over` reads a network, an order and a plan, and writes a picture of the plan.
-//! - `report_over` reads the same, and writes a page about the plan.
+//! - `report_over` reads the same, and writes a page about the plan; `export_over` writes it for other programs.
 //! - `curve_over` reads a network and an order, and writes what each deadline costs; `curve_crowd_over` is for workers.
 //! - `whatif_to` takes the texts of a network, an order and perhaps a plan, and writes what becomes of the order if one
 //!   term is changed.
@@ -49,7 +49,7 @@
 //!
 //! In `specs/`, an answer is a value, with the text and the status that stand for it. `IsCpmAnswer`, `IsPlanAnswer`,
 //! `IsCrowdAnswer`, `IsProofAnswer`, `IsClauseProofAnswer`, `IsCheckAnswer`, `IsVerifyAnswer`, `IsVerifyAnswerUntil`, `IsBoundAnswer`,
-//! `IsShowAnswer`, `IsReportAnswer`, `IsCurveAnswer`, `IsCurveCrowdAnswer`, `IsWhatIfAnswer` and `IsOrderAnswer` say when text and status are right for the
+//! `IsShowAnswer`, `IsReportAnswer`, `IsExportAnswer`, `IsCurveAnswer`, `IsCurveCrowdAnswer`, `IsWhatIfAnswer` and `IsOrderAnswer` say when text and status are right for the
 //! bytes of one to four inputs, and `IsRun` ties answers to what the readers had and what the writer holds, for all
 //! commands.
 //!
@@ -72,6 +72,7 @@ mod cpm;
 mod crowd;
 mod curve;
 mod curve_crowd;
+mod export;
 mod known;
 pub mod laws;
 mod lines;
@@ -81,6 +82,7 @@ mod prove;
 mod prove_by_clauses;
 mod refusal;
 mod report;
+mod report_claim;
 mod report_page;
 mod respond;
 mod show;
@@ -94,8 +96,9 @@ mod whatif;
 pub use check::check_over;
 pub use cpm::cpm_over;
 pub use crowd::{crowd_over, crowd_over_by};
-pub use curve::curve_over;
+pub use curve::{CurveForm, curve_over};
 pub use curve_crowd::curve_crowd_over;
+pub use export::{Target, export_over};
 pub use known::known_text;
 pub use order::{Asked, Time, order_over};
 pub use plan::{run_over, run_over_within};

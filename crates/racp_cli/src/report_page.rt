@@ -6,12 +6,14 @@ ghost use Rattle.racp_model.specs.Terms.{AreTermsOf, Terms};
 ghost use Rattle.racp_plan.specs.declared.plan.Plan.{Plan};
 ghost use Rattle.racp_show.specs.Entries.{outlined};
 ghost use Rattle.racp_show.specs.Outlines.{IsOutlineOf, Outlined};
+ghost use Rattle.racp_report.specs.Claims.{IsClaim};
 ghost use Rattle.racp_report.specs.Reports.{IsReport};
+ghost use Rattle.racp_report.specs.declared.claim.Claim.{Claim};
 ghost use Rattle.racp_check.specs.PlanFaults.{IsFitting};
 ghost use Rattle.racp_cli.specs.ReportAnswers.{AreBehind, IsBegun, IsChanged, IsPageOf};
 
 use crate::check::Checked;
-use crate::report::Page;
+use crate::report::ClaimedPage;
 use crate::status::{DONE, REFUSED};
 use racp_calendar::Calendar;
 use racp_charts::Drawing;
@@ -28,22 +30,24 @@ pub(crate) fn changed(
     names: &Names,
     outline: &Outline,
     curve: &str,
-    page: Page<'_>,
+    page: ClaimedPage<'_>,
 ) -> Result<(u8, Vec<u8>), AllocError>
     requires terms { AreTermsOf found.now.net found.now.order }
     requires capacities { length found.now.plan.capacities ≡ found.now.net.resources }
     requires fitting { IsFitting found.now.net found.now.order found.now.plan }
+    requires shown { IsClaim found.now.net found.now.order found.now.plan page.claim }
     requires outline { IsOutlineOf found.now.net (outlined outline.now) }
-    ensures { IfOk result (λ answer. IsChanged page.entry curve.now found.now.net found.now.order found.now.plan
+    ensures { IfOk result (λ answer. IsChanged page.entry.claim page.entry.page curve.now found.now.net found.now.order found.now.plan
         names.now (outlined outline.now) answer.0 answer.1.items) }
 {
-    let Some(bytes) = page.changes else {
+    let Some(bytes) = page.page.changes else {
         let beside = Beside {
             outline,
             curve,
             changes: "",
+            claim: page.claim,
         };
-        let text = page_text(alloc, found, names, beside, page.calendar)?;
+        let text = page_text(alloc, found, names, beside, page.page.calendar)?;
         return Ok((DONE, text));
     };
     match std::str::from_utf8(bytes) {
@@ -52,8 +56,9 @@ pub(crate) fn changed(
                 outline,
                 curve,
                 changes,
+                claim: page.claim,
             };
-            begun(alloc, found, names, beside, page.calendar)
+            begun(alloc, found, names, beside, page.page.calendar)
         }
         Err(_) => Ok((REFUSED, b"refused whatif 1 NotUtf8\n".to_vec(alloc)?)),
     }
@@ -72,19 +77,25 @@ fn begun(
     requires terms { AreTermsOf found.now.net found.now.order }
     requires capacities { length found.now.plan.capacities ≡ found.now.net.resources }
     requires fitting { IsFitting found.now.net found.now.order found.now.plan }
+    requires shown { IsClaim found.now.net found.now.order found.now.plan beside.claim }
     requires outline { IsOutlineOf found.now.net (outlined beside.outline.now) }
-    ensures { IfOk result (λ answer. IsBegun calendar.entry beside.entry.curve.now beside.entry.changes.now found.now.net
+    ensures { IfOk result (λ answer. IsBegun beside.entry.claim calendar.entry beside.entry.curve.now beside.entry.changes.now found.now.net
         found.now.order found.now.plan names.now (outlined beside.entry.outline.now) answer.0 answer.1.items) }
 {
     let Some(changes) = behind_plan(alloc, found, beside.changes)? else {
         return Ok((REFUSED, b"refused whatif 2 OtherPlan\n".to_vec(alloc)?));
     };
-    let outline = beside.outline;
-    let curve = beside.curve;
+    let Beside {
+        outline,
+        curve,
+        claim,
+        ..
+    } = beside;
     let beside = Beside {
         outline,
         curve,
         changes,
+        claim,
     };
     let text = page_text(alloc, found, names, beside, calendar)?;
     Ok((DONE, text))
@@ -113,8 +124,9 @@ fn page_text(
     requires terms { AreTermsOf found.now.net found.now.order }
     requires capacities { length found.now.plan.capacities ≡ found.now.net.resources }
     requires fitting { IsFitting found.now.net found.now.order found.now.plan }
+    requires shown { IsClaim found.now.net found.now.order found.now.plan beside.claim }
     requires outline { IsOutlineOf found.now.net (outlined beside.outline.now) }
-    ensures { IfOk result (λ text. IsPageOf calendar.entry beside.entry.curve.now beside.entry.changes.now found.now.net
+    ensures { IfOk result (λ text. IsPageOf beside.entry.claim calendar.entry beside.entry.curve.now beside.entry.changes.now found.now.net
         found.now.order found.now.plan names.now (outlined beside.entry.outline.now) text.items) }
 {
     let report = report_of(alloc, &found.net, &found.order, &found.plan, names, beside)?;
@@ -127,13 +139,14 @@ fn page_text(
 fn dated<'a>(report: Report<'a>, calendar: Calendar<'a>) -> Report<'a>
     ensures told { result.plan.calendar ≡ calendar.entry }
     ensures right { (network : Project) (terms : Terms) (plan : Plan) (names : List (List ℕ)) (outline : Outlined)
-        (curve changes : List ℕ) → IsReport network terms plan names outline curve changes report.entry →
-        IsReport network terms plan names outline curve changes result }
+        (curve changes : List ℕ) (claim : Claim) → IsReport network terms plan names outline curve changes claim report.entry →
+        IsReport network terms plan names outline curve changes claim result }
 {
     let Report {
         plan,
         costs,
         changes,
+        claim,
     } = report;
     let Drawing {
         deadline,
@@ -157,5 +170,6 @@ fn dated<'a>(report: Report<'a>, calendar: Calendar<'a>) -> Report<'a>
         plan,
         costs,
         changes,
+        claim,
     }
 }

@@ -7,96 +7,20 @@ ghost use Rattle.racp_streams.specs.Streams.{fault_status};
 ghost use Rattle.racp_host.specs.declared.failure.Failure.TheVariants as failures;
 ghost use Rattle.racp_streams.specs.declared.fault.StreamFault.TheVariants as streams;
 
+use crate::answer::is_unread;
+pub use crate::option_fault::OptionFault;
 use crate::shown::Shown;
 use clap::Error;
 use clap::error::ErrorKind;
-use racp_lexfix::status::{DONE, REFUSED};
+use racp_lexfix::status::{DONE, REFUSED, STREAM_FAILED};
 use racp_streams::StreamFault;
-use std::alloc::AllocError;
-use thiserror::Error as ErrorText;
+use std::alloc::{AllocError, Global};
+
+/// How a tip begins that helps nobody.
+const TIP: &str = "  tip: to pass '";
 
 /// The status after a fault of the command line.
 const WORDS_REFUSED: u8 = 2;
-
-/// What is wrong with the options for an order or for a time, or the words for a fault.
-#[derive(Debug, Clone, Copy, Drop, ErrorText)]
-pub enum OptionFault {
-    /// The deadline is told in no way, or in two.
-    #[error("one of --factor and --deadline has to be given, and not both")]
-    Time,
-    /// The factor is no decimal.
-    #[error("--factor has to be a decimal such as 1.2")]
-    Factor,
-    /// The deadline is no whole number.
-    #[error("--deadline has to be a whole number from 0 to 10,000,000")]
-    Deadline,
-    /// The deadline is a date, and nothing says which time that is.
-    #[error("--deadline as a date needs --calendar, which says which days are worked on")]
-    DatedDeadline,
-    /// The deadline is neither a whole number nor a date.
-    #[error("--deadline has to be a whole number from 0 to 10,000,000, or a date such as 2026-11-27")]
-    NoDeadline,
-    /// It is told how dates are written, and nothing says which times they are.
-    #[error("--date-format goes with --calendar, which says which days are worked on")]
-    DateFormat,
-    /// It is told in no way that is known how dates are written.
-    #[error("--date-format has to be a form such as D.M.YYYY, DD.MM.YYYY, M/D/YYYY, MM/DD/YYYY or YYYY-MM-DD")]
-    NoDateFormat,
-    /// A calendar is named for an answer without dates.
-    #[error("--calendar goes with --json here: a plan and the lines of a curve have no dates")]
-    NoJson,
-    /// A table counts other time units than its calendar.
-    #[error("a table counts days: no --unit half-day beside --calendar, and unit = \"day\" in it")]
-    OtherUnit,
-    /// The limit of time is no number of seconds, or out of its range.
-    #[error("--time-limit has to be a number of seconds such as 60 or 0.5, above 0 and up to 1,000,000,000")]
-    TimeLimit,
-    /// Arrows are asked for, and no picture.
-    #[error("--links goes with --svg: only a picture has arrows")]
-    Links,
-    /// A width is asked for, and no chart.
-    #[error("--width goes with a chart: no --svg, --json or --csv beside it")]
-    Width,
-    /// The date of the time 0 is no date.
-    #[error("--start-date has to be a date such as 2026-01-05")]
-    StartDate,
-    /// A file of a calendar is named, and what such a file says is told beside it.
-    #[error("--calendar has the first day, the working days and the time unit: no --start-date, --workdays or --unit beside it")]
-    Calendar,
-    /// The days of a week that are worked on are none that are told, or told without a date.
-    #[error("--workdays has to be days such as mon-fri or mon-thu,sat, with --start-date")]
-    Workdays,
-    /// The length of a time unit is none that is told, or told without a date.
-    #[error("--unit has to be day or week, with --start-date")]
-    Unit,
-    /// The format of a table is none that is read.
-    #[error("--from has to be csv or rcp")]
-    Format,
-    /// The time unit of a table is none that is told.
-    #[error("--unit has to be day or half-day")]
-    HalfDay,
-    /// The path of a project ends in no name.
-    #[error("--out has to end with the name of a project, such as house")]
-    Project,
-    /// There are words for an order, and no prices.
-    #[error("an order has to have --prices, and one of --factor and --deadline")]
-    NoPrices,
-    /// A table has release or due times, and there are no words for an order.
-    #[error("a table with a column 'earliest' or 'due' makes an order too, which has to have --prices, and one of --factor and --deadline")]
-    Times,
-    /// A factor of a table is no decimal.
-    #[error("--factors has to be decimals such as 1.0,1.2")]
-    Factors,
-    /// The price of a table is no whole number, or too great.
-    #[error("--price has to be a whole number from 0 to 1,000,000")]
-    Price,
-    /// The plans of two networks would be kept in the same file.
-    #[error("with --out no two networks may have the same file name")]
-    SameName,
-    /// No fault has these words.
-    #[error("no fault is named by these words; racp explain lists them all")]
-    Topic,
-}
 
 /// Why no answer is written.
 pub enum Failure {
@@ -110,6 +34,8 @@ pub enum Failure {
     Value(String),
     /// A file or a stream failed, or memory ran out.
     Stream(StreamFault),
+    /// Standard output takes no more of an answer, since nobody reads it any more.
+    Unread,
     /// A file or a stream failed, and these words say which, and why.
     Told(StreamFault, String),
     /// A table is refused, and these words say why; nothing is said if they are empty.
@@ -148,9 +74,23 @@ impl From<AllocError> for Failure {
     }
 }
 
+/// Why words are refused: as the library of the command line says; or as a hint says, if there is one and the library knows an option
+/// not.
+pub fn refused_words(alloc: Global, error: Error, hint: Option<&str>) -> Failure {
+    match hint {
+        Some(hint) if error.kind() == ErrorKind::UnknownArgument => {
+            match String::from_str(alloc, hint) {
+                Ok(words) => Failure::Value(words),
+                Err(_) => Failure::Words(error),
+            }
+        },
+        _ => Failure::Words(error),
+    }
+}
+
 /// Tells why no answer is written, and answers the status. Help and the version go to standard output, all else to
 /// standard error; if that takes no text, the status alone tells.
-pub fn report<R: Print + Eprint>(rt: &R, failure: Failure) -> u8
+pub fn report<R: Print + Eprint + AllocGlobal>(rt: &R, failure: Failure) -> u8
     ensures { IsStatusOf failure result }
 {
     match failure {
@@ -168,10 +108,10 @@ pub fn report<R: Print + Eprint>(rt: &R, failure: Failure) -> u8
             WORDS_REFUSED
         }
         Failure::Stream(fault) => report_fault(rt, fault),
+        Failure::Unread => STREAM_FAILED,
         Failure::Told(fault, words) => {
-            let status = report_fault(rt, fault);
             let _ = rt.eprintln(Shown::of(&words));
-            status
+            fault.status()
         }
         Failure::Refused(words) => {
             report_refusal(rt, &words);
@@ -188,20 +128,40 @@ fn report_refusal(rt: &impl Eprint, words: &str) {
 }
 
 /// Prints what the library of the command line says, and answers the status.
-fn report_words<R: Print + Eprint>(rt: &R, error: &Error) -> u8
+fn report_words<R: Print + Eprint + AllocGlobal>(rt: &R, error: &Error) -> u8
     ensures { IsStatusOfKind (kind_of error.now) result }
 {
     match error.kind() {
         ErrorKind::OutOfMemory => report_fault(rt, StreamFault::Memory),
         ErrorKind::DisplayHelp | ErrorKind::DisplayVersion => match rt.print(error) {
             Ok(()) => DONE,
+            Err(error) if is_unread(&error) => STREAM_FAILED,
             Err(_) => report_fault(rt, StreamFault::Write),
         },
         _ => {
-            let _ = rt.eprint(error);
+            let _ = match without_tip(rt.alloc(), error) {
+                Ok(words) => rt.eprint(&words),
+                Err(_) => rt.eprint(error),
+            };
             WORDS_REFUSED
         }
     }
+}
+
+/// What the library of the command line says, without a tip that helps nobody: that an option that is not there could be meant as the
+/// path of a file.
+fn without_tip(alloc: Global, error: &Error) -> Result<String, AllocError> {
+    let said = format!(in alloc; "{error}")?;
+    let mut words = String::new(alloc);
+    let mut is_behind_empty = false;
+    for line in said.lines() {
+        if !line.starts_with(TIP) && !(is_behind_empty && line.is_empty()) {
+            words.push_str(line)?;
+            words.push('\n')?;
+            is_behind_empty = line.is_empty();
+        }
+    }
+    Ok(words)
 }
 
 /// Prints the line of a file or a stream that failed, or of memory, and answers the status.

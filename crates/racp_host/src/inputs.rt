@@ -16,10 +16,14 @@ pub const STANDARD_INPUT: &str = "standard input";
 /// The path by which a file is opened that is standard input.
 const OF_STANDARD_INPUT: &str = "/dev/stdin";
 
+/// The path by which the file with this path is opened; `-` is standard input.
+pub(crate) fn opened_path(path: &str) -> &str {
+    if path == "-" { OF_STANDARD_INPUT } else { path }
+}
+
 /// The file with this path, for reading, or standard input for `-`; or which it is, and what the system says of it.
 pub(crate) fn opened<R: Files + AllocGlobal>(rt: &R, path: &str) -> Result<R::File, Failure> {
-    let named = if path == "-" { OF_STANDARD_INPUT } else { path };
-    match File::open(rt, named) {
+    match File::open(rt, opened_path(path)) {
         Ok(file) => Ok(file),
         Err(error) => Err(told(rt.alloc(), StreamFault::Read, shown(path), &error)),
     }

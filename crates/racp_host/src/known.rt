@@ -16,6 +16,8 @@ pub struct Known {
     deadline: AtomicU64,
     best: AtomicU64,
     bound: AtomicU64,
+    /// What a plan for the longest deadline costs that was known before.
+    earlier: AtomicU64,
 }
 
 impl Known {
@@ -26,7 +28,14 @@ impl Known {
             deadline: AtomicU64::new(NONE),
             best: AtomicU64::new(NONE),
             bound: AtomicU64::new(0),
+            earlier: AtomicU64::new(NONE),
         }
+    }
+
+    /// Notes a plan of this cost for the longest deadline that was known before planning began.
+    pub fn note_earlier(&self, cost: u64) {
+        self.earlier.store(cost, Ordering::SeqCst);
+        self.best.store(cost, Ordering::SeqCst);
     }
 
     /// Notes that a plan for this deadline is made, and says whether it is another than before: then nothing is known
@@ -37,14 +46,21 @@ impl Known {
         if self.deadline.swap(deadline, Ordering::SeqCst) == deadline {
             return false;
         }
-        self.best.store(NONE, Ordering::SeqCst);
+        let known = if self.is_for_longest() {
+            self.earlier.load(Ordering::SeqCst)
+        } else {
+            NONE
+        };
+        self.best.store(known, Ordering::SeqCst);
         self.bound.store(0, Ordering::SeqCst);
         true
     }
 
-    /// Notes a plan of this cost that is known, and says whether none so far is cheaper.
+    /// Notes a plan of this cost that is known, and says whether none so far is cheaper, and the one that was known before is
+    /// dearer.
     pub fn note_plan(&self, cost: u64) -> bool {
-        cost <= self.best.fetch_min(cost, Ordering::SeqCst)
+        let is_best = cost <= self.best.fetch_min(cost, Ordering::SeqCst);
+        is_best && !(self.is_for_longest() && self.earlier.load(Ordering::SeqCst) <= cost)
     }
 
     /// Whether the plan is made for the longest deadline so far.
@@ -80,8 +96,11 @@ impl Known {
         }
     }
 
-    /// Writes it in few words.
+    /// Writes it in few words, with the deadline if that is not the longest one.
     pub(crate) fn write_short<W: fmt::Write>(&self, f: &mut Formatter<W>) -> fmt::Result {
+        if !self.is_for_longest() {
+            write!(f, "deadline {}: ", self.deadline.load(Ordering::SeqCst))?;
+        }
         let bound = self.bound();
         match self.best() {
             Some(best) => {

@@ -6,11 +6,13 @@
 //! inputs     files that are read whole, opened in the order of the words before the first is read
 //! files      files that are written whole or not at all: beside their paths first, then named
 //! best       the file that keeps the best plan that is known
+//! answer     standard output, to which answers are written, and whether anybody reads it
 //! failure    why no answer is written, and how that is told: the status 2, 5, 6 or 7
 //! telling    what is told on standard error beside an answer, in one line, in several, or as JSON
 //! making     how plans are made: workers, memory, a limit of time
 //! limit      when a command that workers carry out is stopped by the clock or by the user; alone_limit for one thread
 //! progress   how far planning has come; known: its best cost, and what each plan costs at least
+//! bar        how many rows of a table are done; terminal: lines on a terminal, each in the place of the one before it
 //! dates      the calendar that words tell of; resources: what resources are called
 //! machine    what all of this needs of the machine that the program runs on
 //! ```
@@ -25,7 +27,9 @@
 #![tactic(auto)]
 
 pub mod alone_limit;
+pub mod answer;
 pub mod asks;
+pub mod bar;
 pub mod begun;
 pub mod best;
 pub mod dates;
@@ -37,8 +41,11 @@ pub mod limit;
 pub mod machine;
 pub mod making;
 pub mod memory;
+mod option_fault;
 pub mod progress;
+mod progress_told;
 pub mod resources;
 pub mod seconds;
 pub mod shown;
 pub mod telling;
+mod terminal;

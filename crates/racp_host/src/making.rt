@@ -3,6 +3,7 @@
 ghost use Rattle.std.specs.Prelude.{◌≡◌, ◌≤◌, ◌+◌, ◌⊎◌};
 
 use crate::asks::Asks;
+use crate::best::Earlier;
 use crate::failure::OptionFault;
 use crate::progress::{Pace, Progress};
 use crate::seconds::time_limit;
@@ -34,6 +35,8 @@ pub struct Making<'a> {
     pub manner: Manner,
     /// How times are told beside their numbers.
     pub calendar: Calendar<'a>,
+    /// A plan of the order that was known before, if one was.
+    pub earlier: Option<Earlier<'a>>,
 }
 
 impl<'a> Making<'a> {
@@ -58,7 +61,18 @@ impl<'a> Making<'a> {
             limit: time_limit(word)?,
             manner,
             calendar,
+            earlier: None,
         })
+    }
+}
+
+impl<'a> Making<'a> {
+    /// The path of the file that keeps the best plan, if there is to be one.
+    pub fn best(&self) -> Option<&'a str> {
+        match self.crew {
+            Some(crew) => crew.best,
+            None => None,
+        }
     }
 }
 
@@ -134,6 +148,19 @@ pub fn progress_of(
     match pace_of(is_asked, manner) {
         Some(pace) => Ok(Some(Progress::new(alloc, pace)?)),
         None => Ok(None),
+    }
+}
+
+/// What tells on a terminal how much time has passed, where plans are made of each of which something else is known; nothing
+/// elsewhere.
+///
+/// # Errors
+///
+/// Memory was refused.
+pub fn time_of(alloc: Global, manner: Manner) -> Result<Option<Progress>, AllocError> {
+    match pace_of(false, manner) {
+        Some(Pace::Short) => Ok(Some(Progress::new(alloc, Pace::Time)?)),
+        _ => Ok(None),
     }
 }
 

@@ -1,7 +1,8 @@
 //! What is told of planning while it goes on.
 
 use crate::known::Known;
-use racp_model::limits::MOST_RESOURCES;
+use crate::progress_told::Told;
+use crate::terminal::{CUT, PassedTime, UNCUT, place};
 use std::alloc::{AllocError, Global};
 use std::fmt;
 use std::fmt::{Display, Formatter};
@@ -10,9 +11,6 @@ use std::time::Duration;
 
 /// How many seconds lie between two lines, at least.
 const PERIOD: u64 = 2;
-
-/// What a terminal is sent before a line that takes the place of the one above: up one line, and clear it.
-const IN_PLACE: &str = "\x1b[A\x1b[K";
 
 /// A line of JSON that tells how far planning has come.
 #[derive(Drop)]
@@ -51,7 +49,7 @@ impl<'a> Display for JsonLine<'a> {
     }
 }
 
-/// A short line for a person: the time that has passed, and what is known of the plan.
+/// What a person reads first: the time that has passed, and what is known of the plan.
 #[derive(Drop)]
 struct ShortLine<'a> {
     seconds: u64,
@@ -60,10 +58,27 @@ struct ShortLine<'a> {
 
 impl<'a> Display for ShortLine<'a> {
     fn fmt<W: fmt::Write>(&self, f: &mut Formatter<W>) -> fmt::Result {
-        let (minutes, seconds) = (self.seconds / 60, self.seconds % 60);
-        let zero = if seconds < 10 { "0" } else { "" };
-        write!(f, "{minutes}:{zero}{seconds}  ")?;
+        write!(f, "{}  ", PassedTime::of(self.seconds))?;
         self.known.write_short(f)
+    }
+}
+
+/// All that is counted, in words.
+#[derive(Drop)]
+struct Counts<'a> {
+    progress: &'a Progress,
+}
+
+impl<'a> Display for Counts<'a> {
+    fn fmt<W: fmt::Write>(&self, f: &mut Formatter<W>) -> fmt::Result {
+        let told = &self.progress.told;
+        let (nodes, conflicts) = (self.progress.nodes(), self.progress.conflicts());
+        let clauses = told.clauses.load(Ordering::SeqCst);
+        let memory = told.memory.load(Ordering::SeqCst);
+        write!(
+            f,
+            "{told} nodes {nodes} conflicts {conflicts} clauses {clauses} memory {memory}"
+        )
     }
 }
 
@@ -72,11 +87,13 @@ impl<'a> Display for ShortLine<'a> {
 pub(crate) enum Pace {
     /// Not at all; it is only counted.
     Silent,
-    /// In short lines, each in the place of the one before it.
+    /// By the time that has passed, in a line in the place of the one before it, where several plans are made side by side.
+    Time,
+    /// In short lines, each in the place of the one before it, and no wider than the terminal.
     Short,
     /// In lines.
     Lines,
-    /// In lines, each in the place of the one before it.
+    /// In the same lines as `Short`, with all that is counted behind.
     InPlace,
     /// In lines of JSON.
     Json,
@@ -91,54 +108,6 @@ pub struct Progress {
     is_begun: AtomicBool,
     pace: Pace,
     told: Told,
-}
-
-/// How far planning has come: the deadline, the floor of each resource, by place from 0, what the plan costs at least, how
-/// many conflicts a search that learns has met and how many clauses it keeps, and how many mebibytes of memory were used when
-/// that was last told.
-#[derive(Drop)]
-struct Told {
-    deadline: AtomicU64,
-    resources: AtomicU64,
-    floors: Vec<AtomicU64>,
-    cost: AtomicU64,
-    conflicts: AtomicU64,
-    clauses: AtomicU64,
-    memory: AtomicU64,
-}
-
-impl Told {
-    /// Nothing is told.
-    fn new(alloc: Global) -> Result<Self, AllocError> {
-        let mut floors = Vec::with_capacity(alloc, MOST_RESOURCES)?;
-        for _ in 0..MOST_RESOURCES {
-            floors.push(AtomicU64::new(0))?;
-        }
-        Ok(Told {
-            deadline: AtomicU64::new(0),
-            resources: AtomicU64::new(0),
-            floors,
-            cost: AtomicU64::new(0),
-            conflicts: AtomicU64::new(0),
-            clauses: AtomicU64::new(0),
-            memory: AtomicU64::new(0),
-        })
-    }
-}
-
-impl Display for Told {
-    fn fmt<W: fmt::Write>(&self, f: &mut Formatter<W>) -> fmt::Result {
-        write!(
-            f,
-            "deadline {} floors",
-            self.deadline.load(Ordering::SeqCst)
-        )?;
-        let resources = self.resources.load(Ordering::SeqCst) as usize;
-        for floor in self.floors.iter().take(resources) {
-            write!(f, " {}", floor.load(Ordering::SeqCst))?;
-        }
-        write!(f, " cost {}", self.cost.load(Ordering::SeqCst))
-    }
 }
 
 impl Progress {
@@ -191,35 +160,34 @@ impl Progress {
                     known,
                 });
             }
+            Pace::Lines => {
+                let counts = Counts { progress: self };
+                let _ = errors.eprintln(format_args!(
+                    "progress seconds {seconds} {counts} {known}"
+                ));
+            }
+            Pace::Time => {
+                let place = self.place();
+                let time = PassedTime::of(seconds);
+                let _ = errors.eprintln(format_args!("{place}{CUT}{time}  making plans{UNCUT}"));
+            }
             Pace::Short => {
                 let place = self.place();
                 let line = ShortLine { seconds, known };
-                let _ = errors.eprintln(format_args!("{place}{line}"));
+                let _ = errors.eprintln(format_args!("{place}{CUT}{line}{UNCUT}"));
             }
-            Pace::Lines => self.tell_line(errors, seconds, "", known),
-            Pace::InPlace => self.tell_line(errors, seconds, self.place(), known),
+            Pace::InPlace => {
+                let place = self.place();
+                let line = ShortLine { seconds, known };
+                let counts = Counts { progress: self };
+                let _ = errors.eprintln(format_args!("{place}{CUT}{line}  {counts}{UNCUT}"));
+            }
         }
     }
 
     /// What is sent before a line that takes the place of the one above, if there is one.
     fn place(&self) -> &'static str {
-        if self.is_begun.swap(true, Ordering::SeqCst) {
-            IN_PLACE
-        } else {
-            ""
-        }
-    }
-
-    /// Tells a line of all that is counted, behind what puts it into its place.
-    fn tell_line<E: Eprint>(&self, errors: &E, seconds: u64, place: &str, known: &Known) {
-        let nodes = self.nodes();
-        let told = &self.told;
-        let conflicts = self.conflicts();
-        let clauses = told.clauses.load(Ordering::SeqCst);
-        let memory = told.memory.load(Ordering::SeqCst);
-        let _ = errors.eprintln(format_args!(
-            "{place}progress seconds {seconds} {told} nodes {nodes} conflicts {conflicts} clauses {clauses} memory {memory} {known}"
-        ));
+        place(self.is_begun.swap(true, Ordering::SeqCst))
     }
 
     /// Whether the line that was due then is this worker's to tell, and no other's: the next is due two seconds later.

@@ -1,10 +1,11 @@
 //! How it is told, beside an answer, what is wrong.
 
+use crate::answer::print;
+use crate::failure::Failure;
 use crate::shown::Shown;
 use racp_explain::{one_line, parts_of};
 use racp_json::{Told, Words, json_of};
 use racp_lexfix::status::{CHECK_FAILED, IMPOSSIBLE, REFUSED};
-use racp_streams::StreamFault;
 use racp_words::Telling;
 use std::alloc::AllocError;
 
@@ -15,6 +16,8 @@ pub struct Manner {
     pub telling: Telling,
     /// Whether standard error is a terminal.
     pub on_terminal: bool,
+    /// Whether standard output is one, so that lines beside the answer would mix with it.
+    pub shows_answer: bool,
     /// Whether the answer is written as JSON.
     pub is_json: bool,
 }
@@ -66,7 +69,7 @@ pub fn end<R: Print + Eprint + AllocGlobal>(
     manner: Manner,
     told: &Told<'_>,
     cause: Result<String, AllocError>,
-) -> Result<(), StreamFault> {
+) -> Result<(), Failure> {
     let cause = match cause {
         Ok(cause) => cause,
         Err(_) => String::new(rt.alloc()),
@@ -80,24 +83,15 @@ pub fn end<R: Print + Eprint + AllocGlobal>(
 }
 
 /// Writes an answer as JSON, with what is wrong.
-fn write_json<R: Print + AllocGlobal>(
-    rt: &R,
-    told: &Told<'_>,
-    cause: &str,
-) -> Result<(), StreamFault> {
+fn write_json<R: Print + AllocGlobal>(rt: &R, told: &Told<'_>, cause: &str) -> Result<(), Failure> {
     let parts = parts_of(cause);
     let words = Words {
         says: parts.says,
         wanted: parts.wanted,
         found: parts.found,
     };
-    let Ok(text) = json_of(rt.alloc(), told, words) else {
-        return Err(StreamFault::Memory);
-    };
-    match rt.print(&text) {
-        Ok(()) => Ok(()),
-        Err(_) => Err(StreamFault::Write),
-    }
+    let text = json_of(rt.alloc(), told, words)?;
+    print(rt, &text)
 }
 
 /// Tells on standard error what is wrong, in one line.

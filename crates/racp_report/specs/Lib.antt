@@ -1,3 +1,4 @@
+pub mod Claims
 pub mod Reports
 pub mod Drawings
 pub mod Pages

@@ -9,6 +9,8 @@ use Rattle.racp_calendar.specs.declared.calendar.Calendar.TheVariants.{Numbers, 
 use Rattle.std.specs.Str.Lines.{lines}
 use Rattle.racp_charts.specs.Texts.{◌⋅◌, escaped}
 use Rattle.racp_charts.specs.declared.choice.Choice.{Choice}
+use Rattle.racp_report.specs.Claims.{claim_element}
+use Rattle.racp_report.specs.declared.claim.Claim.{Claim}
 use Rattle.racp_report.specs.declared.report.Report.{Report}
 use Rattle.racp_show.specs.declared.row.Row.{Row}
 use Rattle.racp_show.specs.declared.row.Row.TheVariants.{Heading, Bar}
@@ -43,28 +45,20 @@ lengths_element critical tasks =
     codes "<div><dt>Critical length</dt><dd>" ⋅ decimal critical ⋅ codes "</dd></div><div><dt>Tasks</dt><dd>"
     ⋅ decimal tasks ⋅ codes "</dd></div></dl>\n"
 
--- what is proved of the plan
-unfoldable pub claim_element : List ℕ
-claim_element =
-    codes "<p>The plan was checked when this page was made: each task comes after those that it waits for "
-    ⋅ codes "and ends in time, no resource is used beyond its units, and the cost is right. However many "
-    ⋅ codes "units there are, it takes at least the critical length. Whether a cheaper choice keeps the "
-    ⋅ codes "deadline was not looked at: a certificate proves that none does, and how to make and check one "
-    ⋅ codes "stands at the end.</p>\n"
-
 -- the heading
-unfoldable pub heading_element : Drawing → List ℕ
-heading_element plan =
-    title_element plan ⋅ times_element plan ⋅ lengths_element plan.critical plan.task_count ⋅ claim_element
+unfoldable pub heading_element : Drawing → Claim → List ℕ
+heading_element plan claim =
+    title_element plan ⋅ times_element plan ⋅ lengths_element plan.critical plan.task_count ⋅ claim_element plan.cost claim
 
 -- how the plan is checked, and the end of the page
 unfoldable pub checking_element : List ℕ
 checking_element =
     codes "<h2>How to check it</h2>\n<p>NET, ORDER and PLAN are the files that this page was made of. The "
-    ⋅ codes "first command says whether the plan keeps the order; it prints <code>ok</code>. The other two "
-    ⋅ codes "make a certificate and check it: <code>verified</code> says that no cheaper choice keeps the "
-    ⋅ codes "deadline.</p>\n<pre>racp check NET ORDER PLAN\nracp prove NET ORDER &gt; PROOF\nracp verify NET "
-    ⋅ codes "ORDER PLAN PROOF</pre>\n</main>\n</body>\n</html>\n"
+    ⋅ codes "first command says whether the plan keeps the order; it prints <code>ok</code>. The second makes a "
+    ⋅ codes "certificate, which may take long, and the third checks it: <code>verified</code> says that no "
+    ⋅ codes "cheaper choice keeps the deadline. The last one makes this page anew, which then says so.</p>\n"
+    ⋅ codes "<pre>racp check NET ORDER PLAN\nracp prove NET ORDER --facts &gt; PROOF\nracp verify NET ORDER PLAN "
+    ⋅ codes "PROOF\nracp report NET ORDER PLAN --proof PROOF</pre>\n</main>\n</body>\n</html>\n"
 
 -- the numbers of a resource: it costs the price of the units that are not owned
 unfoldable pub choice_cells : Choice → List ℕ
@@ -235,7 +229,7 @@ change_section (byte ∷ bytes) = change_table (byte ∷ bytes)
 -- all of a page that stands behind its style
 unfoldable pub body_of : Report → List ℕ
 body_of report =
-    heading_element report.plan ⋅ choice_table report ⋅ charts report ⋅ task_table report
+    heading_element report.plan report.claim ⋅ choice_table report ⋅ charts report ⋅ task_table report
     ⋅ cost_section report.plan.calendar report.plan.deadline report.costs.items ⋅ change_section report.changes.now
     ⋅ checking_element
 

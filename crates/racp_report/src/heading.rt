@@ -1,8 +1,9 @@
 //! The beginning of a page, and what it says before its tables and charts.
 
 ghost use Rattle.std.specs.Prelude.{◌≡◌, ◌++◌, OnOk, string_bytes};
-ghost use Rattle.racp_report.specs.Pages.{checking_element, claim_element, cost_element, heading_element, lengths_element, opening_element, times_element, title_element};
+ghost use Rattle.racp_report.specs.Pages.{checking_element, cost_element, heading_element, lengths_element, opening_element, times_element, title_element};
 
+use crate::claim::{Claim, push_claim};
 use racp_calendar::push_last;
 use racp_charts::{Drawing, push_plan};
 use std::alloc::AllocError;
@@ -21,13 +22,17 @@ pub(crate) fn push_opening(text: &mut String, plan: &Drawing<'_>) -> Result<(), 
 }
 
 /// Adds the heading of a page: what the plan costs, and what is proved of it.
-pub(crate) fn push_heading(text: &mut String, plan: &Drawing<'_>) -> Result<(), AllocError>
-    ensures { OnOk result (string_bytes text.new ≡ string_bytes text.old ++ heading_element plan.now) }
+pub(crate) fn push_heading(
+    text: &mut String,
+    plan: &Drawing<'_>,
+    claim: Claim,
+) -> Result<(), AllocError>
+    ensures { OnOk result (string_bytes text.new ≡ string_bytes text.old ++ heading_element plan.now claim) }
 {
     push_title(text, plan)?;
     push_times(text, plan)?;
     push_lengths(text, plan.critical, plan.task_count)?;
-    push_claim(text)?;
+    push_claim(text, plan.cost, claim)?;
     Ok(())
 }
 
@@ -73,19 +78,6 @@ fn push_lengths(text: &mut String, critical: u64, tasks: usize) -> Result<(), Al
     )
 }
 
-/// Adds what is proved of the plan.
-#[tactic(auto, unfolding(crate::specs::Pages::claim_element))]
-fn push_claim(text: &mut String) -> Result<(), AllocError>
-    ensures { OnOk result (string_bytes text.new ≡ string_bytes text.old ++ claim_element) }
-{
-    text.push_str(
-        "<p>The plan was checked when this page was made: each task comes after those that it waits for and ends in \
-         time, no resource is used beyond its units, and the cost is right. However many units there are, it takes at \
-         least the critical length. Whether a cheaper choice keeps the deadline was not looked at: a certificate proves \
-         that none does, and how to make and check one stands at the end.</p>\n",
-    )
-}
-
 /// Adds how the plan is checked, and the end of the page.
 #[tactic(auto, unfolding(crate::specs::Pages::checking_element))]
 pub(crate) fn push_checking(text: &mut String) -> Result<(), AllocError>
@@ -94,9 +86,11 @@ pub(crate) fn push_checking(text: &mut String) -> Result<(), AllocError>
     text.push_str(
         "<h2>How to check it</h2>\n\
          <p>NET, ORDER and PLAN are the files that this page was made of. The first command says whether the plan \
-         keeps the order; it prints <code>ok</code>. The other two make a certificate and check it: \
-         <code>verified</code> says that no cheaper choice keeps the deadline.</p>\n\
-         <pre>racp check NET ORDER PLAN\nracp prove NET ORDER &gt; PROOF\nracp verify NET ORDER PLAN PROOF</pre>\n\
+         keeps the order; it prints <code>ok</code>. The second makes a certificate, which may take long, and the third \
+         checks it: <code>verified</code> says that no cheaper choice keeps the deadline. The last one makes this page \
+         anew, which then says so.</p>\n\
+         <pre>racp check NET ORDER PLAN\nracp prove NET ORDER --facts &gt; PROOF\nracp verify NET ORDER PLAN PROOF\n\
+         racp report NET ORDER PLAN --proof PROOF</pre>\n\
          </main>\n</body>\n</html>\n",
     )
 }

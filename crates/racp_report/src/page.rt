@@ -39,7 +39,7 @@ pub fn report_text(alloc: Global, report: &Report<'_>) -> Result<String, AllocEr
 fn push_body(alloc: Global, text: &mut String, report: &Report<'_>) -> Result<(), AllocError>
     ensures { OnOk result (string_bytes text.new ≡ string_bytes text.old ++ body_of report.now) }
 {
-    push_heading(text, &report.plan)?;
+    push_heading(text, &report.plan, report.claim)?;
     push_choice_table(text, report)?;
     push_charts(alloc, text, report)?;
     push_task_table(text, report)?;

@@ -5,8 +5,10 @@ ghost use Rattle.racp_model.specs.Terms.{AreTermsOf};
 ghost use Rattle.racp_model.specs.Plan.{FitsTerms};
 ghost use Rattle.racp_show.specs.Entries.{outlined};
 ghost use Rattle.racp_show.specs.Outlines.{IsOutlineOf};
+ghost use Rattle.racp_report.specs.Claims.{IsClaim};
 ghost use Rattle.racp_report.specs.Reports.{IsReport};
 
+use crate::claim::Claim;
 use racp_charts::{Drawing, drawing_of};
 use racp_json::{Step, steps_of};
 use racp_model::Network;
@@ -24,6 +26,8 @@ pub struct Report<'a> {
     pub costs: Vec<Step>,
     /// The lines of what changes would cost; empty if there are none.
     pub changes: &'a str,
+    /// What is shown of what the plan costs.
+    pub claim: Claim,
 }
 
 /// What is told beside a plan.
@@ -35,6 +39,8 @@ pub struct Beside<'a> {
     pub curve: &'a str,
     /// The lines of what changes would cost; empty if there are none.
     pub changes: &'a str,
+    /// What is shown of what the plan costs.
+    pub claim: Claim,
 }
 
 /// What a page says of a plan that fits the order, with these names and what is told beside it.
@@ -54,8 +60,9 @@ pub fn report_of<'a>(
     requires capacities { length plan.now.capacities ≡ net.now.resources }
     requires fits { FitsTerms net.now order.now plan.now.capacities plan.now.starts }
     requires outline { IsOutlineOf net.now (outlined beside.outline.now) }
+    requires shown { IsClaim net.now order.now plan.now beside.claim }
     ensures { IfOk result (IsReport net.now order.now plan.now names.now (outlined beside.entry.outline.now)
-        beside.entry.curve.now beside.entry.changes.now) }
+        beside.entry.curve.now beside.entry.changes.now beside.entry.claim) }
 {
     let costs = steps_of(alloc, beside.curve)?;
     let plan = drawing_of(alloc, net, order, plan, names, beside.outline)?;
@@ -63,5 +70,6 @@ pub fn report_of<'a>(
         plan,
         costs,
         changes: beside.changes,
+        claim: beside.claim,
     })
 }

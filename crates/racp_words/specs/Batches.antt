@@ -19,10 +19,12 @@ abbrev pub batch_timed : App
 batch_timed = with_rule (with_rule (with_rule (with_rule (new_app (codes "batch")) (files_rule (codes "NET")))
     (record (text_rule (codes "factors")) { required = true })) (text_rule (codes "price"))) (text_rule (codes "time-limit"))
 
--- `batch NET.. --factors F,.. [--price N] [--time-limit S] [--memory MIB] [-j N | --jobs N] [--out DIR] [--quiet]`
+-- `batch NET.. --factors F,.. [--price N] [--time-limit S] [--memory MIB] [-j N | --jobs N] [--out DIR] [--calendar FILE]
+-- [--quiet]`
 abbrev pub batch : App
-batch = with_rule (with_rule (with_rule (with_rule batch_timed (number_rule (codes "memory") 1048576))
-    (lettered 106 (ranged_rule (codes "jobs") 0 64))) (text_rule (codes "out"))) (lettered 113 (flag_rule (codes "quiet")))
+batch = with_rule (with_rule (with_rule (with_rule (with_rule batch_timed (number_rule (codes "memory") 1048576))
+    (lettered 106 (ranged_rule (codes "jobs") 0 64))) (text_rule (codes "out"))) (text_rule (codes "calendar")))
+    (lettered 113 (flag_rule (codes "quiet")))
 
 -- the words with this name, in their order
 abbrev pub words_at : Text → List Row → List Text

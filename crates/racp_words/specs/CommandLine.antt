@@ -5,7 +5,7 @@ use Rattle.clap.specs.Words.{App, IsUnsignedIn, Row, Text, first_of, new_app, ne
 use Rattle.clap.specs.Words.{with_subcommand}
 use Rattle.racp_words.specs.Rules.{AreBoundFiles, AreOrderFiles, ArePlanFiles, AreProofFiles, IsCrew, IsNumberOf, answering, flag_rule, is_set, number_rule, of_order, of_plan, of_workers, telling, text_rule}
 use Rattle.racp_words.specs.Batches.{batch}
-use Rattle.racp_words.specs.Tools.{IsNoTool, IsToolOf, curve, explain, import_table, report, show, order as order_app, whatif}
+use Rattle.racp_words.specs.Tools.{IsNoTool, IsToolOf, curve, explain, export, import_table, report, show, order as order_app, whatif}
 use Rattle.racp_words.specs.declared.request.CrewOptions.{CrewOptions}
 use Rattle.racp_words.specs.declared.request.Request.{Request}
 use Rattle.racp_words.specs.declared.request.Request.TheVariants.{Cpm, Plan, Prove, Check, Verify, VerifyBound, Tool}
@@ -62,9 +62,11 @@ racp_planning = with_subcommand (with_subcommand (with_version (new_app (codes "
 abbrev pub racp_checking : App
 racp_checking = with_subcommand (with_subcommand (with_subcommand racp_planning prove.top) check.top) verify.top
 
--- `racp [.. | show NET ORDER PLAN [OPTIONS] | report NET ORDER PLAN [OPTIONS] | curve NET ORDER [OPTIONS]]`
+-- `racp [.. | show NET ORDER PLAN [OPTIONS] | report NET ORDER PLAN [OPTIONS] | export NET ORDER PLAN OPTIONS | curve NET ORDER
+-- [OPTIONS]]`
 abbrev pub racp_charting : App
-racp_charting = with_subcommand (with_subcommand (with_subcommand racp_checking show.top) report.top) curve.top
+racp_charting =
+    with_subcommand (with_subcommand (with_subcommand (with_subcommand racp_checking show.top) report.top) export.top) curve.top
 
 -- `racp [.. | whatif NET ORDER [PLAN] [OPTIONS] | order NET OPTIONS]`
 abbrev pub racp_asking : App

@@ -1,4 +1,4 @@
--- What the commands `show`, `report`, `curve`, `whatif`, `order`, `batch`, `import` and `explain` ask for.
+-- What the commands `show`, `report`, `export`, `curve`, `whatif`, `order`, `batch`, `import` and `explain` ask for.
 use Rattle.std.specs.Prelude.{◌≡◌, ◌≢◌, ◌&&◌, ◌||◌, Bool, ℕ, List, Option, None, codes, false, map, option_map, true, Some}
 use Rattle.clap.specs.Words.{App, IsUnsignedIn, Row, Text, first_of, new_app, new_rule, with_rule}
 use Rattle.racp_words.specs.Rules.{AreOrderFiles, ArePlanFiles, IsCrew, IsNumberOf, answering, by_workers, file_rule, flag_rule, is_set, lettered, number_in, number_rule, of_order, of_plan, of_workers, path_at, telling, text_rule}
@@ -6,12 +6,13 @@ use Rattle.racp_show.specs.declared.form.Form.{Form}
 use Rattle.racp_show.specs.declared.form.Form.TheVariants.{Text as Blocks, Ascii, Svg, Json, Csv}
 use Rattle.racp_words.specs.Batches.{AreBatchWords, files_rule, words_at}
 use Rattle.racp_words.specs.declared.request.Dates.{Dates}
+use Rattle.racp_words.specs.declared.request.ExportWords.{ExportWords}
 use Rattle.racp_words.specs.declared.request.Look.{Look}
 use Rattle.racp_words.specs.declared.request.NamedNet.{NamedNet}
 use Rattle.racp_words.specs.declared.table_requests.TableWords.{TableWords}
 use Rattle.racp_words.specs.declared.request.Terms.{Terms}
 use Rattle.racp_words.specs.declared.request.Tool.{Tool}
-use Rattle.racp_words.specs.declared.request.Tool.TheVariants.{Show, Report, Curve, WhatIf, Order, Batch, Import, Explain}
+use Rattle.racp_words.specs.declared.request.Tool.TheVariants.{Show, Report, Export, Curve, WhatIf, Order, Batch, Import, Explain}
 
 -- `show NET ORDER PLAN [--names FILE] [--width N]`
 abbrev pub show_named : App
@@ -38,10 +39,19 @@ show = telling (with_rule (with_rule (dated (with_rule show_in_letters (flag_rul
 abbrev pub report_of_curve : App
 report_of_curve = with_rule (with_rule (of_plan (codes "report")) (text_rule (codes "names"))) (text_rule (codes "curve"))
 
--- `report NET ORDER PLAN [--names FILE] [--curve FILE] [--whatif FILE] [--calendar FILE] [--start-date DATE]
+-- `report NET ORDER PLAN [--names FILE] [--curve FILE] [--whatif FILE] [--proof FILE] [--calendar FILE] [--start-date DATE]
 -- [--workdays DAYS] [--unit UNIT] [--explain] [--quiet]`
 abbrev pub report : App
-report = telling (dated (with_rule report_of_curve (text_rule (codes "whatif"))))
+report = telling (dated (with_rule (with_rule report_of_curve (text_rule (codes "whatif"))) (text_rule (codes "proof"))))
+
+-- `export NET ORDER PLAN --to FORMAT --calendar FILE`
+abbrev pub export_to : App
+export_to = with_rule (with_rule (of_plan (codes "export")) (record (text_rule (codes "to")) { required = true }))
+    (record (text_rule (codes "calendar")) { required = true })
+
+-- `export NET ORDER PLAN --to FORMAT --calendar FILE [--names FILE] [--explain] [--quiet]`
+abbrev pub export : App
+export = telling (with_rule export_to (text_rule (codes "names")))
 
 -- `curve NET ORDER [-j N | --workers N] [--turns N] [--memory MIB] [--time-limit S]`
 abbrev pub curve_timed : App
@@ -161,6 +171,12 @@ pub record IsLook (words : List Row) (look : Look) : Type 0 where
   pub links : look.has_links ≡ is_set (codes "links") words
   pub dates : AreDates words look.dates
 
+-- the words for a plan that is written for other programs
+pub record AreExportWords (words : List Row) (export : ExportWords) : Type 0 where
+  pub to : export.to.now ≡ path_at (codes "to") words
+  pub calendar : export.calendar.now ≡ path_at (codes "calendar") words
+  pub names : option_map (λ word. word.now) export.names ≡ first_of (codes "names") words
+
 -- the words for the files of a network and of names
 pub record IsNamedNet (words : List Row) (files : NamedNet) : Type 0 where
   pub net : files.net.now ≡ path_at (codes "NET") words
@@ -203,7 +219,10 @@ IsToolOf command (Report files options) =
     (option_map (λ word. word.now) options.names ≡ first_of (codes "names") command.1) ×
     (option_map (λ word. word.now) options.curve ≡ first_of (codes "curve") command.1) ×
     (option_map (λ word. word.now) options.changes ≡ first_of (codes "whatif") command.1) ×
+    (option_map (λ word. word.now) options.proof ≡ first_of (codes "proof") command.1) ×
     AreDates command.1 options.dates
+IsToolOf command (Export files options) =
+    (command.0 ≡ codes "export") × ArePlanFiles command.1 files × AreExportWords command.1 options
 IsToolOf command (Curve files memory crew is_drawn) =
     (command.0 ≡ codes "curve") × AreOrderFiles command.1 files ×
     IsNumberOf 1048576 1024 (first_of (codes "memory") command.1) memory.mebibytes ×
@@ -227,6 +246,7 @@ IsToolOf command (Explain format fault) =
 pub record IsNoTool (name : Text) : Type 0 where
   pub no_show : name ≢ codes "show"
   pub no_report : name ≢ codes "report"
+  pub no_export : name ≢ codes "export"
   pub no_curve : name ≢ codes "curve"
   pub no_whatif : name ≢ codes "whatif"
   pub no_order : name ≢ codes "order"

@@ -42,6 +42,11 @@ pub(crate) const BATCH: &[Word] = &[
         "DIR",
         "Keeps each plan in this folder: DIR/NAME-FACTOR.plan",
     ),
+    Word::Text(
+        "calendar",
+        "FILE",
+        "Tells the last day of each deadline too; FILE has the first day, the working days and the holidays",
+    ),
     QUIET,
 ];
 

@@ -14,7 +14,7 @@ use crate::request::{
     OrderFiles, PlanFiles, ReportWords, Request, Source, Task, Telling, Tool, WhatIfWords,
 };
 use crate::table_words::table_of;
-use crate::tool_words::{look_of, named_net, terms_of};
+use crate::tool_words::{export_of, look_of, named_net, terms_of};
 use crate::verify_words::verify_of;
 use clap::{ArgMatches, Error};
 use std::alloc::{AllocError, Global};
@@ -177,9 +177,12 @@ fn tool_named<'a>(name: &str, words: &ArgMatches<'a>) -> Option<Tool<'a>>
             names: text_of(words, "names"),
             curve: text_of(words, "curve"),
             changes: text_of(words, "whatif"),
+            proof: text_of(words, "proof"),
             dates: dates_of(words),
         };
         Some(Tool::Report(plan_files(words), options))
+    } else if name == "export" {
+        Some(Tool::Export(plan_files(words), export_of(words)))
     } else if name == "curve" {
         let files = order_files(words);
         let crew = crew_of(words);

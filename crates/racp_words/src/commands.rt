@@ -28,6 +28,7 @@ Examples:
   racp plan net.sm order.toml > net.plan   the cheapest capacities, with the least starts
   racp show net.sm order.toml net.plan     a chart of the plan
   racp report net.sm order.toml net.plan > plan.html
+  racp export net.sm order.toml net.plan --to ics --calendar work.toml > plan.ics
   racp curve net.sm order.toml             what each deadline costs
   racp whatif net.sm order.toml            what one unit fewer or more changes
   racp batch *.sm --factors 1.0,1.2        a table of what each network costs

@@ -19,6 +19,7 @@
 //! racp verify a.sm a4.toml q               VerifyBound with the paths a.sm, a4.toml and q, and None: no limit of time
 //! racp show a.sm a4.toml p --svg           Tool, Show with these paths, no names, no width and the form Svg
 //! racp report a.sm a4.toml p --names n     Tool, Report with these paths, the names n, no curve, no changes
+//! racp export a.sm a4.toml p --to ics --calendar c  Tool, Export with these paths, the words ics and c, no names
 //! racp curve b.sm b3.toml                  Tool, Curve with these paths, 1,024 MiB, one thread, and no picture
 //! racp curve b.sm b3.toml --workers 4      the same, and a CrewOptions of 4 workers
 //! racp whatif a.sm a4.toml p               Tool, WhatIf with these paths, 1,024 MiB, one thread, and no names
@@ -42,7 +43,7 @@
 //! of each command that reads a file say; and whether the answer is written as JSON, which the flag `--json` says.
 //!
 //! The commands stand in `specs/` a second time, as values of the library's definitions: `racp`, `cpm`, `plan`,
-//! `of_order`, `of_plan`, `check`, `verify`, `show`, `report`, `curve`, `whatif`, `order`, `batch`, `import_table` and `explain`. What `clap` is proved to do with
+//! `of_order`, `of_plan`, `check`, `verify`, `show`, `report`, `export`, `curve`, `whatif`, `order`, `batch`, `import_table` and `explain`. What `clap` is proved to do with
 //! them says what any words ask for.
 //!
 //! Proved: without words, with `cpm`, and with `cpm` and a word that does not begin with a hyphen or is a hyphen alone,
@@ -53,7 +54,7 @@
 //! cases only memory can fail. A path here is a word that is not empty and does not begin with a hyphen. For any other
 //! words `asked` answers what `clap` is proved to find, or refuses with the kind of error that it is proved to give:
 //! `plan` asks for a crew exactly if `clap` finds one of the six options, and a number that it finds and that is in
-//! range is that of the crew or of the memory; `show`, `report`, `curve`, `whatif`, `order`, `batch`, `import` and `explain` ask for what their
+//! range is that of the crew or of the memory; `show`, `report`, `export`, `curve`, `whatif`, `order`, `batch`, `import` and `explain` ask for what their
 //! words and flags say (`IsToolOf`); nothing is told of faults exactly if it finds `--quiet`, and else all exactly if it
 //! finds `--explain`; JSON is asked for exactly if it finds `--json`. No crew has more than 64
 //! workers or 1,000,000,000,000 turns, and no more than 1,048,576 MiB are asked for. Tested alone, over the built
@@ -76,7 +77,7 @@ mod verify_words;
 pub use command_line::asked;
 pub use commands::command_list;
 pub use request::{
-    BoundFiles, CrewOptions, Dates, Look, Memory, NamedNet, OrderFiles, PlanFiles, ProofFiles,
-    ReportWords, Request, Source, Task, Telling, Terms, Tool, WhatIfWords,
+    BoundFiles, CrewOptions, Dates, ExportWords, Look, Memory, NamedNet, OrderFiles, PlanFiles,
+    ProofFiles, ReportWords, Request, Source, Task, Telling, Terms, Tool, WhatIfWords,
 };
 pub use table_requests::{BatchWords, TableWords};

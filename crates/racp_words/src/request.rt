@@ -56,6 +56,8 @@ pub enum Tool<'a> {
     Show(PlanFiles<'a>, Look<'a>),
     /// A page about a plan of a network on the terms of an order.
     Report(PlanFiles<'a>, ReportWords<'a>),
+    /// A plan of a network on the terms of an order, for other programs.
+    Export(PlanFiles<'a>, ExportWords<'a>),
     /// What each deadline up to that of an order costs, with so much memory for records: on one thread, or by workers
     /// if an option is given; as a picture if that is said.
     Curve(OrderFiles<'a>, Memory, Option<CrewOptions<'a>>, bool),
@@ -99,8 +101,21 @@ pub struct ReportWords<'a> {
     pub curve: Option<&'a str>,
     /// The path of what changes cost, if there is one.
     pub changes: Option<&'a str>,
+    /// The path of a certificate for the plan, or of a bound, if there is one.
+    pub proof: Option<&'a str>,
     /// How times are told.
     pub dates: Dates<'a>,
+}
+
+/// The words for a plan that is written for other programs.
+#[derive(Clone, Copy)]
+pub struct ExportWords<'a> {
+    /// In which format.
+    pub to: &'a str,
+    /// The path of a calendar of working days.
+    pub calendar: &'a str,
+    /// The path of the names of jobs and resources, if there is one.
+    pub names: Option<&'a str>,
 }
 
 /// The words for what becomes of an order if one term is changed.

@@ -1,12 +1,12 @@
-//! What the words of `show` and `order` say.
+//! What the words of `show`, `export` and `order` say.
 
 ghost use Rattle.std.specs.Prelude.{◌≡◌, ◌≤◌, IfSome, codes};
 ghost use Rattle.clap.specs.Words.{first_of, found_of, rows_of};
-ghost use Rattle.racp_words.specs.Tools.{are_several, AreTerms, IsForm, IsLook, IsNamedNet, IsWidth};
+ghost use Rattle.racp_words.specs.Tools.{AreExportWords, are_several, AreTerms, IsForm, IsLook, IsNamedNet, IsWidth};
 
 use crate::most::MOST_WIDTH;
 use crate::options::{dates_of, is_set, number_of, path_of, text_of};
-use crate::request::{Look, NamedNet, Terms};
+use crate::request::{ExportWords, Look, NamedNet, Terms};
 use clap::ArgMatches;
 use racp_show::Form;
 
@@ -48,6 +48,17 @@ fn form_of(words: &ArgMatches<'_>) -> Form
         Form::Ascii
     } else {
         Form::Text
+    }
+}
+
+/// The words for a plan that is written for other programs.
+pub(crate) fn export_of<'a>(words: &ArgMatches<'a>) -> ExportWords<'a>
+    ensures { AreExportWords (rows_of (found_of words.now)) result }
+{
+    ExportWords {
+        to: path_of(words, "to"),
+        calendar: path_of(words, "calendar"),
+        names: text_of(words, "names"),
     }
 }
 

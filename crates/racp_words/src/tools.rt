@@ -3,8 +3,7 @@
 use crate::batch_words::BATCH;
 use crate::most::{MOST_WIDTH, MOST_WORKERS};
 use crate::table::{
-    EXPLAIN, JSON, JSON_DAYS, Line, MEMORY, NET, ORDER, PLAN, PROGRESS, QUIET, TIME_LIMIT, TURNS,
-    Word,
+    EXPLAIN, JSON, Line, MEMORY, NET, ORDER, PLAN, PROGRESS, QUIET, TIME_LIMIT, TURNS, Word,
 };
 use crate::table_words::{CALENDAR, CEILING, IMPORT, OWNED, START_DATE, TIMES, UNIT, WORKDAYS};
 
@@ -74,6 +73,11 @@ pub(crate) const TOOLS: &[Line] = &[
                 "What each deadline costs, as curve prints it",
             ),
             Word::Text("whatif", "FILE", "What changes cost, as whatif prints it"),
+            Word::Text(
+                "proof",
+                "FILE",
+                "A certificate for the plan, or of a bound, as prove prints it",
+            ),
             CALENDAR,
             START_DATE,
             WORKDAYS,
@@ -82,6 +86,25 @@ pub(crate) const TOOLS: &[Line] = &[
             QUIET,
         ],
         example: "Example: racp report net.sm order.toml net.plan --names net.names > plan.html",
+    },
+    Line {
+        name: "export",
+        about: "Writes a plan that is right for other programs: calendars, spreadsheets, Markdown",
+        words: &[
+            NET,
+            ORDER,
+            PLAN,
+            Word::Needed("to", "FORMAT", "ics, csv or md"),
+            Word::Needed(
+                "calendar",
+                "FILE",
+                "The first day, the working days and the holidays: which days times are",
+            ),
+            NAMES,
+            EXPLAIN,
+            QUIET,
+        ],
+        example: "Example: racp export net.sm order.toml net.plan --to ics --calendar net.calendar > net.ics",
     },
     Line {
         name: "curve",
@@ -100,7 +123,11 @@ pub(crate) const TOOLS: &[Line] = &[
                 "Keeps in FILE the cheapest plan that is known for the deadline of the order",
             ),
             SVG,
-            JSON_DAYS,
+            Word::Text(
+                "calendar",
+                "FILE",
+                "With --svg or --json, tells days of deadlines; FILE has the first day, the working days and the holidays",
+            ),
             JSON,
             EXPLAIN,
             QUIET,

@@ -2,4 +2,4 @@ use Rattle.racp.proofs.Planned.{curved}
 use Rattle.racp.proofs.costing.curve_alone.Goals as goal
 
 pub returns : goal.returns
-returns g c = curved c.args.costing.is_drawn _ _ _ _ c.curve_over.result c.curve_over.ensures
+returns g c = curved c.form.result _ _ _ _ c.curve_over.result c.curve_over.ensures

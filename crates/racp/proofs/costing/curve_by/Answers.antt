@@ -2,4 +2,4 @@ use Rattle.racp.proofs.Planned.{curved_by}
 use Rattle.racp.proofs.costing.curve_by.Goals as goal
 
 pub returns : goal.returns
-returns g c = curved_by _ _ c.args.costing.is_drawn _ _ _ _ c.curve_crowd_over-status.result c.curve_crowd_over-status.ensures
+returns g c = curved_by _ _ c.form.result _ _ _ _ c.curve_crowd_over-status.result c.curve_crowd_over-status.ensures

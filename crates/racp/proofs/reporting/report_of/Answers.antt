@@ -1,6 +1,7 @@
 use Rattle.std.proofs.Common.{None}
-use Rattle.racp.proofs.Planned.{reported}
+use Rattle.racp.proofs.Planned.{ended_as, reported}
 use Rattle.racp.proofs.reporting.report_of.Goals as goal
 
 pub returns : goal.returns
-returns g c = reported _ _ _ _ None None c.report_over.result c.report_over.ensures
+returns g c = ended_as _ _ _ _ c.report_over-status.result c.ended.result c.ended.ensures.ok
+    (reported _ _ _ _ None None c.report_over-status.result c.report_over-status.ensures)

@@ -12,6 +12,7 @@ use Rattle.racp_batch.proofs.telling.write_done.Goals as goal
 
 pub loop-place-preserved : goal.loop-place-preserved
 loop-place-preserved g c =
+    let calendar = c.args.shared.now.batch.now.calendar in
     let cases = c.args.shared.now.batch.now.cases.now in
     let place = c.loop-place.place in
     let case = c.in-Some-get.case.now in
@@ -19,8 +20,8 @@ loop-place-preserved g c =
     let named = subst (λ (cs : List Matter). slice_get cs place ≡ Some case) c.requires found in
     record {
       at = refl;
-      told = λ base h. told_at (MayBeOpen g.T.OfCases.unlimited g.T.OfCases.quiet) g.T.OfCases.cases base _ _ place case c.in-Some.done.now
-          (subst (λ (n : ℕ). IsTold (MayBeOpen g.T.OfCases.unlimited g.T.OfCases.quiet) g.T.OfCases.cases base (g.W.Write.contents c.loop-place.out) n) c.loop-place.invariant.at (c.loop-place.invariant.told base h))
+      told = λ base h. told_at calendar (MayBeOpen g.T.OfCases.unlimited g.T.OfCases.quiet) g.T.OfCases.cases base _ _ place case c.in-Some.done.now
+          (subst (λ (n : ℕ). IsTold calendar (MayBeOpen g.T.OfCases.unlimited g.T.OfCases.quiet) g.T.OfCases.cases base (g.W.Write.contents c.loop-place.out) n) c.loop-place.invariant.at (c.loop-place.invariant.told base h))
           named c.in-Some.ensures c.row.ensures.right
-          (subst (λ (r : Row). Appends (g.W.Write.contents c.loop-place.out) (g.W.Write.contents c.write_row.new.out) (row_line case r)) c.row.ensures.row c.in_ok-write_row.ensures);
+          (subst (λ (r : Row). Appends (g.W.Write.contents c.loop-place.out) (g.W.Write.contents c.write_row.new.out) (row_line calendar case r)) c.row.ensures.row c.in_ok-write_row.ensures);
     }

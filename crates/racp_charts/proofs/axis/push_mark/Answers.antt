@@ -1,5 +1,5 @@
 use Rattle.std.proofs.Common.{◌∙◌, ◌+◌, ◌++◌, ℕ, ap, string_bytes}
-use Rattle.racp_charts.specs.Drawings.{across, mark_element, mark_line, mark_number}
+use Rattle.racp_charts.specs.Axes.{across, mark_element, mark_line, mark_number}
 use Rattle.racp_charts.proofs.Pieces.{in_two}
 use Rattle.racp_charts.proofs.axis.push_mark.Goals as goal
 

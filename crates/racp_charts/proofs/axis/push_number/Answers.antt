@@ -1,5 +1,5 @@
 use Rattle.std.proofs.Common.{◌∙◌, ◌++◌, ℕ, ap, codes, string_bytes}
-use Rattle.racp_charts.specs.Drawings.{across, mark_begin, mark_number, told_time}
+use Rattle.racp_charts.specs.Axes.{across, mark_begin, mark_number, told_time}
 use Rattle.racp_charts.proofs.Pieces.{in_three}
 use Rattle.racp_charts.proofs.axis.push_number.Goals as goal
 

@@ -8,5 +8,5 @@ pub returns : goal.returns
 returns c =
     let same : c.into_bytes.result.items ≡ string_bytes c.in_ok-picture.picture = search rules in
     let corners : c.deref.result.now ≡ map corner_of c.args.steps.now = search rules in
-    let drawn = subst (λ (all : List Corner). IsCostPicture all c.args.last (string_bytes c.in_ok-picture.picture)) corners c.in_ok-picture.ensures in
-    subst (λ (t : List ℕ). IsCostPicture (map corner_of c.args.steps.now) c.args.last t) (sym same) drawn
+    let drawn = subst (λ (all : List Corner). IsCostPicture c.args.calendar all c.args.last (string_bytes c.in_ok-picture.picture)) corners c.in_ok-picture.ensures in
+    subst (λ (t : List ℕ). IsCostPicture c.args.calendar (map corner_of c.args.steps.now) c.args.last t) (sym same) drawn

@@ -12,5 +12,5 @@ returns-in_ok-to_vec-in-NoThread c =
 
 pub returns-in_ok-text-in-Stopped : goal.returns-in_ok-text-in-Stopped
 returns-in_ok-text-in-Stopped c =
-    let text : stopped_text c.args.is_drawn c.args.steps.now c.in-Stopped.not_before ≡ c.in_ok-text-in-Stopped.text.items = search rules in
+    let text : stopped_text c.args.form c.args.steps.now c.in-Stopped.not_before ≡ c.in_ok-text-in-Stopped.text.items = search rules in
     rw c.in-Stopped.is (refl, text)

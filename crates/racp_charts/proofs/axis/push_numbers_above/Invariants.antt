@@ -1,7 +1,7 @@
 use Rattle.std.proofs.Common.{◌≡◌, ◌++◌, string_bytes}
-use Rattle.racp_charts.specs.Drawings.{time_above}
+use Rattle.racp_charts.specs.Axes.{time_above}
 use Rattle.racp_charts.specs.Texts.{texts_before}
-use Rattle.racp_charts.proofs.axis.push_above.Given as goal
+use Rattle.racp_charts.proofs.axis.push_numbers_above.Given as goal
 
 abbrev pub invariant-loop-place : goal.invariant-loop-place
 invariant-loop-place l = string_bytes l.text ≡ string_bytes l.initial.text ++ texts_before (time_above l.span l.y) l.place

@@ -1,0 +1,7 @@
+use Rattle.std.proofs.Common.{◌≡◌, ◌++◌, string_bytes}
+use Rattle.racp_charts.specs.Bands.{period_name}
+use Rattle.racp_charts.specs.Texts.{texts_before}
+use Rattle.racp_charts.proofs.bands.push_names.Given as goal
+
+abbrev pub invariant-loop-place : goal.invariant-loop-place
+invariant-loop-place l = string_bytes l.text ≡ string_bytes l.initial.text ++ texts_before (period_name l.band.workdays.now l.band.span l.band.period l.end l.y) l.place

@@ -1,0 +1,3 @@
+mod Pieces
+mod Fields
+mod NextDay
