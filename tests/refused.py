@@ -94,7 +94,7 @@ def read_by_bytes(library):
         wrong = wrong_if_plain(wanted)
         for number, path in enumerate(reads, 1):
             got, told = run_told(library, DRIP, number, [*words, "--explain"])
-            is_right = got[:2] == (7, b"") and got.error.startswith(f"read fault\nracp: {path}: ".encode()) and told == b"x"
+            is_right = got[:2] == (7, b"") and got.error.startswith(f"racp: {path}: ".encode()) and told == b"x"
             wrong = wrong or (None if is_right else f"read {number}: {got}, told {told}")
         got, was_refused = run_refused(library, DRIP, len(reads) + 1, words)
         return f"{words[0]}, by bytes", "read fault", wrong or was_refused and "there are more reads" or difference(wanted, got)

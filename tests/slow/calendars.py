@@ -70,15 +70,17 @@ class Calendar:
             raise NoCalendar("4,000")
 
     def days(self, count):
-        """The working days of each of so many first blocks that count; fewer if the calendar of dates ends before."""
+        """The working days of each of so many first blocks that count; fewer if the calendar of dates ends before. Where the last block
+        has a working day after the year 9999, None stands for it."""
         found, begin = [], self.start
         while len(found) < count:
             block, day = [], begin
-            for _ in range(self.span):
+            for left in reversed(range(self.span)):
                 if day.weekday() in self.worked and day not in self.free:
                     block.append(day)
                 if day == LAST:
-                    return found + ([block] if block else [])
+                    beyond = any((day.weekday() + k) % 7 in self.worked for k in range(1, left + 1))
+                    return found + ([block + [None] * beyond] if block or beyond else [])
                 day += DAY
             if block:
                 found.append(block)
