@@ -72,9 +72,10 @@ class Plan(Table):
         return {"net": self.network.text(), "order": self.order.text(self.network), "plan": plan}
 
     def report(self, path: str | Path | None = None, *, curve: bool = False, whatif: bool = False,
-               calendar: Calendar | None = None, time_limit: float | None = None) -> str:
+               calendar: Calendar | None = None, certificate: str | None = None, time_limit: float | None = None) -> str:
         """A page in HTML to read and print, also written to the path. With `curve` and `whatif` it tells what other deadlines
-        and changes cost, as far as known in `time_limit` seconds each; with a calendar the first and last day of each job."""
+        and changes cost, as far as known in `time_limit` seconds each; with a calendar the first and last day of each job;
+        with a certificate what that shows. Raises `Unproved` if it shows nothing."""
         texts = self.texts()
         names = [" ".join(str(key).split()) for key in (*self.starts, *self.capacity)]
         more = {"names": "".join(f" {name}\n" if name.startswith("#") else f"{name}\n" for name in names)}
@@ -84,6 +85,8 @@ class Plan(Table):
             more["whatif"] = run({**texts, **more}, "whatif", *texts, names="names", time_limit=time_limit)
         if calendar:
             more["calendar"] = calendar.text()
+        if certificate is not None:
+            more["proof"] = certificate
         page = run({**texts, **more}, "report", *texts, *(f"--{name}={name}" for name in more))
         if path is not None:
             Path(path).write_text(page, encoding="utf-8")

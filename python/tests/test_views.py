@@ -117,6 +117,11 @@ class Views(unittest.TestCase):
         dated = self.plan.report(calendar=WORK)
         for words in ("First day", "Last day", "2026-03-09"):
             self.assertIn(words, dated)
+        self.assertIn("This page does not show whether a cheaper choice", dated)
+        proved = self.plan.report(certificate=racp.prove(self.plan, facts=True))
+        self.assertIn("Proved: no cheaper choice keeps the deadline.", proved)
+        with self.assertRaises(racp.Unproved):
+            self.plan.report(certificate="proof 2\n")
 
 
 if __name__ == "__main__":
