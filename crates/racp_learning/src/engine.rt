@@ -9,6 +9,7 @@ use crate::energies::Energies;
 use crate::following::follow;
 use crate::problem::Problem;
 use crate::restarts::Restarts;
+use crate::roaming::Roaming;
 use crate::trail::{Entry, Trail};
 use crate::usage::CoreUsage;
 use crate::view::View;
@@ -50,6 +51,7 @@ pub(crate) struct Engine {
     usage: CoreUsage,
     pub(crate) energies: Energies,
     deciding: Deciding,
+    pub(crate) roaming: Roaming,
     pub(crate) restarts: Restarts,
     /// Starts that decisions keep to; none if there are none.
     pub(crate) guide: Vec<u32>,
@@ -74,6 +76,7 @@ impl Engine {
             usage: CoreUsage::new(alloc, &problem)?,
             energies: Energies::new(alloc, &problem)?,
             deciding: Deciding::new(alloc, &problem)?,
+            roaming: Roaming::new(alloc, &problem)?,
             restarts: Restarts::new(),
             guide: Vec::new(alloc),
             assumed: Vec::new(alloc),
@@ -90,6 +93,7 @@ impl Engine {
 
     /// Takes back all above a level.
     pub(crate) fn back(&mut self, level: usize) {
+        self.roaming.note(&self.trail);
         self.trail.back(level);
         self.usage.reset();
         self.energies.reset();
@@ -119,6 +123,7 @@ impl Engine {
     fn begins_anew(&mut self) -> bool {
         if self.restarts.is_due() {
             self.restarts.begin();
+            self.roaming.begin();
             return true;
         }
         self.clauses.are_large() || self.clauses.are_crowded()
@@ -160,6 +165,7 @@ impl Engine {
             Choice::Found => return Some(Halt::Found),
             Choice::Nothing => return Some(Halt::Stuck),
             Choice::Try(bound) => {
+                let bound = self.roamed().unwrap_or(bound);
                 self.decisions = self.decisions.saturating_add(1);
                 self.trail.open_level();
                 if !self.trail.put(bound, Why::Decision) {
@@ -168,6 +174,12 @@ impl Engine {
             }
         }
         None
+    }
+
+    /// What is tried instead, if it is the turn of that.
+    fn roamed(&self) -> Option<Bound> {
+        self.roaming
+            .choose(&self.problem, &self.trail, &self.activity)
     }
 
     /// Follows all bounds, and says why it halts, if it does.

@@ -1,4 +1,4 @@
-//! What helps a search beside its question: a guide, and work in windows.
+//! What helps a search beside its question: a guide, work in windows, and decisions about any job.
 
 use crate::search::Search;
 use racp_clauses::OfProblem;
@@ -21,5 +21,11 @@ impl<N: OfProblem> Search<N> {
     /// questions ask for little cost.
     pub fn look_at_energies(&mut self) {
         self.engine.energies.turn_on();
+    }
+
+    /// From now on it decides about any job, and not only where the early starts exceed some units, in every second stretch from
+    /// one new beginning to the next. That refutes some questions about little cost sooner.
+    pub fn roam(&mut self) {
+        self.engine.roaming.turn_on();
     }
 }

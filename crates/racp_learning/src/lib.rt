@@ -33,8 +33,8 @@
 //! clause that is false within the bounds, or that the question is left open, with the reason. What it has learned serves
 //! the next question too. Searches over one problem can learn from each other: `take_short` gives short clauses, and
 //! `learn_from` derives one anew where it is of use. `guide` gives it starts that decisions keep to, as to look for a
-//! schedule near these, and `look_at_energies` has it look at windows. After `record` it keeps what its clauses are
-//! derived from (`Derivations`), for who wants to show them.
+//! schedule near these, `look_at_energies` has it look at windows, and `roam` has it decide about any job in turns. After `record`
+//! it keeps what its clauses are derived from (`Derivations`), for who wants to show them.
 //!
 //! Nothing of this has to be trusted. Each clause is derived by the rules of racp_clauses from the steps that the search
 //! names, and what is not confirmed is dropped and counted. Starts that are found are tested. So the parts below `Search`
@@ -80,6 +80,7 @@ mod reasons;
 mod recorder;
 mod recording;
 mod restarts;
+mod roaming;
 mod rows;
 mod scale;
 mod search;
