@@ -1,20 +1,19 @@
 //! Searches for one optimum side by side.
 
 ghost use Rattle.std.specs.Prelude.{IfOk};
-ghost use Rattle.racp_found.specs.Finds.{IsFound};
 ghost use Rattle.racp_found.specs.Told.{MayBeTold};
-ghost use Rattle.racp_by_clauses.specs.Optima.{IsTaskOf};
+ghost use Rattle.racp_by_clauses.specs.Optima.{IsOptimum, IsTaskOf};
 
 use crate::common::Common;
 use crate::descent::Descent;
 use crate::limits::Limits;
 use crate::optimizer::first_draft;
-use crate::optimum::optimum_of;
+use crate::optimum::{Optimum, optimum_of};
 use crate::task::{Task, Tasks};
 use crate::telling::Finished;
 use crate::worker::Worker;
 use racp_clauses::OfProblem;
-use racp_found::{Found, Observer, Until};
+use racp_found::{Observer, Until};
 use std::alloc::AllocError;
 use std::sync::Wait;
 use std::thread;
@@ -96,11 +95,13 @@ fn join_all<N: OfProblem, R: Threads + Wait>(
     }
 }
 
-/// Takes what another search has found, if nothing that is finished is there.
-fn take_finished<N: OfProblem>(task: Task<'_>, found: &mut Descent<N>, other: Descent<N>) {
+/// Takes what another search has found, if nothing that is finished is there. The floors are those of both.
+fn take_finished<N: OfProblem>(task: Task<'_>, found: &mut Descent<N>, mut other: Descent<N>) {
     if found.is_finished(task) {
+        found.floors.join(&other.floors);
         drop(other);
     } else {
+        other.floors.join(&found.floors);
         *found = other;
     }
 }
@@ -167,9 +168,9 @@ fn search_all<'a, 'b, N: OfProblem + Send + Sync, O: Observer, R: Threads + Wait
     if worker.descent.is_finished(task) || worker.descent.left > 0 {
         return Ok(());
     }
-    worker
-        .descent
-        .raise_by_halves(&mut worker.search, tasks, observer)?;
+    let (search, descent) = (&mut worker.search, &mut worker.descent);
+    descent.raise_by_halves(search, tasks, observer)?;
+    descent.raise_floors(search, tasks, observer, ALONE)?;
     in_scope(rt, common, worker, workers, observer)
 }
 
@@ -185,10 +186,10 @@ pub fn optimum_beside<N: OfProblem + Send + Sync, O: Observer, R: Threads + Wait
     limits: Limits,
     workers: usize,
     observer: &O,
-) -> Result<Found, AllocError>
+) -> Result<Optimum, AllocError>
     requires is_of { IsTaskOf N.problem task }
     requires may { MayBeTold N.problem.network N.problem.terms O.may_hear }
-    ensures { IfOk result (IsFound N.problem.network N.problem.terms) }
+    ensures { IfOk result (IsOptimum N.problem.network N.problem.terms) }
 {
     if workers < 2 {
         return optimum_of::<N, O>(task, limits, observer);
@@ -202,7 +203,7 @@ pub fn optimum_beside<N: OfProblem + Send + Sync, O: Observer, R: Threads + Wait
     let common: Common<'_, N> = Common::new(task, own, share)?;
     let mut worker = Worker::new(&common, 0, draft)?;
     match search_all(rt, &common, &mut worker, workers, observer) {
-        Ok(()) => worker.into_descent().into_found(task),
+        Ok(()) => worker.into_descent().into_optimum(task),
         Err(refused) => {
             // By a call: else each part is dropped here.
             drop(worker);

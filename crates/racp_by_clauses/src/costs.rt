@@ -29,9 +29,9 @@ impl<N: OfProblem> Worker<N> {
         requires may { MayBeTold N.problem.network N.problem.terms O.may_hear }
     {
         if self.seat == FROM_BELOW && self.descent.is_cost_open(tasks.part) {
-            return self
-                .descent
-                .raise_from_below(&mut self.search, tasks, observer, conflicts);
+            let (search, descent) = (&mut self.search, &mut self.descent);
+            descent.raise_from_below(search, tasks, observer, conflicts)?;
+            return descent.raise_floors(search, tasks, observer, conflicts);
         }
         self.descent.left = conflicts;
         self.descent.go_down(&mut self.search, tasks, observer)

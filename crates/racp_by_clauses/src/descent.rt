@@ -5,9 +5,12 @@ ghost use Rattle.racp_by_clauses.specs.Optima.{AreTasksOf, IsTaskOf};
 
 use crate::asking::Heard;
 use crate::by_resource::{Aim, Parts};
+use crate::floors::Floors;
 use crate::places::{place_in_turn, value_of, variable_count};
+use crate::questions::uppers;
 use crate::serial::serial_starts;
 use crate::task::{Task, Tasks};
+use crate::units::Turns;
 use racp_clauses::{Clause, OfProblem};
 use racp_drafts::Draft;
 use racp_found::{News, Observer};
@@ -31,6 +34,10 @@ pub(crate) struct Descent<P: OfProblem> {
     pub(crate) parts: Option<Parts>,
     /// What everything costs at least, as far as it is shown.
     pub(crate) least_cost: u64,
+    /// What all capacities that are enough have at least, as far as it is shown.
+    pub(crate) floors: Floors<P>,
+    /// Whose floor is asked for next.
+    pub(crate) turns: Turns,
 }
 
 impl<P: OfProblem> Descent<P> {
@@ -43,6 +50,8 @@ impl<P: OfProblem> Descent<P> {
         requires { IsTaskOf P.problem task }
     {
         let most = uppers(task)?;
+        let turns = Turns::new(task.alloc, task.net.resource_count())?;
+        let floors = Floors::new(task)?;
         Ok(Descent {
             best,
             most,
@@ -54,6 +63,8 @@ impl<P: OfProblem> Descent<P> {
             least_cost: task
                 .root
                 .lower_at(task.net.job_count() + task.net.resource_count()),
+            floors,
+            turns,
         })
     }
 
@@ -208,15 +219,6 @@ impl<P: OfProblem> Descent<P> {
             *place = most;
         }
     }
-}
-
-/// What each variable is at most at the root.
-fn uppers(task: Task<'_>) -> Result<Vec<u64>, AllocError> {
-    let mut row = Vec::new(task.alloc);
-    for x in 0..variable_count(task.net) {
-        row.push(task.root.upper_at(x))?;
-    }
-    Ok(row)
 }
 
 /// What the parts of a question ask for before its turn.

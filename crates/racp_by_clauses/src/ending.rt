@@ -3,9 +3,10 @@
 ghost use Rattle.std.specs.Prelude.{IfOk};
 ghost use Rattle.racp_clauses.specs.Roots.{IsOpen};
 ghost use Rattle.racp_found.specs.Finds.{IsFound};
-ghost use Rattle.racp_by_clauses.specs.Optima.{IsTaskOf};
+ghost use Rattle.racp_by_clauses.specs.Optima.{IsOptimum, IsTaskOf};
 
 use crate::descent::Descent;
+use crate::optimum::Optimum;
 use crate::task::Task;
 use racp_clauses::{Clause, OfProblem, PlanValues, establishes, leaves_none};
 use racp_drafts::Draft;
@@ -13,16 +14,25 @@ use racp_found::Found;
 use std::alloc::AllocError;
 
 impl<P: OfProblem> Descent<P> {
-    /// The plan, if the clauses show it; or that no capacities are enough, if they show that.
-    pub(crate) fn into_found(self, task: Task<'_>) -> Result<Found, AllocError>
+    /// The plan, if the clauses show it; or that no capacities are enough, if they show that; and the floors.
+    pub(crate) fn into_optimum(self, task: Task<'_>) -> Result<Optimum, AllocError>
         requires { IsTaskOf P.problem task }
-        ensures { IfOk result (IsFound P.problem.network P.problem.terms) }
+        ensures { IfOk result (IsOptimum P.problem.network P.problem.terms) }
     {
-        let Descent { best, clauses, .. } = self;
-        match best {
-            Some(draft) => with_draft(task, draft, &clauses),
-            None => Ok(without_draft(&clauses)),
-        }
+        let Descent {
+            best,
+            clauses,
+            floors,
+            ..
+        } = self;
+        let found = match best {
+            Some(draft) => with_draft(task, draft, &clauses)?,
+            None => without_draft(&clauses),
+        };
+        Ok(Optimum {
+            found,
+            floors: floors.into_capacities(),
+        })
     }
 }
 

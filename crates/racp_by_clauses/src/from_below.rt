@@ -55,6 +55,7 @@ impl<N: OfProblem> Below<N> {
         let seed = limits.seed.wrapping_add(1);
         let mut search = Search::new(alloc, net, order, root, seed, limits.bytes / SHARE)?;
         search.look_at_energies();
+        search.roam();
         let mut below = Below {
             search,
             apart: None,
@@ -78,7 +79,9 @@ impl<N: OfProblem> Below<N> {
         requires may { MayBeTold P.problem.network P.problem.terms O.may_hear }
     {
         let Some(shown) = self.apart else {
-            return descent.raise_from_below::<N, O>(&mut self.search, tasks, observer, conflicts);
+            let search = &mut self.search;
+            descent.raise_from_below::<N, O>(search, tasks, observer, conflicts)?;
+            return descent.raise_floors::<N, O>(search, tasks, observer, conflicts);
         };
         let least = shown.max(descent.least_cost);
         if descent.most_cost(tasks.part) < least {

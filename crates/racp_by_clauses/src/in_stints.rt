@@ -17,7 +17,7 @@ use std::alloc::AllocError;
 const EASY: u64 = 300;
 
 /// The search from below has one conflict for so many of the search from the best draft down.
-const BELOW: u64 = 4;
+const BELOW: u64 = 3;
 
 /// Where it is recorded it has its turn before each so many of these.
 const PIECE: u64 = 1_000;
@@ -42,6 +42,9 @@ impl<N: OfProblem> Optimizer<N> {
             return Ok(());
         }
         descent.raise_by_halves::<N, O>(&mut self.search, tasks, observer)?;
+        if self.record_bytes.is_none() {
+            descent.raise_floors::<N, O>(&mut self.search, tasks, observer, EASY)?;
+        }
         let mut stints = Stints::new(self.limits.seed);
         for _stint in 0..u64::MAX {
             let conflicts = stints.share(tasks.part, descent, left);

@@ -36,17 +36,20 @@
 //!
 //! A second search asks from the least cost on, in such stints too: what it refutes is what the observer is told that every
 //! plan costs at least. After the first 300 conflicts questions of few conflicts each halve what is left between the least
-//! cost and the best draft.
+//! cost and the best draft. Then, and after each stint from below, short questions ask of each resource whether its floor is
+//! enough, whatever there is of the others. A no raises the floor by one at least.
 //!
-//! `optimum_of(task, limits, &observer)` answers the plan, or that no capacities are enough, or neither (`Found` of racp_found),
-//! where the search was given a bound on its conflicts and reached it, was stopped, or left a question open. An `Observer` is told
-//! drafts and lower bounds on the cost as they are found, and may stop the search.
+//! `optimum_of(task, limits, &observer)` answers an `Optimum`: the plan, or that no capacities are enough, or neither (`Found` of
+//! racp_found), where the search was given a bound on its conflicts and reached it, was stopped, or left a question open; and the
+//! floors, which all capacities have that are enough. An `Observer` is told drafts, lower bounds on the cost and floors as they are
+//! found, and may stop the search.
 //!
 //! `optimum_beside` answers the same by several searches on threads of their own, with other seeds. They show each other short
 //! clauses and the best draft, and the first one that finishes ends the others. What costs less than the best draft has less
 //! of some resource, so each search asks for less cost with less of one resource, then of the next, and begins with another
 //! one. In the end the whole question has a short answer, by clauses that name one resource. With three or more, one asks for
-//! the cost from the least one on; with four or more, one for the units of a resource from their least on.
+//! the cost from the least one on, and raises floors; with four or more, one asks for the units of a resource from their least
+//! on. In the end the floors are the greater ones of all searches.
 //!
 //! `optimum_recorded` answers the same, with the derivations of the clauses, for a certificate. The search from below begins at once
 //! then, has its turn before each thousand conflicts of the other, and keeps its derivations apart: so there is a certificate of
@@ -57,8 +60,8 @@
 //! fall away.
 //!
 //! Proved: a plan that is answered is the plan (`IsPlan` of racp_model); where it is answered that no capacities are
-//! enough, none are; and what the observer is told is true. How a plan is found needs no proof but that it ends. Not proved:
-//! that it is found.
+//! enough, none are; all capacities that are enough are at or above the floors; and what the observer is told is true. How a
+//! plan is found needs no proof but that it ends. Not proved: that it is found.
 #![tactic(auto)]
 
 mod any;
@@ -70,6 +73,7 @@ mod costs;
 mod descent;
 mod ending;
 mod feasible;
+mod floors;
 mod from_below;
 mod in_stints;
 mod limits;
@@ -84,12 +88,13 @@ mod stints;
 mod taken;
 mod task;
 mod telling;
+mod units;
 mod worker;
 
 pub use beside::optimum_beside;
 pub use feasible::Feasible;
 pub use limits::Limits;
 pub use optimizer::Optimizer;
-pub use optimum::optimum_of;
+pub use optimum::{Optimum, optimum_of};
 pub use recorded::{Recorded, optimum_recorded};
 pub use task::Task;

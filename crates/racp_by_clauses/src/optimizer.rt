@@ -5,12 +5,13 @@ ghost use Rattle.racp_clauses.specs.Roots.{IsPartOf};
 ghost use Rattle.racp_drafts.specs.Drafts.{IsDraft};
 ghost use Rattle.racp_found.specs.Finds.{IsFound};
 ghost use Rattle.racp_found.specs.Told.{MayBeTold};
-ghost use Rattle.racp_by_clauses.specs.Optima.{AreAkin, AreTasksOf, IsFeasible, IsTaskOf};
+ghost use Rattle.racp_by_clauses.specs.Optima.{AreAkin, AreTasksOf, IsFeasible, IsOptimum, IsTaskOf};
 
 use crate::descent::Descent;
 use crate::feasible::Feasible;
 use crate::from_below::Below;
 use crate::limits::Limits;
+use crate::optimum::Optimum;
 use crate::task::{Task, Tasks};
 use crate::telling::tell_draft;
 use racp_clauses::OfProblem;
@@ -108,24 +109,25 @@ impl<N: OfProblem> Optimizer<N> {
             return Ok(Found::Open);
         }
         let draft = first_draft::<P, O>(part, self.limits, observer)?;
-        self.below::<P, O>(Tasks { whole, part }, draft, observer)
+        let Optimum { found, .. } = self.below::<P, O>(Tasks { whole, part }, draft, observer)?;
+        Ok(found)
     }
 
-    /// The optimum of a part of the order, where a draft may be known.
+    /// The optimum of a part of the order, where a draft may be known, with the floors.
     pub(crate) fn below<P: OfProblem, O: Observer>(
         &mut self,
         tasks: Tasks<'_>,
         draft: Option<Draft>,
         observer: &O,
-    ) -> Result<Found, AllocError>
+    ) -> Result<Optimum, AllocError>
         requires are_of { AreTasksOf N.problem P.problem tasks }
         requires may { MayBeTold P.problem.network P.problem.terms O.may_hear }
         requires draft { IfSome draft (IsDraft P.problem.network P.problem.terms) }
-        ensures { IfOk result (IsFound P.problem.network P.problem.terms) }
+        ensures { IfOk result (IsOptimum P.problem.network P.problem.terms) }
     {
         let mut descent: Descent<P> = Descent::new(tasks.part, 0, draft)?;
         self.search_in_stints::<P, O>(tasks, &mut descent, observer)?;
-        descent.into_found(tasks.part)
+        descent.into_optimum(tasks.part)
     }
 
     /// The optimum of the order, after a first stint of the search from below and the first draft: so a bound is known before.
@@ -140,7 +142,8 @@ impl<N: OfProblem> Optimizer<N> {
     {
         self.begin_from_below::<O>(tasks, observer)?;
         let draft = first_draft::<N, O>(tasks.part, self.limits, observer)?;
-        self.below::<N, O>(tasks, draft, observer)
+        let Optimum { found, .. } = self.below::<N, O>(tasks, draft, observer)?;
+        Ok(found)
     }
 
     /// Whether a part of the order has a plan at all: starts that fit, or that no capacities are enough; neither is known

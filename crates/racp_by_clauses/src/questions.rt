@@ -3,8 +3,19 @@
 ghost use Rattle.std.specs.Prelude.{◌≡◌, ◌≤◌, IfOk, All, length};
 ghost use Rattle.racp_clauses.specs.Solutions.{most_value};
 
+use crate::places::variable_count;
+use crate::task::Task;
 use racp_clauses::Domain;
 use std::alloc::{AllocError, Global};
+
+/// What each variable is at most at the root.
+pub(crate) fn uppers(task: Task<'_>) -> Result<Vec<u64>, AllocError> {
+    let mut row = Vec::new(task.alloc);
+    for x in 0..variable_count(task.net) {
+        row.push(task.root.upper_at(x))?;
+    }
+    Ok(row)
+}
 
 /// The root bounds, with each upper bound lowered to the number at its place in a row, if that is less.
 pub(crate) fn bounds_of(

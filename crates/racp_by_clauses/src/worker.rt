@@ -59,6 +59,7 @@ impl<N: OfProblem> Worker<N> {
         search.share();
         if seat == FROM_BELOW {
             search.look_at_energies();
+            search.roam();
         }
         let stints = Stints::new(seed);
         Ok(Worker {

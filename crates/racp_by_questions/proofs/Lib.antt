@@ -12,5 +12,6 @@ mod Choosing
 mod Deciding
 mod Fixing
 mod ByHalves
+mod Raising
 mod Staging
 mod Telling

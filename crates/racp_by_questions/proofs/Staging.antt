@@ -24,6 +24,8 @@ use Rattle.racp_by_questions.specs.Stops.{ceiling_series, AreAboveFloors, IsNotA
 use Rattle.racp_by_questions.specs.declared.stop.PlanStop.{PlanStop}
 use Rattle.racp_by_questions.specs.declared.stop.PlanStop.TheVariants.{Stopped, Memory, NoThread}
 use Rattle.racp_by_questions.specs.Stages.{AreFloorsAndRoofs, AreSharpFloorsAndRoofs, IsStoppedInBox}
+use Rattle.racp_found.specs.Told.{AreFloorsOfEnough}
+use Rattle.racp_by_questions.proofs.Raising.{raised-stop}
 use Rattle.racp_by_questions.proofs.Choosing.{first_reached, reached_first, yes_enough, enough_above, some_yes, peaks_least, reached_box, reached_boxed}
 use Rattle.racp_bounds.proofs.lemmas.Sharpened.{all_sharpened}
 
@@ -151,13 +153,15 @@ module _ (p : Project) (terms : Terms) (root : Bounds) (t : AreTermsOf p terms) 
         after_box = λ past. first;
       }
 
-  -- sharpening ends early
-  pub unsharpened : (floors roofs : List ℕ) (ends : AreFloorsAndRoofs p terms root floors roofs) (before answered : ℕ) (told : Option (List ℕ)) (may_stop may_want_thread : Type 0) (refusal : List ℕ × AskStop) →
+  -- sharpening ends early, at floors that are raised
+  pub unsharpened : (floors roofs : List ℕ) (ends : AreFloorsAndRoofs p terms root floors roofs) (before answered : ℕ) (told : Option (List ℕ)) (may_stop may_want_thread : Type 0) (refusal : List ℕ × AskStop) (raised : List ℕ) →
       answered ≡ ceiling_series terms + before → IsUnsharpened p root floors roofs before may_stop may_want_thread refusal →
-      IsPlanStop (IsStoppedAt p terms answered told) may_stop may_want_thread (given_up refusal.1 refusal.0)
-  unsharpened floors roofs ends before answered told may_stop may_want_thread refusal e are =
-      ends_within (IsStoppedAt p terms answered told) may_stop may_want_thread (before < p.resources + pair_count p.resources) refusal.1 refusal.0 are.given_up
-      (λ left. stopped_early floors roofs ends answered told refusal.0 before (omega (arith, e)) (omega (arith, e, left)) are.reached)
+      AreFloorsOfEnough p terms raised → ((k : ℕ) → k < p.resources → slice_index refusal.0 k ≤ slice_index raised k) →
+      IsPlanStop (IsStoppedAt p terms answered told) may_stop may_want_thread (given_up refusal.1 raised)
+  unsharpened floors roofs ends before answered told may_stop may_want_thread refusal raised e are least above =
+      ends_within (IsStoppedAt p terms answered told) may_stop may_want_thread (before < p.resources + pair_count p.resources) refusal.1 raised are.given_up
+      (λ left. raised-stop p terms answered told refusal.0 raised t least above (omega (arith, e, left))
+      (stopped_early floors roofs ends answered told refusal.0 before (omega (arith, e)) (omega (arith, e, left)) are.reached))
 
   -- the least starts of the first capacities are the plan's
   pub planned : (capacities starts : List ℕ) → IsLeast (IsBefore terms) (IsEnough p terms) capacities → IsLeast IsLexBefore (Answers p capacities root) starts → IsPlan p terms capacities starts

@@ -1,5 +1,5 @@
 -- Capacities within roofs that are enough for a window.
-use Rattle.std.specs.Prelude.{◌≡◌, ℕ, ◌<◌, ◌≤◌, List, length, slice_index}
+use Rattle.std.specs.Prelude.{◌≡◌, ℕ, ◌<◌, ◌≤◌, max, List, length, slice_index}
 use Rattle.racp_model.specs.Project.{Project}
 use Rattle.racp_model.specs.Terms.{Terms, cost}
 use Rattle.racp_model.specs.Window.{Bounds, IsYes}
@@ -18,6 +18,11 @@ pub record IsEnoughWithin (p : Project) (window : Bounds) (roofs vector : List �
 pub record AreFloorsOf (p : Project) (window : Bounds) (floors roofs : List ℕ) : Type 0 where
   pub places : length floors ≡ p.resources
   pub below : (vector : List ℕ) → IsEnoughWithin p window roofs vector → IsAtMost p floors vector
+
+-- of each resource the greater number of two vectors
+pub record AreGreater (one other both : List ℕ) : Type 0 where
+  pub places : length both ≡ length one
+  pub each : (k : ℕ) → k < length one → slice_index both k ≡ max (slice_index one k) (slice_index other k)
 
 -- such capacities cost at least so much
 abbrev pub IsLeastCost : Project → Terms → Bounds → (roofs : List ℕ) → ℕ → Type 0

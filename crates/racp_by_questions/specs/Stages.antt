@@ -1,5 +1,5 @@
 -- What is known at each stage of the search for a plan by questions.
-use Rattle.std.specs.Prelude.{◌≡◌, ℕ, ◌<◌, ◌≤◌, List, length, slice_index, Option, Some, None, IfSome, Bool, true, false}
+use Rattle.std.specs.Prelude.{◌≡◌, ℕ, ◌<◌, ◌≤◌, List, slice_index, Option, Some, None, IfSome, Bool, true, false}
 use Rattle.racp_model.specs.Project.{Project}
 use Rattle.racp_model.specs.Terms.{Terms}
 use Rattle.racp_model.specs.Plan.{NoneIsEnough}

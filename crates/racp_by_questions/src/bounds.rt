@@ -1,16 +1,17 @@
 //! Floors and roofs of an order, with its ceilings.
 
-ghost use Rattle.std.specs.Prelude.{◌≡◌, ◌↔◌, ℕ, ◌+◌, ◌-◌, ◌<◌, ◌≤◌, List, OnOk, OnErr, IfOk, IfErr, IsTrue, MatchOption, is_some, length};
+ghost use Rattle.std.specs.Prelude.{◌≡◌, ◌↔◌, ℕ, ◌+◌, ◌-◌, ◌<◌, ◌≤◌, List, OnOk, OnErr, IfOk, IfErr, IfSome, IsTrue, MatchOption, is_some, length};
 ghost use Rattle.racp_model.specs.Formed.{HasBounds};
 ghost use Rattle.racp_model.specs.Plan.{NoneIsEnough};
 ghost use Rattle.racp_bounds.specs.Floors.{AreFloors};
 ghost use Rattle.racp_candidates.specs.Box.{AreBounds};
 ghost use Rattle.racp_questions.specs.FirstYes.{MayGiveUp};
-ghost use Rattle.racp_found.specs.Told.{MayBeTold};
+ghost use Rattle.racp_found.specs.Told.{AreFloorsOfEnough, MayBeTold};
 ghost use Rattle.racp_by_questions.specs.Stages.{AreFirstEnds, IsBounded, IsYesOrNo};
 ghost use Rattle.racp_by_questions.specs.Stops.{IsStoppedAt, IsPlanStop, given_up};
 
 use crate::news::tell_floors;
+use crate::raised::raised;
 use crate::stop::PlanStop;
 use crate::task::Task;
 use racp_bounds::floors;
@@ -58,16 +59,19 @@ pub fn first_ends(task: &Task) -> Result<Option<Ends>, AllocError>
 }
 
 /// The floors, and the roofs cut to the ceilings; or none where no capacities within the ceilings are enough. That is
-/// asked where there are ceilings and no floor is above its roof.
+/// asked where there are ceilings and no floor is above its roof. Where that is stopped, floors that are known are told, if these
+/// are higher.
 ///
 /// # Errors
 ///
 /// The asker gave up, or memory was refused.
 pub(crate) fn floors_and_roofs<A: Asker<AnySeries>>(
     task: &Task,
+    known: Option<&Capacities>,
     asker: &mut A,
 ) -> Result<Option<Ends>, PlanStop>
     requires named { A.about asker.old task.now.net.now }
+    requires known { IfSome known (λ floors. AreFloorsOfEnough task.now.net.now task.now.order.now floors.now) }
     requires heard { MayBeTold task.now.net.now task.now.order.now A.may_hear }
     ensures network { A.about asker.new task.now.net.now }
     ensures bounded { IfOk result (IsBounded task.now.net.now task.now.order.now task.now.root.now
@@ -87,7 +91,7 @@ pub(crate) fn floors_and_roofs<A: Asker<AnySeries>>(
     match is_yes(task.alloc, task.net, &ends.roofs, task.root, asker) {
         Ok(true) => Ok(Some(ends)),
         Ok(false) => Ok(None),
-        Err(stop) => Err(PlanStop::given_up(stop, ends.floors)),
+        Err(stop) => Err(PlanStop::given_up(stop, raised(ends.floors, known))),
     }
 }
 

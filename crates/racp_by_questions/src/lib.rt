@@ -2,7 +2,7 @@
 //!
 //! Jobs and resources stand by place, from 0. Units are whole numbers, times are whole time units.
 //!
-//! `found_by_questions(&task, &mut asker, &mut kept)` finds the plan of an order by its root window, or that no capacities are
+//! `found_by_questions(&task, known, &mut asker, &mut kept)` finds the plan of an order by its root window, or that no capacities are
 //! enough (`Found` of racp_found), as in Demeulemeester (1995). In examples/b.sm with b3.toml two jobs use the first resource
 //! and two later ones the second, each for a time unit; the deadline is 3, and a unit costs 1:
 //!
@@ -22,8 +22,8 @@
 //!
 //! The vector of the first yes of stage 3 is not told by the asker: it is the peaks of the starts that were found, since these
 //! peaks are enough too, and none that are stand before it. If the asker stops, `PlanStop` has capacities before which none are
-//! enough: the floors so far, the vector that was reached, or the plan's own. `first_ends` is the first half of stage 1, for
-//! whoever begins with another engine.
+//! enough: the floors so far, raised to those that were known before, the vector that was reached, or the plan's own.
+//! `first_ends` is the first half of stage 1, for whoever begins with another engine.
 //!
 //! Each stage asks through `Asker`, so it is the same over one thread or more. `Alone` answers on the calling thread, over a
 //! collector of one seat: it asks a question, takes its one piece, searches that to its end and hands it in. Records of a
@@ -101,6 +101,7 @@ mod halving;
 mod known;
 mod news;
 mod one_question;
+mod raised;
 mod settling;
 mod span;
 mod starts;

@@ -193,8 +193,8 @@ fn plan_by<
         },
     );
     let mut crowd = crowd.with_search(crew.leeway(), crew.stop);
-    let found = by_searches(rt, task, crew.workers, &crowd)?;
-    match plan_after(task, found, &mut crowd, &mut None) {
+    let optimum = by_searches(rt, task, crew.workers, &crowd)?;
+    match plan_after(task, optimum, &mut crowd, &mut None) {
         Ok(answer) => Ok((answer, crowd.effort())),
         Err(stop) => Err(stop),
     }

@@ -35,7 +35,8 @@
 //! fault of the first text that is refused, or that memory was refused (`IsPrinting`). `plan_crowd` prints the same,
 //! whatever the workers, or tells capacities before which none are enough (`IsCrowdPrinting`): only where runs of desks took
 //! as many pieces as there are turns, or where the stop is not quiet (`MayStop`). Where an asker stops, `plan`
-//! tells capacities before which none are enough: the floors so far, the vector that was reached, or the plan's own.
+//! tells capacities before which none are enough: the floors so far, those that the search by clauses has raised among them, the
+//! vector that was reached, or the plan's own.
 //! While it plans, it tells the asker floors that all capacities which are enough are at or above, what these cost at
 //! least, and plans that fit the order; that it tells them in time is tested alone. In `laws`: an order for a network has an
 //! answer, and only one. Tested alone: that memory is not refused without need. How long planning takes is measured

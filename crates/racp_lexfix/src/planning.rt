@@ -1,21 +1,23 @@
 //! The planner: by clauses, and where these leave it open by questions.
 
-ghost use Rattle.std.specs.Prelude.{◌-◌, IfOk, IfErr};
+ghost use Rattle.std.specs.Prelude.{◌-◌, IfOk, IfErr, IfSome};
 ghost use Rattle.racp_model.specs.Path.{IsCriticalLength};
 ghost use Rattle.racp_model.specs.Plan.{IsOverCeilings, NoneIsEnough};
 ghost use Rattle.racp_model.specs.Terms.{AreTermsOf, release_of, due_of};
 ghost use Rattle.racp_model.specs.Window.{IsRootWindow};
-ghost use Rattle.racp_found.specs.Finds.{IsDecided, IsFound};
-ghost use Rattle.racp_found.specs.Told.{MayBeTold};
+ghost use Rattle.racp_found.specs.Finds.{IsDecided};
+ghost use Rattle.racp_found.specs.Told.{AreFloorsOfEnough, MayBeTold};
+ghost use Rattle.racp_by_clauses.specs.Optima.{IsOptimum};
 ghost use Rattle.racp_by_questions.specs.Stops.{IsStoppedAt, IsPlanStop};
 ghost use Rattle.racp_lexfix.specs.Answers.{IsAnswer};
 
 use crate::answer::{Answer, plan_of};
 use crate::searches::by_clauses;
+use racp_by_clauses::Optimum;
 use racp_by_questions::{PlanStop, Sharp, found_by_questions};
 use racp_candidates::AnySeries;
 use racp_found::Found;
-use racp_model::{Network, Window};
+use racp_model::{Capacities, Network, Window};
 use racp_prices::Order;
 use racp_questions::Asker;
 use racp_root::{Opening, Task, opening_of};
@@ -48,24 +50,24 @@ pub fn plan<A: Asker<AnySeries>>(
         (A.may_stop asker.new) (A.may_want_thread asker.new)) }
 {
     let task = Task { alloc, net, order };
-    let found = by_clauses(&task, asker)?;
-    plan_after(&task, found, asker, &mut None)
+    let optimum = by_clauses(&task, asker)?;
+    plan_after(&task, optimum, asker, &mut None)
 }
 
-/// The plan, or why there is none, as `plan` tells it, after what was found by clauses. The sharpened floors and the
-/// refuted pairs are kept, once they are known.
+/// The plan, or why there is none, as `plan` tells it, after what was found by clauses, if a search was made. The sharpened floors
+/// and the refuted pairs are kept, once they are known.
 ///
 /// # Errors
 ///
 /// As with `plan`.
 pub fn plan_after<A: Asker<AnySeries>>(
     task: &Task,
-    found: Found,
+    optimum: Option<Optimum>,
     asker: &mut A,
     kept: &mut Option<Sharp>,
 ) -> Result<Answer, PlanStop>
     requires named { A.about asker.old task.now.net.now }
-    requires found { IsFound task.now.net.now task.now.order.now found }
+    requires optimum { IfSome optimum (IsOptimum task.now.net.now task.now.order.now) }
     requires heard { MayBeTold task.now.net.now task.now.order.now A.may_hear }
     ensures network { A.about asker.new task.now.net.now }
     ensures answer { IfOk result (IsAnswer task.now.net.now task.now.order.now) }
@@ -75,7 +77,7 @@ pub fn plan_after<A: Asker<AnySeries>>(
 {
     match opening_of(task.alloc, task.net, task.order)? {
         Opening::Root { critical, window } => {
-            let decided = decided(task, &window, found, asker, kept)?;
+            let decided = decided(task, &window, optimum, asker, kept)?;
             Ok(answer_of(task, critical, decided))
         }
         Opening::TooLong { critical } => Ok(Answer::Impossible { longest: critical }),
@@ -87,13 +89,13 @@ pub fn plan_after<A: Asker<AnySeries>>(
 fn decided<A: Asker<AnySeries>>(
     task: &Task,
     root: &Window,
-    found: Found,
+    optimum: Option<Optimum>,
     asker: &mut A,
     kept: &mut Option<Sharp>,
 ) -> Result<Found, PlanStop>
     requires named { A.about asker.old task.now.net.now }
     requires root { IsRootWindow task.now.net.now (release_of task.now.order.now) (due_of task.now.order.now) root.now }
-    requires found { IsFound task.now.net.now task.now.order.now found }
+    requires optimum { IfSome optimum (IsOptimum task.now.net.now task.now.order.now) }
     requires heard { MayBeTold task.now.net.now task.now.order.now A.may_hear }
     ensures network { A.about asker.new task.now.net.now }
     ensures decided { IfOk result (IsDecided task.now.net.now task.now.order.now) }
@@ -101,19 +103,41 @@ fn decided<A: Asker<AnySeries>>(
         (A.answered asker.new - A.answered asker.old) (A.told asker.new))
         (A.may_stop asker.new) (A.may_want_thread asker.new)) }
 {
+    let Some(Optimum { found, floors }) = optimum else {
+        return by_questions(task, root, None, asker, kept);
+    };
     match found {
         Found::Plan(capacities, starts) => Ok(Found::Plan(capacities, starts)),
         Found::NoneEnough => Ok(Found::NoneEnough),
-        Found::Open => {
-            let task = racp_by_questions::Task {
-                alloc: task.alloc,
-                net: task.net,
-                order: task.order,
-                root,
-            };
-            found_by_questions(&task, asker, kept)
-        }
+        Found::Open => by_questions(task, root, Some(&floors), asker, kept),
     }
+}
+
+/// What is found by questions within the root window, where floors may be known.
+fn by_questions<A: Asker<AnySeries>>(
+    task: &Task,
+    root: &Window,
+    known: Option<&Capacities>,
+    asker: &mut A,
+    kept: &mut Option<Sharp>,
+) -> Result<Found, PlanStop>
+    requires named { A.about asker.old task.now.net.now }
+    requires root { IsRootWindow task.now.net.now (release_of task.now.order.now) (due_of task.now.order.now) root.now }
+    requires known { IfSome known (λ floors. AreFloorsOfEnough task.now.net.now task.now.order.now floors.now) }
+    requires heard { MayBeTold task.now.net.now task.now.order.now A.may_hear }
+    ensures network { A.about asker.new task.now.net.now }
+    ensures decided { IfOk result (IsDecided task.now.net.now task.now.order.now) }
+    ensures stop { IfErr result (IsPlanStop (IsStoppedAt task.now.net.now task.now.order.now
+        (A.answered asker.new - A.answered asker.old) (A.told asker.new))
+        (A.may_stop asker.new) (A.may_want_thread asker.new)) }
+{
+    let task = racp_by_questions::Task {
+        alloc: task.alloc,
+        net: task.net,
+        order: task.order,
+        root,
+    };
+    found_by_questions(&task, known, asker, kept)
 }
 
 /// The answer for what is decided, with the critical length.

@@ -3,15 +3,15 @@
 ghost use Rattle.std.specs.Prelude.{IfOk, IfSome};
 ghost use Rattle.racp_model.specs.Terms.{release_of, due_of};
 ghost use Rattle.racp_model.specs.Window.{IsRootWindow};
-ghost use Rattle.racp_found.specs.Finds.{IsFound};
 ghost use Rattle.racp_found.specs.Told.{MayBeTold};
+ghost use Rattle.racp_by_clauses.specs.Optima.{IsOptimum};
 ghost use Rattle.racp_lexfix.specs.Stages.{IsStart};
 
 use crate::roots::root_bounds;
-use racp_by_clauses::{Limits, optimum_beside, optimum_of};
+use racp_by_clauses::{Limits, Optimum, optimum_beside, optimum_of};
 use racp_candidates::AnySeries;
 use racp_clauses::Domain;
-use racp_found::{Found, News};
+use racp_found::News;
 use racp_model::Window;
 use racp_questions::{Asker, Leeway};
 use racp_root::{Opening, Task, opening_of};
@@ -33,15 +33,17 @@ struct Start {
     bounds: Domain,
 }
 
-/// The plan, that no capacities are enough, or neither, by one search on the calling thread. Neither is known where the
-/// asker leaves no room for a search or wants an end, there are few vectors from the floors to the roofs, or the search came to no
-/// end.
-pub(crate) fn by_clauses<A: Asker<AnySeries>>(task: &Task, asker: &A) -> Result<Found, AllocError>
+/// What one search on the calling thread finds of the plan, and the floors that it shows. No search is made where the asker leaves
+/// no room for one or wants an end, or there are few vectors from the floors to the roofs.
+pub(crate) fn by_clauses<A: Asker<AnySeries>>(
+    task: &Task,
+    asker: &A,
+) -> Result<Option<Optimum>, AllocError>
     requires heard { MayBeTold task.now.net.now task.now.order.now A.may_hear }
-    ensures { IfOk result (IsFound task.now.net.now task.now.order.now) }
+    ensures { IfOk result (λ optimum. IfSome optimum (IsOptimum task.now.net.now task.now.order.now)) }
 {
     let Some(start) = start_of(task, asker)? else {
-        return Ok(Found::Open);
+        return Ok(None);
     };
     let part = racp_by_clauses::Task {
         alloc: task.alloc,
@@ -51,7 +53,7 @@ pub(crate) fn by_clauses<A: Asker<AnySeries>>(task: &Task, asker: &A) -> Result<
         root: &start.bounds,
     };
     let limits = limits_of(asker.leeway());
-    optimum_of::<Brand, A>(part, limits, asker)
+    Ok(Some(optimum_of::<Brand, A>(part, limits, asker)?))
 }
 
 /// The same, by so many searches on threads of their own.
@@ -60,12 +62,12 @@ pub(crate) fn by_searches<A: Asker<AnySeries>, R: Threads + Wait + Sync>(
     task: &Task,
     workers: usize,
     asker: &A,
-) -> Result<Found, AllocError>
+) -> Result<Option<Optimum>, AllocError>
     requires heard { MayBeTold task.now.net.now task.now.order.now A.may_hear }
-    ensures { IfOk result (IsFound task.now.net.now task.now.order.now) }
+    ensures { IfOk result (λ optimum. IfSome optimum (IsOptimum task.now.net.now task.now.order.now)) }
 {
     let Some(start) = start_of(task, asker)? else {
-        return Ok(Found::Open);
+        return Ok(None);
     };
     let part = racp_by_clauses::Task {
         alloc: task.alloc,
@@ -75,7 +77,8 @@ pub(crate) fn by_searches<A: Asker<AnySeries>, R: Threads + Wait + Sync>(
         root: &start.bounds,
     };
     let limits = limits_of(asker.leeway());
-    optimum_beside::<Brand, A, R>(rt, part, limits, workers, asker)
+    let optimum = optimum_beside::<Brand, A, R>(rt, part, limits, workers, asker)?;
+    Ok(Some(optimum))
 }
 
 /// Where a search begins, or none where none is to be made, as where the asker wants an end by now. It is told the floors.

@@ -13,7 +13,6 @@ ghost use Rattle.racp_by_questions.specs.declared.stop.PlanStop.TheVariants.{Mem
 use crate::by_clauses::unproved;
 use crate::hints::hints_of;
 use racp_by_questions::{Alone, OfTurns, PlanStop, Sharp};
-use racp_found::Found;
 use racp_lexfix::status::DONE;
 use racp_lexfix::{Answer, Printed, Refusal, answer_printed, plan_after};
 use racp_model::{Network, Never, OfNetwork, Stop, Window};
@@ -120,7 +119,7 @@ fn plan_with_floors<N: OfNetwork, M: OfTurns, P: Stop>(
     // A search of its own would not sharpen the floors.
     let alone: Alone<N> = Alone::new(task.alloc, task.net)?.with_conflicts(0);
     let mut until = alone.until::<M, P>(stop);
-    let planned = plan_after(task, Found::Open, &mut until, sharp);
+    let planned = plan_after(task, None, &mut until, sharp);
     // Dropped here once, not at each way out.
     drop(until);
     planned

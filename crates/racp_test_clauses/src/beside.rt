@@ -35,8 +35,8 @@ fn received_of<N: OfProblem + Send + Sync, R: Clock + Threads + Wait + Sync>(
     requires { IsTaskOf N.problem task }
 {
     let listener = Pausing::new(rt);
-    let found = optimum_beside::<N, Pausing<'_, R>, R>(rt, task, LIMITS, 2, &listener)?;
-    drop(found);
+    let optimum = optimum_beside::<N, Pausing<'_, R>, R>(rt, task, LIMITS, 2, &listener)?;
+    drop(optimum);
     Ok(listener.received())
 }
 

@@ -14,6 +14,8 @@ mod certificates;
 #[cfg(test)]
 mod descents;
 #[cfg(test)]
+mod floors;
+#[cfg(test)]
 mod listener;
 #[cfg(test)]
 mod optima;

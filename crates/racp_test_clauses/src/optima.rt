@@ -5,9 +5,10 @@ ghost use Rattle.racp_by_clauses.specs.Optima.{IsTaskOf};
 use crate::listener::Listener;
 use crate::sums::Sums;
 use crate::tasks::{Trial, try_next};
-use racp_by_clauses::{Limits, Task, optimum_of};
+use racp_by_clauses::{Limits, Optimum, Task, optimum_of};
 use racp_clauses::OfProblem;
 use racp_found::Found;
+use racp_model::Capacities;
 use racp_plan::Plan;
 use racp_reference::{Outcome, plan_by_definition};
 use racp_samples::Random;
@@ -80,6 +81,15 @@ fn is_found(found: &Found, plan: Option<&Plan>, may_be_open: bool) -> bool {
     }
 }
 
+/// Whether floors are at or below the plan's capacities, if there is a plan.
+fn are_below(floors: &Capacities, plan: Option<&Plan>) -> bool {
+    let Some(plan) = plan else {
+        return true;
+    };
+    let (floors, units) = (floors.as_slice(), plan.capacities.as_slice());
+    floors.len() == units.len() && floors.iter().zip(units).all(|(low, high)| *low <= *high)
+}
+
 /// Whether a search finds the plan, where there is one, and tells the listener what is true of it.
 fn finds<N: OfProblem>(
     task: Task<'_>,
@@ -95,12 +105,16 @@ fn finds<N: OfProblem>(
         rounds: effort.rounds,
         seed: effort.seed,
     };
-    let found = optimum_of::<N, Listener>(task, limits, &listener)?;
+    let Optimum { found, floors } = optimum_of::<N, Listener>(task, limits, &listener)?;
     let cost = match plan {
         Some(plan) => Some(plan.cost),
         None => None,
     };
-    Ok(is_found(&found, plan, effort.is_limited()) && listener.is_told_well(cost))
+    Ok(
+        is_found(&found, plan, effort.is_limited())
+            && are_below(&floors, plan)
+            && listener.is_told_well(cost),
+    )
 }
 
 /// Whether each search finds the plan, where there is one.

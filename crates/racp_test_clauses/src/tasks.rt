@@ -6,6 +6,7 @@ ghost use Rattle.racp_by_clauses.specs.Optima.{IsTaskOf};
 
 use crate::certificates::{are_certified, is_rooted};
 use crate::descents::agree;
+use crate::floors::are_shown;
 use crate::optima::is_optimum;
 use crate::orders::{wide_network, wide_order};
 use crate::searches::are_answered;
@@ -28,6 +29,8 @@ pub enum Trial {
     Descents,
     /// The optimum.
     Optima,
+    /// The floors where a search is cut off.
+    Floors,
     /// Certificates for two plans of the five jobs.
     Certificates,
     /// What the root bounds show without a clause.
@@ -47,6 +50,7 @@ fn tried<N: OfProblem>(
         Trial::Questions => are_answered::<N>(task, random, sums),
         Trial::Descents => agree::<N>(task, sums),
         Trial::Optima => is_optimum::<N>(task, sums),
+        Trial::Floors => are_shown::<N>(task),
         Trial::Certificates => are_certified::<N>(task),
         Trial::Rooted => is_rooted::<N>(task),
     }

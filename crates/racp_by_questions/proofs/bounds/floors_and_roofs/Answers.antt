@@ -2,10 +2,11 @@ use Rattle.std.proofs.Common.{◌≡◌, ◌∙◌, ◌-◌, Bool, Option, is_so
 use Rattle.std.specs.Prelude.{MatchOption}
 use Rattle.racp_model.specs.Plan.{NoneIsEnough}
 use Rattle.racp_by_questions.specs.Stages.{AreFirstEnds, IsYesOrNo}
-use Rattle.racp_by_questions.specs.Stops.{IsStoppedAt, IsPlanStop}
+use Rattle.racp_by_questions.specs.Stops.{ceiling_series, IsStoppedAt, IsPlanStop}
 use Rattle.racp_by_questions.specs.declared.bounds.Ends.{Ends}
 use Rattle.racp_by_questions.specs.declared.stop.PlanStop.{PlanStop}
 use Rattle.racp_by_questions.proofs.Choosing.{enough_roofs, plain_yes}
+use Rattle.racp_by_questions.proofs.Raising.{raised-floors, raised-above, raised-stop}
 use Rattle.racp_by_questions.proofs.Staging.{none_there, no_ceilings, some_ceilings, ends_with, stopped_first}
 use Rattle.racp_by_questions.proofs.bounds.floors_and_roofs.Goals as goal
 
@@ -57,12 +58,17 @@ returns-in-Err-clause-stop g c =
     let may_want_thread = g.A.Asker.may_want_thread c.is_yes.new.asker in
     let IsTold = IsStoppedAt c.args.task.now.net.now c.args.task.now.order.now answered told in
     let none : answered ≡ 0 = omega (arith, c.in-Err.ensures.unanswered) in
+    let one : ceiling_series c.args.task.now.order.now ≡ 1 = some_ceilings c.args.task.now.order.now (sym c.has_ceilings.ensures ∙ c.if-not-has_ceilings.false) in
     let first : AreFirstEnds c.args.task.now.net.now c.args.task.now.order.now c.args.task.now.root.now c.in-Some.ends =
     subst (λ (o : Option Ends). MatchOption o (NoneIsEnough c.args.task.now.net.now c.args.task.now.order.now) (AreFirstEnds c.args.task.now.net.now c.args.task.now.order.now c.args.task.now.root.now)) c.in-Some.is c.in_ok-ends.ensures in
     let at = stopped_first c.args.task.now.net.now c.args.task.now.order.now c.args.task.now.root.now c.args.task.now.terms c.args.task.now.root_is c.in-Some.ends.floors c.in-Some.ends.roofs answered told
-    first.lowest first.most none (some_ceilings c.args.task.now.order.now (sym c.has_ceilings.ensures ∙ c.if-not-has_ceilings.false)) in
+    first.lowest first.most none one in
+    let raised : IsTold c.raised.result = raised-stop c.args.task.now.net.now c.args.task.now.order.now answered told c.in-Some.ends.floors c.raised.result c.args.task.now.terms
+    (raised-floors (λ f. f.now) c.args.task.now.net.now c.args.task.now.order.now c.in-Some.ends.floors c.raised.result c.args.known c.raised.ensures c.requires.known first.least)
+    (raised-above (λ f. f.now) c.args.task.now.net.now c.args.task.now.order.now c.in-Some.ends.floors c.raised.result c.args.known c.raised.ensures first.least.places)
+    (omega (arith, none, one)) at in
     subst (λ (stop : PlanStop). IsPlanStop IsTold may_stop may_want_thread stop) (sym c.given_up.ensures)
-    (ends_with IsTold may_stop may_want_thread c.in-Err.stop c.in-Some.ends.floors c.in-Err.ensures.stop at)
+    (ends_with IsTold may_stop may_want_thread c.in-Err.stop c.raised.result c.in-Err.ensures.stop raised)
 
 pub tell_floors-requires-clause-floors : goal.tell_floors-requires-clause-floors
 tell_floors-requires-clause-floors g c =

@@ -1,4 +1,5 @@
-use Rattle.std.proofs.Common.{◌≡◌, ◌∙◌, ◌+◌, ◌-◌, ◌<◌, ℕ, Option, length, arith, ap, sym, subst}
+use Rattle.std.proofs.Common.{◌≡◌, ◌∙◌, ◌+◌, ◌-◌, ◌<◌, ℕ, Option, length, arith, rules, ap, sym, subst}
+use Rattle.std.specs.Prelude.{MatchOption}
 use Rattle.std.proofs.lemmas.Result.{err_from_is_err_and}
 use Rattle.racp_bounds.specs.Sharp.{pair_count}
 use Rattle.racp_by_questions.specs.declared.bounds.Ends.{Ends}
@@ -7,9 +8,11 @@ use Rattle.racp_bounds.proofs.lemmas.Sharpened.{admitting_yes}
 use Rattle.racp_model.specs.Terms.{cost, due_of, release_of}
 use Rattle.racp_found.specs.declared.observer.News.TheVariants.{Cost}
 use Rattle.racp_found.specs.Told.{IsLeastOfEnough}
+use Rattle.racp_by_questions.specs.Enough.{AreGreater}
 use Rattle.racp_by_questions.specs.Stages.{IsBounded, IsStoppedInBox}
 use Rattle.racp_by_questions.specs.declared.stop.PlanStop.{PlanStop}
 use Rattle.racp_by_questions.proofs.Staging.{ends_with, told_too, stopped_in_box, stopped_behind, unsharpened, planned}
+use Rattle.racp_by_questions.proofs.Raising.{raised-floors, raised-above}
 use Rattle.racp_by_questions.proofs.Telling.{first_cost, first_floors, reached_floors, reached_news, sharp_are_floors}
 use Rattle.racp_by_questions.proofs.found.found_by_questions.Goals as goal
 
@@ -26,7 +29,10 @@ returns-in-Err-clause-stop g c =
     omega (arith, bounded.1, c.floors_and_roofs.ensures.no_fewer, c.sharpen.ensures.no_fewer) in
     subst (λ (stop : PlanStop). IsPlanStop (IsStoppedAt c.args.task.now.net.now c.args.task.now.order.now answered told) may_stop may_want_thread stop) (sym c.given_up.ensures)
     (unsharpened c.args.task.now.net.now c.args.task.now.order.now c.args.task.now.root.now c.args.task.now.terms c.args.task.now.root_is c.in-Some.ends.floors c.in-Some.ends.roofs bounded.0 (g.A.Asker.answered c.sharpen.new.asker - middle) answered told
-    may_stop may_want_thread (c.in-Err.reached, c.in-Err.stop) counted c.in-Err.ensures.refusal)
+    may_stop may_want_thread (c.in-Err.reached, c.in-Err.stop) c.raised-floors.result counted c.in-Err.ensures.refusal
+    (raised-floors (λ f. f.now) c.args.task.now.net.now c.args.task.now.order.now c.in-Err.reached c.raised-floors.result c.args.known c.raised-floors.ensures c.requires.known
+    (reached_floors c.args.task.now.net.now c.args.task.now.order.now c.args.task.now.root.now c.in-Some.ends.floors c.in-Some.ends.roofs c.args.task.now.terms c.args.task.now.root_is bounded.0.lowest bounded.0.most (g.A.Asker.answered c.sharpen.new.asker - middle) c.in-Err.reached c.in-Err.ensures.refusal.reached))
+    (raised-above (λ f. f.now) c.args.task.now.net.now c.args.task.now.order.now c.in-Err.reached c.raised-floors.result c.args.known c.raised-floors.ensures c.in-Err.ensures.refusal.reached.places))
 
 pub returns-in-Ok-least_starts-clause-found : goal.returns-in-Ok-least_starts-clause-found
 returns-in-Ok-least_starts-clause-found g c =
@@ -82,7 +88,9 @@ tell_floors-requires-clause-floors g c =
 pub tell_floors-requires-in-Err-clause-floors : goal.tell_floors-requires-in-Err-clause-floors
 tell_floors-requires-in-Err-clause-floors g c =
     let bounded = subst (λ (o : Option (Ends)). IsBounded c.args.task.now.net.now c.args.task.now.order.now c.args.task.now.root.now (g.A.Asker.answered c.floors_and_roofs.new.asker - g.A.Asker.answered c.args.asker.now) o) c.in-Some.is c.in_ok-ends.ensures.bounded in
-    reached_floors c.args.task.now.net.now c.args.task.now.order.now c.args.task.now.root.now c.in-Some.ends.floors c.in-Some.ends.roofs c.args.task.now.terms c.args.task.now.root_is bounded.0.lowest bounded.0.most (g.A.Asker.answered c.sharpen.new.asker - g.A.Asker.answered c.floors_and_roofs.new.asker) c.in-Err.reached c.in-Err.ensures.refusal.reached
+    let are_raised : MatchOption c.args.known (c.raised-floors.result ≡ c.in-Err.reached) (λ known. AreGreater c.in-Err.reached known.now c.raised-floors.result) = search rules in
+    raised-floors (λ f. f.now) c.args.task.now.net.now c.args.task.now.order.now c.in-Err.reached c.raised-floors.result c.args.known are_raised c.requires.known
+    (reached_floors c.args.task.now.net.now c.args.task.now.order.now c.args.task.now.root.now c.in-Some.ends.floors c.in-Some.ends.roofs c.args.task.now.terms c.args.task.now.root_is bounded.0.lowest bounded.0.most (g.A.Asker.answered c.sharpen.new.asker - g.A.Asker.answered c.floors_and_roofs.new.asker) c.in-Err.reached c.in-Err.ensures.refusal.reached)
 
 pub tell_floors-requires-2-clause-floors : goal.tell_floors-requires-2-clause-floors
 tell_floors-requires-2-clause-floors g c =

@@ -1,4 +1,4 @@
-use Rattle.std.proofs.Common.{◌≡◌, ℕ, arith, sym, subst}
+use Rattle.std.proofs.Common.{◌≡◌}
 use Rattle.racp_model.specs.Terms.{cost}
 use Rattle.racp_found.specs.declared.observer.News.TheVariants.{Cost}
 use Rattle.racp_by_questions.proofs.Telling.{floors_cost}

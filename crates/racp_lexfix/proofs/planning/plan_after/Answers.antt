@@ -22,8 +22,8 @@ returns-in_err-critical-clause-stop g c =
 pub decided-requires-clause-named : goal.decided-requires-clause-named
 decided-requires-clause-named g c = c.requires.named
 
-pub decided-requires-clause-found : goal.decided-requires-clause-found
-decided-requires-clause-found g c = c.requires.found
+pub decided-requires-clause-optimum : goal.decided-requires-clause-optimum
+decided-requires-clause-optimum g c = c.requires.optimum
 
 pub decided-requires-clause-heard : goal.decided-requires-clause-heard
 decided-requires-clause-heard g c = c.requires.heard
