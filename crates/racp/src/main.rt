@@ -11,6 +11,7 @@
 //! - `racp report NET ORDER PLAN` writes a page about a plan.
 //! - `racp export NET ORDER PLAN --to FORMAT --calendar FILE` writes a plan for other programs.
 //! - `racp curve NET ORDER` says what each deadline costs.
+//! - `racp soonest NET ORDER` prints the plan that ends as soon as the units that there are admit.
 //! - `racp whatif NET ORDER` says what becomes of an order if one term is changed.
 //! - `racp order NET` writes an order.
 //! - `racp batch NET.. --factors F,..` writes a table of what networks cost with deadlines.
@@ -18,8 +19,9 @@
 //! - `racp cpm NET` prints the critical length and the early starts.
 //! - `racp explain` says what faults mean.
 //!
-//! What the commands do is proved in racp_cli, over any readers and any writer. This crate hands them files and standard
-//! streams, which racp_host opens, and ends with the status.
+//! What the commands do is proved in racp_cli, over any readers and any writer. racp_search_commands, racp_plan_commands and
+//! racp_input_commands hand them files and standard streams, which racp_host opens. This crate calls the one that the words
+//! name, and ends with the status.
 //!
 //! ```text
 //! racp plan b.sm b3.toml             what examples/b3.plan has                    status 0
@@ -45,39 +47,9 @@
 //! changes neither standard output nor the status. Trusted: the toolchain, the C library and the machine.
 #![tactic(auto)]
 
-mod batching;
-mod bounding;
-mod changing;
-mod charting;
-mod checking;
-mod costing;
-mod crewing;
-mod dated;
-mod deadline;
-mod earlier;
-mod early;
-mod exporting;
-mod gathering;
-mod importing;
-mod keeping;
-mod listener;
-mod needed;
-mod ordering;
-mod parts;
-mod planning;
-mod pricing;
-mod proving;
-mod reading;
-mod refusing;
-mod replacing;
-mod reporting;
+mod commands;
+mod explain;
 mod run;
-mod terms;
-mod texts;
-mod tools;
-mod undated;
-mod verifying;
-mod warned;
 
 use std::io::IsTerminal;
 use std::process::ExitCode;

@@ -5,22 +5,13 @@ ghost use Rattle.racp.specs.Statuses.{IsStatus, IsStatusOfAnswer};
 ghost use Rattle.racp_host.specs.declared.failure.Failure.TheVariants as failures;
 ghost use Rattle.racp_streams.specs.declared.fault.StreamFault.TheVariants as streams;
 
-use crate::bounding::{Bounding, verify_bound};
-use crate::checking::check;
-use crate::early::cpm;
-use crate::planning::plan;
-use crate::proving::{Proving, prove};
-use crate::tools::tool;
-use crate::verifying::{Verifying, verify};
+use crate::commands::answered;
 use racp_cli::StreamFault;
-use racp_host::dates::{calendar_for_json, calendar_of};
 use racp_host::failure::{Failure, refused_words, report};
 use racp_host::inputs::told;
 use racp_host::machine::Crewed;
-use racp_host::making::Making;
-use racp_host::seconds::time_limit;
 use racp_host::telling::Manner;
-use racp_words::{Request, Source, Task, Tool, asked, command_list};
+use racp_words::{Request, Source, Task, asked, command_list};
 use std::alloc::Global;
 use std::env;
 use std::io::ErrorKind;
@@ -141,60 +132,6 @@ fn failure_told(alloc: Global, failure: Failure, manner: Manner) -> Failure {
         ),
         failure => failure,
     }
-}
-
-/// Writes the answer to a request. What is wrong with the inputs is told in this manner. A path may name a calendar.
-fn answered<R: Crewed + Input>(
-    rt: &R,
-    request: Request<'_>,
-    manner: Manner,
-    calendar: Option<&str>,
-) -> Result<u8, Failure>
-    ensures { IfOk result IsStatusOfAnswer }
-{
-    match request {
-        Request::Cpm(network) => cpm(rt, network, manner),
-        Request::Plan(files, memory, crew) => {
-            let workdays = calendar_for_json(rt, calendar, manner.is_json)?;
-            let days = calendar_of(&workdays);
-            plan(rt, files, Making::of(memory, crew, manner, days)?)
-        },
-        Request::Prove(files, by_clauses, word) => {
-            prove(rt, Proving::of(files, by_clauses, word, manner)?)
-        },
-        Request::Check(files) => check(rt, files, manner),
-        Request::Verify(files, word) => {
-            let limit = time_limit(word)?;
-            let asked = Verifying {
-                files,
-                limit,
-                manner,
-            };
-            verify(rt, asked)
-        }
-        Request::VerifyBound(files, word) => {
-            let limit = time_limit(word)?;
-            let asked = Bounding {
-                files,
-                limit,
-                manner,
-            };
-            verify_bound(rt, asked)
-        }
-        Request::Tool(asked) => answer_of_tool(rt, asked, manner, calendar),
-    }
-}
-
-/// Writes the answer to what a command that goes with plans asks for.
-fn answer_of_tool<R: Crewed>(
-    rt: &R,
-    asked: Tool<'_>,
-    manner: Manner,
-    calendar: Option<&str>,
-) -> Result<u8, Failure>
-    ensures { IfOk result IsStatusOfAnswer }
-{
-    tool(rt, asked, manner, calendar)
 }
 
 /// The words of the command line, of which the first is the program's name.

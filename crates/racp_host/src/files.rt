@@ -127,11 +127,11 @@ fn part_with<R: Files + AllocGlobal>(rt: &R, path: &str, text: &[u8]) -> io::Res
 }
 
 /// The path of the file that is written for this one: where a link leads, and else its own. What is there already has to be a
-/// file.
+/// file. No file has the empty path.
 fn target_of<R: Files + AllocGlobal>(rt: &R, path: &str) -> io::Result<String> {
     let is_link = match fs::symlink_metadata(rt, path) {
         Ok(found) => found.is_symlink(),
-        Err(error) if error.kind() == ErrorKind::NotFound => {
+        Err(error) if error.kind() == ErrorKind::NotFound && !path.is_empty() => {
             return Ok(String::from_str(rt.alloc(), path)?);
         }
         Err(error) => return Err(error),

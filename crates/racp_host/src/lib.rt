@@ -8,7 +8,7 @@
 //! best       the file that keeps the best plan that is known
 //! answer     standard output, to which answers are written, and whether anybody reads it
 //! failure    why no answer is written, and how that is told: the status 2, 5, 6 or 7
-//! telling    what is told on standard error beside an answer, in one line, in several, or as JSON
+//! telling    what is told on standard error beside an answer, in one line, in several, or as JSON; undated of answers without dates
 //! making     how plans are made: workers, memory, a limit of time
 //! limit      when a command that workers carry out is stopped by the clock or by the user; alone_limit for one thread
 //! progress   how far planning has come; known: its best cost, and what each plan costs at least
@@ -49,3 +49,4 @@ pub mod seconds;
 pub mod shown;
 pub mod telling;
 mod terminal;
+pub mod undated;

@@ -60,10 +60,10 @@ pub enum OptionFault {
     #[error("--unit has to be day or week, with --start-date")]
     Unit,
     /// The format of an export is none that is written.
-    #[error("--to has to be ics, csv or md")]
+    #[error("--to has to be ics, csv, md, mspdi or tjp")]
     Export,
     /// The format of a table is none that is read.
-    #[error("--from has to be csv or rcp")]
+    #[error("--from has to be csv, rcp or mspdi")]
     Format,
     /// The time unit of a table is none that is told.
     #[error("--unit has to be day or half-day")]

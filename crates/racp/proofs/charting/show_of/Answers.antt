@@ -1,7 +1,0 @@
-use Rattle.std.proofs.Common.{None}
-use Rattle.racp.proofs.Planned.{ended_as, shown}
-use Rattle.racp.proofs.charting.show_of.Goals as goal
-
-pub returns : goal.returns
-returns g c = ended_as _ _ _ _ c.show_over-status.result c.ended.result c.ended.ensures.ok
-    (shown _ _ _ _ None None c.show_over-status.result c.show_over-status.ensures)
